@@ -1,0 +1,4 @@
+pub mod Modes
+pub mod Rounds
+pub mod Promises
+pub mod Messages

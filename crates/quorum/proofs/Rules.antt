@@ -1,0 +1,34 @@
+-- What holds of the quorums of every number of replicas: their order, and which of them must share a process.
+-- Assumes nothing.
+use mathlib.Core.Path.{_≡_, refl, ap}
+use Prim.Native.Nat.{ℕ, _+_, _*_, _≤_, _<_, min}
+use native.Mathlib.Omega.{arith}
+use Rattle.quorum.specs.Quorum.{majorityOf, epaxosOf, fastOf, ruleOf, rowOf}
+
+pub majority-le-epaxos : (n : ℕ) → majorityOf n ≤ epaxosOf n
+majority-le-epaxos n = omega arith
+
+pub epaxos-le-fast : (n : ℕ) → epaxosOf n ≤ fastOf n
+epaxos-le-fast n = omega arith
+
+pub epaxos-le : (n : ℕ) → 1 ≤ n → epaxosOf n ≤ n
+epaxos-le n h = omega arith
+
+pub fast-le : (n : ℕ) → 1 ≤ n → fastOf n ≤ n
+fast-le n h = omega arith
+
+-- two majorities are more than all
+pub two-majorities : (n : ℕ) → n < majorityOf n + majorityOf n
+two-majorities n = omega arith
+
+-- two fast quorums and a majority are more than twice all, so that the three share a process
+pub fast-fast-majority : (n : ℕ) → 1 ≤ n → 2 * n < fastOf n + fastOf n + majorityOf n
+fast-fast-majority n h = omega arith
+
+-- up to 64 replicas the table has the rule's row
+pub row-rule : (n : ℕ) → n ≤ 64 → rowOf n ≡ ruleOf n
+row-rule n h = let e : min n 64 ≡ n = omega arith in ap ruleOf e
+
+-- a count of 0 takes the row of 1
+pub row-zero : rowOf 0 ≡ rowOf 1
+row-zero = refl

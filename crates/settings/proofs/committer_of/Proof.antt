@@ -1,0 +1,27 @@
+-- `settings::committer_of` meets its contract.
+-- Assumes nothing.
+use borrow.Author.Needs.{needs}
+use Rattle.settings.specs.Questions.{committerIn}
+use Rattle.settings.proofs.committer_of.Statement.{statement}
+use Rattle.settings.proofs.committer_of.Tie as tie
+
+enum-told : tie.Need-enum-told
+enum-told c = search needs
+
+enum-known-requester : tie.Need-enum-known-requester
+enum-known-requester c = search needs
+
+look-up-requires : tie.Need-look-up-requires
+look-up-requires c κs = search needs
+
+returns : tie.Need-returns
+unfolding committerIn
+returns c = simp (c .enum-told .given .1)
+
+returns-2 : tie.Need-returns-2
+unfolding committerIn
+returns-2 c = simp (c .before .before .requester .given .1, ← c .look-up .ensures)
+
+pub committer-of-spec : {M : Type 1} → statement M
+committer-of-spec =
+    tie.close (tie.spec enum-told enum-known-requester look-up-requires returns returns-2)

@@ -1,0 +1,223 @@
+// The settings of a group, as its host makes them for one member, their limits, and what the engine asks of them.
+ghost use mathlib.Core.Path.{_≡_};
+ghost use mathlib.Core.Bool.{_&&_};
+ghost use Prim.Native.Nat.{_≤_};
+ghost use lib.Dec.{ltb};
+ghost use Rattle.settings.specs.Settings.{tableFits, countsFit, membersFit, committersFit, quorumFits, modeFits, withinLimits};
+ghost use Rattle.settings.specs.Questions.{lookUp, quorumsOf, isReplica, isLiveReplica, delegateOf, committerIn, committerOf, startingRoundOf};
+use message::OptionalProcess;
+use message::OptionalRound;
+use message::PFMode;
+use message::PaxosRound;
+use quorum::QuorumRow;
+
+// The Rust's Option<BitSet>: the fixed quorum of SwiftPaxos.
+pub enum OptionalSet {
+    NoSet,
+    Set(u64),
+}
+
+// The tables have a place for each process. Committers are given for all processes or for none, as in the Rust;
+// delegates count in Pando alone, and the fixed quorum in SwiftPaxos alone.
+pub struct Settings {
+    pub process_count: u64,
+    pub replica_count: u64,
+    pub my_pid: u64,
+    pub alive_replicas: u64,
+    pub first_leader: u64,
+    pub mode: PFMode,
+    pub quorum: OptionalSet,
+    pub has_committers: bool,
+    pub committers: [u64; 64],
+    pub delegates: [u64; 64],
+}
+
+// Whether the table fits so far, with one entry more.
+fn entry_fits(so_far: bool, entry: u64, count: u64) -> bool
+    ensures { λ r. ⌜ r ≡ («so_far» && ltb entry count) ⌝ }
+{
+    if so_far { entry < count } else { false }
+}
+
+// Whether each of the first count entries is below count.
+fn table_fits(table: [u64; 64], count: u64) -> bool
+    requires { ⌜ count ≤ 64 ⌝ }
+    ensures { λ r. ⌜ r ≡ tableFits table count count ⌝ }
+{
+    let end = count as usize;
+    let mut fits = true;
+    let mut p: usize = 0;
+    while p < end {
+        fits = entry_fits(fits, table[p], count);
+        p += 1;
+    }
+    fits
+}
+
+// The entry of process p, and 0 where p is no process.
+fn look_up(table: [u64; 64], p: u64) -> u64
+    ensures { λ r. ⌜ r ≡ lookUp table p ⌝ }
+{
+    if p < 64 {
+        let at = p as usize;
+        return table[at];
+    }
+    0
+}
+
+// The committer of a requester, where there is a requester.
+fn committer_of(committers: [u64; 64], requester: OptionalProcess) -> OptionalProcess
+    ensures { λ r. ⌜ r ≡ committerIn committers requester ⌝ }
+{
+    match requester {
+        OptionalProcess::NoProcess => OptionalProcess::NoProcess,
+        OptionalProcess::Process(p) => OptionalProcess::Process(look_up(committers, p)),
+    }
+}
+
+fn quorum_fits(quorum: OptionalSet, count: u64) -> bool
+    ensures { λ r. ⌜ r ≡ quorumFits quorum count ⌝ }
+{
+    match quorum {
+        OptionalSet::NoSet => true,
+        OptionalSet::Set(s) => sets::fits(s, count),
+    }
+}
+
+impl Settings {
+    // 1 to 64 processes, and 1 to as many replicas.
+    fn counts_fit(self) -> bool
+        ensures { λ r. ⌜ r ≡ countsFit self ⌝ }
+    {
+        if self.process_count < 1 {
+            return false;
+        }
+        if self.process_count > 64 {
+            return false;
+        }
+        if self.replica_count < 1 {
+            return false;
+        }
+        self.replica_count <= self.process_count
+    }
+
+    // The own number, the first leader and the live set are below the process count, and the live set is no larger than the replica count.
+    fn members_fit(self) -> bool
+        ensures { λ r. ⌜ r ≡ membersFit self ⌝ }
+    {
+        if self.my_pid >= self.process_count {
+            return false;
+        }
+        if self.first_leader >= self.process_count {
+            return false;
+        }
+        if !sets::fits(self.alive_replicas, self.process_count) {
+            return false;
+        }
+        sets::size(self.alive_replicas) <= self.replica_count
+    }
+
+    fn committers_fit(self) -> bool
+        requires { ⌜ self .«process_count» ≤ 64 ⌝ }
+        ensures { λ r. ⌜ r ≡ committersFit self ⌝ }
+    {
+        if self.has_committers {
+            let committers = self.committers;
+            return table_fits(committers, self.process_count);
+        }
+        true
+    }
+
+    fn mode_fits(self) -> bool
+        requires { ⌜ self .«process_count» ≤ 64 ⌝ }
+        ensures { λ r. ⌜ r ≡ modeFits self (self .mode) ⌝ }
+    {
+        let mode = self.mode;
+        let quorum = self.quorum;
+        let delegates = self.delegates;
+        match mode {
+            PFMode::Paxos => true,
+            PFMode::MultiPaxos => true,
+            PFMode::MultiPaxos3P => true,
+            PFMode::EPaxos => true,
+            PFMode::Pando => table_fits(delegates, self.process_count),
+            PFMode::SwiftPaxos => quorum_fits(quorum, self.process_count),
+        }
+    }
+
+    // Whether the settings are within the limits; where they are not, no shard is made of them.
+    pub fn within_limits(self) -> bool
+        ensures { λ r. ⌜ r ≡ withinLimits self ⌝ }
+    {
+        if !self.counts_fit() {
+            return false;
+        }
+        if !self.members_fit() {
+            return false;
+        }
+        if !self.committers_fit() {
+            return false;
+        }
+        self.mode_fits()
+    }
+
+    // Whether process p is in the live set: what document 01 calls a live replica.
+    pub fn is_live_replica(self, p: u64) -> bool
+        ensures { λ r. ⌜ r ≡ isLiveReplica self p ⌝ }
+    {
+        sets::contains(self.alive_replicas, p)
+    }
+
+    pub fn is_replica(self) -> bool
+        ensures { λ r. ⌜ r ≡ isReplica self ⌝ }
+    {
+        self.is_live_replica(self.my_pid)
+    }
+
+    // The quorums for the replica count, a majority among them.
+    pub fn quorums(self) -> QuorumRow
+        ensures { λ r. ⌜ r ≡ quorumsOf self ⌝ }
+    {
+        quorum::row(self.replica_count)
+    }
+
+    // The process that gathers the promises of a round: in Pando the delegate of its leader, and else the leader.
+    pub fn delegate(self, round: PaxosRound) -> u64
+        ensures { λ r. ⌜ r ≡ delegateOf self (self .mode) (round .leader) ⌝ }
+    {
+        let mode = self.mode;
+        let delegates = self.delegates;
+        let leader = round.leader;
+        match mode {
+            PFMode::Paxos => leader,
+            PFMode::MultiPaxos => leader,
+            PFMode::MultiPaxos3P => leader,
+            PFMode::EPaxos => leader,
+            PFMode::Pando => look_up(delegates, leader),
+            PFMode::SwiftPaxos => leader,
+        }
+    }
+
+    // The process that commits a value by the settings, from the value's requester.
+    pub fn committer(self, requester: OptionalProcess) -> OptionalProcess
+        ensures { λ r. ⌜ r ≡ committerOf self requester ⌝ }
+    {
+        let committers = self.committers;
+        if self.has_committers {
+            return committer_of(committers, requester);
+        }
+        let mode = self.mode;
+        if mode.is_swift_paxos() {
+            return requester;
+        }
+        OptionalProcess::NoProcess
+    }
+
+    // The round in which each slot starts.
+    pub fn starting_round(self) -> OptionalRound
+        ensures { λ r. ⌜ r ≡ startingRoundOf self ⌝ }
+    {
+        let mode = self.mode;
+        PaxosRound::starting(mode, self.first_leader)
+    }
+}

@@ -1,0 +1,21 @@
+-- `sheet::put_byte` meets its contract: the byte is stored, and the place after it handed back.
+-- Assumes nothing.
+use borrow.Author.Needs.{needs}
+use Rattle.sheet.proofs.Putting.{put-one}
+use Rattle.sheet.proofs.put_byte.Statement.{statement}
+use Rattle.sheet.proofs.put_byte.Tie as tie
+
+slice-write-out : tie.Need-slice-write-out
+slice-write-out c = search needs
+
+add-result : tie.Need-add-result
+add-result c = search needs
+
+same-length : tie.Need-same-length
+same-length c = search needs
+
+returns : tie.Need-returns
+returns c = put-one _ (c .args .at) (c .args .b) (c .pre)
+
+pub put-byte-spec : {M : Type 1} → statement M
+put-byte-spec = tie.close (tie.spec slice-write-out add-result same-length returns)

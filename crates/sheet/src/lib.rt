@@ -1,0 +1,160 @@
+// The quorum sheet: the quorums for 1 up to a number of replicas, as CSV (RFC 4180).
+ghost use mathlib.Core.Path.{_≡_};
+ghost use mathlib.Core.List.{[], _∷_};
+ghost use Prim.Native.Nat.{_+_, _≤_, _<_};
+ghost use lib.ListN.{length, getD};
+ghost use Rattle.sheet.specs.Text.{Put, text, field};
+ghost use Rattle.sheet.specs.Sheet.{lineOf, sheetOf};
+ghost use Rattle.sheet.specs.Answer.{countOfBytes, countAsked, answerOf, pageOf};
+
+// An answer: its text at the start of bytes, zeros after it, and the length of the text. The longest has a header
+// of 31 bytes and 64 lines of at most 13, which makes 863.
+pub struct Page {
+    pub bytes: [u8; 863],
+    pub len: usize,
+}
+
+// Puts the byte b at the place at, and hands back the place after it. So do the other functions whose names begin
+// with put.
+fn put_byte(out: &mut [u8], at: usize, b: u8) -> usize
+    requires { ⌜ at < length (now out) ⌝ }
+    ensures { λ r. ⌜ Put (now (out .entry)) at (b ∷ []) (now (out .exit)) r ⌝ }
+{
+    out[at] = b;
+    at + 1
+}
+
+// Puts the bytes of source.
+fn put_bytes(out: &mut [u8], at: usize, source: &[u8]) -> usize
+    requires { ⌜ at + length (now source) ≤ length (now out) ⌝ }
+    ensures { λ r. ⌜ Put (now (out .entry)) at (now (source .entry)) (now (out .exit)) r ⌝ }
+{
+    let mut next = at;
+    let mut i = 0;
+    while i < source.len() {
+        next = put_byte(out, next, source[i]);
+        i += 1;
+    }
+    next
+}
+
+// Puts the number n, below 100, in decimal.
+fn put_number(out: &mut [u8], at: usize, n: u64) -> usize
+    requires { ⌜ (at + 2 ≤ length (now out)) × (n < 100) ⌝ }
+    ensures { λ r. ⌜ Put (now (out .entry)) at (text n) (now (out .exit)) r ⌝ }
+{
+    if n < 10 {
+        put_byte(out, at, 48 + n as u8)
+    } else {
+        let next = put_byte(out, at, 48 + (n / 10) as u8);
+        put_byte(out, next, 48 + (n % 10) as u8)
+    }
+}
+
+// Puts the number n, and then the byte end.
+fn put_field(out: &mut [u8], at: usize, n: u64, end: u8) -> usize
+    requires { ⌜ (at + 3 ≤ length (now out)) × (n < 100) ⌝ }
+    ensures { λ r. ⌜ Put (now (out .entry)) at (field n end) (now (out .exit)) r ⌝ }
+{
+    let next = put_number(out, at, n);
+    put_byte(out, next, end)
+}
+
+// Puts the line for n replicas.
+fn put_line(out: &mut [u8], at: usize, n: u64) -> usize
+    requires { ⌜ (at + 13 ≤ length (now out)) × (n ≤ 64) ⌝ }
+    ensures { λ r. ⌜ Put (now (out .entry)) at (lineOf n) (now (out .exit)) r ⌝ }
+{
+    let row = quorum::row(n);
+    let second = put_field(out, at, n, b',');
+    let third = put_field(out, second, row.majority, b',');
+    let fourth = put_field(out, third, row.epaxos, b',');
+    let end = put_field(out, fourth, row.fast, b'\r');
+    put_byte(out, end, b'\n')
+}
+
+// Puts the header, and a line for each count from 1 to n.
+fn put_sheet(out: &mut [u8], n: u64) -> usize
+    requires { ⌜ (n ≤ 64) × (863 ≤ length (now out)) ⌝ }
+    ensures { λ r. ⌜ Put (now (out .entry)) 0 (sheetOf n) (now (out .exit)) r ⌝ }
+{
+    let mut at = put_bytes(out, 0, b"replicas,majority,epaxos,fast\r\n");
+    let mut count = 0;
+    while count < n {
+        count += 1;
+        at = put_line(out, at, count);
+    }
+    at
+}
+
+// The byte at place i, and LF past the end of the input, which ends a line as LF does.
+fn byte_at(input: &[u8], i: usize) -> u8
+    ensures { λ r. ⌜ r ≡ getD (now (input .entry)) i 10 ⌝ }
+{
+    if i < input.len() { input[i] } else { b'\n' }
+}
+
+// The count that an input with these first three bytes asks for, and 0 where it asks for none.
+fn count_of_bytes(first: u8, second: u8, third: u8) -> u64
+    ensures { λ r. ⌜ r ≡ countOfBytes first second third ⌝ }
+{
+    if first < b'1' {
+        return 0;
+    }
+    if first > b'9' {
+        return 0;
+    }
+    let leading = first as u64 - 48;
+    if second == b'\n' {
+        return leading;
+    }
+    if second < b'0' {
+        return 0;
+    }
+    if second > b'9' {
+        return 0;
+    }
+    if third != b'\n' {
+        return 0;
+    }
+    let count = leading * 10 + (second as u64 - 48);
+    if count > 64 {
+        return 0;
+    }
+    count
+}
+
+// The count that the first line of the input asks for, and 0 where it asks for none.
+fn count_asked(input: &[u8]) -> u64
+    ensures { λ r. ⌜ r ≡ countAsked (now (input .entry)) ⌝ }
+{
+    let first = byte_at(input, 0);
+    let second = byte_at(input, 1);
+    let third = byte_at(input, 2);
+    count_of_bytes(first, second, third)
+}
+
+// Puts the answer to the input at the start of out.
+fn put_answer(out: &mut [u8], input: &[u8]) -> usize
+    requires { ⌜ 863 ≤ length (now out) ⌝ }
+    ensures { λ r. ⌜ Put (now (out .entry)) 0 (answerOf (now (input .entry))) (now (out .exit)) r ⌝ }
+{
+    let count = count_asked(input);
+    if count == 0 {
+        put_bytes(out, 0, b"refused,1\r\n")
+    } else {
+        put_sheet(out, count)
+    }
+}
+
+// What the program writes for the input: the sheet for the count on its first line, or the refusal.
+pub fn answer(input: &[u8]) -> Page
+    ensures { λ r. ⌜ r ≡ pageOf (now (input .entry)) ⌝ }
+{
+    let mut bytes = [0u8; 863];
+    let len = put_answer(&mut bytes, input);
+    Page {
+        bytes: bytes,
+        len: len,
+    }
+}
