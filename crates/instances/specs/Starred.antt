@@ -6,13 +6,31 @@ use mathlib.Core.Bool.{Bool, true, false}
 use mathlib.Core.List.{List, [], _∷_}
 use Prim.Native.Nat.{ℕ}
 use lib.ListN.{replicate}
-use Rattle.sets.specs.Sets.{contains, count, size}
+use Rattle.sets.specs.Sets.{contains, count, size, insert}
+use Rattle.tables.specs.Tables.{lookUp, store, every}
 use Rattle.quorum.specs.declared.QuorumRow.{QuorumRow}
 use Rattle.quorum.specs.Quorum.{rowOf}
 use Rattle.message.specs.declared.OptionalRound.the-variants.{NoRound, Round}
 use Rattle.message.specs.declared.PFMode.the-variants.{Paxos}
-use Rattle.message.specs.Rounds.{increment, roundOf, roundBefore, before, nextLeaderRound}
-use Rattle.settings.specs.declared.OptionalSet.the-variants.{NoSet}
+use Rattle.message.specs.Rounds.{increment, roundOf, roundBefore, roundEqual, before, nextLeaderRound}
+use Rattle.sets.specs.declared.OptionalSet.the-variants.{NoSet}
+use Rattle.message.specs.declared.Outcome.the-variants.{Refused}
+use Rattle.message.specs.declared.Refusal.the-variants.{AcceptUnlikeHeld}
+use Rattle.message.specs.declared.RoundV.{RoundV}
+use Rattle.message.specs.declared.RoundV.the-variants.{PaxosV}
+use Rattle.message.specs.Refusals.{refusalNumber}
+use Rattle.fast_state.specs.declared.Adoption.the-variants.{Adopt}
+use Rattle.fast_state.specs.declared.FastState.{FastState}
+use Rattle.round_state.specs.declared.HeldPromise.the-variants.{Held}
+use Rattle.round_state.specs.declared.Member.{Member}
+use Rattle.round_state.specs.declared.PaxosState.{PaxosState}
+use Rattle.round_state.specs.declared.PaxosStep.{PaxosStep}
+use Rattle.round_state.specs.Paxos.{withSender, withOwn, heldAfterPromise, receivePromise, acceptFits, receiveAccept}
+use Rattle.fast_state.specs.Fast.{noAnswers, preacceptedAfter, recorded, answeredBefore, scoreAfter, epaxosCounted, epaxosAnswered, isUnanswered, epaxosProposeV}
+use Rattle.fast_state.specs.Adopt.{better, bestBelow, epaxosTryAdoptWith, epaxosTryAdopt}
+use Rattle.fast_state.specs.RoundState.{newRoundState}
+use Rattle.read_tracker.specs.declared.Inserted.{Inserted}
+use Rattle.read_tracker.specs.Reads.{readId, newTracker, newTable, insert as insertRead, afterResponse, afterCommit, keptByReady, servedByReady, keptByCommit, servedByCommit, atFront, receiveReady, commitSlot}
 use Rattle.settings.specs.declared.Settings.{Settings}
 use Rattle.settings.specs.Settings.{countsFit, membersFit, committersFit, modeFits, withinLimits}
 
@@ -49,6 +67,76 @@ nextForLeader = row (nextLeaderRound (roundOf 2 3) 3) (roundOf 2 3)
 
 abbrev pub nextForLower : Row
 nextForLower = row (nextLeaderRound (roundOf 2 3) 1) (roundOf 3 1)
+
+-- ---- the round state of a replica of five
+
+abbrev pub replica : ℕ → Member
+replica p = record { «my_pid» = p; replica = true; quorums = rowOf 5 }
+
+abbrev pub nothingHeard : PaxosState
+nothingHeard = newRoundState NoRound .paxos
+
+abbrev pub promised : ℕ → RoundV → PaxosState → PaxosState
+promised src rv s = receivePromise (replica 0) src rv s .state
+
+-- Promises value 7 no round, then 9 of (0,1), then 5 no round: 9 is held
+abbrev pub highestHeld : Row
+highestHeld =
+    row (promised 3 (PaxosV NoRound 5) (promised 2 (PaxosV (Round (roundOf 0 1)) 9) (promised 1 (PaxosV NoRound 7) nothingHeard)) .«max_rv»)
+    (Held (PaxosV (Round (roundOf 0 1)) 9))
+
+-- Replica 0 hears accept (0,2) value 9 twice from 1: count 2
+abbrev pub heardAccept : ℕ → PaxosState → PaxosStep
+heardAccept v s = receiveAccept (replica 0) 1 (roundOf 0 2) v s
+
+abbrev pub acceptedTwice : PaxosState
+acceptedTwice = heardAccept 9 (heardAccept 9 nothingHeard .state) .state
+
+abbrev pub countedOnce : Row
+countedOnce = row (size (acceptedTwice .«accepted_set»)) 2
+
+-- Then value 8: refusal 9
+abbrev pub otherValue : Row
+otherValue = row (heardAccept 8 acceptedTwice .outcome) (Refused AcceptUnlikeHeld)
+
+abbrev pub otherValueNumber : Row
+otherValueNumber = row (refusalNumber AcceptUnlikeHeld) 9
+
+-- EPaxos, five: 4 proposes 40; 1 answers proposer 0, value 10
+abbrev pub answered : ℕ → ℕ → ℕ → FastState → FastState
+answered src proposer v f = epaxosAnswered (replica 4) src proposer v f .state
+
+abbrev pub proposed : FastState
+proposed = answered 1 0 10 (epaxosProposeV (replica 4) 40 noAnswers .state)
+
+-- 2 answers proposer 4: adopt 10 (scores 3 and 2)
+abbrev pub adoptsBest : Row
+adoptsBest = row (epaxosTryAdopt (replica 4) (answered 2 4 40 proposed)) (Adopt 10)
+
+abbrev pub otherScore : Row
+otherScore = row (lookUp (answered 2 4 40 proposed .«epaxos_proposer_scores») 0) 3
+
+abbrev pub ownScore : Row
+ownScore = row (lookUp (answered 2 4 40 proposed .«epaxos_proposer_scores») 4) 2
+
+-- If instead of 2, 3 answers proposer 2 value 20: a tie, adopt 10
+abbrev pub adoptsLowest : Row
+adoptsLowest = row (epaxosTryAdopt (replica 4) (answered 3 2 20 proposed)) (Adopt 10)
+
+-- ---- reads
+
+-- Quorum 1, nothing held: a new read waits for the next response or commit
+abbrev pub opened : Inserted
+opened = insertRead newTracker newTable 7 0 true
+
+abbrev pub readWaits : Row
+readWaits = row (opened .tracker .«open_count») 1
+
+abbrev pub responseServes : Row
+responseServes = row (receiveReady (opened .tracker) (opened .table) (readId 0) 1 0 true .«served_count») 1
+
+abbrev pub commitServes : Row
+commitServes = row (commitSlot (opened .tracker) (opened .table) 1 1 .«served_count») 1
 
 -- ---- settings (not marked in the document, and of the same kind): 64 processes are taken, 65 and 0 replicas refused
 
@@ -96,6 +184,17 @@ starred =
     ∷ groupFirst
     ∷ nextForLeader
     ∷ nextForLower
+    ∷ highestHeld
+    ∷ countedOnce
+    ∷ otherValue
+    ∷ otherValueNumber
+    ∷ adoptsBest
+    ∷ otherScore
+    ∷ ownScore
+    ∷ adoptsLowest
+    ∷ readWaits
+    ∷ responseServes
+    ∷ commitServes
     ∷ mostProcesses
     ∷ tooManyProcesses
     ∷ noReplica
@@ -105,5 +204,5 @@ starred =
     ∷ []
 
 pub every-row-holds : AllHold starred
-unfolding increment roundBefore nextLeaderRound contains count size countsFit membersFit committersFit modeFits withinLimits
-every-row-holds = (refl, (refl, (refl, (refl, (refl, (refl, (refl, (refl, (refl, (refl, (refl, tt)))))))))))
+unfolding increment roundBefore roundEqual nextLeaderRound contains count size insert lookUp store every countsFit membersFit committersFit modeFits withinLimits withSender withOwn heldAfterPromise receivePromise acceptFits receiveAccept preacceptedAfter recorded answeredBefore scoreAfter epaxosCounted epaxosAnswered isUnanswered epaxosProposeV better bestBelow epaxosTryAdoptWith insertRead afterResponse afterCommit keptByReady servedByReady keptByCommit servedByCommit atFront receiveReady commitSlot
+every-row-holds = (refl, (refl, (refl, (refl, (refl, (refl, (refl, (refl, (refl, (refl, (refl, (refl, (refl, (refl, (refl, (refl, (refl, (refl, (refl, (refl, (refl, (refl, tt))))))))))))))))))))))

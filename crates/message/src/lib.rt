@@ -3,6 +3,7 @@ ghost use mathlib.Core.Path.{_≡_};
 ghost use Rattle.message.specs.Modes.{isMultiPaxos, isSwiftPaxos, hasFastPath};
 ghost use Rattle.message.specs.Rounds.{increment, startingRound, nextLeaderRound, roundBefore, roundEqual, before, equal, unwrapOrDefault};
 ghost use Rattle.message.specs.Promises.{acceptRoundOf, valueOf, sameValue, isProcess};
+ghost use Rattle.message.specs.Refusals.{refusalNumber};
 ghost use Rattle.message.specs.Messages.{msgValue, msgSlot};
 
 // The modes of the paxos family: the Rust's PFModeSetting, whose tables stand beside it in the settings.
@@ -127,6 +128,50 @@ pub struct ConsensusMessage {
     pub msg: ConsensusMsg,
     pub src: u64,
     pub last_v: OptionalValue,
+}
+
+// Why a call is refused, in the order of document 01's table. The definition refusalNumber has the numbers.
+pub enum Refusal {
+    SettingsOutsideLimits,
+    NumberTooLarge,
+    NoSuchProcess,
+    OtherLastValue,
+    SlotAhead,
+    ValueNotHeld,
+    SourceNotLive,
+    Panic,
+    AcceptUnlikeHeld,
+    SecondFastAnswer,
+    ProposalNotAllowed,
+    NoRoomForRead,
+}
+
+// What became of a call, or of a step of it.
+pub enum Outcome {
+    Done,
+    Refused(Refusal),
+}
+
+impl Refusal {
+    // The number by which document 01 names the refusal.
+    pub fn number(self) -> u64
+        ensures { λ r. ⌜ r ≡ refusalNumber self ⌝ }
+    {
+        match self {
+            Refusal::SettingsOutsideLimits => 1,
+            Refusal::NumberTooLarge => 2,
+            Refusal::NoSuchProcess => 3,
+            Refusal::OtherLastValue => 4,
+            Refusal::SlotAhead => 5,
+            Refusal::ValueNotHeld => 6,
+            Refusal::SourceNotLive => 7,
+            Refusal::Panic => 8,
+            Refusal::AcceptUnlikeHeld => 9,
+            Refusal::SecondFastAnswer => 10,
+            Refusal::ProposalNotAllowed => 11,
+            Refusal::NoRoomForRead => 12,
+        }
+    }
 }
 
 // One more. The largest number has none after it and stays; no number that a call may hold is that large.

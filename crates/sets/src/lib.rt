@@ -2,6 +2,12 @@
 ghost use mathlib.Core.Path.{_≡_};
 ghost use Rattle.sets.specs.Sets.{contains, insert, size, fits, isEmpty};
 
+// The Rust's Option<BitSet>.
+pub enum OptionalSet {
+    NoSet,
+    Set(u64),
+}
+
 // Whether process p is in s. No process number is above 63.
 pub fn contains(s: u64, p: u64) -> bool
     ensures { λ r. ⌜ r ≡ contains s p ⌝ }

@@ -1,14 +1,11 @@
 -- What settings within their limits give to the layers above.
 -- Assumes nothing.
-use mathlib.Core.Path.{_≡_, sym, subst}
-use mathlib.Core.Logic.{_⊎_, inl, inr}
+use mathlib.Core.Path.{_≡_, subst}
 use mathlib.Core.Bool.{Bool, true, _&&_}
-use mathlib.Core.List.{List}
-use Prim.Native.Nat.{ℕ, zero, suc, _≤_, _<_, min}
-use native.Mathlib.Nat.{le-trans, le-of-suc-le-suc, not-suc-le-zero, eq-or-lt-of-le}
+use Prim.Native.Nat.{ℕ, _≤_, _<_, min}
+use native.Mathlib.Nat.{le-trans}
 use native.Mathlib.Omega.{arith}
 use lib.Dec.{ltb, leb}
-use lib.ListN.{getD}
 use borrow.Author.Tests.{ltb-true, leb-true}
 use Rattle.booleans.proofs.Tests.{and-left, and-right}
 use Rattle.sets.specs.Sets.{contains, size, fits, Within}
@@ -16,7 +13,7 @@ use Rattle.sets.proofs.Laws.{majorities-meet}
 use Rattle.quorum.specs.Quorum.{majorityOf}
 use Rattle.settings.specs.Questions.{quorumsOf}
 use Rattle.settings.specs.declared.Settings.{Settings}
-use Rattle.settings.specs.Settings.{countsFit, membersFit, tableFits, committersFit, modeFits, withinLimits}
+use Rattle.settings.specs.Settings.{countsFit, membersFit, committersFit, modeFits, withinLimits}
 
 pub record Counts (s : Settings) : Type 0 where
   pub some-process : 1 ≤ s .«process_count»
@@ -73,18 +70,6 @@ unfolding withinLimits
 within-members s e =
     members-fit s
     (and-right (countsFit s) (membersFit s) (and-left (countsFit s && membersFit s) (committersFit s) (and-left (countsFit s && membersFit s && committersFit s) (modeFits s (s .mode)) e)))
-
--- the entry of each process is below the count
-pub table-entry : (table : List ℕ) (count upTo p : ℕ) → tableFits table count upTo ≡ true → p < upTo → getD table p 0 < count
-unfolding tableFits
-table-entry table count zero p e l = absurd (not-suc-le-zero l)
-table-entry table count (suc n) p e l = go (λ (k : p < n). table-entry table count n p (and-left (tableFits table count n) (ltb (getD table n 0) count) e) k) (eq-or-lt-of-le (le-of-suc-le-suc l))
-  where
-    go : (p < n → getD table p 0 < count) → (p ≡ n) ⊎ (p < n) → getD table p 0 < count
-    go rest (inl d) =
-        subst (λ (q : ℕ). getD table q 0 < count) (sym d)
-        (ltb-true (getD table n 0) count (and-right (tableFits table count n) (ltb (getD table n 0) count) e))
-    go rest (inr k) = rest k
 
 -- two majorities of live replicas share a process
 pub live-majorities-meet : (s : Settings) → withinLimits s ≡ true → (a b : ℕ) → Within a (s .«alive_replicas») → Within b (s .«alive_replicas»)

@@ -4,9 +4,8 @@
 use mathlib.Core.Bool.{Bool, cond}
 use mathlib.Core.List.{List}
 use Prim.Native.Nat.{ℕ}
-use lib.Dec.{ltb}
-use lib.ListN.{getD}
 use Rattle.sets.specs.Sets.{contains}
+use Rattle.tables.specs.Tables.{lookUp}
 use Rattle.message.specs.Modes.{isSwiftPaxos}
 use Rattle.message.specs.Rounds.{startingRound}
 use Rattle.message.specs.declared.OptionalProcess.{OptionalProcess}
@@ -28,10 +27,6 @@ isReplica s = isLiveReplica s (s .«my_pid»)
 -- the quorums are those of the replica count
 abbrev pub quorumsOf : Settings → QuorumRow
 quorumsOf s = rowOf (s .«replica_count»)
-
--- the entry of process p; a number above 63 is no process
-unfoldable pub lookUp : List ℕ → ℕ → ℕ
-lookUp table p = cond (ltb p 64) (getD table p 0) 0
 
 -- who gathers the promises of a leader's round: in Pando the leader's delegate, and else the leader
 unfoldable pub delegateOf : Settings → PFMode → ℕ → ℕ

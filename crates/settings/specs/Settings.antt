@@ -1,15 +1,14 @@
 -- The limits of the settings (document 01, "Group settings" and row 1 of its table of refusals).
 -- Assumes nothing.
 use mathlib.Core.Bool.{Bool, true, cond, _&&_}
-use mathlib.Core.List.{List}
-use Prim.Native.Nat.{ℕ, zero, suc}
+use Prim.Native.Nat.{ℕ}
 use lib.Dec.{ltb, leb}
-use lib.ListN.{getD}
 use Rattle.sets.specs.Sets.{size, fits}
+use Rattle.tables.specs.Tables.{allBelow}
 use Rattle.message.specs.declared.PFMode.{PFMode}
 use Rattle.message.specs.declared.PFMode.the-variants.{Paxos, MultiPaxos, MultiPaxos3P, EPaxos, Pando, SwiftPaxos}
-use Rattle.settings.specs.declared.OptionalSet.{OptionalSet}
-use Rattle.settings.specs.declared.OptionalSet.the-variants.{NoSet, Set}
+use Rattle.sets.specs.declared.OptionalSet.{OptionalSet}
+use Rattle.sets.specs.declared.OptionalSet.the-variants.{NoSet, Set}
 use Rattle.settings.specs.declared.Settings.{Settings}
 
 -- "Processes 1 to 64; replica count 1 to processes"
@@ -24,14 +23,9 @@ membersFit s =
     ltb (s .«my_pid») (s .«process_count») && ltb (s .«first_leader») (s .«process_count») && fits (s .«alive_replicas») (s .«process_count»)
     && leb (size (s .«alive_replicas»)) (s .«replica_count»)
 
--- of a table, the entries of the first `upTo` processes are below the count
-unfoldable pub tableFits : List ℕ → ℕ → ℕ → Bool
-tableFits table count zero = true
-tableFits table count (suc p) = tableFits table count p && ltb (getD table p 0) count
-
 -- "optional committer per process"
 unfoldable pub committersFit : Settings → Bool
-committersFit s = cond (s .«has_committers») (tableFits (s .committers) (s .«process_count») (s .«process_count»)) true
+committersFit s = cond (s .«has_committers») (allBelow (s .committers) (s .«process_count»)) true
 
 unfoldable pub quorumFits : OptionalSet → ℕ → Bool
 quorumFits NoSet count = true
@@ -43,7 +37,7 @@ modeFits s Paxos = true
 modeFits s MultiPaxos = true
 modeFits s MultiPaxos3P = true
 modeFits s EPaxos = true
-modeFits s Pando = tableFits (s .delegates) (s .«process_count») (s .«process_count»)
+modeFits s Pando = allBelow (s .delegates) (s .«process_count»)
 modeFits s SwiftPaxos = quorumFits (s .quorum) (s .«process_count»)
 
 -- the limits; settings outside them are refused with 1

@@ -1,21 +1,13 @@
 // The settings of a group, as its host makes them for one member, their limits, and what the engine asks of them.
 ghost use mathlib.Core.Path.{_≡_};
-ghost use mathlib.Core.Bool.{_&&_};
-ghost use Prim.Native.Nat.{_≤_};
-ghost use lib.Dec.{ltb};
-ghost use Rattle.settings.specs.Settings.{tableFits, countsFit, membersFit, committersFit, quorumFits, modeFits, withinLimits};
-ghost use Rattle.settings.specs.Questions.{lookUp, quorumsOf, isReplica, isLiveReplica, delegateOf, committerIn, committerOf, startingRoundOf};
+ghost use Rattle.settings.specs.Settings.{countsFit, membersFit, committersFit, quorumFits, modeFits, withinLimits};
+ghost use Rattle.settings.specs.Questions.{quorumsOf, isReplica, isLiveReplica, delegateOf, committerIn, committerOf, startingRoundOf};
 use message::OptionalProcess;
 use message::OptionalRound;
 use message::PFMode;
 use message::PaxosRound;
 use quorum::QuorumRow;
-
-// The Rust's Option<BitSet>: the fixed quorum of SwiftPaxos.
-pub enum OptionalSet {
-    NoSet,
-    Set(u64),
-}
+use sets::OptionalSet;
 
 // The tables have a place for each process. Committers are given for all processes or for none, as in the Rust;
 // delegates count in Pando alone, and the fixed quorum in SwiftPaxos alone.
@@ -32,46 +24,13 @@ pub struct Settings {
     pub delegates: [u64; 64],
 }
 
-// Whether the table fits so far, with one entry more.
-fn entry_fits(so_far: bool, entry: u64, count: u64) -> bool
-    ensures { λ r. ⌜ r ≡ («so_far» && ltb entry count) ⌝ }
-{
-    if so_far { entry < count } else { false }
-}
-
-// Whether each of the first count entries is below count.
-fn table_fits(table: [u64; 64], count: u64) -> bool
-    requires { ⌜ count ≤ 64 ⌝ }
-    ensures { λ r. ⌜ r ≡ tableFits table count count ⌝ }
-{
-    let end = count as usize;
-    let mut fits = true;
-    let mut p: usize = 0;
-    while p < end {
-        fits = entry_fits(fits, table[p], count);
-        p += 1;
-    }
-    fits
-}
-
-// The entry of process p, and 0 where p is no process.
-fn look_up(table: [u64; 64], p: u64) -> u64
-    ensures { λ r. ⌜ r ≡ lookUp table p ⌝ }
-{
-    if p < 64 {
-        let at = p as usize;
-        return table[at];
-    }
-    0
-}
-
 // The committer of a requester, where there is a requester.
 fn committer_of(committers: [u64; 64], requester: OptionalProcess) -> OptionalProcess
     ensures { λ r. ⌜ r ≡ committerIn committers requester ⌝ }
 {
     match requester {
         OptionalProcess::NoProcess => OptionalProcess::NoProcess,
-        OptionalProcess::Process(p) => OptionalProcess::Process(look_up(committers, p)),
+        OptionalProcess::Process(p) => OptionalProcess::Process(tables::look_up(committers, p)),
     }
 }
 
@@ -118,18 +77,16 @@ impl Settings {
     }
 
     fn committers_fit(self) -> bool
-        requires { ⌜ self .«process_count» ≤ 64 ⌝ }
         ensures { λ r. ⌜ r ≡ committersFit self ⌝ }
     {
         if self.has_committers {
             let committers = self.committers;
-            return table_fits(committers, self.process_count);
+            return tables::all_below(committers, self.process_count);
         }
         true
     }
 
     fn mode_fits(self) -> bool
-        requires { ⌜ self .«process_count» ≤ 64 ⌝ }
         ensures { λ r. ⌜ r ≡ modeFits self (self .mode) ⌝ }
     {
         let mode = self.mode;
@@ -140,7 +97,7 @@ impl Settings {
             PFMode::MultiPaxos => true,
             PFMode::MultiPaxos3P => true,
             PFMode::EPaxos => true,
-            PFMode::Pando => table_fits(delegates, self.process_count),
+            PFMode::Pando => tables::all_below(delegates, self.process_count),
             PFMode::SwiftPaxos => quorum_fits(quorum, self.process_count),
         }
     }
@@ -193,7 +150,7 @@ impl Settings {
             PFMode::MultiPaxos => leader,
             PFMode::MultiPaxos3P => leader,
             PFMode::EPaxos => leader,
-            PFMode::Pando => look_up(delegates, leader),
+            PFMode::Pando => tables::look_up(delegates, leader),
             PFMode::SwiftPaxos => leader,
         }
     }

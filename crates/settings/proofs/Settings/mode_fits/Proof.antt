@@ -20,8 +20,8 @@ enum-told-4 c = search needs
 enum-told-5 : tie.Need-enum-told-5
 enum-told-5 c = search needs
 
-table-fits-requires : tie.Need-table-fits-requires
-table-fits-requires c κs = search needs
+all-below-requires : tie.Need-all-below-requires
+all-below-requires c κs = search needs
 
 enum-told-6 : tie.Need-enum-told-6
 enum-told-6 c = search needs
@@ -47,7 +47,7 @@ returns-4 c = simp (c .enum-told4 .given .1)
 
 returns-5 : tie.Need-returns-5
 unfolding modeFits
-returns-5 c = simp (c .before .enum-told5 .given .1, ← c .table-fits .ensures)
+returns-5 c = simp (c .before .enum-told5 .given .1, ← c .all-below .ensures)
 
 returns-6 : tie.Need-returns-6
 unfolding modeFits
@@ -62,7 +62,7 @@ mode-fits-spec =
     enum-told-3
     enum-told-4
     enum-told-5
-    table-fits-requires
+    all-below-requires
     enum-told-6
     quorum-fits-requires
     returns

@@ -1,9 +1,7 @@
 -- `settings::Settings::within_limits` meets its contract.
 -- Assumes nothing.
-use mathlib.Core.Path.{sym, _∙_}
-use borrow.Author.Needs.{needs}
 use borrow.Author.Tests.{not-true, not-false}
-use Rattle.settings.proofs.Limits.{counts-fit}
+use borrow.Author.Needs.{needs}
 use Rattle.settings.specs.Settings.{withinLimits}
 use Rattle.settings.proofs.Settings.within_limits.Statement.{statement}
 use Rattle.settings.proofs.Settings.within_limits.Tie as tie
@@ -23,14 +21,14 @@ unfolding withinLimits
 returns-2 c = simp (← c .before .before .before .counts-fit .ensures, not-false (c .before .before .before .counts-fit .result) (c .before .before .if1 .left), ← c .before .members-fit .ensures, not-true (c .before .members-fit .result) (c .if2 .taken))
 
 committers-fit-requires : tie.Need-committers-fit-requires
-committers-fit-requires c κs = counts-fit _ (sym (c .before .before .before .counts-fit .ensures) ∙ not-false (c .before .before .before .counts-fit .result) (c .before .before .if1 .left)) .most-processes
+committers-fit-requires c κs = search needs
 
 returns-3 : tie.Need-returns-3
 unfolding withinLimits
 returns-3 c = simp (← c .before .before .before .before .before .counts-fit .ensures, not-false (c .before .before .before .before .before .counts-fit .result) (c .before .before .before .before .if1 .left), ← c .before .before .before .members-fit .ensures, not-false (c .before .before .before .members-fit .result) (c .before .before .if2 .left), ← c .before .committers-fit .ensures, not-true (c .before .committers-fit .result) (c .if3 .taken))
 
 mode-fits-requires : tie.Need-mode-fits-requires
-mode-fits-requires c κs = counts-fit _ (sym (c .before .before .before .before .before .counts-fit .ensures) ∙ not-false (c .before .before .before .before .before .counts-fit .result) (c .before .before .before .before .if1 .left)) .most-processes
+mode-fits-requires c κs = search needs
 
 returns-4 : tie.Need-returns-4
 unfolding withinLimits

@@ -1,0 +1,308 @@
+// The reads of a shard that are not served yet: the Rust's read_tracker.rs. Its map is a table of 128 places, the open reads in front,
+// in the order of their ids.
+ghost use mathlib.Core.Path.{_≡_};
+ghost use Prim.Native.Nat.{_-_, _<_, _≤_};
+ghost use lib.ListN.{take};
+ghost use Rattle.read_tracker.specs.Reads.{newTracker, newTable, newRead, insert, openPlaces, openReads, place, without, atFront, afterResponse, afterCommit, hasQuorum, serve, receiveReady, commitSlot};
+use message::ReadId;
+use message::increment;
+
+// A read that waits for its quorum: the Rust's ReadOnlyCommand with its id. The host keeps the command under the tag.
+pub struct OpenRead {
+    pub id: ReadId,
+    pub tag: u64,
+    pub arrival_slot: u64,
+    pub ready_count: u64,
+    pub local_ready: bool,
+}
+
+// A read that is served: the Rust's command with its CommitReport.
+pub struct ServedRead {
+    pub id: ReadId,
+    pub tag: u64,
+    pub waited_for: u64,
+    pub fast: bool,
+}
+
+// What each call changes of the reads: the id of the next one, and how many are open.
+pub struct ReadTracker {
+    pub next_id: u64,
+    pub open_count: u64,
+}
+
+// The open reads stand in the first open_count places. A call puts the reads that it serves into the first places of `served`.
+pub struct ReadTable {
+    pub reads: [OpenRead; 128],
+    pub served: [ServedRead; 128],
+}
+
+// Tracker and table after a response or a commit, with the number of reads that it served.
+pub struct Tracked {
+    pub tracker: ReadTracker,
+    pub table: ReadTable,
+    pub served_count: u64,
+}
+
+// The id of a read that was taken. `Refused` is refusal 12.
+pub enum Opened {
+    Refused,
+    Id(ReadId),
+}
+
+pub struct Inserted {
+    pub tracker: ReadTracker,
+    pub table: ReadTable,
+    pub opened: Opened,
+}
+
+impl ReadTable {
+    pub fn new() -> ReadTable
+        ensures { λ r. ⌜ r ≡ newTable ⌝ }
+    {
+        let empty = OpenRead {
+            id: ReadId(0),
+            tag: 0,
+            arrival_slot: 0,
+            ready_count: 0,
+            local_ready: false,
+        };
+        let none = ServedRead {
+            id: ReadId(0),
+            tag: 0,
+            waited_for: 0,
+            fast: false,
+        };
+        ReadTable {
+            reads: [empty; 128],
+            served: [none; 128],
+        }
+    }
+}
+
+impl ReadTracker {
+    pub fn new() -> ReadTracker
+        ensures { λ r. ⌜ r ≡ newTracker ⌝ }
+    {
+        ReadTracker {
+            next_id: 0,
+            open_count: 0,
+        }
+    }
+
+    // How many places of the table hold open reads. There are no more than 128, whatever the count says.
+    fn open_places(self) -> usize
+        ensures { λ r. ⌜ r ≡ openPlaces self ⌝ }
+    {
+        if self.open_count < 128 {
+            return self.open_count as usize;
+        }
+        128
+    }
+}
+
+// a minus b, or 0.
+fn saturating_sub(a: u64, b: u64) -> u64
+    ensures { λ r. ⌜ r ≡ a - b ⌝ }
+{
+    if b < a {
+        return a - b;
+    }
+    0
+}
+
+impl OpenRead {
+    // The read as it is inserted: the own answer counts if it is there.
+    fn new(id: ReadId, tag: u64, arrival_slot: u64, local_ready: bool) -> OpenRead
+        ensures { λ r. ⌜ r ≡ newRead id tag «arrival_slot» «local_ready» ⌝ }
+    {
+        let ready_count = local_ready as u64;
+        OpenRead {
+            id,
+            tag,
+            arrival_slot,
+            ready_count,
+            local_ready,
+        }
+    }
+
+    // What one response adds.
+    fn after_response(mut self) -> OpenRead
+        ensures { λ r. ⌜ r ≡ afterResponse self ⌝ }
+    {
+        self.ready_count = increment(self.ready_count);
+        self
+    }
+
+    // The own answer, which a commit gives to each read that misses it.
+    fn after_commit(mut self) -> OpenRead
+        ensures { λ r. ⌜ r ≡ afterCommit self ⌝ }
+    {
+        if self.local_ready {
+            return self;
+        }
+        self.ready_count = increment(self.ready_count);
+        self.local_ready = true;
+        self
+    }
+
+    fn has_quorum(self, read_quorum: u64) -> bool
+        ensures { λ r. ⌜ r ≡ hasQuorum «read_quorum» self ⌝ }
+    {
+        self.ready_count >= read_quorum
+    }
+
+    fn serve(self, slot: u64, fast: bool) -> ServedRead
+        ensures { λ r. ⌜ r ≡ serve slot fast self ⌝ }
+    {
+        let id = self.id;
+        ServedRead {
+            id,
+            tag: self.tag,
+            waited_for: saturating_sub(slot, self.arrival_slot),
+            fast,
+        }
+    }
+}
+
+// A new read, under the next id. Refused where 128 reads are open, or where the ids are spent: the last one is 2^63-1.
+pub fn insert(
+    tracker: ReadTracker,
+    mut table: ReadTable,
+    tag: u64,
+    arrival_slot: u64,
+    local_ready: bool,
+) -> Inserted
+    ensures { λ r. ⌜ r ≡ insert tracker table tag «arrival_slot» «local_ready» ⌝ }
+{
+    if tracker.open_count >= 128 {
+        return Inserted {
+            tracker,
+            table,
+            opened: Opened::Refused,
+        };
+    }
+    if tracker.next_id > 9223372036854775807 {
+        return Inserted {
+            tracker,
+            table,
+            opened: Opened::Refused,
+        };
+    }
+    let id = ReadId(tracker.next_id);
+    let at = tracker.open_count as usize;
+    let read = OpenRead::new(id, tag, arrival_slot, local_ready);
+    table.reads[at] = read;
+    let next_id = tracker.next_id + 1;
+    let open_count = tracker.open_count + 1;
+    Inserted {
+        tracker: ReadTracker {
+            next_id,
+            open_count,
+        },
+        table,
+        opened: Opened::Id(id),
+    }
+}
+
+// The place of the first of the open reads that has this id, or their number where none has it.
+fn find(tracker: ReadTracker, table: ReadTable, id: ReadId) -> usize
+    ensures { λ r. ⌜ r ≡ place id (openReads tracker table) ⌝ }
+{
+    let open_places = tracker.open_places();
+    let mut i: usize = 0;
+    while i < open_places {
+        let read = table.reads[i];
+        if read.id.0 == id.0 {
+            return i;
+        }
+        i += 1;
+    }
+    open_places
+}
+
+// The first `open_places` reads without the one at place `at`: the later ones move one place down.
+fn remove(mut reads: [OpenRead; 128], at: usize, open_places: usize) -> [OpenRead; 128]
+    requires { ⌜ (at < «open_places») × («open_places» ≤ 128) ⌝ }
+    ensures { λ r. ⌜ r ≡ atFront (without at (take «open_places» reads)) reads ⌝ }
+{
+    let mut i = at + 1;
+    while i < open_places {
+        reads[i - 1] = reads[i];
+        i += 1;
+    }
+    reads
+}
+
+// One response. `fast` says whether this one completed the quorum the moment it arrived.
+pub fn receive_ready(
+    mut tracker: ReadTracker,
+    mut table: ReadTable,
+    id: ReadId,
+    read_quorum: u64,
+    slot: u64,
+    fast: bool,
+) -> Tracked
+    ensures { λ r. ⌜ r ≡ receiveReady tracker table id «read_quorum» slot fast ⌝ }
+{
+    let open_places = tracker.open_places();
+    let at = find(tracker, table, id);
+    tracker.open_count = open_places as u64;
+    if at >= open_places {
+        return Tracked {
+            tracker,
+            table,
+            served_count: 0,
+        };
+    }
+    let read = table.reads[at].after_response();
+    if read.has_quorum(read_quorum) {
+        let reads = remove(table.reads, at, open_places);
+        table.reads = reads;
+        table.served[0] = read.serve(slot, fast);
+        let left = open_places - 1;
+        tracker.open_count = left as u64;
+        return Tracked {
+            tracker,
+            table,
+            served_count: 1,
+        };
+    }
+    table.reads[at] = read;
+    Tracked {
+        tracker,
+        table,
+        served_count: 0,
+    }
+}
+
+// The reads that the newly committed slot has made ready are served in the order of their ids. No answer completed their quorum as it
+// arrived, so none of them is fast. The others move to the front.
+pub fn commit_slot(tracker: ReadTracker, table: ReadTable, read_quorum: u64, slot: u64) -> Tracked
+    ensures { λ r. ⌜ r ≡ commitSlot tracker table «read_quorum» slot ⌝ }
+{
+    let open_places = tracker.open_places();
+    let mut reads = table.reads;
+    let mut served = table.served;
+    let mut kept_count: usize = 0;
+    let mut served_count: usize = 0;
+    let mut i: usize = 0;
+    while i < open_places {
+        let read = reads[i].after_commit();
+        i += 1;
+        if read.has_quorum(read_quorum) {
+            served[served_count] = read.serve(slot, false);
+            served_count += 1;
+        } else {
+            reads[kept_count] = read;
+            kept_count += 1;
+        }
+    }
+    Tracked {
+        tracker: ReadTracker {
+            next_id: tracker.next_id,
+            open_count: kept_count as u64,
+        },
+        table: ReadTable { reads, served },
+        served_count: served_count as u64,
+    }
+}

@@ -1,0 +1,24 @@
+-- `tables::look_up` meets its contract.
+-- Assumes nothing.
+use borrow.Author.Needs.{needs}
+use borrow.Author.Tests.{lt-ltb, le-ltb}
+use Rattle.tables.specs.Tables.{lookUp}
+use Rattle.tables.proofs.look_up.Statement.{statement}
+use Rattle.tables.proofs.look_up.Tie as tie
+
+mul-result : tie.Need-mul-result
+mul-result c = search needs
+
+array-read-result : tie.Need-array-read-result
+array-read-result c = search needs
+
+returns : tie.Need-returns
+unfolding lookUp
+returns c = simp (lt-ltb _ _ (c .if1 .taken))
+
+returns-2 : tie.Need-returns-2
+unfolding lookUp
+returns-2 c = simp (le-ltb _ _ (c .if1 .left))
+
+pub look-up-spec : {M : Type 1} → statement M
+look-up-spec = tie.close (tie.spec mul-result array-read-result returns returns-2)
