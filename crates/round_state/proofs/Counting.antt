@@ -13,15 +13,15 @@ use Rattle.round_state.specs.Paxos.{withSender, withOwn, counted}
 use Rattle.round_state.specs.declared.Member.{Member}
 
 module _ (me : Member) (src : ℕ) where
-  with-sender-other : (set : ℕ) → eqb src (me .«my_pid») ≡ false → withSender me src set ≡ insert set src
+  pub with-sender-other : (set : ℕ) → eqb src (me .«my_pid») ≡ false → withSender me src set ≡ insert set src
   unfolding withSender
   with-sender-other set e = ap (λ (t : Bool). cond t set (insert set src)) e
 
-  with-sender-own : (set : ℕ) → eqb src (me .«my_pid») ≡ true → withSender me src set ≡ set
+  pub with-sender-own : (set : ℕ) → eqb src (me .«my_pid») ≡ true → withSender me src set ≡ set
   unfolding withSender
   with-sender-own set e = ap (λ (t : Bool). cond t set (insert set src)) e
 
-  with-own-replica : (set : ℕ) → me .replica ≡ true → withOwn me set ≡ insert set (me .«my_pid»)
+  pub with-own-replica : (set : ℕ) → me .replica ≡ true → withOwn me set ≡ insert set (me .«my_pid»)
   unfolding withOwn
   with-own-replica set e = ap (λ (t : Bool). cond t (insert set (me .«my_pid»)) set) e
 

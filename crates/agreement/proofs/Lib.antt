@@ -1,0 +1,11 @@
+pub mod Tests
+pub mod Rounds
+pub mod Voting
+pub mod Growth
+pub mod Moves
+pub mod Handlers
+pub mod Slots
+pub mod Group
+pub mod Refinement
+pub mod Modes
+pub mod Example

@@ -1,0 +1,5 @@
+pub mod Voting
+pub mod Model
+pub mod Engine
+pub mod Refinement
+pub mod Modes

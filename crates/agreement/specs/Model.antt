@@ -1,0 +1,220 @@
+-- The engine's agreement core as functions: what a member knows, and what a proposal or a message makes of it.
+-- A round is a number: 0 is no round, and the rounds (group, leader) follow in their order. Values are numbers too.
+-- In the functions i is the member called, x what it knows, `source` who sent the message; s, r, a and v are a slot, a round, the round of
+-- a held value and a value.
+-- Assumes nothing.
+use Prim.Native.Nat.{ℕ, suc, pred}
+use mathlib.Core.Bool.{Bool, true, false, not, _&&_, _||_, cond}
+use mathlib.Core.List.{List, [], _∷_, _++_}
+use lib.Dec.{eqb, ltb, leb}
+use Rattle.sets.specs.Sets.{count}
+use Rattle.agreement.specs.Voting.{Voters}
+
+-- what a member knows: its slot and round; whether it holds a value, that value and the round in which it was accepted (0: in none);
+-- and who has prepared and who has accepted in its round, as far as it was told
+pub record View : Type 0 where
+  pub slot : ℕ
+  pub round : ℕ
+  pub holds : Bool
+  pub heldRound : ℕ
+  pub heldValue : ℕ
+  pub prepared : ℕ → Bool
+  pub accepted : ℕ → Bool
+
+-- the settings of a group: who votes; the leader of a round; the round in which a member proposes; whether a slot starts in a round
+-- that has a leader, which then proposes without asking; whether Accepts are answered to a committer too; and the committer of a
+-- requester (both counted from 1; 0 is none)
+pub record Setup : Type 0 where
+  pub voters : Voters
+  pub leader : ℕ → ℕ
+  pub ownRound : ℕ → ℕ
+  pub startsLed : Bool
+  pub threePhases : Bool
+  pub committer : ℕ → ℕ
+
+-- Prepare (slot, round, round of the held value, held value), Accept (slot, round, value), Commit (slot, value), and messages that
+-- have no part in the agreement
+pub data Message : Type 0 where
+  prepare : ℕ → ℕ → ℕ → ℕ → Message
+  accept : ℕ → ℕ → ℕ → Message
+  commit : ℕ → ℕ → Message
+  other : Message
+
+pub data Destination : Type 0 where
+  all : Destination
+  to : ℕ → Destination
+
+pub record Outgoing : Type 0 where
+  pub destination : Destination
+  pub message : Message
+
+-- what the host adds to a call: whether it lets the call through, and the requester of the value (counted from 1; 0 is none)
+pub record Host : Type 0 where
+  pub allows : Bool
+  pub requester : ℕ
+
+-- what a call commits: nothing, or a value in a slot
+pub data Decision : Type 0 where
+  undecided : Decision
+  decided : ℕ → ℕ → Decision
+
+-- what a call leaves: what the member then knows, the messages, the commit, and whether the call was taken (not refused)
+pub record Outcome : Type 0 where
+  pub view : View
+  pub outgoing : List Outgoing
+  pub decision : Decision
+  pub taken : Bool
+
+-- ---- sets of members
+
+abbrev pub empty : ℕ → Bool
+empty k = false
+
+abbrev pub add : ℕ → (ℕ → Bool) → ℕ → Bool
+add m f k = eqb k m || f k
+
+-- ---- what a member knows next
+
+-- in slot s and round r, with nothing held and nobody heard of
+abbrev fresh : ℕ → ℕ → View
+fresh s r = record { slot = s; round = r; holds = false; heldRound = 0; heldValue = 0; prepared = empty; accepted = empty }
+
+-- a new member
+abbrev pub initial : ℕ → View
+initial start = fresh 0 start
+
+-- after a commit
+abbrev pub advanced : ℕ → View → View
+advanced start x = fresh (suc (x .slot)) start
+
+-- in another round of the slot: both sets are of the round, and what is held is kept
+abbrev pub joined : ℕ → View → View
+joined r x = record { slot = x .slot; round = r; holds = x .holds; heldRound = x .heldRound; heldValue = x .heldValue; prepared = empty; accepted = empty }
+
+-- holding another value
+abbrev pub adopted : ℕ → ℕ → View → View
+adopted a v x = record { slot = x .slot; round = x .round; holds = true; heldRound = a; heldValue = v; prepared = x .prepared; accepted = x .accepted }
+
+-- told that m has prepared
+abbrev pub preparedBy : ℕ → View → View
+preparedBy m x = record { slot = x .slot; round = x .round; holds = x .holds; heldRound = x .heldRound; heldValue = x .heldValue; prepared = add m (x .prepared); accepted = x .accepted }
+
+-- told that m has accepted
+abbrev pub acceptedBy : ℕ → View → View
+acceptedBy m x = record { slot = x .slot; round = x .round; holds = x .holds; heldRound = x .heldRound; heldValue = x .heldValue; prepared = x .prepared; accepted = add m (x .accepted) }
+
+-- having accepted v itself, in its round
+abbrev pub voted : ℕ → ℕ → View → View
+voted i v x = record { slot = x .slot; round = x .round; holds = true; heldRound = x .round; heldValue = v; prepared = x .prepared; accepted = add i (x .accepted) }
+
+-- ---- outcomes without a commit
+
+abbrev pub refuse : View → Outcome
+refuse x = record { view = x; outgoing = []; decision = undecided; taken = false }
+
+abbrev pub say : View → List Outgoing → Outcome
+say x os = record { view = x; outgoing = os; decision = undecided; taken = true }
+
+abbrev pub quiet : View → Outcome
+quiet x = say x []
+
+-- ---- the calls
+
+-- x holds a value of a round before a
+abbrev pub holdsBefore : ℕ → View → Bool
+holdsBefore a x = ltb (x .heldRound) a
+
+module _ (S : Setup) where
+  -- a quorum has prepared, a quorum has accepted, as far as the member was told
+  abbrev pub enoughPrepared : View → Bool
+  enoughPrepared x = leb (S .voters .quorum) (count (x .prepared) (S .voters .count))
+
+  abbrev pub enoughAccepted : View → Bool
+  enoughAccepted x = leb (S .voters .quorum) (count (x .accepted) (S .voters .count))
+
+  -- what a Prepare and an Accept have in common: what is of the past is not answered, what is of a later slot or from a member that is
+  -- not live is refused, and to a later round of the slot the member goes along
+  unfoldable pub enter : ℕ → View → ℕ → ℕ → ℕ → (View → Outcome) → Outcome
+  enter i x source s r next =
+      cond (not (S .voters .live i)) (quiet x)
+      (cond (ltb s (x .slot) || ltb r (x .round)) (quiet x)
+      (cond (not (eqb s (x .slot)) || not (S .voters .live source)) (refuse x)
+      (next (cond (ltb (x .round) r) (joined r x) x))))
+
+  -- a promise counted: of two held values the one of the later round is held
+  unfoldable pub counted : ℕ → ℕ → ℕ → ℕ → View → View
+  counted i source a v x = preparedBy i (preparedBy source (cond (holdsBefore a x) (adopted a v x) x))
+
+  -- the delegate picks the held value at the promise that completes a quorum: x0 is the view before the call, `old` the view before that
+  -- promise, x the view with it
+  unfoldable pub picks : ℕ → View → View → View → Outcome
+  picks i x0 old x =
+      cond (ltb (count (old .prepared) (S .voters .count)) (S .voters .quorum) && enoughPrepared x)
+      (cond (x .accepted i) (refuse x0) (say (voted i (x .heldValue) x) (record { destination = all; message = accept (x .slot) (x .round) (x .heldValue) } ∷ [])))
+      (quiet x)
+
+  -- the delegate counts a promise; another member sends the delegate its own, unless it has accepted in the round
+  unfoldable pub promised : ℕ → ℕ → ℕ → ℕ → View → View → Outcome
+  promised i source a v x0 x =
+      cond (eqb (S .voters .delegate (x .round)) i) (picks i x0 x (counted i source a v x))
+      (cond (eqb (x .heldRound) (x .round)) (quiet x)
+      (say x (record { destination = to (S .voters .delegate (x .round)); message = prepare (x .slot) (x .round) (x .heldRound) (x .heldValue) } ∷ [])))
+
+  unfoldable pub onPrepare : ℕ → View → ℕ → ℕ → ℕ → ℕ → ℕ → Outcome
+  onPrepare i x source s r a v = enter i x source s r (λ y. promised i source a v x (cond (y .holds) y (preparedBy i (adopted a v y))))
+
+  -- the held value is committed once a quorum has accepted it, and all are told where `tell` says so
+  unfoldable pub commits : View → List Outgoing → Bool → Outcome
+  commits x os tell =
+      cond (enoughAccepted x)
+      (record {
+        view = advanced (S .voters .start) x;
+        outgoing = cond tell (os ++ (record { destination = all; message = commit (x .slot) (x .heldValue) } ∷ [])) os;
+        decision = decided (x .slot) (x .heldValue);
+        taken = true;
+      })
+      (say x os)
+
+  -- the answers to an Accept: to the committer c, where there is one besides the leader and oneself, and to the leader
+  unfoldable pub answers : ℕ → ℕ → View → List Outgoing
+  answers i c x =
+      let o : List Outgoing = record { destination = to (S .leader (x .round)); message = accept (x .slot) (x .round) (x .heldValue) } ∷ [] in
+      cond (eqb c 0 || eqb c (suc i) || eqb c (suc (S .leader (x .round)))) o
+      (record { destination = to (pred c); message = accept (x .slot) (x .round) (x .heldValue) } ∷ o)
+
+  -- the leader and the committer commit; an Accept of the round's delegate is answered
+  unfoldable pub afterAccept : ℕ → ℕ → Host → View → View → Outcome
+  afterAccept i source h x0 x =
+      let c : ℕ = cond (S .threePhases) (S .committer (h .requester)) 0 in
+      cond (eqb i (S .leader (x .round))) (commits x [] true)
+      (cond (eqb source (S .voters .delegate (x .round)))
+      (cond (eqb c (suc i)) (commits x (answers i c x) (not (eqb (h .requester) (suc i)))) (say x (answers i c x)))
+      (cond (eqb c (suc i)) (commits x [] (not (eqb (h .requester) (suc i)))) (refuse x0)))
+
+  -- a value is accepted unless another was accepted in the round
+  unfoldable pub onAccept : ℕ → View → ℕ → ℕ → ℕ → ℕ → Host → Outcome
+  onAccept i x source s r v h = enter i x source s r (λ y.
+      cond (ltb (y .heldRound) (y .round) || (eqb (y .heldRound) (y .round) && eqb (y .heldValue) v)) (afterAccept i source h x (acceptedBy source (voted i v y))) (refuse x))
+
+  unfoldable pub onCommit : ℕ → View → ℕ → ℕ → Outcome
+  onCommit i x s v =
+      cond (ltb s (x .slot)) (quiet x)
+      (cond (eqb s (x .slot)) (record { view = advanced (S .voters .start) x; outgoing = []; decision = decided (x .slot) v; taken = true }) (refuse x))
+
+  -- a live member that has not left the starting round and holds nothing proposes: the leader of that round by an Accept, and where no
+  -- round is led from the start any member, by a Prepare in a round of its own
+  unfoldable pub onPropose : ℕ → View → ℕ → Outcome
+  onPropose i x v =
+      cond (S .voters .live i && (eqb (x .round) (S .voters .start) && not (x .holds)))
+      (cond (S .startsLed)
+      (cond (eqb i (S .voters .delegate (x .round)))
+      (say (voted i v (preparedBy i (adopted 0 v (joined (x .round) x)))) (record { destination = all; message = accept (x .slot) (x .round) v } ∷ []))
+      (refuse x))
+      (say (preparedBy i (adopted 0 v (joined (S .ownRound i) x))) (record { destination = all; message = prepare (x .slot) (S .ownRound i) 0 v } ∷ [])))
+      (refuse x)
+
+  unfoldable pub onMessage : ℕ → View → ℕ → Host → Message → Outcome
+  onMessage i x source h (prepare s r a v) = onPrepare i x source s r a v
+  onMessage i x source h (accept s r v) = onAccept i x source s r v h
+  onMessage i x source h (commit s v) = onCommit i x s v
+  onMessage i x source h other = quiet x

@@ -1,0 +1,90 @@
+-- Answers, and the commit of a value with the reads that it serves (the Rust's commit_slot and commit_commands).
+-- Assumes nothing.
+use mathlib.Core.Bool.{Bool, false, cond, not, _&&_}
+use Prim.Native.Nat.{ℕ}
+use Rattle.message.specs.Modes.{hasFastPath}
+use Rattle.message.specs.declared.Outcome.the-variants.{Done, Refused}
+use Rattle.message.specs.declared.Refusal.{Refusal}
+use Rattle.message.specs.declared.Refusal.the-variants.{ValueNotHeld}
+use Rattle.read_tracker.specs.Reads.{commitSlot as serveReads}
+use Rattle.read_tracker.specs.declared.ReadTracker.{ReadTracker}
+use Rattle.read_tracker.specs.declared.Tracked.{Tracked}
+use Rattle.paxos_family.specs.Commit.{commitSlot}
+use Rattle.paxos_family.specs.Steps.{noMessages}
+use Rattle.paxos_family.specs.declared.Asked.{Asked}
+use Rattle.paxos_family.specs.declared.Core.{Core}
+use Rattle.paxos_family.specs.declared.Messages.{Messages}
+use Rattle.paxos_family.specs.declared.Next.{Next}
+use Rattle.paxos_family.specs.declared.Next.the-variants.{Stays, Continues, Commits, Refuses}
+use Rattle.paxos_family.specs.declared.Rounds.{Rounds}
+use Rattle.paxos_family.specs.declared.RoundsStep.{RoundsStep}
+use Rattle.consensus.specs.declared.Answer.{Answer}
+use Rattle.consensus.specs.declared.OptionalCommit.{OptionalCommit}
+use Rattle.consensus.specs.declared.OptionalCommit.the-variants.{NoCommit, Committed}
+use Rattle.consensus.specs.declared.Shard.{Shard}
+use Rattle.consensus.specs.declared.State.{State}
+
+-- ---- the parts of the shard set anew
+
+abbrev pub withState : Shard → State → Shard
+withState shard state = record { made = shard .made; settings = shard .settings; state = state }
+
+abbrev pub withRounds : Shard → Rounds → Shard
+withRounds shard rounds = withState shard (record { rounds = rounds; table = shard .state .table })
+
+-- a core with its reads counted anew, and with the mark of the fast path cleared
+abbrev pub withTracker : ReadTracker → Core → Core
+withTracker tracker core =
+    record { slot = core .slot; «last_v» = core .«last_v»; «slot_left_fast_path» = core .«slot_left_fast_path»; paxos = core .paxos; tracker = tracker }
+
+abbrev pub onFastPath : Core → Core
+onFastPath core =
+    record { slot = core .slot; «last_v» = core .«last_v»; «slot_left_fast_path» = false; paxos = core .paxos; tracker = core .tracker }
+
+-- ---- the kinds of answer
+
+-- a refusal hands back its number alone and leaves the shard
+abbrev pub refused : Refusal → Shard → Answer
+refused why shard = record { shard = shard; reply = record { outcome = Refused why; messages = noMessages; commit = NoCommit; «served_count» = 0 } }
+
+abbrev pub sent : Shard → Messages → Answer
+sent shard messages = record { shard = shard; reply = record { outcome = Done; messages = messages; commit = NoCommit; «served_count» = 0 } }
+
+abbrev pub nothing : Shard → Answer
+nothing shard = sent shard noMessages
+
+abbrev pub served : Shard → Rounds → Tracked → Messages → OptionalCommit → Answer
+served shard rounds reads messages commit =
+    record {
+      shard =
+          withState shard
+          (record { rounds = record { core = withTracker (reads .tracker) (rounds .core); fast = rounds .fast }; table = reads .table });
+      reply = record { outcome = Done; messages = messages; commit = commit; «served_count» = reads .«served_count» };
+    }
+
+-- ---- the commit of a value
+
+-- "fast mark from `has_fast_path` and `slot_left_fast_path`, whoever the requester"
+abbrev pub isFast : Asked → Core → Bool
+isFast a core = hasFastPath (a .mode) && not (core .«slot_left_fast_path»)
+
+-- commit_slot, and then commit_commands: the mark of the fast path is read and cleared, and the reads that the commit has made ready are
+-- served at the new slot
+unfoldable pub committed : Shard → Asked → ℕ → Rounds → Messages → Answer
+committed shard a v s messages =
+    served shard (record { core = onFastPath (commitSlot a v s .core); fast = commitSlot a v s .fast })
+    (serveReads (s .core .tracker) (shard .state .table) (a .member .quorums .majority) (commitSlot a v s .core .slot))
+    messages
+    (Committed (s .core .slot) v (isFast a (s .core)))
+
+-- ---- the end of a call
+
+-- a step becomes an answer: what is refused leaves the old shard, and a commit needs its value ("last the 6 of a commit")
+abbrev pub finishAt : Shard → Asked → Bool → Rounds → Messages → Next → Answer
+finishAt shard a held s messages Stays = sent (withRounds shard s) messages
+finishAt shard a held s messages Continues = sent (withRounds shard s) messages
+finishAt shard a held s messages (Commits v) = cond held (committed shard a v s messages) (refused ValueNotHeld shard)
+finishAt shard a held s messages (Refuses why) = refused why shard
+
+abbrev pub finish : Shard → Asked → Bool → RoundsStep → Answer
+finish shard a held step = finishAt shard a held (step .rounds) (step .messages) (step .next)

@@ -1,0 +1,147 @@
+-- Handling an admitted message (the Rust's full_process_message), and start_read.
+-- Assumes nothing.
+use mathlib.Core.Bool.{Bool, cond, not, _&&_}
+use Prim.Native.Nat.{ℕ}
+use lib.Dec.{eqb, ltb}
+use Rattle.message.specs.Modes.{hasFastPath, isSwiftPaxos}
+use Rattle.message.specs.Rounds.{increment}
+use Rattle.message.specs.declared.ConsensusMsg.{ConsensusMsg}
+use Rattle.message.specs.declared.ConsensusMsg.the-variants.{Prepare, Accept, ForwardRequest, Commit, ReadRequest, ReadResponse}
+use Rattle.message.specs.declared.OptionalProcess.{OptionalProcess}
+use Rattle.message.specs.declared.OptionalValue.the-variants.{NoValue}
+use Rattle.message.specs.declared.ReadId.{ReadId}
+use Rattle.message.specs.declared.Refusal.the-variants.{Panic, NoRoomForRead}
+use Rattle.message.specs.declared.RoundV.the-variants.{FastV, PaxosV}
+use Rattle.fast_state.specs.declared.FastState.{FastState}
+use Rattle.read_tracker.specs.Reads.{insert, receiveReady}
+use Rattle.read_tracker.specs.declared.Inserted.{Inserted}
+use Rattle.read_tracker.specs.declared.Opened.{Opened}
+use Rattle.read_tracker.specs.declared.Opened.the-variants.{Refused, Id}
+use Rattle.round_state.specs.Paxos.{isHeld}
+use Rattle.settings.specs.Questions.{isLiveReplica, isReplica, quorumsOf, delegateOf, committerOf, startingRoundOf}
+use Rattle.settings.specs.declared.Settings.{Settings}
+use Rattle.paxos_family.specs.Process.{processClassic, processFast}
+use Rattle.paxos_family.specs.Steps.{noMessages, oneMessage, sends, toAll, onRounds}
+use Rattle.paxos_family.specs.declared.Asked.{Asked}
+use Rattle.paxos_family.specs.declared.Core.{Core}
+use Rattle.paxos_family.specs.declared.Destination.the-variants.{One}
+use Rattle.paxos_family.specs.declared.Heard.{Heard}
+use Rattle.paxos_family.specs.declared.Rounds.{Rounds}
+use Rattle.paxos_family.specs.declared.RoundsStep.{RoundsStep}
+use Rattle.consensus.specs.Answers.{withTracker, refused, sent, nothing, served, committed, finish}
+use Rattle.consensus.specs.declared.Answer.{Answer}
+use Rattle.consensus.specs.declared.Delivery.{Delivery}
+use Rattle.consensus.specs.declared.OptionalCommit.the-variants.{NoCommit}
+use Rattle.consensus.specs.declared.Shard.{Shard}
+
+-- ---- what the handlers ask
+
+abbrev pub askedOf : Settings → Asked
+askedOf s =
+    record {
+      member = record { «my_pid» = s .«my_pid»; replica = isReplica s; quorums = quorumsOf s };
+      mode = s .mode;
+      «starting_round» = startingRoundOf s;
+      «first_leader» = s .«first_leader»;
+      quorum = s .quorum;
+    }
+
+-- delegate_or_leader: in SwiftPaxos, at another than the leader, the proposer of a fast value
+unfoldable pub gathererOf : Settings → ConsensusMsg → ℕ
+gathererOf s (Prepare slot round (FastV proposer v)) =
+    cond (isSwiftPaxos (s .mode) && not (eqb (round .leader) (s .«my_pid»))) proposer (delegateOf s (s .mode) (round .leader))
+gathererOf s (Prepare slot round (PaxosV at v)) = delegateOf s (s .mode) (round .leader)
+gathererOf s (Accept slot round v) = delegateOf s (s .mode) (round .leader)
+gathererOf s (ForwardRequest v) = 0
+gathererOf s (Commit slot v) = 0
+gathererOf s (ReadRequest id) = 0
+gathererOf s (ReadResponse id next) = 0
+
+abbrev pub heardOf : Settings → Delivery → Heard
+heardOf s d =
+    record {
+      src = d .message .src;
+      «source_live» = isLiveReplica s (d .message .src);
+      delegate = gathererOf s (d .message .msg);
+      requester = d .said .requester;
+      committer = committerOf s (d .said .requester);
+      «held_requester» = d .«held_requester»;
+    }
+
+-- ---- Commit
+
+-- an older one does nothing; the own slot's commits, from any source and at any member
+unfoldable pub onCommit : Shard → ℕ → ℕ → Answer
+onCommit shard slot v =
+    cond (ltb slot (shard .state .rounds .core .slot)) (nothing shard) (committed shard (askedOf (shard .settings)) v (shard .state .rounds) noMessages)
+
+-- ---- reads
+
+-- the first slot that is not decided here yet: the own one, or the next while a value is held
+abbrev pub nextReadable : Core → ℕ
+nextReadable core = cond (isHeld (core .paxos .«max_rv»)) (increment (core .slot)) (core .slot)
+
+-- answered at any member; the Rust's sink asserts that nothing is sent to oneself. A ReadResponse carries no last value.
+unfoldable pub onReadRequest : Shard → ℕ → ReadId → Answer
+onReadRequest shard src id =
+    cond (eqb src (shard .settings .«my_pid»)) (refused Panic shard)
+    (sent shard
+    (oneMessage
+    (record {
+      destination = One src;
+      message =
+          record { msg = ReadResponse id (nextReadable (shard .state .rounds .core)); src = shard .settings .«my_pid»; «last_v» = NoValue };
+    })))
+
+-- a response of an older slot still counts
+unfoldable pub onReadResponse : Shard → ReadId → Bool → Answer
+onReadResponse shard id fast =
+    served shard (shard .state .rounds)
+    (receiveReady (shard .state .rounds .core .tracker) (shard .state .table) id (quorumsOf (shard .settings) .majority) (shard .state .rounds .core .slot) fast)
+    noMessages
+    NoCommit
+
+-- start_read, with refusal 12
+abbrev pub afterInsert : Shard → Inserted → Opened → Answer
+afterInsert shard ins Refused = refused NoRoomForRead shard
+afterInsert shard ins (Id id) =
+    record {
+      shard =
+          record {
+            made = shard .made;
+            settings = shard .settings;
+            state =
+                record {
+                  rounds = record { core = withTracker (ins .tracker) (shard .state .rounds .core); fast = shard .state .rounds .fast };
+                  table = ins .table;
+                };
+          };
+      reply = sent shard (oneMessage (sends (askedOf (shard .settings)) (shard .state .rounds .core) toAll (ReadRequest id))) .reply;
+    }
+
+abbrev pub readInserted : Shard → ℕ → ℕ → Inserted
+readInserted shard tag arrival =
+    insert (shard .state .rounds .core .tracker) (shard .state .table) tag arrival (not (isHeld (shard .state .rounds .core .paxos .«max_rv»)))
+
+unfoldable pub startRead : Shard → ℕ → ℕ → Answer
+startRead shard tag arrival = afterInsert shard (readInserted shard tag arrival) (readInserted shard tag arrival .opened)
+
+-- ---- Prepare, Accept and ForwardRequest
+
+module _ (choose : FastState → OptionalProcess) where
+  unfoldable pub processed : Asked → Heard → ConsensusMsg → Rounds → RoundsStep
+  processed a h msg s = cond (hasFastPath (a .mode)) (processFast choose a h msg s) (onRounds (s .fast) (processClassic a h msg (s .core)))
+
+  unfoldable pub processMessage : Shard → Delivery → Answer
+  processMessage shard d =
+      finish shard (askedOf (shard .settings)) (d .said .«value_held»)
+      (processed (askedOf (shard .settings)) (heardOf (shard .settings) d) (d .message .msg) (shard .state .rounds))
+
+  -- full_process_message
+  unfoldable pub handle : Shard → Delivery → ConsensusMsg → Answer
+  handle shard d (Prepare slot round rv) = processMessage shard d
+  handle shard d (Accept slot round v) = processMessage shard d
+  handle shard d (ForwardRequest v) = processMessage shard d
+  handle shard d (Commit slot v) = onCommit shard slot v
+  handle shard d (ReadRequest id) = onReadRequest shard (d .message .src) id
+  handle shard d (ReadResponse id next) = onReadResponse shard id (d .said .fast)

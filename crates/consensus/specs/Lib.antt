@@ -1,0 +1,5 @@
+pub mod Limits
+pub mod Admit
+pub mod Answers
+pub mod Handle
+pub mod Call

@@ -1,0 +1,433 @@
+-- Demand 3: in Paxos, MultiPaxos, MultiPaxos3P and Pando, with every settings, every legal list of calls meets the claim.
+-- Assumes nothing.
+use mathlib.Core.Path.{_≡_, refl, sym, ap, ap₂, subst, _∙_}
+use mathlib.Core.Logic.{_⊎_, inl, inr}
+use mathlib.Core.Bool.{Bool, true, false, cond, not, _&&_}
+use mathlib.Core.List.{List, [], _∷_}
+use Prim.Native.Nat.{ℕ, suc, _≤_, _<_}
+use native.Mathlib.Nat.{zero-lt-suc, le-trans, lt-of-lt-of-le}
+use native.Mathlib.Omega.{arith}
+use lib.Dec.{T, eqb, ltb, leb}
+use borrow.Author.Tests.{lt-ltb}
+use Rattle.booleans.proofs.Tests.{either, not-both}
+use Rattle.sets.specs.Sets.{contains, count, size, fits}
+use Rattle.sets.proofs.Counting.{count-le}
+use Rattle.message.specs.Modes.{isMultiPaxos}
+use Rattle.message.specs.Rounds.{startingRound}
+use Rattle.message.specs.declared.ConsensusMessage.{ConsensusMessage}
+use Rattle.message.specs.declared.Outcome.{Outcome}
+use Rattle.message.specs.declared.Outcome.the-variants.{Done, Refused}
+use Rattle.message.specs.declared.PFMode.{PFMode}
+use Rattle.message.specs.declared.PFMode.the-variants.{Paxos, MultiPaxos, MultiPaxos3P, EPaxos, Pando, SwiftPaxos}
+use Rattle.message.specs.declared.Refusal.{Refusal}
+use Rattle.message.specs.declared.Refusal.the-variants.{SettingsOutsideLimits}
+use Rattle.settings.specs.Settings.{countsFit, membersFit, committersFit, modeFits, withinLimits}
+use Rattle.settings.specs.declared.Settings.{Settings}
+use Rattle.settings.proofs.Limits.{within-counts, within-members}
+use Rattle.fast_state.specs.Adopt.{lowestBest}
+use Rattle.consensus.specs.Answers.{refused}
+use Rattle.consensus.specs.Call.{newShard, ifMade, callWith, callOf}
+use Rattle.consensus.specs.declared.Answer.{Answer}
+use Rattle.consensus.specs.declared.Call.{Call}
+use Rattle.consensus.specs.declared.Call.the-variants.{Propose, StartRead, Receive}
+use Rattle.consensus.specs.declared.OptionalCommit.{OptionalCommit}
+use Rattle.consensus.specs.declared.OptionalCommit.the-variants.{NoCommit, Committed}
+use Rattle.consensus.specs.declared.Shard.{Shard}
+use Rattle.paxos_family.specs.declared.Destination.{Destination}
+use Rattle.paxos_family.specs.declared.Destination.the-variants.{One, All}
+use Rattle.paxos_family.specs.declared.Messages.{Messages}
+use Rattle.paxos_family.specs.declared.OptionalMessage.{OptionalMessage}
+use Rattle.paxos_family.specs.declared.OptionalMessage.the-variants.{NoMessage, Send}
+use Rattle.paxos_family.specs.declared.Outgoing.{Outgoing}
+use Rattle.agreement.specs.Engine.{Kind, In}
+use Rattle.agreement.specs.Engine as engine
+use Rattle.agreement.specs.Model.{Setup}
+use Rattle.agreement.specs.Model as model
+use Rattle.agreement.specs.Refinement.{SetupRules, Refines, AsModel}
+use Rattle.agreement.specs.Voting.{QuorumsMeet}
+use Rattle.agreement.proofs.Refinement.{refines-claim}
+use Rattle.agreement.proofs.Voting.{majority-meets}
+use Rattle.group.specs.Claim.{memberSettings, begun, MemberCall, Entry, entryOf, afterCall, entriesFrom, entries, listed, messagesOf, SentTo, WasSent, MayStand, LegalFrom, Legal, At, one, slotAt, Proposed, Claim, Classic}
+use Rattle.group.proofs.Calls.{isDone, decisionOf, seenAnswer, engineOf, viewShard, refuse-as-model, kindOf, Valid, call-ok}
+use Rattle.group.proofs.Proposing.{starting-fits}
+use Rattle.group.proofs.View.{roundNumber, no-member, meaningOf, destinationOf, envelope, envelopesOf, envelopes, setupOf}
+
+-- ---- the setup of a group
+
+starts-in-round : (m : PFMode) (l : ℕ) → T (isMultiPaxos m) → 1 ≤ roundNumber (startingRound m l)
+starts-in-round Paxos l t = absurd t
+starts-in-round MultiPaxos l t = omega arith
+starts-in-round MultiPaxos3P l t = omega arith
+starts-in-round EPaxos l t = absurd t
+starts-in-round Pando l t = absurd t
+starts-in-round SwiftPaxos l t = absurd t
+
+own-round-later : (m : PFMode) (l i : ℕ) → T (not (isMultiPaxos m)) → roundNumber (startingRound m l) < suc i
+own-round-later Paxos l i t = zero-lt-suc i
+own-round-later MultiPaxos l i t = absurd t
+own-round-later MultiPaxos3P l i t = absurd t
+own-round-later EPaxos l i t = zero-lt-suc i
+own-round-later Pando l i t = zero-lt-suc i
+own-round-later SwiftPaxos l i t = zero-lt-suc i
+
+-- the setup with another quorum
+abbrev withQuorum : Settings → ℕ → Setup
+withQuorum s q =
+    record {
+      voters =
+          record {
+            count = 64;
+            quorum = q;
+            start = setupOf s .voters .start;
+            live = setupOf s .voters .live;
+            delegate = setupOf s .voters .delegate;
+          };
+      leader = setupOf s .leader;
+      ownRound = setupOf s .ownRound;
+      startsLed = setupOf s .startsLed;
+      threePhases = setupOf s .threePhases;
+      committer = setupOf s .committer;
+    }
+
+setup-rules : (s : Settings) (q : ℕ) → SetupRules (withQuorum s q)
+setup-rules s q =
+    record { startsInRound = starts-in-round (s .mode) (s .«first_leader»); ownRoundLater = λ t i. own-round-later (s .mode) (s .«first_leader») i t }
+
+-- ---- settings within the limits, for one member or for all
+
+mode-same : (s : Settings) (i j : ℕ) (m : PFMode) → modeFits (memberSettings s i) m ≡ modeFits (memberSettings s j) m
+unfolding modeFits
+mode-same s i j Paxos = refl
+mode-same s i j MultiPaxos = refl
+mode-same s i j MultiPaxos3P = refl
+mode-same s i j EPaxos = refl
+mode-same s i j Pando = refl
+mode-same s i j SwiftPaxos = refl
+
+limits-same : (s : Settings) (i : ℕ) → i < s .«process_count» → withinLimits (memberSettings s i) ≡ withinLimits (memberSettings s 0)
+unfolding withinLimits countsFit membersFit committersFit
+limits-same s i l =
+    let own : ltb i (s .«process_count») ≡ true = lt-ltb i (s .«process_count») l in
+    let first : ltb 0 (s .«process_count») ≡ true = lt-ltb 0 (s .«process_count») (omega arith) in
+    ap₂
+    (λ (t u : Bool).
+    countsFit (memberSettings s i)
+    && (t && ltb (s .«first_leader») (s .«process_count») && fits (s .«alive_replicas») (s .«process_count») && leb (size (s .«alive_replicas»)) (s .«replica_count»))
+    && committersFit (memberSettings s i)
+    && u)
+    (own ∙ sym first)
+    (mode-same s i 0 (s .mode))
+
+live-quorums-meet : (s : Settings) → withinLimits (memberSettings s 0) ≡ true → QuorumsMeet (setupOf s .voters)
+unfolding size
+live-quorums-meet s limits =
+    let counts = within-counts (memberSettings s 0) limits in
+    let few : s .«replica_count» ≤ 64 = le-trans (counts .most-replicas) (counts .most-processes) in
+    let live : count (contains (s .«alive_replicas»)) 64 ≤ s .«replica_count» = within-members (memberSettings s 0) limits .live-size in
+    majority-meets (setupOf s .voters) (s .«replica_count») (omega arith) live
+
+no-quorum-meets : (s : Settings) → QuorumsMeet (withQuorum s 65 .voters)
+no-quorum-meets s f h fl hl cf ch = absurd (omega (arith, count-le f 64))
+
+-- ---- the engine refines the model
+
+begun-view : (s : Settings) (i : ℕ) → viewShard (begun s i) ≡ model.initial (setupOf s .voters .start)
+unfolding newShard
+begun-view s i =
+    ap
+    (λ (f : ℕ → Bool).
+    record { slot = 0; round = setupOf s .voters .start; holds = false; heldRound = 0; heldValue = 0; prepared = f; accepted = f })
+    no-member
+
+begun-valid : (s : Settings) (i : ℕ) → Valid s i (begun s i)
+unfolding newShard
+begun-valid s i =
+    record {
+      own-settings = refl;
+      within = λ e. within e;
+      leaders = λ e. record { in-round = starting-fits (s .mode) (s .«first_leader») (first (within e)); in-held = tt };
+    }
+  where
+    within : cond (withinLimits (memberSettings s i)) Done (Refused SettingsOutsideLimits) ≡ Done → withinLimits (memberSettings s i) ≡ true
+    within e = go (withinLimits (memberSettings s i)) refl e
+      where
+        go : (t : Bool) → withinLimits (memberSettings s i) ≡ t → cond t Done (Refused SettingsOutsideLimits) ≡ Done → withinLimits (memberSettings s i) ≡ true
+        go true d f = d
+        go false d f = let z : _≡_ {A = Bool} true false = ap isDone (sym f) in absurd (not-both refl z)
+
+    first : withinLimits (memberSettings s i) ≡ true → s .«first_leader» < 64
+    first e = lt-of-lt-of-le (within-members (memberSettings s i) e .leader-below) (within-counts (memberSettings s i) e .most-processes)
+
+made-refines : (s : Settings) → Classic (s .mode) → Refines (setupOf s) (engineOf s)
+made-refines s classic =
+    record {
+      view = viewShard;
+      meaning = meaningOf;
+      Valid = Valid s;
+      initial-view = λ i l. begun-view s i;
+      initial-valid = λ i l. begun-valid s i;
+      answer-valid = λ c x v. call-ok s (c .member) classic x v (c .call) .valid;
+      answer-as-model = λ c x v. call-ok s (c .member) classic x v (c .call) .as-model;
+    }
+
+-- a shard that was not made
+abbrev Unmade : Shard → Type 0
+Unmade shard = (why : Refusal) × (shard .made ≡ Refused why)
+
+unmade-call : (shard : Shard) (u : Unmade shard) (c : Call) → callOf shard c ≡ refused (u .0) shard
+unfolding callWith
+unmade-call shard u c = ap (ifMade lowestBest shard c) (u .1)
+
+unmade-refines : (s : Settings) → withinLimits (memberSettings s 0) ≡ false → Refines (withQuorum s 65) (engineOf s)
+unfolding newShard
+unmade-refines s outside =
+    record {
+      view = viewShard;
+      meaning = meaningOf;
+      Valid = λ i shard. Unmade shard;
+      initial-view = λ i l. begun-view s i;
+      initial-valid = λ i l. (SettingsOutsideLimits, ap (λ (t : Bool). cond t Done (Refused SettingsOutsideLimits)) (limits-same s i l ∙ outside));
+      answer-valid = λ c x u. subst (λ (r : Answer). Unmade (r .shard)) (sym (unmade-call x u (c .call))) u;
+      answer-as-model = λ c x u.
+          subst (λ (r : Answer). AsModel meaningOf (withQuorum s 65) (c .member) (viewShard x) (kindOf (c .call)) (seenAnswer r)) (sym (unmade-call x u (c .call)))
+          (refuse-as-model (withQuorum s 65) (c .member) (viewShard x) (kindOf (c .call)));
+    }
+
+-- ---- the claim of the engine's log
+
+log-claim : (s : Settings) → Classic (s .mode) → (cs : List MemberCall) → engine.Legal (engineOf s) (engine.begin (engineOf s)) cs
+    → engine.Claim (engine.runs (engineOf s) (engine.begin (engineOf s)) cs .log)
+log-claim s classic cs legal = go (either (withinLimits (memberSettings s 0)))
+  where
+    go : (withinLimits (memberSettings s 0) ≡ true) ⊎ (withinLimits (memberSettings s 0) ≡ false)
+        → engine.Claim (engine.runs (engineOf s) (engine.begin (engineOf s)) cs .log)
+    go (inl e) = refines-claim (setupOf s) (setup-rules s (setupOf s .voters .quorum)) (live-quorums-meet s e) (engineOf s) (made-refines s classic) cs legal
+    go (inr e) = refines-claim (withQuorum s 65) (setup-rules s 65) (no-quorum-meets s) (engineOf s) (unmade-refines s e) cs legal
+
+-- ---- from the entries of a run to the engine's log
+
+-- the messages that the entries handed back, and their log
+abbrev sentOf : List Entry → List (engine.Sent ConsensusMessage)
+sentOf [] = []
+sentOf (e ∷ past) = engine.sentWith (e .member) (envelopes (e .reply .messages)) (sentOf past)
+
+abbrev logOf : List Entry → List engine.Event
+logOf [] = []
+logOf (e ∷ past) = engine.withCommit (e .member) (decisionOf (e .reply .commit)) (engine.withProposal (e .member) (kindOf (e .call)) (isDone (e .reply .outcome)) (logOf past))
+
+abbrev runAt : (ℕ → Shard) → List Entry → engine.Run Shard ConsensusMessage
+runAt shards past = record { shards = shards; sent = sentOf past; log = logOf past }
+
+run-log : (s : Settings) (shards : ℕ → Shard) (past : List Entry) (cs : List MemberCall)
+    → engine.runs (engineOf s) (runAt shards past) cs .log ≡ logOf (entriesFrom shards past cs)
+unfolding entriesFrom engine.runs engine.step
+run-log s shards past [] = refl
+run-log s shards past (c ∷ cs) = run-log s (afterCall shards c) (entryOf shards c ∷ past) cs
+
+-- a message that an entry handed back was sent
+in-envelopes : (o : Outgoing) (ms : Messages) → In o (messagesOf ms) → In (envelope o) (envelopes ms)
+in-envelopes o ms m = first (ms .first) (ms .second) (ms .third) m
+  where
+    third : (c : OptionalMessage) → In o (listed c []) → In (envelope o) (envelopesOf c [])
+    third NoMessage h = h
+    third (Send z) (inl e) = inl (ap envelope e)
+    third (Send z) (inr h) = absurd h
+
+    second : (b c : OptionalMessage) → In o (listed b (listed c [])) → In (envelope o) (envelopesOf b (envelopesOf c []))
+    second NoMessage c h = third c h
+    second (Send z) c (inl e) = inl (ap envelope e)
+    second (Send z) c (inr h) = inr (third c h)
+
+    first : (a b c : OptionalMessage) → In o (listed a (listed b (listed c []))) → In (envelope o) (envelopesOf a (envelopesOf b (envelopesOf c [])))
+    first NoMessage b c h = second b c h
+    first (Send z) b c (inl e) = inl (ap envelope e)
+    first (Send z) b c (inr h) = inr (second b c h)
+
+in-sent-with : (x : engine.Sent ConsensusMessage) (i : ℕ) (os : List (engine.Envelope ConsensusMessage)) (l : List (engine.Sent ConsensusMessage)) → In x l → In x (engine.sentWith i os l)
+in-sent-with x i [] l h = h
+in-sent-with x i (o ∷ os) l h = inr (in-sent-with x i os l h)
+
+in-own : (o : engine.Envelope ConsensusMessage) (i : ℕ) (os : List (engine.Envelope ConsensusMessage)) (l : List (engine.Sent ConsensusMessage)) → In o os → In (record { source = i; envelope = o }) (engine.sentWith i os l)
+in-own o i [] l h = absurd h
+in-own o i (x ∷ os) l (inl e) = inl (ap (λ (z : engine.Envelope ConsensusMessage). record { source = i; envelope = z }) e)
+in-own o i (x ∷ os) l (inr h) = inr (in-own o i os l h)
+
+in-sent : (e : Entry) (o : Outgoing) (past : List Entry) → In e past → In o (messagesOf (e .reply .messages)) → In (record { source = e .member; envelope = envelope o }) (sentOf past)
+in-sent e o [] h m = absurd h
+in-sent e o (x ∷ past) (inl d) m =
+    subst (λ (z : Entry). In (record { source = e .member; envelope = envelope o }) (engine.sentWith (z .member) (envelopes (z .reply .messages)) (sentOf past))) d
+    (in-own (envelope o) (e .member) (envelopes (e .reply .messages)) (sentOf past) (in-envelopes o (e .reply .messages) m))
+in-sent e o (x ∷ past) (inr h) m = in-sent-with (record { source = e .member; envelope = envelope o }) (x .member) (envelopes (x .reply .messages)) (sentOf past) (in-sent e o past h m)
+
+was-sent : (past : List Entry) (message : ConsensusMessage) (member : ℕ) → WasSent past message member
+    → In (record { source = message .src; envelope = record { destination = model.all; message = message } }) (sentOf past)
+    ⊎ In (record { source = message .src; envelope = record { destination = model.to member; message = message } }) (sentOf past)
+was-sent past message member w = go (w .1 .destination) refl (w .6)
+  where
+    sent : In (record { source = message .src; envelope = record { destination = destinationOf (w .1 .destination); message = message } }) (sentOf past)
+    sent =
+        subst (λ (p : ℕ). In (record { source = p; envelope = record { destination = destinationOf (w .1 .destination); message = message } }) (sentOf past)) (w .3)
+        (subst (λ (m : ConsensusMessage). In (record { source = w .0 .member; envelope = record { destination = destinationOf (w .1 .destination); message = m } }) (sentOf past)) (w .5)
+        (in-sent (w .0) (w .1) past (w .2) (w .4)))
+
+    go : (d : Destination) → w .1 .destination ≡ d → SentTo (message .src) d member
+        → In (record { source = message .src; envelope = record { destination = model.all; message = message } }) (sentOf past)
+        ⊎ In (record { source = message .src; envelope = record { destination = model.to member; message = message } }) (sentOf past)
+    go (One p) e t =
+        inr
+        (subst (λ (q : ℕ). In (record { source = message .src; envelope = record { destination = model.to q; message = message } }) (sentOf past)) t
+        (subst (λ (z : Destination). In (record { source = message .src; envelope = record { destination = destinationOf z; message = message } }) (sentOf past)) e sent))
+    go (All first) e t = inl (subst (λ (z : Destination). In (record { source = message .src; envelope = record { destination = destinationOf z; message = message } }) (sentOf past)) e sent)
+
+-- a legal list is one of the engine's
+legal-run : (s : Settings) (shards : ℕ → Shard) (past : List Entry) (cs : List MemberCall) → LegalFrom (s .«process_count») shards past cs → engine.Legal (engineOf s) (runAt shards past) cs
+unfolding LegalFrom engine.Legal engine.step
+legal-run s shards past [] l = tt
+legal-run s shards past (c ∷ cs) l = (l .0, stand (c .call) (l .1), legal-run s (afterCall shards c) (entryOf shards c ∷ past) cs (l .2))
+  where
+    stand : (call : Call) → MayStand past (c .member) call → engine.WasSent (engineOf s) (runAt shards past) (c .member) (kindOf call)
+    stand (Propose v) m = tt
+    stand (StartRead tag arrival) m = tt
+    stand (Receive d) m = was-sent past (d .message) (c .member) m
+
+-- ---- from the log's claim to the claim of the entries
+
+-- an entry's proposal adds no commit
+proposal-slots : (member i : ℕ) (k : Kind ConsensusMessage) (t : Bool) (l : List engine.Event) → engine.commitsBy member (engine.withProposal i k t l) ≡ engine.commitsBy member l
+proposal-slots member i (engine.proposes v) true l = refl
+proposal-slots member i (engine.proposes v) false l = refl
+proposal-slots member i (engine.delivers source c) t l = refl
+proposal-slots member i engine.reads t l = refl
+
+slots-same : (member : ℕ) (past : List Entry) → slotAt member past ≡ engine.commitsBy member (logOf past)
+slots-same member [] = refl
+slots-same member (e ∷ past) = commit (e .reply .commit) (slots-same member past ∙ sym (proposal-slots member (e .member) (kindOf (e .call)) (isDone (e .reply .outcome)) (logOf past)))
+  where
+    same : (t : Bool) → cond t (slotAt member past) (slotAt member past) ≡ slotAt member past
+    same true = refl
+    same false = refl
+
+    commit : (c : OptionalCommit) → slotAt member past ≡ engine.commitsBy member (engine.withProposal (e .member) (kindOf (e .call)) (isDone (e .reply .outcome)) (logOf past))
+        → cond (eqb member (e .member)) (one c (slotAt member past)) (slotAt member past)
+        ≡ engine.commitsBy member (engine.withCommit (e .member) (decisionOf c) (engine.withProposal (e .member) (kindOf (e .call)) (isDone (e .reply .outcome)) (logOf past)))
+    commit NoCommit rest = same (eqb member (e .member)) ∙ rest
+    commit (Committed slot v fast) rest = ap (λ (n : ℕ). cond (eqb member (e .member)) (suc n) n) rest
+
+-- the log with a proposal or a commit more has the log before it
+claim-before-proposal : (i : ℕ) (k : Kind ConsensusMessage) (t : Bool) (l : List engine.Event) → engine.Claim (engine.withProposal i k t l) → engine.Claim l
+claim-before-proposal i (engine.proposes v) true l c = c .1
+claim-before-proposal i (engine.proposes v) false l c = c
+claim-before-proposal i (engine.delivers source m) t l c = c
+claim-before-proposal i engine.reads t l c = c
+
+claim-before-commit : (i : ℕ) (d : model.Decision) (l : List engine.Event) → engine.Claim (engine.withCommit i d l) → engine.Claim l
+claim-before-commit i model.undecided l c = c
+claim-before-commit i (model.decided s v) l c = c .3
+
+claim-before : (e : Entry) (past : List Entry) → engine.Claim (logOf (e ∷ past)) → engine.Claim (logOf past)
+claim-before e past c =
+    claim-before-proposal (e .member) (kindOf (e .call)) (isDone (e .reply .outcome)) (logOf past)
+    (claim-before-commit (e .member) (decisionOf (e .reply .commit)) (engine.withProposal (e .member) (kindOf (e .call)) (isDone (e .reply .outcome)) (logOf past)) c)
+
+-- so the claim holds of the log up to each entry
+claim-at : (e : Entry) (earlier run : List Entry) → At e earlier run → engine.Claim (logOf run) → engine.Claim (logOf (e ∷ earlier))
+claim-at e earlier [] h c = absurd h
+claim-at e earlier (x ∷ xs) (inl d) c = subst (λ (l : List Entry). engine.Claim (logOf l)) (sym (ap₂ (λ (y : Entry) (ys : List Entry). y ∷ ys) (d .0) (d .1))) c
+claim-at e earlier (x ∷ xs) (inr h) c = claim-at e earlier xs h (claim-before x xs c)
+
+-- ---- commits
+
+in-proposal : (x : engine.Event) (i : ℕ) (k : Kind ConsensusMessage) (t : Bool) (l : List engine.Event) → In x l → In x (engine.withProposal i k t l)
+in-proposal x i (engine.proposes v) true l h = inr h
+in-proposal x i (engine.proposes v) false l h = h
+in-proposal x i (engine.delivers source c) t l h = h
+in-proposal x i engine.reads t l h = h
+
+in-commit : (x : engine.Event) (i : ℕ) (d : model.Decision) (l : List engine.Event) → In x l → In x (engine.withCommit i d l)
+in-commit x i model.undecided l h = h
+in-commit x i (model.decided s v) l h = inr h
+
+in-log : (e : Entry) (earlier run : List Entry) (slot v : ℕ) (fast : Bool) → At e earlier run → e .reply .commit ≡ Committed slot v fast → In (engine.committed (e .member) slot v) (logOf run)
+in-log e earlier [] slot v fast h c = absurd h
+in-log e earlier (x ∷ xs) slot v fast (inl d) c =
+    subst (λ (y : Entry). In (engine.committed (e .member) slot v) (logOf (y ∷ xs))) (d .0)
+    (subst
+    (λ (o : OptionalCommit).
+    In (engine.committed (e .member) slot v) (engine.withCommit (e .member) (decisionOf o) (engine.withProposal (e .member) (kindOf (e .call)) (isDone (e .reply .outcome)) (logOf xs))))
+    (sym c)
+    (inl refl))
+in-log e earlier (x ∷ xs) slot v fast (inr h) c =
+    in-commit (engine.committed (e .member) slot v) (x .member) (decisionOf (x .reply .commit)) (engine.withProposal (x .member) (kindOf (x .call)) (isDone (x .reply .outcome)) (logOf xs))
+    (in-proposal (engine.committed (e .member) slot v) (x .member) (kindOf (x .call)) (isDone (x .reply .outcome)) (logOf xs) (in-log e earlier xs slot v fast h c))
+
+-- two commits of one slot in a log have one value
+logged-agree : (l : List engine.Event) → engine.Claim l → (i i′ s v v′ : ℕ) → In (engine.committed i s v) l → In (engine.committed i′ s v′) l → v ≡ v′
+logged-agree [] c i i′ s v v′ h k = absurd h
+logged-agree (engine.proposal j t w ∷ l) c i i′ s v v′ (inl h) k = absurd (let z : _≡_ {A = ℕ} 0 1 = cc in omega arith)
+logged-agree (engine.proposal j t w ∷ l) c i i′ s v v′ (inr h) (inl k) = absurd (let z : _≡_ {A = ℕ} 0 1 = cc in omega arith)
+logged-agree (engine.proposal j t w ∷ l) c i i′ s v v′ (inr h) (inr k) = logged-agree l (c .1) i i′ s v v′ h k
+logged-agree (engine.committed j t w ∷ l) c i i′ s v v′ (inl h) (inl k) = cc
+logged-agree (engine.committed j t w ∷ l) c i i′ s v v′ (inl h) (inr k) =
+    let a : v ≡ w = cc in let b : t ≡ s = cc in a ∙ c .2 (engine.committed i′ s v′) k b
+logged-agree (engine.committed j t w ∷ l) c i i′ s v v′ (inr h) (inl k) =
+    let a : v′ ≡ w = cc in let b : t ≡ s = cc in sym (a ∙ c .2 (engine.committed i s v) h b)
+logged-agree (engine.committed j t w ∷ l) c i i′ s v v′ (inr h) (inr k) = logged-agree l (c .3) i i′ s v v′ h k
+
+-- ---- proposals
+
+-- a logged proposal is an entry that was taken, at its member's slot
+proposal-entry : (past : List Entry) (j s v : ℕ) → In (engine.proposal j s v) (logOf past) → Proposed s v past
+proposal-entry [] j s v h = absurd h
+proposal-entry (e ∷ past) j s v h = commit (e .reply .commit) (λ (k : In (engine.proposal j s v) (logOf past)). proposal-entry past j s v k) h
+  where
+    later : Proposed s v past → Proposed s v (e ∷ past)
+    later p = (p .0, p .1, inr (p .2), p .3, p .4, p .5)
+
+    proposed : (call : Call) → e .call ≡ call → (o : Outcome) → e .reply .outcome ≡ o → (In (engine.proposal j s v) (logOf past) → Proposed s v past)
+        → In (engine.proposal j s v) (engine.withProposal (e .member) (kindOf call) (isDone o) (logOf past)) → Proposed s v (e ∷ past)
+    proposed (Propose w) ec Done eo rest (inl d) =
+        let a : w ≡ v = cc in let b : engine.commitsBy (e .member) (logOf past) ≡ s = cc in
+        (e, past, inl (refl, refl), ec ∙ ap Propose a, eo, slots-same (e .member) past ∙ b)
+    proposed (Propose w) ec Done eo rest (inr k) = later (rest k)
+    proposed (Propose w) ec (Refused why) eo rest k = later (rest k)
+    proposed (StartRead tag arrival) ec o eo rest k = later (rest k)
+    proposed (Receive d) ec o eo rest k = later (rest k)
+
+    commit : (c : OptionalCommit) → (In (engine.proposal j s v) (logOf past) → Proposed s v past)
+        → In (engine.proposal j s v) (engine.withCommit (e .member) (decisionOf c) (engine.withProposal (e .member) (kindOf (e .call)) (isDone (e .reply .outcome)) (logOf past))) → Proposed s v (e ∷ past)
+    commit NoCommit rest k = proposed (e .call) refl (e .reply .outcome) refl rest k
+    commit (Committed slot w fast) rest (inl d) = absurd (let z : _≡_ {A = ℕ} 0 1 = cc in omega arith)
+    commit (Committed slot w fast) rest (inr k) = proposed (e .call) refl (e .reply .outcome) refl rest k
+
+-- the value of a commit was proposed in its slot, in the same call or before
+commit-proposed : (e : Entry) (earlier : List Entry) (slot v : ℕ) (fast : Bool) → e .reply .commit ≡ Committed slot v fast → engine.Claim (logOf (e ∷ earlier)) → Proposed slot v (e ∷ earlier)
+commit-proposed e earlier slot v fast c claim =
+    let l = engine.withProposal (e .member) (kindOf (e .call)) (isDone (e .reply .outcome)) (logOf earlier) in
+    let k = subst (λ (o : OptionalCommit). engine.Claim (engine.withCommit (e .member) (decisionOf o) l)) c claim in
+    proposal-entry (e ∷ earlier) (k .1 .0) slot v (in-commit (engine.proposal (k .1 .0) slot v) (e .member) (decisionOf (e .reply .commit)) l (k .1 .1))
+
+-- a commit is of its member's slot
+commit-slot : (e : Entry) (earlier : List Entry) (slot v : ℕ) (fast : Bool) → e .reply .commit ≡ Committed slot v fast → engine.Claim (logOf (e ∷ earlier)) → slot ≡ slotAt (e .member) earlier
+commit-slot e earlier slot v fast c claim =
+    let l = engine.withProposal (e .member) (kindOf (e .call)) (isDone (e .reply .outcome)) (logOf earlier) in
+    let k = subst (λ (o : OptionalCommit). engine.Claim (engine.withCommit (e .member) (decisionOf o) l)) c claim in
+    k .0 ∙ proposal-slots (e .member) (e .member) (kindOf (e .call)) (isDone (e .reply .outcome)) (logOf earlier) ∙ sym (slots-same (e .member) earlier)
+
+claim-of : (run : List Entry) → engine.Claim (logOf run) → Claim run
+claim-of run claim =
+    record {
+      agree = λ slot v slot′ v′ c d. (
+        λ e.
+            (e, logged-agree (logOf run) claim (c .entry .member) (d .entry .member) slot v v′ (in-log (c .entry) (c .earlier) run slot v (c .fast) (c .stands) (c .commit)) (subst (λ (n : ℕ). In (engine.committed (d .entry .member) n v′) (logOf run)) (sym e) (in-log (d .entry) (d .earlier) run slot′ v′ (d .fast) (d .stands) (d .commit)))),
+        λ e. e .0,
+      );
+      proposed = λ slot v c. commit-proposed (c .entry) (c .earlier) slot v (c .fast) (c .commit) (claim-at (c .entry) (c .earlier) run (c .stands) claim);
+      own-slot = λ slot v c. commit-slot (c .entry) (c .earlier) slot v (c .fast) (c .commit) (claim-at (c .entry) (c .earlier) run (c .stands) claim);
+    }
+
+-- ---- the theorem
+
+-- In the four modes, with every settings, every legal list of calls meets the claim.
+pub agreement : (s : Settings) → Classic (s .mode) → (cs : List MemberCall) → Legal s cs → Claim (entries s cs)
+agreement s classic cs legal =
+    claim-of (entries s cs) (subst engine.Claim (run-log s (begun s) [] cs) (log-claim s classic cs (legal-run s (begun s) [] cs legal)))

@@ -1,0 +1,156 @@
+-- Group runs, and what is claimed of them (document 01, "Group runs (demand 3)"). This page is the statement; proofs/Agreement.antt has the
+-- theorem. Lists of what has happened have the latest first.
+-- Assumes nothing.
+use mathlib.Core.Path.{_≡_}
+use mathlib.Core.Logic.{_⊎_, _↔_}
+use mathlib.Core.Bool.{Bool, cond}
+use mathlib.Core.List.{List, [], _∷_}
+use Prim.Native.Nat.{ℕ, suc, _<_}
+use lib.Dec.{eqb}
+use Rattle.message.specs.declared.ConsensusMessage.{ConsensusMessage}
+use Rattle.message.specs.declared.Outcome.the-variants.{Done}
+use Rattle.message.specs.declared.PFMode.{PFMode}
+use Rattle.message.specs.declared.PFMode.the-variants.{Paxos, MultiPaxos, MultiPaxos3P, EPaxos, Pando, SwiftPaxos}
+use Rattle.settings.specs.declared.Settings.{Settings}
+use Rattle.paxos_family.specs.declared.Destination.{Destination}
+use Rattle.paxos_family.specs.declared.Destination.the-variants.{One, All}
+use Rattle.paxos_family.specs.declared.Messages.{Messages}
+use Rattle.paxos_family.specs.declared.OptionalMessage.{OptionalMessage}
+use Rattle.paxos_family.specs.declared.OptionalMessage.the-variants.{NoMessage, Send}
+use Rattle.paxos_family.specs.declared.Outgoing.{Outgoing}
+use Rattle.consensus.specs.Call.{newShard, callOf}
+use Rattle.consensus.specs.declared.Call.{Call}
+use Rattle.consensus.specs.declared.Call.the-variants.{Propose, StartRead, Receive}
+use Rattle.consensus.specs.declared.OptionalCommit.{OptionalCommit}
+use Rattle.consensus.specs.declared.OptionalCommit.the-variants.{NoCommit, Committed}
+use Rattle.consensus.specs.declared.Reply.{Reply}
+use Rattle.consensus.specs.declared.Shard.{Shard}
+use Rattle.agreement.specs.Engine.{In}
+
+-- ---- the group
+
+-- "made with the same settings but for the own number"
+abbrev pub memberSettings : Settings → ℕ → Settings
+memberSettings s i =
+    record {
+      «process_count» = s .«process_count»;
+      «replica_count» = s .«replica_count»;
+      «my_pid» = i;
+      «alive_replicas» = s .«alive_replicas»;
+      «first_leader» = s .«first_leader»;
+      mode = s .mode;
+      quorum = s .quorum;
+      «has_committers» = s .«has_committers»;
+      committers = s .committers;
+      delegates = s .delegates;
+    }
+
+-- "A group is one shard for each process. Each begins new."
+abbrev pub begun : Settings → ℕ → Shard
+begun s i = newShard (memberSettings s i)
+
+-- ---- runs
+
+-- "A run is a list of calls, perhaps empty. Each call names a member."
+pub record MemberCall : Type 0 where
+  pub member : ℕ
+  pub call : Call
+
+-- what is kept of each call: the member, the call, and what it handed back
+pub record Entry : Type 0 where
+  pub member : ℕ
+  pub call : Call
+  pub reply : Reply
+
+abbrev pub entryOf : (ℕ → Shard) → MemberCall → Entry
+entryOf shards c = record { member = c .member; call = c .call; reply = callOf (shards (c .member)) (c .call) .reply }
+
+-- "A shard goes from one call of its member to the next, and has no other writer."
+abbrev pub afterCall : (ℕ → Shard) → MemberCall → ℕ → Shard
+afterCall shards c j = cond (eqb j (c .member)) (callOf (shards (c .member)) (c .call) .shard) (shards j)
+
+-- the entries of a run that goes on from some shards and earlier entries
+unfoldable pub entriesFrom : (ℕ → Shard) → List Entry → List MemberCall → List Entry
+entriesFrom shards past [] = past
+entriesFrom shards past (c ∷ cs) = entriesFrom (afterCall shards c) (entryOf shards c ∷ past) cs
+
+abbrev pub entries : Settings → List MemberCall → List Entry
+entries s cs = entriesFrom (begun s) [] cs
+
+-- ---- legal lists
+
+abbrev pub listed : OptionalMessage → List Outgoing → List Outgoing
+listed NoMessage rest = rest
+listed (Send o) rest = o ∷ rest
+
+abbrev pub messagesOf : Messages → List Outgoing
+messagesOf ms = listed (ms .first) (listed (ms .second) (listed (ms .third) []))
+
+-- sent to the member: to it alone, or to all but the source. "A Commit counts as sent to every other member."
+abbrev pub SentTo : ℕ → Destination → ℕ → Type 0
+SentTo source (One p) member = p ≡ member
+SentTo source (All first) member = source ≡ member → ⊥
+
+-- "an earlier call of the list, on the member that the message gives as its source, handed it back, sent to the member now called"
+abbrev pub WasSent : List Entry → ConsensusMessage → ℕ → Type 0
+WasSent past message member =
+    (e : Entry) × (o : Outgoing) × In e past × (e .member ≡ message .src) × In o (messagesOf (e .reply .messages)) × (o .message ≡ message)
+    × SentTo (message .src) (o .destination) member
+
+abbrev pub MayStand : List Entry → ℕ → Call → Type 0
+MayStand past member (Propose v) = Unit {0}
+MayStand past member (StartRead tag arrival) = Unit {0}
+MayStand past member (Receive d) = WasSent past (d .message) member
+
+-- every call is of a member of the group, and every message stands only where it was sent before
+unfoldable pub LegalFrom : ℕ → (ℕ → Shard) → List Entry → List MemberCall → Type 0
+LegalFrom n shards past [] = Unit {0}
+LegalFrom n shards past (c ∷ cs) = (c .member < n) × MayStand past (c .member) (c .call) × LegalFrom n (afterCall shards c) (entryOf shards c ∷ past) cs
+
+abbrev pub Legal : Settings → List MemberCall → Type 0
+Legal s cs = LegalFrom (s .«process_count») (begun s) [] cs
+
+-- ---- the claim
+
+-- the entry stands in the list, with those earlier than it
+abbrev pub At : Entry → List Entry → List Entry → Type 0
+At e earlier [] = ⊥
+At e earlier (x ∷ xs) = ((e ≡ x) × (earlier ≡ xs)) ⊎ At e earlier xs
+
+abbrev pub one : OptionalCommit → ℕ → ℕ
+one NoCommit n = n
+one (Committed slot v fast) n = suc n
+
+-- "A member's slot at a call is the number of commits that its earlier calls in the list handed back."
+abbrev pub slotAt : ℕ → List Entry → ℕ
+slotAt member [] = 0
+slotAt member (e ∷ past) = cond (eqb member (e .member)) (one (e .reply .commit) (slotAt member past)) (slotAt member past)
+
+-- "A value counts as proposed in a slot where a proposal of it, not refused, was made to a member at that slot"
+abbrev pub Proposed : ℕ → ℕ → List Entry → Type 0
+Proposed slot v past =
+    (e : Entry) × (earlier : List Entry) × At e earlier past × (e .call ≡ Propose v) × (e .reply .outcome ≡ Done) × (slotAt (e .member) earlier ≡ slot)
+
+-- a commit of the run
+pub record CommitAt (slot v : ℕ) (run : List Entry) : Type 0 where
+  pub entry : Entry
+  pub earlier : List Entry
+  pub stands : At entry earlier run
+  pub fast : Bool
+  pub commit : entry .reply .commit ≡ Committed slot v fast
+
+-- Any two commits are equal in slot and value exactly when they name the same slot; each value was proposed in that slot, "in the very call
+-- that commits the value or in an earlier one"; and each commit is of its member's slot.
+pub record Claim (run : List Entry) : Type 0 where
+  pub agree : (slot v slot′ v′ : ℕ) → CommitAt slot v run → CommitAt slot′ v′ run → (slot ≡ slot′) ↔ ((slot ≡ slot′) × (v ≡ v′))
+  pub proposed : (slot v : ℕ) (c : CommitAt slot v run) → Proposed slot v (c .entry ∷ c .earlier)
+  pub own-slot : (slot v : ℕ) (c : CommitAt slot v run) → slot ≡ slotAt (c .entry .member) (c .earlier)
+
+-- the four modes
+abbrev pub Classic : PFMode → Type 0
+Classic Paxos = Unit {0}
+Classic MultiPaxos = Unit {0}
+Classic MultiPaxos3P = Unit {0}
+Classic EPaxos = ⊥
+Classic Pando = Unit {0}
+Classic SwiftPaxos = ⊥
