@@ -2,7 +2,7 @@
 -- Assumes nothing.
 use mathlib.Core.Path.{_≡_, refl, sym, ap, _∙_}
 use mathlib.Core.Logic.{_⊎_, inl, inr}
-use mathlib.Core.Bool.{Bool, true, false, _&&_, _||_}
+use mathlib.Core.Bool.{Bool, true, false, cond, _&&_, _||_}
 use Prim.Native.Nat.{ℕ}
 use native.Mathlib.Omega.{arith}
 
@@ -53,3 +53,8 @@ or-left b p = ap (λ (x : Bool). x || b) p
 pub or-right : (a : Bool) {b : Bool} → b ≡ true → (a || b) ≡ true
 or-right true p = refl
 or-right false p = p
+
+-- what holds of both cases of a choice holds of the choice
+pub of-both : {A : Type 0} (P : A → Type 0) (t : Bool) {x y : A} → P x → P y → P (cond t x y)
+of-both P true p q = p
+of-both P false p q = q

@@ -3,3 +3,4 @@ pub mod Admit
 pub mod Answers
 pub mod Handle
 pub mod Call
+pub mod Causes

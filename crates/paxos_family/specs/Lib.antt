@@ -6,3 +6,4 @@ pub mod Fast
 pub mod Process
 pub mod Commit
 pub mod Propose
+pub mod Causes
