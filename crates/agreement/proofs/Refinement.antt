@@ -55,7 +55,7 @@ module _ (S : Setup) (rules : SetupRules S) (i : ℕ) (x : View) where
         idle-correct (S .voters) (NewlyProposed {M = M} x (delivers source c) (r .taken)) i w ok x o r (e .0) (e .1) (e .2)
     as-model-correct reads r e w ok o b = idle-correct (S .voters) (NewlyProposed {M = M} x reads (r .taken)) i w ok x o r (e .0) (e .1) (e .2)
 
-    as-model-moves-on : (k : Kind M) (r : Outcome) → AsModel meaning S i x k r → MovesOn x r
+    pub as-model-moves-on : (k : Kind M) (r : Outcome) → AsModel meaning S i x k r → MovesOn x r
     as-model-moves-on (proposes v) r e = subst (MovesOn x) (sym (e .1)) (propose-moves-on v (e .0))
     as-model-moves-on (delivers source c) r (inl e) = subst (MovesOn x) (sym (e .1)) (deliver-moves-on source (meaning c) (e .0))
     as-model-moves-on (delivers source c) r (inr e) = idle-moves-on r (e .0) (e .1)

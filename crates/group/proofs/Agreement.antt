@@ -89,7 +89,7 @@ withQuorum s q =
       committer = setupOf s .committer;
     }
 
-setup-rules : (s : Settings) (q : ℕ) → SetupRules (withQuorum s q)
+pub setup-rules : (s : Settings) (q : ℕ) → SetupRules (withQuorum s q)
 setup-rules s q =
     record { startsInRound = starts-in-round (s .mode) (s .«first_leader»); ownRoundLater = λ t i. own-round-later (s .mode) (s .«first_leader») i t }
 
@@ -139,7 +139,7 @@ begun-view s i =
     record { slot = 0; round = setupOf s .voters .start; holds = false; heldRound = 0; heldValue = 0; prepared = f; accepted = f })
     no-member
 
-begun-valid : (s : Settings) (i : ℕ) → Valid s i (begun s i)
+pub begun-valid : (s : Settings) (i : ℕ) → Valid s i (begun s i)
 unfolding newShard
 begun-valid s i =
     record {

@@ -6,3 +6,6 @@ pub mod Proposing
 pub mod Keeping
 pub mod Calls
 pub mod Agreement
+pub mod Slots
+pub mod Example
+pub mod GroupOfOne

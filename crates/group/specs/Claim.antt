@@ -69,6 +69,11 @@ entryOf shards c = record { member = c .member; call = c .call; reply = callOf (
 abbrev pub afterCall : (ℕ → Shard) → MemberCall → ℕ → Shard
 afterCall shards c j = cond (eqb j (c .member)) (callOf (shards (c .member)) (c .call) .shard) (shards j)
 
+-- the shards after the calls of a list
+unfoldable pub shardsAfter : (ℕ → Shard) → List MemberCall → ℕ → Shard
+shardsAfter shards [] = shards
+shardsAfter shards (c ∷ cs) = shardsAfter (afterCall shards c) cs
+
 -- the entries of a run that goes on from some shards and earlier entries
 unfoldable pub entriesFrom : (ℕ → Shard) → List Entry → List MemberCall → List Entry
 entriesFrom shards past [] = past

@@ -2,19 +2,22 @@
 -- One theorem, at the end, says that the two are equal in every row.
 -- Assumes nothing.
 use mathlib.Core.Path.{_≡_, refl}
-use mathlib.Core.Bool.{Bool, true, false}
+use mathlib.Core.Bool.{true, false}
 use mathlib.Core.List.{List, [], _∷_}
 use Prim.Native.Nat.{ℕ}
 use lib.ListN.{replicate}
 use Rattle.sets.specs.Sets.{contains, count, size, insert}
 use Rattle.tables.specs.Tables.{lookUp, store, every}
-use Rattle.quorum.specs.declared.QuorumRow.{QuorumRow}
 use Rattle.quorum.specs.Quorum.{rowOf}
+use Rattle.message.specs.declared.ConsensusMsg.{ConsensusMsg}
+use Rattle.message.specs.declared.ConsensusMsg.the-variants.{Prepare, Commit, ReadRequest, ReadResponse}
+use Rattle.message.specs.declared.OptionalProcess.the-variants.{NoProcess}
 use Rattle.message.specs.declared.OptionalRound.the-variants.{NoRound, Round}
+use Rattle.message.specs.declared.OptionalValue.the-variants.{NoValue}
 use Rattle.message.specs.declared.PFMode.the-variants.{Paxos}
 use Rattle.message.specs.Rounds.{increment, roundOf, roundBefore, roundEqual, before, nextLeaderRound}
 use Rattle.sets.specs.declared.OptionalSet.the-variants.{NoSet}
-use Rattle.message.specs.declared.Outcome.the-variants.{Refused}
+use Rattle.message.specs.declared.Outcome.the-variants.{Done, Refused}
 use Rattle.message.specs.declared.Refusal.the-variants.{AcceptUnlikeHeld}
 use Rattle.message.specs.declared.RoundV.{RoundV}
 use Rattle.message.specs.declared.RoundV.the-variants.{PaxosV}
@@ -25,7 +28,7 @@ use Rattle.round_state.specs.declared.HeldPromise.the-variants.{Held}
 use Rattle.round_state.specs.declared.Member.{Member}
 use Rattle.round_state.specs.declared.PaxosState.{PaxosState}
 use Rattle.round_state.specs.declared.PaxosStep.{PaxosStep}
-use Rattle.round_state.specs.Paxos.{withSender, withOwn, heldAfterPromise, receivePromise, acceptFits, receiveAccept}
+use Rattle.round_state.specs.Paxos.{withSender, withOwn, heldAfterPromise, receivePromise, paxosProposeV, acceptFits, receiveAccept}
 use Rattle.fast_state.specs.Fast.{noAnswers, preacceptedAfter, recorded, answeredBefore, scoreAfter, epaxosCounted, epaxosAnswered, isUnanswered, epaxosProposeV}
 use Rattle.fast_state.specs.Adopt.{better, bestBelow, epaxosTryAdoptWith, epaxosTryAdopt}
 use Rattle.fast_state.specs.RoundState.{newRoundState}
@@ -33,6 +36,17 @@ use Rattle.read_tracker.specs.declared.Inserted.{Inserted}
 use Rattle.read_tracker.specs.Reads.{readId, newTracker, newTable, insert as insertRead, afterResponse, afterCommit, keptByReady, servedByReady, keptByCommit, servedByCommit, atFront, receiveReady, commitSlot}
 use Rattle.settings.specs.declared.Settings.{Settings}
 use Rattle.settings.specs.Settings.{countsFit, membersFit, committersFit, modeFits, withinLimits}
+use Rattle.paxos_family.specs.Propose.{electing, mayPropose, proposePrepare, proposeClassic}
+use Rattle.paxos_family.specs.Steps.{noMessages, oneMessage, toAll}
+use Rattle.consensus.specs.Admit.{otherLastValue, valueAwaited, ready, admit}
+use Rattle.consensus.specs.Answers.{committed}
+use Rattle.consensus.specs.Call.{newShard, proposing, propose, read, receive, dispatch, unlessSpent, callWith, callOf}
+use Rattle.consensus.specs.Handle.{onCommit, onReadResponse, startRead, handle}
+use Rattle.consensus.specs.Limits.{msgNumbers, valueNumbers, processNumbers, numbersFit, msgProcesses, requesterBelow, processesFit}
+use Rattle.consensus.specs.declared.Call.the-variants.{Propose, StartRead, Receive}
+use Rattle.consensus.specs.declared.OptionalCommit.the-variants.{NoCommit, Committed}
+use Rattle.consensus.specs.declared.Reply.{Reply}
+use Rattle.consensus.specs.declared.Shard.{Shard}
 
 pub record Row : Type 1 where
   pub Answer : Type 0
@@ -138,7 +152,7 @@ responseServes = row (receiveReady (opened .tracker) (opened .table) (readId 0) 
 abbrev pub commitServes : Row
 commitServes = row (commitSlot (opened .tracker) (opened .table) 1 1 .«served_count») 1
 
--- ---- settings (not marked in the document, and of the same kind): 64 processes are taken, 65 and 0 replicas refused
+-- ---- a group of one, in Paxos
 
 -- a group in Paxos, with its processes, its replica count, its live set and its first leader; own number 0
 abbrev pub group : ℕ → ℕ → ℕ → ℕ → Settings
@@ -155,6 +169,52 @@ group processes replicas live leader =
       committers = replicate 64 0;
       delegates = replicate 64 0;
     }
+
+abbrev pub alone : Shard
+alone = newShard (group 1 1 1 0)
+
+-- what a call hands back that sends one message to all others, commits nothing and serves no read
+abbrev pub sendsToAll : ConsensusMsg → Reply
+sendsToAll msg =
+    record {
+      outcome = Done;
+      messages = oneMessage (record { destination = toAll; message = record { msg = msg; src = 0; «last_v» = NoValue } });
+      commit = NoCommit;
+      «served_count» = 0;
+    }
+
+-- the proposal sends Prepare and never commits (proofs/GroupOfOne.antt of the crate group has "never")
+abbrev pub aloneProposes : Row
+aloneProposes = row (callOf alone (Propose 10) .reply) (sendsToAll (Prepare 0 (roundOf 0 0) (PaxosV NoRound 10)))
+
+-- a new read is asked of all others, and waits
+abbrev pub aloneReads : Row
+aloneReads = row (callOf alone (StartRead 7 0) .reply) (sendsToAll (ReadRequest (readId 0)))
+
+abbrev pub aloneWaits : Row
+aloneWaits = row (callOf alone (StartRead 7 0) .shard .state .rounds .core .tracker .«open_count») 1
+
+-- with a process more, which is no replica, the quorum is 1 still, and the next response or commit from there serves the read
+abbrev pub afterRead : ConsensusMsg → Reply
+afterRead msg =
+    callOf (callOf (newShard (group 2 1 1 0)) (StartRead 7 0) .shard)
+    (Receive
+    (record {
+      message = record { msg = msg; src = 1; «last_v» = NoValue };
+      said = record { «value_held» = true; requester = NoProcess; fast = true };
+      «held_requester» = NoProcess;
+    }))
+    .reply
+
+abbrev pub responseAfterRead : Row
+responseAfterRead =
+    row (afterRead (ReadResponse (readId 0) 0)) (record { outcome = Done; messages = noMessages; commit = NoCommit; «served_count» = 1 })
+
+abbrev pub commitAfterRead : Row
+commitAfterRead =
+    row (afterRead (Commit 0 10)) (record { outcome = Done; messages = noMessages; commit = Committed 0 10 false; «served_count» = 1 })
+
+-- ---- settings (not marked in the document, and of the same kind): 64 processes are taken, 65 and 0 replicas refused
 
 abbrev pub mostProcesses : Row
 mostProcesses = row (withinLimits (group 64 64 0xffff_ffff_ffff_ffff 63)) true
@@ -195,6 +255,11 @@ starred =
     ∷ readWaits
     ∷ responseServes
     ∷ commitServes
+    ∷ aloneProposes
+    ∷ aloneReads
+    ∷ aloneWaits
+    ∷ responseAfterRead
+    ∷ commitAfterRead
     ∷ mostProcesses
     ∷ tooManyProcesses
     ∷ noReplica
@@ -204,5 +269,5 @@ starred =
     ∷ []
 
 pub every-row-holds : AllHold starred
-unfolding increment roundBefore roundEqual nextLeaderRound contains count size insert lookUp store every countsFit membersFit committersFit modeFits withinLimits withSender withOwn heldAfterPromise receivePromise acceptFits receiveAccept preacceptedAfter recorded answeredBefore scoreAfter epaxosCounted epaxosAnswered isUnanswered epaxosProposeV better bestBelow epaxosTryAdoptWith insertRead afterResponse afterCommit keptByReady servedByReady keptByCommit servedByCommit atFront receiveReady commitSlot
-every-row-holds = (refl, (refl, (refl, (refl, (refl, (refl, (refl, (refl, (refl, (refl, (refl, (refl, (refl, (refl, (refl, (refl, (refl, (refl, (refl, (refl, (refl, (refl, tt))))))))))))))))))))))
+unfolding increment roundBefore roundEqual nextLeaderRound contains count size insert lookUp store every countsFit membersFit committersFit modeFits withinLimits withSender withOwn heldAfterPromise receivePromise acceptFits receiveAccept preacceptedAfter recorded answeredBefore scoreAfter epaxosCounted epaxosAnswered isUnanswered epaxosProposeV better bestBelow epaxosTryAdoptWith insertRead afterResponse afterCommit keptByReady servedByReady keptByCommit servedByCommit atFront receiveReady commitSlot newShard callWith unlessSpent dispatch propose proposing proposeClassic mayPropose electing proposePrepare paxosProposeV read startRead receive admit numbersFit processesFit ready otherLastValue valueAwaited msgNumbers valueNumbers processNumbers msgProcesses requesterBelow handle onReadResponse onCommit committed
+every-row-holds = (refl, (refl, (refl, (refl, (refl, (refl, (refl, (refl, (refl, (refl, (refl, (refl, (refl, (refl, (refl, (refl, (refl, (refl, (refl, (refl, (refl, (refl, (refl, (refl, (refl, (refl, (refl, tt)))))))))))))))))))))))))))

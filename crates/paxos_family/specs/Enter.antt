@@ -15,6 +15,14 @@ use Rattle.paxos_family.specs.declared.Core.{Core}
 use Rattle.paxos_family.specs.declared.CoreStep.{CoreStep}
 use Rattle.paxos_family.specs.declared.Heard.{Heard}
 
+-- can_propose: who takes part, a replica, and in SwiftPaxos every process
+abbrev pub canPropose : Asked → Bool
+canPropose a = a .member .replica || isSwiftPaxos (a .mode)
+
+-- 7: the source must be a live replica, unless the mode is SwiftPaxos
+abbrev pub sourceTaken : Asked → Heard → Bool
+sourceTaken a h = h .«source_live» || isSwiftPaxos (a .mode)
+
 -- a later round is entered: goto_round
 unfoldable pub inRound : PaxosRound → Core → Core
 inRound round core = cond (before (core .paxos .round) (Round round)) (withPaxos (gotoRound (Round round) (core .paxos)) core) core
@@ -23,13 +31,12 @@ inRound round core = cond (before (core .paxos .round) (Round round)) (withPaxos
 unfoldable pub isOlder : ℕ → PaxosRound → Core → Bool
 isOlder slot round core = ltb slot (core .slot) || before (Round round) (core .paxos .round)
 
--- 7: the source must be a live replica, unless the mode is SwiftPaxos
 unfoldable pub fromLive : Asked → Heard → PaxosRound → Core → CoreStep
-fromLive a h round core = cond (h .«source_live» || isSwiftPaxos (a .mode)) (continues (inRound round core) noMessages) (refuses SourceNotLive core)
+fromLive a h round core = cond (sourceTaken a h) (continues (inRound round core) noMessages) (refuses SourceNotLive core)
 
 -- "a non-replica (not SwiftPaxos) does nothing; older ones do nothing; 7". A slot that is ahead was refused with 5 before.
 unfoldable pub enter : Asked → Heard → ℕ → PaxosRound → Core → CoreStep
 enter a h slot round core =
-    cond (a .member .replica || isSwiftPaxos (a .mode))
+    cond (canPropose a)
     (cond (isOlder slot round core) (stays core noMessages) (fromLive a h round core))
     (stays core noMessages)

@@ -25,17 +25,25 @@ use Rattle.paxos_family.specs.declared.Heard.{Heard}
 unfoldable pub holdFirst : Asked → RoundV → PaxosState → PaxosStep
 holdFirst a rv p = cond (isHeld (p .«max_rv»)) (taken p) (paxosProposeV (a .member) rv p)
 
--- answer_prepare, and the assertion behind it: the delegate is the source, or is not the leader
+-- what answer_prepare asserts: the delegate is the source, or is not the leader
+abbrev pub mayAnswer : Heard → PaxosRound → Bool
+mayAnswer h round = eqb (h .delegate) (h .src) || not (eqb (h .delegate) (round .leader))
+
+-- answer_prepare, with the assertion behind it
 unfoldable pub answerPrepare : Asked → Heard → PaxosRound → Core → CoreStep
 answerPrepare a h round core =
-    cond (eqb (h .delegate) (h .src) || not (eqb (h .delegate) (round .leader)))
+    cond (mayAnswer h round)
     (stays core (oneMessage (sends a core (One (h .delegate)) (Prepare (core .slot) round (heldRv (core .paxos .«max_rv»))))))
     (refuses Panic core)
 
--- another than the delegate answers, unless it has accepted in the round; in SwiftPaxos the leader is not answered
+-- in SwiftPaxos the leader is not answered
+abbrev pub leavesLeader : Asked → Heard → PaxosRound → Bool
+leavesLeader a h round = isSwiftPaxos (a .mode) && eqb (h .delegate) (round .leader)
+
+-- another than the delegate answers, unless it has accepted in the round
 unfoldable pub answersNothing : Asked → Heard → PaxosRound → Core → Bool
 answersNothing a h round core =
-    (isSwiftPaxos (a .mode) && eqb (h .delegate) (round .leader)) || equal (getLastAcceptedRound (core .paxos .«max_rv»)) (Round round)
+    leavesLeader a h round || equal (getLastAcceptedRound (core .paxos .«max_rv»)) (Round round)
 
 unfoldable pub preparing : Asked → Heard → PaxosRound → Core → CoreStep
 preparing a h round core =
@@ -50,10 +58,14 @@ afterHeld a h round core p (Refused why) = refuses why core
 unfoldable pub prepared : Asked → Heard → PaxosRound → RoundV → Core → CoreStep
 prepared a h round rv core = afterHeld a h round core (holdFirst a rv (core .paxos) .state) (holdFirst a rv (core .paxos) .outcome)
 
--- broadcast_accept; in SwiftPaxos it says nothing about the fast path
+-- the slot leaves the fast path; SwiftPaxos does not say so here
+abbrev pub offFastPath : Asked → Core → Core
+offFastPath a core = cond (isSwiftPaxos (a .mode)) core (leftFastPath core)
+
+-- broadcast_accept
 unfoldable pub broadcastAccept : Asked → PaxosRound → Core → CoreStep
 broadcastAccept a round core =
-    stays (cond (isSwiftPaxos (a .mode)) core (leftFastPath core))
+    stays (offFastPath a core)
     (oneMessage (sends a core toAll (Accept (core .slot) round (heldV (core .paxos .«max_rv»)))))
 
 -- self_accept, or adopt_from_epaxos, and then broadcast_accept

@@ -19,6 +19,7 @@ use Rattle.round_state.specs.Paxos.{gotoRound, isHeld, paxosProposeV, selfAccep
 use Rattle.round_state.specs.declared.PaxosState.{PaxosState}
 use Rattle.fast_state.specs.Fast.{epaxosProposeV, swiftProposeV}
 use Rattle.fast_state.specs.declared.FastState.{FastState}
+use Rattle.paxos_family.specs.Enter.{canPropose}
 use Rattle.paxos_family.specs.Steps.{oneMessage, sends, toAll, withPaxos, stays, refuses, onRounds}
 use Rattle.paxos_family.specs.declared.Asked.{Asked}
 use Rattle.paxos_family.specs.declared.Core.{Core}
@@ -37,12 +38,15 @@ electing a = cond (isSwiftPaxos (a .mode)) (a .«first_leader») (a .member .«m
 abbrev pub proposalRound : Asked → Core → PaxosRound
 proposalRound a core = nextLeaderRound (unwrapOrDefault (core .paxos .round)) (electing a)
 
--- can_propose, the round is the starting round, nothing is held, and in MultiPaxos the proposal's round is the starting round
+-- "MultiPaxos by another than the leader": there the proposal's round must be the starting round
+abbrev pub leadsIfMulti : Asked → Core → Bool
+leadsIfMulti a core = not (isMultiPaxos (a .mode)) || equal (Round (proposalRound a core)) (a .«starting_round»)
+
+-- nothing is held, can_propose, the round is the starting round
 unfoldable pub mayPropose : Asked → Core → Bool
 mayPropose a core =
     cond (isHeld (core .paxos .«max_rv»)) false
-    ((a .member .replica || isSwiftPaxos (a .mode)) && equal (core .paxos .round) (a .«starting_round»)
-    && (not (isMultiPaxos (a .mode)) || equal (Round (proposalRound a core)) (a .«starting_round»)))
+    (canPropose a && equal (core .paxos .round) (a .«starting_round») && leadsIfMulti a core)
 
 -- the value proposed to all, in a Prepare
 abbrev pub afterPrepare : Asked → PaxosRound → RoundV → Core → PaxosState → Outcome → CoreStep

@@ -1,4 +1,5 @@
--- What is held: a promise or an accept replaces it only by a later one, so that within a slot the held accept round never falls.
+-- What is held: a promise or an accept replaces it only by a later one, and a new round keeps it, so that within a slot the held accept
+-- round never falls.
 -- Assumes nothing.
 use mathlib.Core.Path.{_≡_, refl, ap, _∙_}
 use mathlib.Core.Logic.{_⊎_, inl, inr}
@@ -15,9 +16,10 @@ use Rattle.message.specs.declared.OptionalRound.the-variants.{NoRound, Round}
 use Rattle.message.specs.declared.PaxosRound.{PaxosRound}
 use Rattle.message.specs.declared.RoundV.{RoundV}
 use Rattle.message.specs.declared.RoundV.the-variants.{FastV, PaxosV}
-use Rattle.round_state.specs.Paxos.{getLastAcceptedRound, heldAfterPromise, heldIs, acceptFits}
+use Rattle.round_state.specs.Paxos.{getLastAcceptedRound, gotoRound, heldAfterPromise, heldIs, acceptFits}
 use Rattle.round_state.specs.declared.HeldPromise.{HeldPromise}
 use Rattle.round_state.specs.declared.HeldPromise.the-variants.{NothingHeld, Held}
+use Rattle.round_state.specs.declared.PaxosState.{PaxosState}
 
 -- a later promise replaces what is held, and any other leaves it
 pub promise-later : (old rv : RoundV) → before (acceptRoundOf old) (acceptRoundOf rv) ≡ true → heldAfterPromise (Held old) rv ≡ Held rv
@@ -77,3 +79,7 @@ accept-not-back held round v e = go (accept-fits held round v e)
     go : (before (getLastAcceptedRound held) (Round round) ≡ true) ⊎ (held ≡ Held (PaxosV (Round round) v)) → before (Round round) (getLastAcceptedRound held) ≡ false
     go (inl l) = later-not-before (getLastAcceptedRound held) (Round round) l
     go (inr s) = ap (λ (h : HeldPromise). before (Round round) (getLastAcceptedRound h)) s ∙ optional-rounds-ordered .irreflexive (Round round)
+
+-- and by a new round
+pub round-not-back : (round : OptionalRound) (s : PaxosState) → before (getLastAcceptedRound (gotoRound round s .«max_rv»)) (getLastAcceptedRound (s .«max_rv»)) ≡ false
+round-not-back round s = optional-rounds-ordered .irreflexive (getLastAcceptedRound (s .«max_rv»))
