@@ -1,1 +1,2 @@
+pub mod NoReads
 pub mod Refusals

@@ -68,11 +68,15 @@ served shard rounds reads messages commit =
 abbrev pub isFast : Asked → Core → Bool
 isFast a core = hasFastPath (a .mode) && not (core .«slot_left_fast_path»)
 
+-- the state after commit_slot, with the mark of the fast path cleared
+abbrev pub nextSlot : Asked → ℕ → Rounds → Rounds
+nextSlot a v s = record { core = onFastPath (commitSlot a v s .core); fast = commitSlot a v s .fast }
+
 -- commit_slot, and then commit_commands: the mark of the fast path is read and cleared, and the reads that the commit has made ready are
 -- served at the new slot
 unfoldable pub committed : Shard → Asked → ℕ → Rounds → Messages → Answer
 committed shard a v s messages =
-    served shard (record { core = onFastPath (commitSlot a v s .core); fast = commitSlot a v s .fast })
+    served shard (nextSlot a v s)
     (serveReads (s .core .tracker) (shard .state .table) (a .member .quorums .majority) (commitSlot a v s .core .slot))
     messages
     (Committed (s .core .slot) v (isFast a (s .core)))

@@ -9,6 +9,7 @@ use Rattle.message.specs.declared.ConsensusMsg.{ConsensusMsg}
 use Rattle.message.specs.declared.ConsensusMsg.the-variants.{Prepare, Accept, ForwardRequest, Commit, ReadRequest, ReadResponse}
 use Rattle.message.specs.declared.OptionalProcess.{OptionalProcess}
 use Rattle.message.specs.declared.OptionalValue.the-variants.{NoValue}
+use Rattle.message.specs.declared.PaxosRound.{PaxosRound}
 use Rattle.message.specs.declared.ReadId.{ReadId}
 use Rattle.message.specs.declared.Refusal.the-variants.{Panic, NoRoomForRead}
 use Rattle.message.specs.declared.RoundV.the-variants.{FastV, PaxosV}
@@ -46,10 +47,14 @@ askedOf s =
       quorum = s .quorum;
     }
 
--- delegate_or_leader: in SwiftPaxos, at another than the leader, the proposer of a fast value
+-- in SwiftPaxos, at another than the leader, the proposer of a fast value gathers the answers
+abbrev pub proposerGathers : Settings → PaxosRound → Bool
+proposerGathers s round = isSwiftPaxos (s .mode) && not (eqb (round .leader) (s .«my_pid»))
+
+-- delegate_or_leader
 unfoldable pub gathererOf : Settings → ConsensusMsg → ℕ
 gathererOf s (Prepare slot round (FastV proposer v)) =
-    cond (isSwiftPaxos (s .mode) && not (eqb (round .leader) (s .«my_pid»))) proposer (delegateOf s (s .mode) (round .leader))
+    cond (proposerGathers s round) proposer (delegateOf s (s .mode) (round .leader))
 gathererOf s (Prepare slot round (PaxosV at v)) = delegateOf s (s .mode) (round .leader)
 gathererOf s (Accept slot round v) = delegateOf s (s .mode) (round .leader)
 gathererOf s (ForwardRequest v) = 0

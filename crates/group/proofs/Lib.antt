@@ -1,3 +1,4 @@
+pub mod Places
 pub mod View
 pub mod Entering
 pub mod Preparing
@@ -9,3 +10,4 @@ pub mod Agreement
 pub mod Slots
 pub mod Example
 pub mod GroupOfOne
+pub mod Runs

@@ -4,3 +4,4 @@ pub mod Commits
 pub mod NothingLost
 pub mod IdOrder
 pub mod QuorumOne
+pub mod NoReads
