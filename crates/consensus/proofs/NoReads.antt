@@ -7,10 +7,10 @@ use Rattle.message.specs.declared.Outcome.the-variants.{Done}
 use Rattle.message.specs.declared.ReadId.{ReadId}
 use Rattle.settings.specs.Questions.{quorumsOf}
 use Rattle.paxos_family.specs.Commit.{commitSlot}
-use Rattle.paxos_family.specs.Steps.{noMessages}
-use Rattle.paxos_family.specs.declared.Asked.{Asked}
-use Rattle.paxos_family.specs.declared.Messages.{Messages}
-use Rattle.paxos_family.specs.declared.Rounds.{Rounds}
+use Rattle.steps.specs.Steps.{noMessages}
+use Rattle.steps.specs.declared.Asked.{Asked}
+use Rattle.steps.specs.declared.Messages.{Messages}
+use Rattle.steps.specs.declared.Rounds.{Rounds}
 use Rattle.read_tracker.proofs.NoReads.{commit-untouched, response-untouched}
 use Rattle.read_tracker.specs.declared.Tracked.{Tracked}
 use Rattle.consensus.specs.Answers.{withRounds, nothing, served, isFast, nextSlot, committed}

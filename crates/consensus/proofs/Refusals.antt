@@ -27,24 +27,24 @@ use Rattle.settings.specs.Settings.{withinLimits}
 use Rattle.settings.specs.declared.Settings.{Settings}
 use Rattle.round_state.specs.Paxos.{isHeld}
 use Rattle.paxos_family.specs.Causes.{HandlingCause}
-use Rattle.paxos_family.specs.declared.Asked.{Asked}
-use Rattle.paxos_family.specs.declared.Core.{Core}
-use Rattle.paxos_family.specs.declared.Heard.{Heard}
-use Rattle.paxos_family.specs.declared.Next.{Next}
-use Rattle.paxos_family.specs.declared.Next.the-variants.{Stays, Continues, Commits, Refuses}
-use Rattle.paxos_family.specs.declared.Rounds.{Rounds}
-use Rattle.paxos_family.specs.declared.RoundsStep.{RoundsStep}
+use Rattle.steps.specs.declared.Asked.{Asked}
+use Rattle.steps.specs.declared.Core.{Core}
+use Rattle.steps.specs.declared.Heard.{Heard}
+use Rattle.steps.specs.declared.Next.{Next}
+use Rattle.steps.specs.declared.Next.the-variants.{Stays, Continues, Commits, Refuses}
+use Rattle.steps.specs.declared.Rounds.{Rounds}
+use Rattle.steps.specs.declared.RoundsStep.{RoundsStep}
 use Rattle.paxos_family.proofs.Causes.{Caused, GoodRounds, classic-caused, fast-caused, AllowedRounds, propose-classic-allowed, propose-fast-allowed}
-use Rattle.consensus.specs.Admit.{isAhead, isOwnSlot, needsValue, otherLastValue, valueAwaited, ready, admit}
+use Rattle.delivery.specs.Admit.{isAhead, isOwnSlot, needsValue, otherLastValue, valueAwaited, ready, admit}
 use Rattle.consensus.specs.Answers.{refused, committed, finishAt}
 use Rattle.consensus.specs.Call.{newShard, proposing, propose, read, admitted, receive, dispatch, unlessSpent, ifMade, callWith}
 use Rattle.consensus.specs.Causes.{Spent, ProposalCause, MessageCause, Cause}
 use Rattle.consensus.specs.Handle.{askedOf, heardOf, onCommit, onReadRequest, onReadResponse, startRead, afterInsert, processed, processMessage, handle}
-use Rattle.consensus.specs.Limits.{isNumber, isSlot, numbersFit, processesFit}
+use Rattle.delivery.specs.Limits.{isNumber, isSlot, numbersFit, processesFit}
 use Rattle.consensus.specs.declared.Answer.{Answer}
 use Rattle.consensus.specs.declared.Call.{Call}
 use Rattle.consensus.specs.declared.Call.the-variants.{Propose, StartRead, Receive}
-use Rattle.consensus.specs.declared.Delivery.{Delivery}
+use Rattle.delivery.specs.declared.Delivery.{Delivery}
 use Rattle.consensus.specs.declared.Shard.{Shard}
 
 -- taken, or refused with the shard left, nothing handed back but the number, and a cause

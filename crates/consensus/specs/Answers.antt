@@ -10,14 +10,14 @@ use Rattle.read_tracker.specs.Reads.{commitSlot as serveReads}
 use Rattle.read_tracker.specs.declared.ReadTracker.{ReadTracker}
 use Rattle.read_tracker.specs.declared.Tracked.{Tracked}
 use Rattle.paxos_family.specs.Commit.{commitSlot}
-use Rattle.paxos_family.specs.Steps.{noMessages}
-use Rattle.paxos_family.specs.declared.Asked.{Asked}
-use Rattle.paxos_family.specs.declared.Core.{Core}
-use Rattle.paxos_family.specs.declared.Messages.{Messages}
-use Rattle.paxos_family.specs.declared.Next.{Next}
-use Rattle.paxos_family.specs.declared.Next.the-variants.{Stays, Continues, Commits, Refuses}
-use Rattle.paxos_family.specs.declared.Rounds.{Rounds}
-use Rattle.paxos_family.specs.declared.RoundsStep.{RoundsStep}
+use Rattle.steps.specs.Steps.{noMessages}
+use Rattle.steps.specs.declared.Asked.{Asked}
+use Rattle.steps.specs.declared.Core.{Core}
+use Rattle.steps.specs.declared.Messages.{Messages}
+use Rattle.steps.specs.declared.Next.{Next}
+use Rattle.steps.specs.declared.Next.the-variants.{Stays, Continues, Commits, Refuses}
+use Rattle.steps.specs.declared.Rounds.{Rounds}
+use Rattle.steps.specs.declared.RoundsStep.{RoundsStep}
 use Rattle.consensus.specs.declared.Answer.{Answer}
 use Rattle.consensus.specs.declared.OptionalCommit.{OptionalCommit}
 use Rattle.consensus.specs.declared.OptionalCommit.the-variants.{NoCommit, Committed}

@@ -17,20 +17,20 @@ use Rattle.settings.specs.Questions.{startingRoundOf}
 use Rattle.settings.specs.Settings.{withinLimits}
 use Rattle.settings.specs.declared.Settings.{Settings}
 use Rattle.message.specs.declared.OptionalValue.the-variants.{NoValue}
-use Rattle.paxos_family.specs.Propose.{proposeClassic, proposeFast}
-use Rattle.paxos_family.specs.Steps.{onRounds}
-use Rattle.paxos_family.specs.declared.Asked.{Asked}
-use Rattle.paxos_family.specs.declared.Core.{Core}
-use Rattle.paxos_family.specs.declared.Rounds.{Rounds}
-use Rattle.paxos_family.specs.declared.RoundsStep.{RoundsStep}
-use Rattle.consensus.specs.Admit.{admit}
+use Rattle.propose.specs.Propose.{proposeClassic, proposeFast}
+use Rattle.steps.specs.Steps.{onRounds}
+use Rattle.steps.specs.declared.Asked.{Asked}
+use Rattle.steps.specs.declared.Core.{Core}
+use Rattle.steps.specs.declared.Rounds.{Rounds}
+use Rattle.steps.specs.declared.RoundsStep.{RoundsStep}
+use Rattle.delivery.specs.Admit.{admit}
 use Rattle.consensus.specs.Answers.{refused, finish}
 use Rattle.consensus.specs.Handle.{askedOf, startRead, handle}
-use Rattle.consensus.specs.Limits.{isNumber, isSlot}
+use Rattle.delivery.specs.Limits.{isNumber, isSlot}
 use Rattle.consensus.specs.declared.Answer.{Answer}
 use Rattle.consensus.specs.declared.Call.{Call}
 use Rattle.consensus.specs.declared.Call.the-variants.{Propose, StartRead, Receive}
-use Rattle.consensus.specs.declared.Delivery.{Delivery}
+use Rattle.delivery.specs.declared.Delivery.{Delivery}
 use Rattle.consensus.specs.declared.Shard.{Shard}
 use Rattle.consensus.specs.declared.State.{State}
 

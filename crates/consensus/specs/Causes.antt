@@ -14,13 +14,13 @@ use Rattle.message.specs.declared.Refusal.the-variants.{SettingsOutsideLimits, 
 use Rattle.fast_state.specs.declared.FastState.{FastState}
 use Rattle.read_tracker.specs.declared.ReadTracker.{ReadTracker}
 use Rattle.paxos_family.specs.Causes.{HandlingCause}
-use Rattle.paxos_family.specs.declared.Next.the-variants.{Commits}
-use Rattle.consensus.specs.Admit.{otherLastValue, valueAwaited}
+use Rattle.steps.specs.declared.Next.the-variants.{Commits}
+use Rattle.delivery.specs.Admit.{otherLastValue, valueAwaited}
 use Rattle.consensus.specs.Handle.{askedOf, heardOf, processed}
-use Rattle.consensus.specs.Limits.{isNumber, isSlot, numbersFit, processesFit}
+use Rattle.delivery.specs.Limits.{isNumber, isSlot, numbersFit, processesFit}
 use Rattle.consensus.specs.declared.Call.{Call}
 use Rattle.consensus.specs.declared.Call.the-variants.{Propose, StartRead, Receive}
-use Rattle.consensus.specs.declared.Delivery.{Delivery}
+use Rattle.delivery.specs.declared.Delivery.{Delivery}
 use Rattle.consensus.specs.declared.Shard.{Shard}
 
 -- "own slot 2^63−1, which is spent"

@@ -22,16 +22,16 @@ use Rattle.round_state.specs.Paxos.{isHeld}
 use Rattle.settings.specs.Questions.{isLiveReplica, isReplica, quorumsOf, delegateOf, committerOf, startingRoundOf}
 use Rattle.settings.specs.declared.Settings.{Settings}
 use Rattle.paxos_family.specs.Process.{processClassic, processFast}
-use Rattle.paxos_family.specs.Steps.{noMessages, oneMessage, sends, toAll, onRounds}
-use Rattle.paxos_family.specs.declared.Asked.{Asked}
-use Rattle.paxos_family.specs.declared.Core.{Core}
-use Rattle.paxos_family.specs.declared.Destination.the-variants.{One}
-use Rattle.paxos_family.specs.declared.Heard.{Heard}
-use Rattle.paxos_family.specs.declared.Rounds.{Rounds}
-use Rattle.paxos_family.specs.declared.RoundsStep.{RoundsStep}
+use Rattle.steps.specs.Steps.{noMessages, oneMessage, sends, toAll, onRounds}
+use Rattle.steps.specs.declared.Asked.{Asked}
+use Rattle.steps.specs.declared.Core.{Core}
+use Rattle.steps.specs.declared.Destination.the-variants.{One}
+use Rattle.steps.specs.declared.Heard.{Heard}
+use Rattle.steps.specs.declared.Rounds.{Rounds}
+use Rattle.steps.specs.declared.RoundsStep.{RoundsStep}
 use Rattle.consensus.specs.Answers.{withTracker, refused, sent, nothing, served, committed, finish}
 use Rattle.consensus.specs.declared.Answer.{Answer}
-use Rattle.consensus.specs.declared.Delivery.{Delivery}
+use Rattle.delivery.specs.declared.Delivery.{Delivery}
 use Rattle.consensus.specs.declared.OptionalCommit.the-variants.{NoCommit}
 use Rattle.consensus.specs.declared.Shard.{Shard}
 

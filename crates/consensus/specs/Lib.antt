@@ -1,5 +1,3 @@
-pub mod Limits
-pub mod Admit
 pub mod Answers
 pub mod Handle
 pub mod Call

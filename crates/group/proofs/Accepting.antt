@@ -24,14 +24,14 @@ use Rattle.round_state.specs.declared.HeldPromise.{HeldPromise}
 use Rattle.round_state.specs.declared.HeldPromise.the-variants.{NothingHeld, Held}
 use Rattle.settings.specs.Questions.{quorumsOf, delegateOf, committerOf}
 use Rattle.settings.specs.declared.Settings.{Settings}
-use Rattle.paxos_family.specs.Accept.{tellsCommitter, isCommitter, acceptTo, tellsThird, answerAccept, commitMessage, tellsCommit, commitMessages, tryCommit, answered, follower, accepted, accepting}
-use Rattle.paxos_family.specs.Enter.{inRound}
+use Rattle.accept.specs.Accept.{tellsCommitter, isCommitter, acceptTo, tellsThird, answerAccept, commitMessage, tellsCommit, commitMessages, tryCommit, answered, follower, accepted, accepting}
+use Rattle.steps.specs.Enter.{inRound}
 use Rattle.paxos_family.specs.Process.{onAccept}
-use Rattle.paxos_family.specs.Steps.{noMessages, oneMessage, twoMessages, also, heldV, withPaxos, leftFastPath, stays, commits, refuses}
-use Rattle.paxos_family.specs.declared.Core.{Core}
-use Rattle.paxos_family.specs.declared.Heard.{Heard}
-use Rattle.paxos_family.specs.declared.Messages.{Messages}
-use Rattle.paxos_family.specs.declared.Outgoing.{Outgoing}
+use Rattle.steps.specs.Steps.{noMessages, oneMessage, twoMessages, also, heldV, withPaxos, leftFastPath, stays, commits, refuses}
+use Rattle.steps.specs.declared.Core.{Core}
+use Rattle.steps.specs.declared.Heard.{Heard}
+use Rattle.steps.specs.declared.Messages.{Messages}
+use Rattle.steps.specs.declared.Outgoing.{Outgoing}
 use Rattle.agreement.specs.Model.{View, Outcome, Host, acceptedBy, voted, refuse, say}
 use Rattle.agreement.specs.Model as model
 use Rattle.agreement.specs.Refinement.{meanings}

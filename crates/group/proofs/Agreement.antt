@@ -33,12 +33,12 @@ use Rattle.consensus.specs.declared.Call.the-variants.{Propose, StartRead, Rece
 use Rattle.consensus.specs.declared.OptionalCommit.{OptionalCommit}
 use Rattle.consensus.specs.declared.OptionalCommit.the-variants.{NoCommit, Committed}
 use Rattle.consensus.specs.declared.Shard.{Shard}
-use Rattle.paxos_family.specs.declared.Destination.{Destination}
-use Rattle.paxos_family.specs.declared.Destination.the-variants.{One, All}
-use Rattle.paxos_family.specs.declared.Messages.{Messages}
-use Rattle.paxos_family.specs.declared.OptionalMessage.{OptionalMessage}
-use Rattle.paxos_family.specs.declared.OptionalMessage.the-variants.{NoMessage, Send}
-use Rattle.paxos_family.specs.declared.Outgoing.{Outgoing}
+use Rattle.steps.specs.declared.Destination.{Destination}
+use Rattle.steps.specs.declared.Destination.the-variants.{One, All}
+use Rattle.steps.specs.declared.Messages.{Messages}
+use Rattle.steps.specs.declared.OptionalMessage.{OptionalMessage}
+use Rattle.steps.specs.declared.OptionalMessage.the-variants.{NoMessage, Send}
+use Rattle.steps.specs.declared.Outgoing.{Outgoing}
 use Rattle.agreement.specs.Engine.{Kind, In}
 use Rattle.agreement.specs.Engine as engine
 use Rattle.agreement.specs.Model.{Setup}

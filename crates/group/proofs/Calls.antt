@@ -39,26 +39,26 @@ use Rattle.settings.specs.declared.Settings.{Settings}
 use Rattle.settings.proofs.Limits.{within-counts, within-members}
 use Rattle.paxos_family.specs.Commit.{commitSlot}
 use Rattle.paxos_family.specs.Process.{onPrepare, onAccept, processClassic}
-use Rattle.paxos_family.specs.Propose.{electing, proposeClassic}
-use Rattle.paxos_family.specs.Steps.{noMessages, oneMessage, onRounds}
-use Rattle.paxos_family.specs.declared.Core.{Core}
-use Rattle.paxos_family.specs.declared.CoreStep.{CoreStep}
-use Rattle.paxos_family.specs.declared.Destination.the-variants.{One}
-use Rattle.paxos_family.specs.declared.Heard.{Heard}
-use Rattle.paxos_family.specs.declared.Messages.{Messages}
-use Rattle.paxos_family.specs.declared.Next.{Next}
-use Rattle.paxos_family.specs.declared.Next.the-variants.{Stays, Continues, Commits, Refuses}
-use Rattle.paxos_family.specs.declared.Rounds.{Rounds}
-use Rattle.paxos_family.specs.declared.RoundsStep.{RoundsStep}
-use Rattle.consensus.specs.Admit.{isAhead, otherLastValue, valueAwaited, ready, admit}
+use Rattle.propose.specs.Propose.{electing, proposeClassic}
+use Rattle.steps.specs.Steps.{noMessages, oneMessage, onRounds}
+use Rattle.steps.specs.declared.Core.{Core}
+use Rattle.steps.specs.declared.CoreStep.{CoreStep}
+use Rattle.steps.specs.declared.Destination.the-variants.{One}
+use Rattle.steps.specs.declared.Heard.{Heard}
+use Rattle.steps.specs.declared.Messages.{Messages}
+use Rattle.steps.specs.declared.Next.{Next}
+use Rattle.steps.specs.declared.Next.the-variants.{Stays, Continues, Commits, Refuses}
+use Rattle.steps.specs.declared.Rounds.{Rounds}
+use Rattle.steps.specs.declared.RoundsStep.{RoundsStep}
+use Rattle.delivery.specs.Admit.{isAhead, otherLastValue, valueAwaited, ready, admit}
 use Rattle.consensus.specs.Answers.{refused, sent, nothing, committed, finishAt, finish}
 use Rattle.consensus.specs.Call.{proposing, propose, read, admitted, receive, dispatch, unlessSpent, ifMade, callWith, callOf}
 use Rattle.consensus.specs.Handle.{gathererOf, heardOf, nextReadable, onCommit, onReadRequest, onReadResponse, afterInsert, readInserted, startRead, processed, processMessage, handle}
-use Rattle.consensus.specs.Limits.{isNumber, isSlot, numbersFit, rvProcesses, msgProcesses, requesterBelow, processesFit}
+use Rattle.delivery.specs.Limits.{isNumber, isSlot, numbersFit, rvProcesses, msgProcesses, requesterBelow, processesFit}
 use Rattle.consensus.specs.declared.Answer.{Answer}
 use Rattle.consensus.specs.declared.Call.{Call}
 use Rattle.consensus.specs.declared.Call.the-variants.{Propose, StartRead, Receive}
-use Rattle.consensus.specs.declared.Delivery.{Delivery}
+use Rattle.delivery.specs.declared.Delivery.{Delivery}
 use Rattle.consensus.specs.declared.OptionalCommit.{OptionalCommit}
 use Rattle.consensus.specs.declared.OptionalCommit.the-variants.{NoCommit, Committed}
 use Rattle.consensus.specs.declared.Shard.{Shard}

@@ -21,12 +21,12 @@ use Rattle.round_state.specs.declared.Member.{Member}
 use Rattle.round_state.proofs.Counting.{with-sender-own, with-sender-other, with-own-replica}
 use Rattle.settings.specs.declared.Settings.{Settings}
 use Rattle.consensus.specs.Handle.{askedOf}
-use Rattle.paxos_family.specs.Enter.{inRound, isOlder, fromLive, enter}
+use Rattle.steps.specs.Enter.{inRound, isOlder, fromLive, enter}
 use Rattle.paxos_family.specs.Process.{ifContinues}
-use Rattle.paxos_family.specs.Steps.{noMessages, heldV, withPaxos, stays, continues, refuses}
-use Rattle.paxos_family.specs.declared.Core.{Core}
-use Rattle.paxos_family.specs.declared.CoreStep.{CoreStep}
-use Rattle.paxos_family.specs.declared.Heard.{Heard}
+use Rattle.steps.specs.Steps.{noMessages, heldV, withPaxos, stays, continues, refuses}
+use Rattle.steps.specs.declared.Core.{Core}
+use Rattle.steps.specs.declared.CoreStep.{CoreStep}
+use Rattle.steps.specs.declared.Heard.{Heard}
 use Rattle.agreement.specs.Model.{View, Outcome, add, joined, quiet}
 use Rattle.agreement.specs.Model as model
 use Rattle.group.specs.Claim.{memberSettings}

@@ -28,22 +28,22 @@ use Rattle.fast_state.specs.Adopt.{lowestBest}
 use Rattle.fast_state.specs.Fast.{epaxosProposeV, swiftProposeV}
 use Rattle.read_tracker.specs.declared.Opened.{Opened}
 use Rattle.read_tracker.specs.declared.Opened.the-variants.{Refused as NotOpened, Id}
-use Rattle.paxos_family.specs.Propose.{electing, proposalRound, mayPropose, afterPrepare, proposePrepare, afterAccept, afterOwnPromise, proposeAccept, proposeClassic, afterOwnAnswer, proposeEPaxos, proposeSwift, proposeByMode, proposeFast}
-use Rattle.paxos_family.specs.declared.Asked.{Asked}
-use Rattle.paxos_family.specs.declared.Core.{Core}
-use Rattle.paxos_family.specs.declared.CoreStep.{CoreStep}
-use Rattle.paxos_family.specs.declared.Destination.{Destination}
-use Rattle.paxos_family.specs.declared.Destination.the-variants.{One, All}
-use Rattle.paxos_family.specs.declared.Messages.{Messages}
-use Rattle.paxos_family.specs.declared.Next.{Next}
-use Rattle.paxos_family.specs.declared.Next.the-variants.{Stays, Continues, Commits, Refuses}
-use Rattle.paxos_family.specs.declared.Outgoing.{Outgoing}
-use Rattle.paxos_family.specs.declared.Rounds.{Rounds}
-use Rattle.paxos_family.specs.declared.RoundsStep.{RoundsStep}
+use Rattle.propose.specs.Propose.{electing, proposalRound, mayPropose, afterPrepare, proposePrepare, afterAccept, afterOwnPromise, proposeAccept, proposeClassic, afterOwnAnswer, proposeEPaxos, proposeSwift, proposeByMode, proposeFast}
+use Rattle.steps.specs.declared.Asked.{Asked}
+use Rattle.steps.specs.declared.Core.{Core}
+use Rattle.steps.specs.declared.CoreStep.{CoreStep}
+use Rattle.steps.specs.declared.Destination.{Destination}
+use Rattle.steps.specs.declared.Destination.the-variants.{One, All}
+use Rattle.steps.specs.declared.Messages.{Messages}
+use Rattle.steps.specs.declared.Next.{Next}
+use Rattle.steps.specs.declared.Next.the-variants.{Stays, Continues, Commits, Refuses}
+use Rattle.steps.specs.declared.Outgoing.{Outgoing}
+use Rattle.steps.specs.declared.Rounds.{Rounds}
+use Rattle.steps.specs.declared.RoundsStep.{RoundsStep}
 use Rattle.consensus.specs.Answers.{refused, finishAt}
 use Rattle.consensus.specs.Call.{proposing, propose, read, dispatch, unlessSpent, ifMade, callWith, callOf}
 use Rattle.consensus.specs.Handle.{askedOf, afterInsert, readInserted, startRead}
-use Rattle.consensus.specs.Limits.{isNumber, isSlot}
+use Rattle.delivery.specs.Limits.{isNumber, isSlot}
 use Rattle.consensus.specs.declared.Answer.{Answer}
 use Rattle.consensus.specs.declared.Call.{Call}
 use Rattle.consensus.specs.declared.Call.the-variants.{Propose, StartRead, Receive}

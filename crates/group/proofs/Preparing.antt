@@ -27,15 +27,15 @@ use Rattle.round_state.specs.declared.PaxosStep.{PaxosStep}
 use Rattle.settings.specs.Questions.{quorumsOf, delegateOf}
 use Rattle.settings.specs.declared.Settings.{Settings}
 use Rattle.consensus.specs.Handle.{askedOf}
-use Rattle.paxos_family.specs.Enter.{inRound}
-use Rattle.paxos_family.specs.Prepare.{holdFirst, answerPrepare, answersNothing, preparing, prepared, broadcastAccept, afterOwnAccept, acceptPhase, gather}
+use Rattle.steps.specs.Enter.{inRound}
+use Rattle.prepare.specs.Prepare.{holdFirst, answerPrepare, answersNothing, preparing, prepared, broadcastAccept, afterOwnAccept, acceptPhase, gather}
 use Rattle.paxos_family.specs.Process.{inPrepare, onPrepare}
-use Rattle.paxos_family.specs.Steps.{noMessages, oneMessage, sends, toAll, heldRv, heldV, withPaxos, leftFastPath, stays, continues, refuses}
-use Rattle.paxos_family.specs.declared.Asked.{Asked}
-use Rattle.paxos_family.specs.declared.Core.{Core}
-use Rattle.paxos_family.specs.declared.CoreStep.{CoreStep}
-use Rattle.paxos_family.specs.declared.Destination.the-variants.{One}
-use Rattle.paxos_family.specs.declared.Heard.{Heard}
+use Rattle.steps.specs.Steps.{noMessages, oneMessage, sends, toAll, heldRv, heldV, withPaxos, leftFastPath, stays, continues, refuses}
+use Rattle.steps.specs.declared.Asked.{Asked}
+use Rattle.steps.specs.declared.Core.{Core}
+use Rattle.steps.specs.declared.CoreStep.{CoreStep}
+use Rattle.steps.specs.declared.Destination.the-variants.{One}
+use Rattle.steps.specs.declared.Heard.{Heard}
 use Rattle.agreement.specs.Model.{View, Outcome, add, adopted, preparedBy, voted, refuse, say, quiet}
 use Rattle.agreement.specs.Model as model
 use Rattle.group.specs.Claim.{memberSettings}

@@ -27,9 +27,9 @@ use Rattle.round_state.specs.declared.PaxosState.{PaxosState}
 use Rattle.round_state.specs.declared.PaxosStep.{PaxosStep}
 use Rattle.settings.specs.Questions.{delegateOf, startingRoundOf}
 use Rattle.settings.specs.declared.Settings.{Settings}
-use Rattle.paxos_family.specs.Propose.{notAllowed, electing, proposalRound, mayPropose, afterPrepare, proposePrepare, afterAccept as afterAcceptStep, afterOwnPromise, proposeAccept, proposeClassic}
-use Rattle.paxos_family.specs.Steps.{oneMessage, sends, toAll, withPaxos, stays}
-use Rattle.paxos_family.specs.declared.Core.{Core}
+use Rattle.propose.specs.Propose.{notAllowed, electing, proposalRound, mayPropose, afterPrepare, proposePrepare, afterAccept as afterAcceptStep, afterOwnPromise, proposeAccept, proposeClassic}
+use Rattle.steps.specs.Steps.{oneMessage, sends, toAll, withPaxos, stays}
+use Rattle.steps.specs.declared.Core.{Core}
 use Rattle.agreement.specs.Model.{View, joined, adopted, preparedBy, voted, say}
 use Rattle.agreement.specs.Model as model
 use Rattle.group.proofs.View.{roundNumber, LeaderFits, leaderOf, leader-of, viewOf, Leaders, setupOf, Follows}

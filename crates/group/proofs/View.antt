@@ -28,18 +28,18 @@ use Rattle.round_state.specs.Paxos.{getLastAcceptedRound, isHeld}
 use Rattle.settings.specs.Questions.{quorumsOf, delegateOf, committerOf, startingRoundOf}
 use Rattle.settings.specs.declared.Settings.{Settings}
 use Rattle.message.specs.Modes.{isMultiPaxos}
-use Rattle.paxos_family.specs.Accept.{tellsCommitter}
-use Rattle.paxos_family.specs.Steps.{heldV}
-use Rattle.paxos_family.specs.declared.Core.{Core}
-use Rattle.paxos_family.specs.declared.CoreStep.{CoreStep}
-use Rattle.paxos_family.specs.declared.Destination.{Destination}
-use Rattle.paxos_family.specs.declared.Destination.the-variants.{One, All}
-use Rattle.paxos_family.specs.declared.Messages.{Messages}
-use Rattle.paxos_family.specs.declared.Next.{Next}
-use Rattle.paxos_family.specs.declared.Next.the-variants.{Stays, Continues, Commits, Refuses}
-use Rattle.paxos_family.specs.declared.OptionalMessage.{OptionalMessage}
-use Rattle.paxos_family.specs.declared.OptionalMessage.the-variants.{NoMessage, Send}
-use Rattle.paxos_family.specs.declared.Outgoing.{Outgoing}
+use Rattle.accept.specs.Accept.{tellsCommitter}
+use Rattle.steps.specs.Steps.{heldV}
+use Rattle.steps.specs.declared.Core.{Core}
+use Rattle.steps.specs.declared.CoreStep.{CoreStep}
+use Rattle.steps.specs.declared.Destination.{Destination}
+use Rattle.steps.specs.declared.Destination.the-variants.{One, All}
+use Rattle.steps.specs.declared.Messages.{Messages}
+use Rattle.steps.specs.declared.Next.{Next}
+use Rattle.steps.specs.declared.Next.the-variants.{Stays, Continues, Commits, Refuses}
+use Rattle.steps.specs.declared.OptionalMessage.{OptionalMessage}
+use Rattle.steps.specs.declared.OptionalMessage.the-variants.{NoMessage, Send}
+use Rattle.steps.specs.declared.Outgoing.{Outgoing}
 use Rattle.agreement.specs.Engine.{Envelope}
 use Rattle.agreement.specs.Model.{View, Setup, Message, prepare, accept, commit, other, undecided, decided, Outcome, empty, add, advanced}
 use Rattle.agreement.specs.Model as model

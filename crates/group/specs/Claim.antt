@@ -12,12 +12,12 @@ use Rattle.message.specs.declared.Outcome.the-variants.{Done}
 use Rattle.message.specs.declared.PFMode.{PFMode}
 use Rattle.message.specs.declared.PFMode.the-variants.{Paxos, MultiPaxos, MultiPaxos3P, EPaxos, Pando, SwiftPaxos}
 use Rattle.settings.specs.declared.Settings.{Settings}
-use Rattle.paxos_family.specs.declared.Destination.{Destination}
-use Rattle.paxos_family.specs.declared.Destination.the-variants.{One, All}
-use Rattle.paxos_family.specs.declared.Messages.{Messages}
-use Rattle.paxos_family.specs.declared.OptionalMessage.{OptionalMessage}
-use Rattle.paxos_family.specs.declared.OptionalMessage.the-variants.{NoMessage, Send}
-use Rattle.paxos_family.specs.declared.Outgoing.{Outgoing}
+use Rattle.steps.specs.declared.Destination.{Destination}
+use Rattle.steps.specs.declared.Destination.the-variants.{One, All}
+use Rattle.steps.specs.declared.Messages.{Messages}
+use Rattle.steps.specs.declared.OptionalMessage.{OptionalMessage}
+use Rattle.steps.specs.declared.OptionalMessage.the-variants.{NoMessage, Send}
+use Rattle.steps.specs.declared.Outgoing.{Outgoing}
 use Rattle.consensus.specs.Call.{newShard, callOf}
 use Rattle.consensus.specs.declared.Call.{Call}
 use Rattle.consensus.specs.declared.Call.the-variants.{Propose, StartRead, Receive}

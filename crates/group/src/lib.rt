@@ -8,9 +8,9 @@ use consensus::Reply;
 use consensus::Shard;
 use message::Outcome;
 use message::Refusal;
-use paxos_family::Messages;
-use paxos_family::OptionalMessage;
 use settings::Settings;
+use steps::Messages;
+use steps::OptionalMessage;
 
 pub struct Group {
     pub members: [Shard; 64],

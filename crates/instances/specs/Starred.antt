@@ -36,13 +36,13 @@ use Rattle.read_tracker.specs.declared.Inserted.{Inserted}
 use Rattle.read_tracker.specs.Reads.{readId, newTracker, newTable, insert as insertRead, afterResponse, afterCommit, keptByReady, servedByReady, keptByCommit, servedByCommit, atFront, receiveReady, commitSlot}
 use Rattle.settings.specs.declared.Settings.{Settings}
 use Rattle.settings.specs.Settings.{countsFit, membersFit, committersFit, modeFits, withinLimits}
-use Rattle.paxos_family.specs.Propose.{electing, mayPropose, proposePrepare, proposeClassic}
-use Rattle.paxos_family.specs.Steps.{noMessages, oneMessage, toAll}
-use Rattle.consensus.specs.Admit.{otherLastValue, valueAwaited, ready, admit}
+use Rattle.propose.specs.Propose.{electing, mayPropose, proposePrepare, proposeClassic}
+use Rattle.steps.specs.Steps.{noMessages, oneMessage, toAll}
+use Rattle.delivery.specs.Admit.{otherLastValue, valueAwaited, ready, admit}
 use Rattle.consensus.specs.Answers.{committed}
 use Rattle.consensus.specs.Call.{newShard, proposing, propose, read, receive, dispatch, unlessSpent, callWith, callOf}
 use Rattle.consensus.specs.Handle.{onCommit, onReadResponse, startRead, handle}
-use Rattle.consensus.specs.Limits.{msgNumbers, valueNumbers, processNumbers, numbersFit, msgProcesses, requesterBelow, processesFit}
+use Rattle.delivery.specs.Limits.{msgNumbers, valueNumbers, processNumbers, numbersFit, msgProcesses, requesterBelow, processesFit}
 use Rattle.consensus.specs.declared.Call.the-variants.{Propose, StartRead, Receive}
 use Rattle.consensus.specs.declared.OptionalCommit.the-variants.{NoCommit, Committed}
 use Rattle.consensus.specs.declared.Reply.{Reply}

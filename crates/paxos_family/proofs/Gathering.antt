@@ -24,12 +24,12 @@ use Rattle.round_state.specs.Paxos.{getV, isPrepared, taken, refused, counted, 
 use Rattle.round_state.specs.declared.Member.{Member}
 use Rattle.round_state.specs.declared.PaxosState.{PaxosState}
 use Rattle.round_state.proofs.Counting.{counted-keeps}
-use Rattle.paxos_family.specs.Prepare.{broadcastAccept, afterOwnAccept, acceptPhase, gather}
-use Rattle.paxos_family.specs.Steps.{noMessages, withPaxos, leftFastPath, stays}
-use Rattle.paxos_family.specs.declared.Asked.{Asked}
-use Rattle.paxos_family.specs.declared.Core.{Core}
-use Rattle.paxos_family.specs.declared.CoreStep.{CoreStep}
-use Rattle.paxos_family.specs.declared.Heard.{Heard}
+use Rattle.prepare.specs.Prepare.{broadcastAccept, afterOwnAccept, acceptPhase, gather}
+use Rattle.steps.specs.Steps.{noMessages, withPaxos, leftFastPath, stays}
+use Rattle.steps.specs.declared.Asked.{Asked}
+use Rattle.steps.specs.declared.Core.{Core}
+use Rattle.steps.specs.declared.CoreStep.{CoreStep}
+use Rattle.steps.specs.declared.Heard.{Heard}
 
 -- a majority that has prepared is one after a further promise, too
 prepared-stays : (me : Member) (src : ℕ) (rv : RoundV) (s : PaxosState) → isPrepared me s ≡ true → isPrepared me (receivePromise me src rv s .state) ≡ true

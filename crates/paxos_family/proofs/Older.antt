@@ -14,13 +14,13 @@ use Rattle.message.specs.declared.OptionalRound.the-variants.{Round}
 use Rattle.message.specs.declared.PaxosRound.{PaxosRound}
 use Rattle.message.specs.declared.RoundV.{RoundV}
 use Rattle.fast_state.specs.declared.FastState.{FastState}
-use Rattle.paxos_family.specs.Enter.{isOlder, fromLive, enter}
+use Rattle.steps.specs.Enter.{isOlder, fromLive, enter}
 use Rattle.paxos_family.specs.Process.{processClassic, onPrepare, onAccept, processFast, onFastPrepare, onFastAccept}
-use Rattle.paxos_family.specs.Steps.{noMessages, stays, onRounds}
-use Rattle.paxos_family.specs.declared.Asked.{Asked}
-use Rattle.paxos_family.specs.declared.Core.{Core}
-use Rattle.paxos_family.specs.declared.Heard.{Heard}
-use Rattle.paxos_family.specs.declared.Rounds.{Rounds}
+use Rattle.steps.specs.Steps.{noMessages, stays, onRounds}
+use Rattle.steps.specs.declared.Asked.{Asked}
+use Rattle.steps.specs.declared.Core.{Core}
+use Rattle.steps.specs.declared.Heard.{Heard}
+use Rattle.steps.specs.declared.Rounds.{Rounds}
 
 -- the slot is older, or the round is
 abbrev pub Older : ℕ → PaxosRound → Core → Type 0

@@ -34,19 +34,19 @@ use Rattle.round_state.specs.declared.PaxosState.{PaxosState}
 use Rattle.round_state.specs.declared.PaxosStep.{PaxosStep}
 use Rattle.round_state.proofs.Paper.{proposal, reported, heldProposal, afterPromises, reports, promises-highest, accept-paper}
 use Rattle.fast_state.specs.Fast.{hasValue}
-use Rattle.paxos_family.specs.Accept.{isCommitter, answerAccept, tryCommit, commitMessages, answered, follower, accepted, afterAccepted, accepting}
-use Rattle.paxos_family.specs.Enter.{inRound, isOlder, fromLive, enter}
-use Rattle.paxos_family.specs.Prepare.{holdFirst, answerPrepare, answersNothing, preparing, afterHeld, prepared, broadcastAccept, afterOwnAccept, acceptPhase, gather}
+use Rattle.accept.specs.Accept.{isCommitter, answerAccept, tryCommit, commitMessages, answered, follower, accepted, afterAccepted, accepting}
+use Rattle.steps.specs.Enter.{inRound, isOlder, fromLive, enter}
+use Rattle.prepare.specs.Prepare.{holdFirst, answerPrepare, answersNothing, preparing, afterHeld, prepared, broadcastAccept, afterOwnAccept, acceptPhase, gather}
 use Rattle.paxos_family.specs.Process.{ifContinues, inPrepare, onPrepare, onAccept}
-use Rattle.paxos_family.specs.Steps.{noMessages, oneMessage, sends, toAll, heldRv, heldV, withPaxos, leftFastPath, stays, continues, commits, refuses}
-use Rattle.paxos_family.specs.declared.Asked.{Asked}
-use Rattle.paxos_family.specs.declared.Core.{Core}
-use Rattle.paxos_family.specs.declared.CoreStep.{CoreStep}
-use Rattle.paxos_family.specs.declared.Destination.the-variants.{One}
-use Rattle.paxos_family.specs.declared.Heard.{Heard}
-use Rattle.paxos_family.specs.declared.Messages.{Messages}
-use Rattle.paxos_family.specs.declared.Next.{Next}
-use Rattle.paxos_family.specs.declared.Next.the-variants.{Stays, Continues, Commits, Refuses}
+use Rattle.steps.specs.Steps.{noMessages, oneMessage, sends, toAll, heldRv, heldV, withPaxos, leftFastPath, stays, continues, commits, refuses}
+use Rattle.steps.specs.declared.Asked.{Asked}
+use Rattle.steps.specs.declared.Core.{Core}
+use Rattle.steps.specs.declared.CoreStep.{CoreStep}
+use Rattle.steps.specs.declared.Destination.the-variants.{One}
+use Rattle.steps.specs.declared.Heard.{Heard}
+use Rattle.steps.specs.declared.Messages.{Messages}
+use Rattle.steps.specs.declared.Next.{Next}
+use Rattle.steps.specs.declared.Next.the-variants.{Stays, Continues, Commits, Refuses}
 
 -- ---- the paper's acceptor in the state
 

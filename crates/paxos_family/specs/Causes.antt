@@ -5,8 +5,8 @@ use mathlib.Core.Bool.{false}
 use Rattle.message.specs.Modes.{isSwiftPaxos}
 use Rattle.message.specs.declared.Refusal.{Refusal}
 use Rattle.message.specs.declared.Refusal.the-variants.{SettingsOutsideLimits, NumberTooLarge, NoSuchProcess, OtherLastValue, SlotAhead, ValueNotHeld, SourceNotLive, Panic, AcceptUnlikeHeld, SecondFastAnswer, ProposalNotAllowed, NoRoomForRead}
-use Rattle.paxos_family.specs.declared.Asked.{Asked}
-use Rattle.paxos_family.specs.declared.Heard.{Heard}
+use Rattle.steps.specs.declared.Asked.{Asked}
+use Rattle.steps.specs.declared.Heard.{Heard}
 
 -- what a message may be refused for while it is handled: 7, where its source is no live replica and the mode is not SwiftPaxos; 8, 9, 10
 abbrev pub HandlingCause : Asked → Heard → Refusal → Type 0

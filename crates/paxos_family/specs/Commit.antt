@@ -8,9 +8,9 @@ use Rattle.message.specs.Rounds.{increment}
 use Rattle.message.specs.declared.OptionalValue.the-variants.{Value}
 use Rattle.round_state.specs.Paxos.{gotoRound, fullClear}
 use Rattle.fast_state.specs.Fast.{noAnswers}
-use Rattle.paxos_family.specs.declared.Asked.{Asked}
-use Rattle.paxos_family.specs.declared.Core.{Core}
-use Rattle.paxos_family.specs.declared.Rounds.{Rounds}
+use Rattle.steps.specs.declared.Asked.{Asked}
+use Rattle.steps.specs.declared.Core.{Core}
+use Rattle.steps.specs.declared.Rounds.{Rounds}
 
 abbrev pub commitCore : Asked → ℕ → Core → Core
 commitCore a v core =

@@ -9,19 +9,19 @@ use Rattle.message.specs.declared.OptionalProcess.{OptionalProcess}
 use Rattle.message.specs.declared.PaxosRound.{PaxosRound}
 use Rattle.message.specs.declared.RoundV.{RoundV}
 use Rattle.fast_state.specs.declared.FastState.{FastState}
-use Rattle.paxos_family.specs.Accept.{accepting}
-use Rattle.paxos_family.specs.Enter.{enter}
-use Rattle.paxos_family.specs.Fast.{swiftClientPrepare, swiftClientAccept, swiftAnsweredAccept, fastGather}
-use Rattle.paxos_family.specs.Prepare.{prepared, gather}
-use Rattle.paxos_family.specs.Steps.{noMessages, stays, onRounds}
-use Rattle.paxos_family.specs.declared.Asked.{Asked}
-use Rattle.paxos_family.specs.declared.Core.{Core}
-use Rattle.paxos_family.specs.declared.CoreStep.{CoreStep}
-use Rattle.paxos_family.specs.declared.Heard.{Heard}
-use Rattle.paxos_family.specs.declared.Next.{Next}
-use Rattle.paxos_family.specs.declared.Next.the-variants.{Stays, Continues, Commits, Refuses}
-use Rattle.paxos_family.specs.declared.Rounds.{Rounds}
-use Rattle.paxos_family.specs.declared.RoundsStep.{RoundsStep}
+use Rattle.accept.specs.Accept.{accepting}
+use Rattle.steps.specs.Enter.{enter}
+use Rattle.fast_paths.specs.Fast.{swiftClientPrepare, swiftClientAccept, swiftAnsweredAccept, fastGather}
+use Rattle.prepare.specs.Prepare.{prepared, gather}
+use Rattle.steps.specs.Steps.{noMessages, stays, onRounds}
+use Rattle.steps.specs.declared.Asked.{Asked}
+use Rattle.steps.specs.declared.Core.{Core}
+use Rattle.steps.specs.declared.CoreStep.{CoreStep}
+use Rattle.steps.specs.declared.Heard.{Heard}
+use Rattle.steps.specs.declared.Next.{Next}
+use Rattle.steps.specs.declared.Next.the-variants.{Stays, Continues, Commits, Refuses}
+use Rattle.steps.specs.declared.Rounds.{Rounds}
+use Rattle.steps.specs.declared.RoundsStep.{RoundsStep}
 
 -- the rest where a step continues, and else the step
 abbrev pub ifContinues : {A : Type 0} → Next → A → A → A

@@ -1,0 +1,233 @@
+// What an Accept does: who is told of an accepted value, who counts, and the commit that the last of the accepts brings.
+ghost use mathlib.Core.Path.{_≡_};
+ghost use Rattle.accept.specs.Accept.{tellsCommitter, isCommitter, acceptTo, tellsThird, answerAccept, commitMessage, tellsCommit, commitMessages, tryCommit, answered, follower, accepted, afterAccepted, accepting};
+use message::ConsensusMsg;
+use message::OptionalProcess;
+use message::Outcome;
+use message::PFMode;
+use message::PaxosRound;
+use message::Refusal;
+use round_state::PaxosState;
+use steps::Asked;
+use steps::Core;
+use steps::CoreStep;
+use steps::Destination;
+use steps::Heard;
+use steps::Messages;
+use steps::Outgoing;
+
+// Whether a committer hears the accepts of the mode.
+fn tells_committer(mode: PFMode) -> bool
+    ensures { λ r. ⌜ r ≡ tellsCommitter mode ⌝ }
+{
+    match mode {
+        PFMode::Paxos => false,
+        PFMode::MultiPaxos => false,
+        PFMode::MultiPaxos3P => true,
+        PFMode::EPaxos => false,
+        PFMode::Pando => false,
+        PFMode::SwiftPaxos => true,
+    }
+}
+
+// Whether the member commits the value by the accepts that it hears, as its leader does.
+fn is_committer(asked: Asked, heard: Heard) -> bool
+    ensures { λ r. ⌜ r ≡ isCommitter asked heard ⌝ }
+{
+    let mode = asked.mode;
+    if tells_committer(mode) {
+        let committer = heard.committer;
+        return committer.is(asked.member.my_pid);
+    }
+    false
+}
+
+fn accept_to(asked: Asked, core: Core, round: PaxosRound, p: u64) -> Outgoing
+    ensures { λ r. ⌜ r ≡ acceptTo asked core round p ⌝ }
+{
+    let paxos = core.paxos;
+    let held = paxos.max_rv;
+    let accept = ConsensusMsg::Accept {
+        slot: core.slot,
+        round,
+        v: steps::held_v(held),
+    };
+    asked.sends(core, Destination::One(p), accept)
+}
+
+// Whether process p, the committer, hears an accept besides the leader.
+fn tells_third(asked: Asked, round: PaxosRound, p: u64) -> bool
+    ensures { λ r. ⌜ r ≡ tellsThird asked round p ⌝ }
+{
+    let mode = asked.mode;
+    if tells_committer(mode) {
+        if p == round.leader {
+            return false;
+        }
+        if p == asked.member.my_pid {
+            return false;
+        }
+        return true;
+    }
+    false
+}
+
+// The own accept, to the committer first and then to the leader.
+fn answer_accept(
+    asked: Asked,
+    round: PaxosRound,
+    core: Core,
+    committer: OptionalProcess,
+) -> Messages
+    ensures { λ r. ⌜ r ≡ answerAccept asked round core committer ⌝ }
+{
+    match committer {
+        OptionalProcess::NoProcess => steps::one_message(accept_to(
+            asked,
+            core,
+            round,
+            round.leader,
+        )),
+        OptionalProcess::Process(p) => {
+            let to_leader = accept_to(asked, core, round, round.leader);
+            if tells_third(asked, round, p) {
+                return steps::two_messages(accept_to(asked, core, round, p), to_leader);
+            }
+            steps::one_message(to_leader)
+        }
+    }
+}
+
+// The held value is committed: to all, and to its requester first.
+pub fn commit_message(asked: Asked, core: Core, requester: OptionalProcess) -> Outgoing
+    ensures { λ r. ⌜ r ≡ commitMessage asked core requester ⌝ }
+{
+    let paxos = core.paxos;
+    let held = paxos.max_rv;
+    let commit = ConsensusMsg::Commit {
+        slot: core.slot,
+        v: steps::held_v(held),
+    };
+    let first = asked.first_served(requester);
+    asked.sends(core, Destination::All(first), commit)
+}
+
+// The leader tells of the commit. A committer tells of it where the requester is another process.
+fn tells_commit(asked: Asked, heard: Heard, round: PaxosRound) -> bool
+    ensures { λ r. ⌜ r ≡ tellsCommit asked heard round ⌝ }
+{
+    if round.leader == asked.member.my_pid {
+        return true;
+    }
+    let requester = heard.requester;
+    if requester.is(asked.member.my_pid) {
+        return false;
+    }
+    true
+}
+
+fn commit_messages(
+    asked: Asked,
+    heard: Heard,
+    round: PaxosRound,
+    core: Core,
+    messages: Messages,
+) -> Messages
+    ensures { λ r. ⌜ r ≡ commitMessages asked heard round core messages ⌝ }
+{
+    if tells_commit(asked, heard, round) {
+        let requester = heard.requester;
+        return messages.also(commit_message(asked, core, requester));
+    }
+    messages
+}
+
+// A majority of accepts commits the value.
+pub fn try_commit(
+    asked: Asked,
+    heard: Heard,
+    round: PaxosRound,
+    v: u64,
+    core: Core,
+    messages: Messages,
+) -> CoreStep
+    ensures { λ r. ⌜ r ≡ tryCommit asked heard round v core messages ⌝ }
+{
+    let paxos = core.paxos;
+    let me = asked.member;
+    if paxos.paxos_can_commit(me) {
+        let told = commit_messages(asked, heard, round, core, messages);
+        return core.left_fast_path().commits(v, told);
+    }
+    core.stays(messages)
+}
+
+// The delegate's accept is answered. A committer goes on: in SwiftPaxos with the fast half, and else by the accepts.
+fn answered(asked: Asked, heard: Heard, round: PaxosRound, v: u64, core: Core) -> CoreStep
+    ensures { λ r. ⌜ r ≡ answered asked heard round v core ⌝ }
+{
+    let mode = asked.mode;
+    let committer = heard.committer;
+    let answer = answer_accept(asked, round, core, committer);
+    if is_committer(asked, heard) {
+        if mode.is_swift_paxos() {
+            return core.continues(answer);
+        }
+        return try_commit(asked, heard, round, v, core, answer);
+    }
+    core.stays(answer)
+}
+
+// Another than the leader hears any other's accept as the committer alone.
+fn follower(asked: Asked, heard: Heard, round: PaxosRound, v: u64, core: Core) -> CoreStep
+    ensures { λ r. ⌜ r ≡ follower asked heard round v core ⌝ }
+{
+    if heard.src == heard.delegate {
+        return answered(asked, heard, round, v, core);
+    }
+    if is_committer(asked, heard) {
+        return try_commit(asked, heard, round, v, core, steps::no_messages());
+    }
+    core.refuses(Refusal::Panic)
+}
+
+fn accepted(asked: Asked, heard: Heard, round: PaxosRound, v: u64, core: Core) -> CoreStep
+    ensures { λ r. ⌜ r ≡ accepted asked heard round v core ⌝ }
+{
+    if asked.member.my_pid == round.leader {
+        return try_commit(asked, heard, round, v, core, steps::no_messages());
+    }
+    follower(asked, heard, round, v, core)
+}
+
+fn after_accepted(
+    asked: Asked,
+    heard: Heard,
+    round: PaxosRound,
+    v: u64,
+    core: Core,
+    p: PaxosState,
+    outcome: Outcome,
+) -> CoreStep
+    ensures { λ r. ⌜ r ≡ afterAccepted asked heard round v core p outcome ⌝ }
+{
+    match outcome {
+        Outcome::Done => {
+            let taken = prepare::off_fast_path(asked, core.with_paxos(p));
+            accepted(asked, heard, round, v, taken)
+        }
+        Outcome::Refused(why) => core.refuses(why),
+    }
+}
+
+// An Accept in the round of the state.
+pub fn accepting(asked: Asked, heard: Heard, round: PaxosRound, v: u64, core: Core) -> CoreStep
+    ensures { λ r. ⌜ r ≡ accepting asked heard round v core ⌝ }
+{
+    let paxos = core.paxos;
+    let me = asked.member;
+    let step = paxos.receive_accept(me, heard.src, round, v);
+    let state = step.state;
+    let outcome = step.outcome;
+    after_accepted(asked, heard, round, v, core, state, outcome)
+}

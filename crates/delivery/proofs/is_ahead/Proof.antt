@@ -1,0 +1,20 @@
+-- `delivery::is_ahead` meets its contract.
+-- Assumes nothing.
+use borrow.Author.Needs.{needs}
+use Rattle.delivery.proofs.is_ahead.Statement.{statement}
+use Rattle.delivery.proofs.is_ahead.Tie as tie
+
+enum-told : tie.Need-enum-told
+enum-told c = search needs
+
+enum-known-slot : tie.Need-enum-known-slot
+enum-known-slot c = search needs
+
+returns : tie.Need-returns
+returns c = search needs
+
+returns-2 : tie.Need-returns-2
+returns-2 c = simp (c .before .before .slot .given .1)
+
+pub is-ahead-spec : {M : Type 1} → statement M
+is-ahead-spec = tie.close (tie.spec enum-told enum-known-slot returns returns-2)

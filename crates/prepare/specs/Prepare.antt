@@ -1,0 +1,85 @@
+-- Handling a Prepare at a replica (the Rust's process_message, `Prepare`), up to the point where the fast modes part.
+-- Assumes nothing.
+use mathlib.Core.Bool.{Bool, cond, not, _&&_, _||_}
+use lib.Dec.{eqb}
+use Rattle.message.specs.Modes.{isSwiftPaxos}
+use Rattle.message.specs.Rounds.{equal}
+use Rattle.message.specs.declared.ConsensusMsg.the-variants.{Prepare, Accept}
+use Rattle.message.specs.declared.OptionalRound.the-variants.{Round}
+use Rattle.message.specs.declared.Outcome.{Outcome}
+use Rattle.message.specs.declared.Outcome.the-variants.{Done, Refused}
+use Rattle.message.specs.declared.PaxosRound.{PaxosRound}
+use Rattle.message.specs.declared.Refusal.the-variants.{Panic}
+use Rattle.message.specs.declared.RoundV.{RoundV}
+use Rattle.round_state.specs.Paxos.{getLastAcceptedRound, isHeld, isPrepared, taken, receivePromise, paxosProposeV, selfAccept}
+use Rattle.round_state.specs.declared.PaxosState.{PaxosState}
+use Rattle.round_state.specs.declared.PaxosStep.{PaxosStep}
+use Rattle.steps.specs.Steps.{noMessages, oneMessage, sends, toAll, heldRv, heldV, withPaxos, leftFastPath, stays, continues, refuses}
+use Rattle.steps.specs.declared.Asked.{Asked}
+use Rattle.steps.specs.declared.Core.{Core}
+use Rattle.steps.specs.declared.CoreStep.{CoreStep}
+use Rattle.steps.specs.declared.Destination.the-variants.{One}
+use Rattle.steps.specs.declared.Heard.{Heard}
+
+-- where nothing is held, the promise that came is held: `if self.get_my_v().is_none() { paxos_propose_v(rv) }`
+unfoldable pub holdFirst : Asked → RoundV → PaxosState → PaxosStep
+holdFirst a rv p = cond (isHeld (p .«max_rv»)) (taken p) (paxosProposeV (a .member) rv p)
+
+-- what answer_prepare asserts: the delegate is the source, or is not the leader
+abbrev pub mayAnswer : Heard → PaxosRound → Bool
+mayAnswer h round = eqb (h .delegate) (h .src) || not (eqb (h .delegate) (round .leader))
+
+-- answer_prepare, with the assertion behind it
+unfoldable pub answerPrepare : Asked → Heard → PaxosRound → Core → CoreStep
+answerPrepare a h round core =
+    cond (mayAnswer h round)
+    (stays core (oneMessage (sends a core (One (h .delegate)) (Prepare (core .slot) round (heldRv (core .paxos .«max_rv»))))))
+    (refuses Panic core)
+
+-- in SwiftPaxos the leader is not answered
+abbrev pub leavesLeader : Asked → Heard → PaxosRound → Bool
+leavesLeader a h round = isSwiftPaxos (a .mode) && eqb (h .delegate) (round .leader)
+
+-- another than the delegate answers, unless it has accepted in the round
+unfoldable pub answersNothing : Asked → Heard → PaxosRound → Core → Bool
+answersNothing a h round core =
+    leavesLeader a h round || equal (getLastAcceptedRound (core .paxos .«max_rv»)) (Round round)
+
+unfoldable pub preparing : Asked → Heard → PaxosRound → Core → CoreStep
+preparing a h round core =
+    cond (eqb (h .delegate) (a .member .«my_pid»)) (continues core noMessages)
+    (cond (answersNothing a h round core) (stays core noMessages) (answerPrepare a h round core))
+
+abbrev pub afterHeld : Asked → Heard → PaxosRound → Core → PaxosState → Outcome → CoreStep
+afterHeld a h round core p Done = preparing a h round (withPaxos p core)
+afterHeld a h round core p (Refused why) = refuses why core
+
+-- a Prepare up to the point where the delegate counts the promise
+unfoldable pub prepared : Asked → Heard → PaxosRound → RoundV → Core → CoreStep
+prepared a h round rv core = afterHeld a h round core (holdFirst a rv (core .paxos) .state) (holdFirst a rv (core .paxos) .outcome)
+
+-- the slot leaves the fast path; SwiftPaxos does not say so here
+abbrev pub offFastPath : Asked → Core → Core
+offFastPath a core = cond (isSwiftPaxos (a .mode)) core (leftFastPath core)
+
+-- broadcast_accept
+unfoldable pub broadcastAccept : Asked → PaxosRound → Core → CoreStep
+broadcastAccept a round core =
+    stays (offFastPath a core)
+    (oneMessage (sends a core toAll (Accept (core .slot) round (heldV (core .paxos .«max_rv»)))))
+
+-- self_accept, or adopt_from_epaxos, and then broadcast_accept
+abbrev pub afterOwnAccept : Asked → PaxosRound → Core → PaxosState → Outcome → CoreStep
+afterOwnAccept a round core p Done = broadcastAccept a round (withPaxos p core)
+afterOwnAccept a round core p (Refused why) = refuses why core
+
+unfoldable pub acceptPhase : Asked → PaxosRound → Core → CoreStep
+acceptPhase a round core =
+    afterOwnAccept a round core (selfAccept (a .member) round (core .paxos) .state) (selfAccept (a .member) round (core .paxos) .outcome)
+
+-- the delegate counts the promise, and starts the accept phase with the promise that completes a majority
+unfoldable pub gather : Asked → Heard → PaxosRound → RoundV → Core → CoreStep
+gather a h round rv core =
+    cond (not (isPrepared (a .member) (core .paxos)) && isPrepared (a .member) (receivePromise (a .member) (h .src) rv (core .paxos) .state))
+    (acceptPhase a round (withPaxos (receivePromise (a .member) (h .src) rv (core .paxos) .state) core))
+    (stays (withPaxos (receivePromise (a .member) (h .src) rv (core .paxos) .state) core) noMessages)

@@ -1,0 +1,37 @@
+-- `propose::propose_fast` meets its contract.
+-- Assumes nothing.
+use borrow.Author.Needs.{needs}
+use Rattle.propose.specs.Propose.{proposeFast}
+use Rattle.propose.proofs.propose_fast.Statement.{statement}
+use Rattle.propose.proofs.propose_fast.Tie as tie
+
+may-propose-requires : tie.Need-may-propose-requires
+may-propose-requires c κs = search needs
+
+propose-by-mode-requires : tie.Need-propose-by-mode-requires
+propose-by-mode-requires c κs = search needs
+
+returns : tie.Need-returns
+unfolding proposeFast
+returns c = simp (← c .before .before .may-propose .ensures, c .before .if1 .taken, ← c .propose-by-mode .ensures)
+
+not-allowed-requires : tie.Need-not-allowed-requires
+not-allowed-requires c κs = search needs
+
+on-rounds-requires : tie.Need-on-rounds-requires
+on-rounds-requires c κs = search needs
+
+returns-2 : tie.Need-returns-2
+unfolding proposeFast
+returns-2 c = simp (← c .before .before .before .may-propose .ensures, c .before .before .if1 .left, c .before .not-allowed .ensures, c .on-rounds .ensures)
+
+pub propose-fast-spec : {M : Type 1} → statement M
+propose-fast-spec =
+    tie.close
+    (tie.spec
+    may-propose-requires
+    propose-by-mode-requires
+    returns
+    not-allowed-requires
+    on-rounds-requires
+    returns-2)

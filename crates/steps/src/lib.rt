@@ -1,0 +1,359 @@
+// What the handlers work on: the part of a shard that they change, what they ask of the settings and of a message, and the steps that they
+// are chains of. A step hands back the next state, the messages to send, and how the call goes on; a refused step is dropped whole by the
+// shard that made the call, so that nothing has to be undone.
+ghost use mathlib.Core.Path.{_≡_};
+ghost use Rattle.steps.specs.Steps.{noMessages, oneMessage, twoMessages, also, sends, toAll, firstServed, heldRv, heldV, withPaxos, leftFastPath, stays, continues, commits, refuses, onRounds};
+ghost use Rattle.steps.specs.Enter.{canPropose, sourceTaken, inRound, isOlder, fromLive, enter};
+use fast_state::FastState;
+use message::ConsensusMessage;
+use message::ConsensusMsg;
+use message::OptionalProcess;
+use message::OptionalRound;
+use message::OptionalValue;
+use message::PFMode;
+use message::PaxosRound;
+use message::Refusal;
+use message::RoundV;
+use read_tracker::ReadTracker;
+use round_state::HeldPromise;
+use round_state::Member;
+use round_state::PaxosState;
+use sets::OptionalSet;
+
+// What every call may change: slot, last committed value, whether the slot has left the fast path, the first half of the round
+// state, and the count of the reads.
+pub struct Core {
+    pub slot: u64,
+    pub last_v: OptionalValue,
+    pub slot_left_fast_path: bool,
+    pub paxos: PaxosState,
+    pub tracker: ReadTracker,
+}
+
+// With the half of the round state that EPaxos and SwiftPaxos change besides.
+pub struct Rounds {
+    pub core: Core,
+    pub fast: FastState,
+}
+
+// What the handlers ask of the settings.
+pub struct Asked {
+    pub member: Member,
+    pub mode: PFMode,
+    pub starting_round: OptionalRound,
+    pub first_leader: u64,
+    pub quorum: OptionalSet,
+}
+
+// What the handlers ask of a Prepare or an Accept besides its fields: its source, whether that is a live replica, who gathers the
+// promises of its round, and the requesters that the host names for its value and for the value in the held promise, with the
+// committer of the first.
+pub struct Heard {
+    pub src: u64,
+    pub source_live: bool,
+    pub delegate: u64,
+    pub requester: OptionalProcess,
+    pub committer: OptionalProcess,
+    pub held_requester: OptionalProcess,
+}
+
+// Where a message goes: to one process, or to every other process, with the one that is served first.
+pub enum Destination {
+    One(u64),
+    All(OptionalProcess),
+}
+
+pub struct Outgoing {
+    pub destination: Destination,
+    pub message: ConsensusMessage,
+}
+
+pub enum OptionalMessage {
+    NoMessage,
+    Send(Outgoing),
+}
+
+// At most three messages, in the order in which they are sent.
+pub struct Messages {
+    pub first: OptionalMessage,
+    pub second: OptionalMessage,
+    pub third: OptionalMessage,
+}
+
+// How a call goes on after a step: not at all, with the next step, with the commit of a value, or it is refused.
+pub enum Next {
+    Stays,
+    Continues,
+    Commits(u64),
+    Refuses(Refusal),
+}
+
+pub struct CoreStep {
+    pub core: Core,
+    pub messages: Messages,
+    pub next: Next,
+}
+
+pub struct RoundsStep {
+    pub rounds: Rounds,
+    pub messages: Messages,
+    pub next: Next,
+}
+
+pub fn no_messages() -> Messages
+    ensures { λ r. ⌜ r ≡ noMessages ⌝ }
+{
+    Messages {
+        first: OptionalMessage::NoMessage,
+        second: OptionalMessage::NoMessage,
+        third: OptionalMessage::NoMessage,
+    }
+}
+
+pub fn one_message(m: Outgoing) -> Messages
+    ensures { λ r. ⌜ r ≡ oneMessage m ⌝ }
+{
+    Messages {
+        first: OptionalMessage::Send(m),
+        second: OptionalMessage::NoMessage,
+        third: OptionalMessage::NoMessage,
+    }
+}
+
+pub fn two_messages(m: Outgoing, n: Outgoing) -> Messages
+    ensures { λ r. ⌜ r ≡ twoMessages m n ⌝ }
+{
+    Messages {
+        first: OptionalMessage::Send(m),
+        second: OptionalMessage::Send(n),
+        third: OptionalMessage::NoMessage,
+    }
+}
+
+impl Messages {
+    // One message more, behind those that there are. No call sends more than three.
+    pub fn also(self, m: Outgoing) -> Messages
+        ensures { λ r. ⌜ r ≡ also self m ⌝ }
+    {
+        let first = self.first;
+        let second = self.second;
+        let third = self.third;
+        match first {
+            OptionalMessage::NoMessage => Messages {
+                first: OptionalMessage::Send(m),
+                second,
+                third,
+            },
+            OptionalMessage::Send(a) => match second {
+                OptionalMessage::NoMessage => Messages {
+                    first: OptionalMessage::Send(a),
+                    second: OptionalMessage::Send(m),
+                    third,
+                },
+                OptionalMessage::Send(b) => Messages {
+                    first: OptionalMessage::Send(a),
+                    second: OptionalMessage::Send(b),
+                    third: OptionalMessage::Send(m),
+                },
+            },
+        }
+    }
+}
+
+// Every other process, in no order.
+pub fn to_all() -> Destination
+    ensures { λ r. ⌜ r ≡ toAll ⌝ }
+{
+    Destination::All(OptionalProcess::NoProcess)
+}
+
+// What is held. No caller comes here with nothing held: the Rust unwraps.
+pub fn held_rv(held: HeldPromise) -> RoundV
+    ensures { λ r. ⌜ r ≡ heldRv held ⌝ }
+{
+    match held {
+        HeldPromise::NothingHeld => RoundV::PaxosV {
+            accept_round: OptionalRound::NoRound,
+            v: 0,
+        },
+        HeldPromise::Held(rv) => rv,
+    }
+}
+
+pub fn held_v(held: HeldPromise) -> u64
+    ensures { λ r. ⌜ r ≡ heldV held ⌝ }
+{
+    held_rv(held).get_v()
+}
+
+impl Core {
+    pub fn with_paxos(mut self, p: PaxosState) -> Core
+        ensures { λ r. ⌜ r ≡ withPaxos p self ⌝ }
+    {
+        self.paxos = p;
+        self
+    }
+
+    pub fn left_fast_path(mut self) -> Core
+        ensures { λ r. ⌜ r ≡ leftFastPath self ⌝ }
+    {
+        self.slot_left_fast_path = true;
+        self
+    }
+
+    pub fn stays(self, messages: Messages) -> CoreStep
+        ensures { λ r. ⌜ r ≡ stays self messages ⌝ }
+    {
+        CoreStep {
+            core: self,
+            messages,
+            next: Next::Stays,
+        }
+    }
+
+    pub fn continues(self, messages: Messages) -> CoreStep
+        ensures { λ r. ⌜ r ≡ continues self messages ⌝ }
+    {
+        CoreStep {
+            core: self,
+            messages,
+            next: Next::Continues,
+        }
+    }
+
+    pub fn commits(self, v: u64, messages: Messages) -> CoreStep
+        ensures { λ r. ⌜ r ≡ commits v self messages ⌝ }
+    {
+        CoreStep {
+            core: self,
+            messages,
+            next: Next::Commits(v),
+        }
+    }
+
+    pub fn refuses(self, why: Refusal) -> CoreStep
+        ensures { λ r. ⌜ r ≡ refuses why self ⌝ }
+    {
+        CoreStep {
+            core: self,
+            messages: no_messages(),
+            next: Next::Refuses(why),
+        }
+    }
+
+    // A later round is entered.
+    fn in_round(self, round: PaxosRound) -> Core
+        ensures { λ r. ⌜ r ≡ inRound round self ⌝ }
+    {
+        let paxos = self.paxos;
+        let now_at = paxos.round;
+        if now_at.before(OptionalRound::Round(round)) {
+            return self.with_paxos(paxos.goto_round(OptionalRound::Round(round)));
+        }
+        self
+    }
+
+    // Whether a message is of an older slot or round.
+    fn is_older(self, slot: u64, round: PaxosRound) -> bool
+        ensures { λ r. ⌜ r ≡ isOlder slot round self ⌝ }
+    {
+        if slot < self.slot {
+            return true;
+        }
+        let paxos = self.paxos;
+        let now_at = paxos.round;
+        OptionalRound::Round(round).before(now_at)
+    }
+}
+
+impl CoreStep {
+    // A step of the core, with the fast half as it is.
+    pub fn on_rounds(self, fast: FastState) -> RoundsStep
+        ensures { λ r. ⌜ r ≡ onRounds fast self ⌝ }
+    {
+        let core = self.core;
+        let messages = self.messages;
+        let next = self.next;
+        RoundsStep {
+            rounds: Rounds { core, fast },
+            messages,
+            next,
+        }
+    }
+}
+
+impl Asked {
+    // What the member sends carries its number and the last value that it committed.
+    pub fn sends(self, core: Core, destination: Destination, msg: ConsensusMsg) -> Outgoing
+        ensures { λ r. ⌜ r ≡ sends self core destination msg ⌝ }
+    {
+        let last_v = core.last_v;
+        Outgoing {
+            destination,
+            message: ConsensusMessage {
+                msg,
+                src: self.member.my_pid,
+                last_v,
+            },
+        }
+    }
+
+    // Whom a Commit is served to first: the requester of its value, where that is another process.
+    pub fn first_served(self, requester: OptionalProcess) -> OptionalProcess
+        ensures { λ r. ⌜ r ≡ firstServed self requester ⌝ }
+    {
+        match requester {
+            OptionalProcess::NoProcess => OptionalProcess::NoProcess,
+            OptionalProcess::Process(p) => {
+                if p == self.member.my_pid {
+                    return OptionalProcess::NoProcess;
+                }
+                OptionalProcess::Process(p)
+            }
+        }
+    }
+
+    // Whether the member takes part: a replica does, and in SwiftPaxos its clients do.
+    pub fn can_propose(self) -> bool
+        ensures { λ r. ⌜ r ≡ canPropose self ⌝ }
+    {
+        let me = self.member;
+        if me.replica {
+            return true;
+        }
+        let mode = self.mode;
+        mode.is_swift_paxos()
+    }
+
+    fn source_taken(self, heard: Heard) -> bool
+        ensures { λ r. ⌜ r ≡ sourceTaken self heard ⌝ }
+    {
+        if heard.source_live {
+            return true;
+        }
+        let mode = self.mode;
+        mode.is_swift_paxos()
+    }
+
+    fn from_live(self, heard: Heard, round: PaxosRound, core: Core) -> CoreStep
+        ensures { λ r. ⌜ r ≡ fromLive self heard round core ⌝ }
+    {
+        if self.source_taken(heard) {
+            return core.in_round(round).continues(no_messages());
+        }
+        core.refuses(Refusal::SourceNotLive)
+    }
+
+    // What a Prepare and an Accept have in common. One that is simply old does nothing, before anything else of it is looked at.
+    pub fn enter(self, heard: Heard, slot: u64, round: PaxosRound, core: Core) -> CoreStep
+        ensures { λ r. ⌜ r ≡ enter self heard slot round core ⌝ }
+    {
+        if self.can_propose() {
+            if core.is_older(slot, round) {
+                return core.stays(no_messages());
+            }
+            return self.from_live(heard, round, core);
+        }
+        core.stays(no_messages())
+    }
+}
