@@ -9,8 +9,9 @@ use lib.Dec.{eqb, eqb→eq}
 use native.Mathlib.Omega.{arith}
 use Rattle.agreement.specs.Voting.{Voters, QuorumsMeet, World, Consistent, Chosen}
 use Rattle.agreement.specs.Model.{View, Message, all, to, Decision, undecided, decided, initial}
-use Rattle.agreement.specs.Engine.{Kind, proposes, delivers, reads, Envelope, Answer, Sent, Event, proposal, committed, In, sentWith, withCommit, commitsBy, withProposal, Agrees, Claim, Engine, RunOf, step, WasSent, begin, runs, Legal}
+use Rattle.agreement.specs.Engine.{Kind, proposes, delivers, reads, Envelope, Answer, Sent, Event, proposal, committed, sentWith, withCommit, commitsBy, withProposal, Agrees, Claim, Engine, RunOf, step, WasSent, begin, runs, Legal}
 use Rattle.agreement.specs.Refinement.{meanings, seen}
+use Rattle.basics.specs.Lists.{In}
 use Rattle.agreement.proofs.Tests.{by-test, neqb→ne}
 use Rattle.agreement.proofs.Voting.{chosen-agree, chosen-proposed}
 use Rattle.agreement.proofs.Growth.{Grows, chosen-stays, TrueView, others-keep}

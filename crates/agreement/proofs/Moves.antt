@@ -7,7 +7,7 @@ use mathlib.Core.Logic.{_⊎_, inl, inr}
 use lib.Dec.{T, eqb}
 use native.Mathlib.Omega.{arith}
 use borrow.Author.Tests.{eqb-true, eq-eqb}
-use Rattle.booleans.proofs.Tests.{or-cases, or-left, or-right}
+use Rattle.basics.proofs.Tests.{or-cases, or-left, or-right}
 use Rattle.agreement.specs.Voting.{Voters, World, NotAfter, Voted, Promise, Safe, Consistent}
 use Rattle.agreement.specs.Model.{View, add, joined, advanced, adopted, preparedBy, acceptedBy, voted}
 use Rattle.agreement.proofs.Tests.{is-true, passes}

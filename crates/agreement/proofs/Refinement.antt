@@ -9,7 +9,8 @@ use Rattle.agreement.specs.Voting.{QuorumsMeet, World, Consistent}
 use Rattle.agreement.specs.Model.{View, Setup, Message, Host, undecided, Outcome, refuse, onPropose, onMessage}
 use Rattle.agreement.specs.Engine.{Kind, proposes, delivers, reads, Claim, Engine, begin, runs, Legal}
 use Rattle.agreement.specs.Refinement.{SetupRules, propose, deliver, outcome, seen, AsModel, Refines}
-use Rattle.agreement.proofs.Tests.{by-test, by-cases}
+use Rattle.basics.proofs.Tests.{of-both}
+use Rattle.agreement.proofs.Tests.{by-test}
 use Rattle.agreement.proofs.Growth.{TrueView}
 use Rattle.agreement.proofs.Handlers.{MessageTrue, Correct, idle-correct, onMessage-correct, NewProposal, onPropose-correct}
 use Rattle.agreement.proofs.Slots.{NextSlot, MovesOn, onMessage-moves-on, onPropose-moves-on}
@@ -33,11 +34,11 @@ module _ (S : Setup) (rules : SetupRules S) (i : ℕ) (x : View) where
 
   propose-moves-on : (v : ℕ) (h : Host) → MovesOn x (outcome S x (propose i v h))
   unfolding outcome
-  propose-moves-on v h = by-cases (MovesOn x) (h .allows) _ _ (onPropose-moves-on S i x v) refl
+  propose-moves-on v h = of-both (MovesOn x) (h .allows) (onPropose-moves-on S i x v) refl
 
   deliver-moves-on : (source : ℕ) (c : Message) (h : Host) → MovesOn x (outcome S x (deliver i source c h))
   unfolding outcome
-  deliver-moves-on source c h = by-cases (MovesOn x) (h .allows) _ _ (onMessage-moves-on S i x source h c) refl
+  deliver-moves-on source c h = of-both (MovesOn x) (h .allows) (onMessage-moves-on S i x source h c) refl
 
   idle-moves-on : (r : Outcome) → r .view ≡ x → r .decision ≡ undecided → MovesOn x r
   idle-moves-on r same-view no-commit = subst (NextSlot (x .slot) (r .view .slot)) (sym no-commit) (ap (λ (y : View). y .slot) same-view)

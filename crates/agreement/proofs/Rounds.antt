@@ -8,7 +8,7 @@ use lib.Dec.{eqb, ltb}
 use native.Mathlib.Omega.{arith}
 use native.Mathlib.Decide.{decLt}
 use borrow.Author.Tests.{ltb-true, eqb-true, lt-ltb, eq-eqb}
-use Rattle.booleans.proofs.Tests.{same-test, and-left, and-right, and-both, or-cases, or-left, or-right}
+use Rattle.basics.proofs.Tests.{same-test, and-left, and-right, and-both, or-cases, or-left, or-right}
 
 pub round-order : (g l g′ l′ : ℕ) → l < 64 → l′ < 64 → (ltb g g′ || (eqb g g′ && ltb l l′)) ≡ ltb (suc (g * 64 + l)) (suc (g′ * 64 + l′))
 round-order g l g′ l′ h h′ =

@@ -7,7 +7,7 @@ use mathlib.Core.List.{List, []}
 use lib.Dec.{eqb, ltb}
 use Rattle.sets.specs.Sets.{count}
 use Rattle.agreement.specs.Model.{View, Setup, Message, prepare, accept, commit, other, Outgoing, Host, Decision, undecided, decided, Outcome, joined, adopted, preparedBy, acceptedBy, voted, holdsBefore, enoughPrepared, enoughAccepted, enter, counted, picks, promised, onPrepare, commits, answers, afterAccept, onAccept, onCommit, onPropose, onMessage}
-use Rattle.agreement.proofs.Tests.{by-cases}
+use Rattle.basics.proofs.Tests.{of-both}
 
 -- from slot s to s′: the same without a commit, and the next with a commit in s
 abbrev pub NextSlot : ℕ → ℕ → Decision → Type 0
@@ -21,48 +21,48 @@ MovesOn x r = NextSlot (x .slot) (r .view .slot) (r .decision)
 module _ (S : Setup) (i : ℕ) (x : View) where
   commits-moves-on : (y : View) (os : List Outgoing) (t : Bool) → y .slot ≡ x .slot → MovesOn x (commits S y os t)
   unfolding commits
-  commits-moves-on y os t e = by-cases (MovesOn x) (enoughAccepted S y) _ _ (e, λ j. suc (e j)) e
+  commits-moves-on y os t e = of-both (MovesOn x) (enoughAccepted S y) (e, λ j. suc (e j)) e
 
   afterAccept-moves-on : (source : ℕ) (h : Host) (y : View) → y .slot ≡ x .slot → MovesOn x (afterAccept S i source h x y)
   unfolding afterAccept
   afterAccept-moves-on source h y e =
       let c : ℕ = cond (S .threePhases) (S .committer (h .requester)) 0 in
       let tell : Bool = not (eqb (h .requester) (suc i)) in
-      by-cases (MovesOn x) (eqb i (S .leader (y .round))) _ _ (commits-moves-on y [] true e)
-      (by-cases (MovesOn x) (eqb source (S .voters .delegate (y .round))) _ _
-      (by-cases (MovesOn x) (eqb c (suc i)) _ _ (commits-moves-on y (answers S i c y) tell e) e)
-      (by-cases (MovesOn x) (eqb c (suc i)) _ _ (commits-moves-on y [] tell e) refl))
+      of-both (MovesOn x) (eqb i (S .leader (y .round))) (commits-moves-on y [] true e)
+      (of-both (MovesOn x) (eqb source (S .voters .delegate (y .round)))
+      (of-both (MovesOn x) (eqb c (suc i)) (commits-moves-on y (answers S i c y) tell e) e)
+      (of-both (MovesOn x) (eqb c (suc i)) (commits-moves-on y [] tell e) refl))
 
   picks-moves-on : (old y : View) → y .slot ≡ x .slot → MovesOn x (picks S i x old y)
   unfolding picks
-  picks-moves-on old y e = by-cases (MovesOn x) (ltb (count (old .prepared) (S .voters .count)) (S .voters .quorum) && enoughPrepared S y) _ _
-      (by-cases (MovesOn x) (y .accepted i) _ _ refl e) e
+  picks-moves-on old y e = of-both (MovesOn x) (ltb (count (old .prepared) (S .voters .count)) (S .voters .quorum) && enoughPrepared S y)
+      (of-both (MovesOn x) (y .accepted i) refl e) e
 
   promised-moves-on : (source a v : ℕ) (y : View) → y .slot ≡ x .slot → MovesOn x (promised S i source a v x y)
   unfolding promised counted
-  promised-moves-on source a v y e = by-cases (MovesOn x) (eqb (S .voters .delegate (y .round)) i) _ _
-      (by-cases (λ (z : View). MovesOn x (picks S i x y (preparedBy i (preparedBy source z)))) (holdsBefore a y) (adopted a v y) y
+  promised-moves-on source a v y e = of-both (MovesOn x) (eqb (S .voters .delegate (y .round)) i)
+      (of-both (λ (z : View). MovesOn x (picks S i x y (preparedBy i (preparedBy source z)))) (holdsBefore a y) {x = adopted a v y} {y = y}
       (picks-moves-on y (preparedBy i (preparedBy source (adopted a v y))) e) (picks-moves-on y (preparedBy i (preparedBy source y)) e))
-      (by-cases (MovesOn x) (eqb (y .heldRound) (y .round)) _ _ e e)
+      (of-both (MovesOn x) (eqb (y .heldRound) (y .round)) e e)
 
   enter-moves-on : (source s r : ℕ) (k : View → Outcome) → ((y : View) → y .slot ≡ x .slot → MovesOn x (k y)) → MovesOn x (enter S i x source s r k)
   unfolding enter
-  enter-moves-on source s r k f = by-cases (MovesOn x) (not (S .voters .live i)) _ _ refl
-      (by-cases (MovesOn x) (ltb s (x .slot) || ltb r (x .round)) _ _ refl
-      (by-cases (MovesOn x) (not (eqb s (x .slot)) || not (S .voters .live source)) _ _ refl
-      (by-cases (λ (z : View). MovesOn x (k z)) (ltb (x .round) r) (joined r x) x (f (joined r x) refl) (f x refl))))
+  enter-moves-on source s r k f = of-both (MovesOn x) (not (S .voters .live i)) refl
+      (of-both (MovesOn x) (ltb s (x .slot) || ltb r (x .round)) refl
+      (of-both (MovesOn x) (not (eqb s (x .slot)) || not (S .voters .live source)) refl
+      (of-both (λ (z : View). MovesOn x (k z)) (ltb (x .round) r) {x = joined r x} {y = x} (f (joined r x) refl) (f x refl))))
 
   pub onMessage-moves-on : (source : ℕ) (h : Host) (c : Message) → MovesOn x (onMessage S i x source h c)
   unfolding onMessage onPrepare onAccept onCommit
   onMessage-moves-on source h (prepare s r a v) = enter-moves-on source s r _ (λ y e.
-      by-cases (λ (z : View). MovesOn x (promised S i source a v x z)) (y .holds) y (preparedBy i (adopted a v y))
+      of-both (λ (z : View). MovesOn x (promised S i source a v x z)) (y .holds) {x = y} {y = preparedBy i (adopted a v y)}
       (promised-moves-on source a v y e) (promised-moves-on source a v (preparedBy i (adopted a v y)) e))
   onMessage-moves-on source h (accept s r v) = enter-moves-on source s r _ (λ y e.
-      by-cases (MovesOn x) (ltb (y .heldRound) (y .round) || (eqb (y .heldRound) (y .round) && eqb (y .heldValue) v)) _ _ (afterAccept-moves-on source h (acceptedBy source (voted i v y)) e) refl)
-  onMessage-moves-on source h (commit s v) = by-cases (MovesOn x) (ltb s (x .slot)) _ _ refl (by-cases (MovesOn x) (eqb s (x .slot)) _ _ (refl, refl) refl)
+      of-both (MovesOn x) (ltb (y .heldRound) (y .round) || (eqb (y .heldRound) (y .round) && eqb (y .heldValue) v)) (afterAccept-moves-on source h (acceptedBy source (voted i v y)) e) refl)
+  onMessage-moves-on source h (commit s v) = of-both (MovesOn x) (ltb s (x .slot)) refl (of-both (MovesOn x) (eqb s (x .slot)) (refl, refl) refl)
   onMessage-moves-on source h other = refl
 
   pub onPropose-moves-on : (v : ℕ) → MovesOn x (onPropose S i x v)
   unfolding onPropose
-  onPropose-moves-on v = by-cases (MovesOn x) (S .voters .live i && (eqb (x .round) (S .voters .start) && not (x .holds))) _ _
-      (by-cases (MovesOn x) (S .startsLed) _ _ (by-cases (MovesOn x) (eqb i (S .voters .delegate (x .round))) _ _ refl refl) refl) refl
+  onPropose-moves-on v = of-both (MovesOn x) (S .voters .live i && (eqb (x .round) (S .voters .start) && not (x .holds)))
+      (of-both (MovesOn x) (S .startsLed) (of-both (MovesOn x) (eqb i (S .voters .delegate (x .round))) refl refl) refl) refl

@@ -1,10 +1,10 @@
--- Tests in the form `T`: what their outcomes say, and choices between two cases. The laws of `t ≡ true` are those of the crate booleans.
+-- Tests in the form `T`: what their outcomes say, and choices between two cases. The laws of `t ≡ true` are those of the crate basics.
 -- Assumes nothing.
 use Prim.Native.Nat.{ℕ}
 use mathlib.Core.Path.{_≡_, refl, subst}
 use mathlib.Core.Bool.{Bool, true, false, not, _&&_, _||_, cond}
 use lib.Dec.{T, eqb, eqb-refl, T-not}
-use Rattle.booleans.proofs.Tests.{not-both}
+use Rattle.basics.proofs.Tests.{not-both}
 
 -- `T b` and `b ≡ true` say the same
 pub is-true : (b : Bool) → T b → b ≡ true
@@ -19,10 +19,6 @@ passes false e = not-both e refl
 pub by-test {ℓ} : {A : Type 0} (P : A → Type ℓ) (b : Bool) (x y : A) → (T b → P x) → (T (not b) → P y) → P (cond b x y)
 by-test P true x y f g = f tt
 by-test P false x y f g = g tt
-
--- the same where the outcome does not matter
-pub by-cases {ℓ} : {A : Type 0} (P : A → Type ℓ) (b : Bool) (x y : A) → P x → P y → P (cond b x y)
-by-cases P b x y f g = by-test P b x y (λ t. f) (λ t. g)
 
 pub and-both : (a b : Bool) → T (a && b) → T a × T b
 and-both true b t = (tt, t)

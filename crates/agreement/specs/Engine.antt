@@ -6,6 +6,7 @@ use mathlib.Core.Bool.{Bool, cond}
 use mathlib.Core.Logic.{_⊎_}
 use mathlib.Core.List.{List, [], _∷_}
 use lib.Dec.{eqb}
+use Rattle.basics.specs.Lists.{In}
 use Rattle.agreement.specs.Model.{Destination, all, to, Decision, undecided, decided}
 
 -- what a call is: a proposal of a value, a message from a source, or neither (a read)
@@ -41,11 +42,6 @@ pub record Run (A M : Type 0) : Type 0 where
   pub shards : ℕ → A
   pub sent : List (Sent M)
   pub log : List Event
-
--- a is in the list
-abbrev pub In : {A : Type 0} → A → List A → Type 0
-In a [] = ⊥
-In a (b ∷ bs) = (a ≡ b) ⊎ In a bs
 
 -- the shards with that of member i replaced
 abbrev pub put : {A : Type 0} → ℕ → A → (ℕ → A) → ℕ → A

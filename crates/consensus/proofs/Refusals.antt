@@ -8,7 +8,7 @@ use mathlib.Core.Bool.{Bool, true, false, cond, not, _&&_}
 use Prim.Native.Nat.{ℕ, _<_}
 use lib.Dec.{eqb, ltb, leb}
 use borrow.Author.Tests.{ltb-true}
-use Rattle.booleans.proofs.Tests.{not-both, and-right, of-both}
+use Rattle.basics.proofs.Tests.{not-both, and-right, of-both}
 use Rattle.message.specs.Messages.{msgSlot}
 use Rattle.message.specs.Modes.{hasFastPath}
 use Rattle.message.specs.declared.ConsensusMsg.{ConsensusMsg}

@@ -8,7 +8,7 @@ use native.Mathlib.Nat.{not-suc-le-zero, eq-or-lt-of-le, le-of-suc-le-suc}
 use native.Mathlib.Omega.{arith}
 use lib.Dec.{ltb}
 use borrow.Author.Tests.{ltb-true, ltb-false}
-use Rattle.booleans.proofs.Tests.{either, not-both, and-left, and-right, and-both}
+use Rattle.basics.proofs.Tests.{either, not-both, and-left, and-right, and-both}
 use Rattle.sets.specs.Sets.{contains}
 use Rattle.tables.specs.Tables.{lookUp}
 use Rattle.message.specs.declared.OptionalProcess.the-variants.{NoProcess, Process}

@@ -3,7 +3,7 @@
 -- Assumes nothing.
 use mathlib.Core.Path.{_≡_, refl}
 use mathlib.Core.Bool.{true}
-use Rattle.booleans.proofs.Tests.{and-both}
+use Rattle.basics.proofs.Tests.{and-both}
 use Rattle.tables.specs.Tables.{every}
 use Rattle.message.proofs.Order.{rounds-equal}
 use Rattle.message.specs.declared.OptionalRound.{OptionalRound}

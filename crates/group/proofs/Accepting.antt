@@ -8,7 +8,7 @@ use Prim.Native.Nat.{ℕ, suc, pred, _≤_, _<_}
 use native.Mathlib.Nat.{zero-lt-suc}
 use lib.Dec.{eqb, ltb, leb, eqb·zero-suc, eqb·suc-suc, eqb·suc-zero}
 use borrow.Author.Tests.{lt-ltb, eq-eqb, eqb-true}
-use Rattle.booleans.proofs.Tests.{either, same-test}
+use Rattle.basics.proofs.Tests.{either, same-test}
 use Rattle.sets.specs.Sets.{contains, count, size}
 use Rattle.message.specs.Modes.{isSwiftPaxos}
 use Rattle.message.specs.Promises.{isProcess}

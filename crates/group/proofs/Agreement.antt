@@ -9,7 +9,7 @@ use native.Mathlib.Nat.{zero-lt-suc, le-trans, lt-of-lt-of-le}
 use native.Mathlib.Omega.{arith}
 use lib.Dec.{T, eqb, ltb, leb}
 use borrow.Author.Tests.{lt-ltb}
-use Rattle.booleans.proofs.Tests.{either, not-both}
+use Rattle.basics.proofs.Tests.{either, not-both}
 use Rattle.sets.specs.Sets.{contains, count, size, fits}
 use Rattle.sets.proofs.Counting.{count-le}
 use Rattle.message.specs.Modes.{isMultiPaxos}
@@ -39,7 +39,8 @@ use Rattle.steps.specs.declared.Messages.{Messages}
 use Rattle.steps.specs.declared.OptionalMessage.{OptionalMessage}
 use Rattle.steps.specs.declared.OptionalMessage.the-variants.{NoMessage, Send}
 use Rattle.steps.specs.declared.Outgoing.{Outgoing}
-use Rattle.agreement.specs.Engine.{Kind, In}
+use Rattle.agreement.specs.Engine.{Kind}
+use Rattle.basics.specs.Lists.{In}
 use Rattle.agreement.specs.Engine as engine
 use Rattle.agreement.specs.Model.{Setup}
 use Rattle.agreement.specs.Model as model

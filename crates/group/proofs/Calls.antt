@@ -9,7 +9,7 @@ use native.Mathlib.Numerals.{add-one}
 use native.Mathlib.Omega.{arith}
 use lib.Dec.{eqb, ltb, leb}
 use borrow.Author.Tests.{ltb-true, ltb-false, leb-false, eq-eqb}
-use Rattle.booleans.proofs.Tests.{either, not-both, and-left, and-right}
+use Rattle.basics.proofs.Tests.{either, not-both, and-left, and-right}
 use Rattle.message.specs.Messages.{msgSlot}
 use Rattle.message.specs.Modes.{hasFastPath, isSwiftPaxos}
 use Rattle.message.specs.Promises.{acceptRoundOf}

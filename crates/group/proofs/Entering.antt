@@ -7,7 +7,7 @@ use Prim.Native.Nat.{ℕ, _≤_, _<_}
 use native.Mathlib.Omega.{arith}
 use lib.Dec.{eqb, ltb}
 use borrow.Author.Tests.{ltb-false, eq-eqb, eqb-true}
-use Rattle.booleans.proofs.Tests.{either, not-both, fails, or-left, or-right}
+use Rattle.basics.proofs.Tests.{either, not-both, fails, or-left, or-right}
 use Rattle.sets.specs.Sets.{contains}
 use Rattle.message.specs.Modes.{isSwiftPaxos}
 use Rattle.message.specs.Rounds.{before}

@@ -50,8 +50,8 @@ use Rattle.consensus.specs.declared.Call.the-variants.{Propose, StartRead, Rece
 use Rattle.consensus.specs.declared.OptionalCommit.the-variants.{NoCommit}
 use Rattle.consensus.specs.declared.Reply.{Reply}
 use Rattle.consensus.specs.declared.Shard.{Shard}
-use Rattle.agreement.specs.Engine.{In}
-use Rattle.agreement.proofs.Tests.{by-cases}
+use Rattle.basics.specs.Lists.{In}
+use Rattle.basics.proofs.Tests.{of-both}
 use Rattle.group.specs.Claim.{begun, MemberCall, Entry, entryOf, afterCall, entriesFrom, entries, messagesOf, SentTo, WasSent, MayStand, LegalFrom, Legal}
 
 -- ---- proposals and new reads, on any shard
@@ -106,8 +106,8 @@ module _ (a : Asked) where
   propose-classic-to-all : (v : ℕ) (core : Core) → StepToAll (proposeClassic a v core)
   unfolding proposeClassic
   propose-classic-to-all v core =
-      by-cases StepToAll (mayPropose a core) _ _
-      (by-cases StepToAll (isMultiPaxos (a .mode)) _ _ (propose-accept-to-all (proposalRound a core) v core) (propose-prepare-to-all (proposalRound a core) (PaxosV NoRound v) core))
+      of-both StepToAll (mayPropose a core)
+      (of-both StepToAll (isMultiPaxos (a .mode)) (propose-accept-to-all (proposalRound a core) v core) (propose-prepare-to-all (proposalRound a core) (PaxosV NoRound v) core))
       tt
 
   own-answer-to-all : (round : PaxosRound) (v : ℕ) (core : Core) (fast : FastState) (o : Outcome) → RoundsToAll (afterOwnAnswer a round v core fast o)
@@ -122,14 +122,14 @@ module _ (a : Asked) where
   by-mode-to-all v core fast EPaxos = own-answer-to-all (proposalRound a core) v core _ (epaxosProposeV (a .member) v fast .outcome)
   by-mode-to-all v core fast Pando = propose-classic-to-all v core
   by-mode-to-all v core fast SwiftPaxos =
-      by-cases RoundsToAll (eqb (electing a) (a .member .«my_pid»)) _ _ (propose-accept-to-all (proposalRound a core) v core)
+      of-both RoundsToAll (eqb (electing a) (a .member .«my_pid»)) (propose-accept-to-all (proposalRound a core) v core)
       (own-answer-to-all (proposalRound a core) v core _ (swiftProposeV (a .member) v (a .quorum) false fast .outcome))
 
   proposing-to-all : (v : ℕ) (s : Rounds) → RoundsToAll (proposing a v s)
   unfolding proposing proposeFast
   proposing-to-all v s =
-      by-cases RoundsToAll (hasFastPath (a .mode)) _ _
-      (by-cases RoundsToAll (mayPropose a (s .core)) _ _ (by-mode-to-all v (s .core) (s .fast) (a .mode)) tt)
+      of-both RoundsToAll (hasFastPath (a .mode))
+      (of-both RoundsToAll (mayPropose a (s .core)) (by-mode-to-all v (s .core) (s .fast) (a .mode)) tt)
       (propose-classic-to-all v (s .core))
 
 refused-to-all : (why : Refusal) (shard : Shard) → CallToAll (refused why shard .reply)
@@ -144,7 +144,7 @@ finish-to-all shard a s ms (Refuses why) q = (tt, refl)
 propose-to-all : (shard : Shard) (v : ℕ) → CallToAll (propose shard v .reply)
 unfolding propose
 propose-to-all shard v =
-    by-cases (λ (r : Answer). CallToAll (r .reply)) (isNumber v) _ _
+    of-both (λ (r : Answer). CallToAll (r .reply)) (isNumber v)
     (finish-to-all shard (askedOf (shard .settings)) (step .rounds) (step .messages) (step .next) (proposing-to-all (askedOf (shard .settings)) v (shard .state .rounds)))
     (refused-to-all NumberTooLarge shard)
   where
@@ -154,7 +154,7 @@ propose-to-all shard v =
 read-to-all : (shard : Shard) (tag arrival : ℕ) → CallToAll (read shard tag arrival .reply)
 unfolding read startRead
 read-to-all shard tag arrival =
-    by-cases (λ (r : Answer). CallToAll (r .reply)) (isNumber tag && isSlot arrival) _ _ (opened (readInserted shard tag arrival .opened)) (refused-to-all NumberTooLarge shard)
+    of-both (λ (r : Answer). CallToAll (r .reply)) (isNumber tag && isSlot arrival) (opened (readInserted shard tag arrival .opened)) (refused-to-all NumberTooLarge shard)
   where
     opened : (o : Opened) → CallToAll (afterInsert shard (readInserted shard tag arrival) o .reply)
     opened NotOpened = (tt, refl)
@@ -200,7 +200,7 @@ call-to-all past q shard member z c may = made (shard .made)
 
     made : (o : Outcome) → CallToAll (ifMade lowestBest shard c o .reply)
     made Done =
-        by-cases (λ (r : Answer). CallToAll (r .reply)) (leb 9223372036854775807 (shard .state .rounds .core .slot)) _ _ (refused-to-all NumberTooLarge shard) (dispatched c may)
+        of-both (λ (r : Answer). CallToAll (r .reply)) (leb 9223372036854775807 (shard .state .rounds .core .slot)) (refused-to-all NumberTooLarge shard) (dispatched c may)
     made (Refused why) = refused-to-all why shard
 
 run-to-all : (shards : ℕ → Shard) (past : List Entry) → RunToAll past → (cs : List MemberCall) → LegalFrom 1 shards past cs → RunToAll (entriesFrom shards past cs)

@@ -7,7 +7,7 @@ use mathlib.Core.List.{[], _∷_}
 use Prim.Native.Nat.{ℕ, _≤_, _<_}
 use lib.Dec.{eqb, ltb, leb}
 use borrow.Author.Tests.{lt-ltb, le-ltb, leb-true, leb-false, eqb-true}
-use Rattle.booleans.proofs.Tests.{either, not-both}
+use Rattle.basics.proofs.Tests.{either, not-both}
 use Rattle.sets.specs.Sets.{contains, count, size, isEmpty}
 use Rattle.sets.proofs.Laws.{contains-empty}
 use Rattle.message.specs.Modes.{isSwiftPaxos}

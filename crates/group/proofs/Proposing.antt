@@ -8,7 +8,7 @@ use Prim.Native.Nat.{ℕ, suc, _+_, _*_, _<_}
 use native.Mathlib.Omega.{arith}
 use lib.Dec.{eqb, leb·zero}
 use borrow.Author.Tests.{eq-eqb}
-use Rattle.booleans.proofs.Tests.{either, not-both, and-left, and-right, and-both, or-cases}
+use Rattle.basics.proofs.Tests.{either, not-both, and-left, and-right, and-both, or-cases}
 use Rattle.sets.specs.Sets.{contains}
 use Rattle.message.specs.Modes.{isMultiPaxos, isSwiftPaxos}
 use Rattle.message.specs.Rounds.{increment, defaultRound, nextLeaderRound, startingRound, equal, unwrapOrDefault}

@@ -10,7 +10,7 @@ use native.Mathlib.Omega.{arith}
 use lib.Dec.{eqb, eqb·zero-suc, eqb·suc-suc, eqb·suc-zero}
 use lib.ListN.{length, getD, set, length-set, length-replicate}
 use borrow.Author.Tests.{lt-ltb, eqb-true, eqb-false}
-use Rattle.booleans.proofs.Tests.{either}
+use Rattle.basics.proofs.Tests.{either}
 use Rattle.settings.specs.declared.Settings.{Settings}
 use Rattle.consensus.specs.Call.{callOf}
 use Rattle.consensus.specs.declared.Call.{Call}

@@ -10,7 +10,7 @@ use native.Mathlib.Decide.{decLt}
 use native.Mathlib.Omega.{arith}
 use lib.Dec.{eqb, ltb}
 use borrow.Author.Tests.{lt-ltb, le-ltb, ltb-true, eqb-true, eq-eqb}
-use Rattle.booleans.proofs.Tests.{same-test, or-right}
+use Rattle.basics.proofs.Tests.{same-test, or-right}
 use Rattle.sets.specs.Sets.{contains, insert}
 use Rattle.sets.proofs.Laws.{contains-empty, contains-insert}
 use Rattle.message.specs.Promises.{valueOf, acceptRoundOf}

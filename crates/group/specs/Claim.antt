@@ -25,7 +25,7 @@ use Rattle.consensus.specs.declared.OptionalCommit.{OptionalCommit}
 use Rattle.consensus.specs.declared.OptionalCommit.the-variants.{NoCommit, Committed}
 use Rattle.consensus.specs.declared.Reply.{Reply}
 use Rattle.consensus.specs.declared.Shard.{Shard}
-use Rattle.agreement.specs.Engine.{In}
+use Rattle.basics.specs.Lists.{In}
 
 -- ---- the group
 

@@ -8,7 +8,7 @@ use native.Mathlib.Omega.{arith}
 use native.Mathlib.Decide.{decLt}
 use lib.Dec.{leb}
 use borrow.Author.Tests.{lt-ltb, leb-true, leb-false}
-use Rattle.booleans.proofs.Tests.{fails}
+use Rattle.basics.proofs.Tests.{fails}
 use Rattle.message.specs.declared.PaxosRound.{PaxosRound}
 use Rattle.message.specs.Rounds.{increment, roundBefore, nextLeaderRound}
 use Rattle.message.proofs.Order.{Earlier, round-before, before-round}

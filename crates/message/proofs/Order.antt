@@ -7,7 +7,7 @@ use Prim.Native.Nat.{_<_}
 use native.Mathlib.Omega.{arith}
 use lib.Dec.{ltb, eqb}
 use borrow.Author.Tests.{lt-ltb, ltb-true, eqb-true, eq-eqb}
-use Rattle.booleans.proofs.Tests.{not-both, fails, and-left, and-right, and-both, or-cases, or-left, or-right}
+use Rattle.basics.proofs.Tests.{not-both, fails, and-left, and-right, and-both, or-cases, or-left, or-right}
 use Rattle.paxos.specs.PaxosMadeSimple.{Ordered, ProposalNumbers}
 use Rattle.message.specs.declared.PaxosRound.{PaxosRound}
 use Rattle.message.specs.declared.OptionalRound.{OptionalRound}

@@ -6,13 +6,9 @@ use mathlib.Core.Logic.{_⊎_, inl, inr}
 use mathlib.Core.Bool.{Bool, true, false, cond}
 use mathlib.Core.List.{List, [], _∷_}
 use mathlib.Core.Option.{Option, none, some}
-use Rattle.booleans.proofs.Tests.{either, not-both}
+use Rattle.basics.specs.Lists.{In}
+use Rattle.basics.proofs.Tests.{either, not-both}
 use Rattle.paxos.specs.PaxosMadeSimple.{Ordered, Proposal, higher, highest}
-
--- a is one of the list
-abbrev pub Among : {A : Type 0} → A → List A → Type 0
-Among a [] = ⊥
-Among a (b ∷ bs) = (a ≡ b) ⊎ Among a bs
 
 -- the highest-numbered proposal so far is at least another one that was reported: there is one, and its number is not below the other's
 abbrev pub AtLeast : {Number Value : Type 0} → (Number → Number → Bool) → Option (Proposal Number Value) → Option (Proposal Number Value) → Type 0
@@ -75,7 +71,7 @@ module _ {Number Value : Type 0} (before : Number → Number → Bool) (o : Orde
 
   -- no report is higher
   pub highest-at-least : (best r : Option (Proposal Number Value)) (rs : List (Option (Proposal Number Value)))
-      → Among r rs → AtLeast before (highest before best rs) r
+      → In r rs → AtLeast before (highest before best rs) r
   unfolding highest
   highest-at-least best r [] h = absurd h
   highest-at-least best r (q ∷ rs) (inr h) = highest-at-least (higher before best q) r rs h
@@ -94,7 +90,7 @@ module _ {Number Value : Type 0} (before : Number → Number → Bool) (o : Orde
 
   -- and it is the first one, or a report
   pub highest-reported : (best : Option (Proposal Number Value)) (rs : List (Option (Proposal Number Value)))
-      → (highest before best rs ≡ best) ⊎ Among (highest before best rs) rs
+      → (highest before best rs ≡ best) ⊎ In (highest before best rs) rs
   unfolding highest
   highest-reported best [] = inl refl
   highest-reported best (r ∷ rs) = go (highest-reported (higher before best r) rs) (one-of best r)
@@ -102,8 +98,8 @@ module _ {Number Value : Type 0} (before : Number → Number → Bool) (o : Orde
       h : Option (Proposal Number Value)
       h = highest before (higher before best r) rs
 
-      go : (h ≡ higher before best r) ⊎ Among h rs → (higher before best r ≡ best) ⊎ (higher before best r ≡ r)
-          → (h ≡ best) ⊎ ((h ≡ r) ⊎ Among h rs)
+      go : (h ≡ higher before best r) ⊎ In h rs → (higher before best r ≡ best) ⊎ (higher before best r ≡ r)
+          → (h ≡ best) ⊎ ((h ≡ r) ⊎ In h rs)
       go (inr m) e = inr (inr m)
       go (inl d) (inl e) = inl (d ∙ e)
       go (inl d) (inr e) = inr (inl (d ∙ e))

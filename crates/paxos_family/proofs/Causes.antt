@@ -4,7 +4,7 @@ use mathlib.Core.Path.{_≡_, refl}
 use mathlib.Core.Bool.{Bool, true, false, cond, not, _&&_, _||_}
 use Prim.Native.Nat.{ℕ}
 use lib.Dec.{eqb, ltb}
-use Rattle.booleans.proofs.Tests.{of-both}
+use Rattle.basics.proofs.Tests.{of-both}
 use Rattle.sets.specs.Sets.{contains, size, isEmpty}
 use Rattle.message.specs.Modes.{isMultiPaxos, isSwiftPaxos}
 use Rattle.message.specs.Promises.{isProcess}

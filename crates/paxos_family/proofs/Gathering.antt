@@ -9,7 +9,7 @@ use Prim.Native.Nat.{ℕ, _≤_}
 use native.Mathlib.Omega.{arith}
 use lib.Dec.{leb}
 use borrow.Author.Tests.{leb-true, le-leb}
-use Rattle.booleans.proofs.Tests.{either, fails}
+use Rattle.basics.proofs.Tests.{either, fails}
 use Rattle.sets.specs.Sets.{size, isEmpty}
 use Rattle.sets.proofs.Laws.{size-within}
 use Rattle.message.specs.Modes.{isSwiftPaxos}

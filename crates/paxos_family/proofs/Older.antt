@@ -5,7 +5,7 @@ use mathlib.Core.Logic.{_⊎_, inl, inr}
 use mathlib.Core.Bool.{Bool, true, false, cond, _||_}
 use Prim.Native.Nat.{ℕ}
 use lib.Dec.{ltb}
-use Rattle.booleans.proofs.Tests.{or-left, or-right}
+use Rattle.basics.proofs.Tests.{or-left, or-right}
 use Rattle.message.specs.Modes.{isSwiftPaxos}
 use Rattle.message.specs.Rounds.{before}
 use Rattle.message.specs.declared.ConsensusMsg.the-variants.{Prepare, Accept}

@@ -9,7 +9,7 @@ use mathlib.Core.List.{List, [], _∷_, _++_}
 use mathlib.Core.Option.{Option, none, some}
 use Prim.Native.Nat.{ℕ}
 use lib.Dec.{eqb, ltb}
-use Rattle.booleans.proofs.Tests.{not-both, fails, of-both}
+use Rattle.basics.proofs.Tests.{not-both, fails, of-both}
 use Rattle.sets.specs.Sets.{isEmpty}
 use Rattle.paxos.specs.PaxosMadeSimple.{Proposal, Acceptor, greater, exceeded, higher, responds, prepare, accepts, accept, highest, valueOr, choice}
 use Rattle.message.specs.Modes.{isSwiftPaxos}

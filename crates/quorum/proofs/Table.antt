@@ -6,7 +6,7 @@ use mathlib.Core.List.{List, [], _∷_}
 use Prim.Native.Nat.{ℕ, zero, suc, _+_, _<_}
 use native.Mathlib.Nat.{add-zero, zero-add, add-suc, suc-add, le-of-suc-le-suc, not-suc-le-zero}
 use lib.ListN.{length, getD}
-use Rattle.booleans.proofs.Tests.{and-left, and-right}
+use Rattle.basics.proofs.Tests.{and-left, and-right}
 
 -- the test f passes at each entry of the list and its place, counted from i
 abbrev pub every : {A : Type 0} → (ℕ → A → Bool) → ℕ → List A → Bool

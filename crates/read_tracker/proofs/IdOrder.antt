@@ -10,7 +10,7 @@ use lib.Dec.{ltb, leb}
 use lib.ListN.{length, length-set, length-take}
 use lib.Seq.{take-at, take-suc-set}
 use borrow.Author.Tests.{leb-false, eqb-true}
-use Rattle.booleans.proofs.Tests.{either}
+use Rattle.basics.proofs.Tests.{either}
 use Rattle.message.specs.declared.ReadId.{ReadId}
 use Rattle.read_tracker.specs.declared.OpenRead.{OpenRead}
 use Rattle.read_tracker.specs.declared.ServedRead.{ServedRead}

@@ -6,7 +6,7 @@ use mathlib.Core.Bool.{Bool, true, false, cond, not}
 use Prim.Native.Nat.{ℕ, _+_, _^_, _<_}
 use lib.Dec.{eqb}
 use borrow.Author.Tests.{eq-eqb}
-use Rattle.booleans.proofs.Tests.{either}
+use Rattle.basics.proofs.Tests.{either}
 use Rattle.sets.specs.Sets.{contains, insert, size, one, Within}
 use Rattle.sets.proofs.Laws.{contains-insert-same, contains-insert-other, size-insert, insert-old, within-insert, within-trans, insert-within}
 use Rattle.round_state.specs.Paxos.{withSender, withOwn, counted}

@@ -7,7 +7,7 @@ use mathlib.Core.Bool.{Bool, true, false, cond}
 use Prim.Native.Nat.{ℕ}
 use lib.Dec.{eqb}
 use borrow.Author.Tests.{eqb-true}
-use Rattle.booleans.proofs.Tests.{either, not-both, fails, or-cases, and-left, and-right}
+use Rattle.basics.proofs.Tests.{either, not-both, fails, or-cases, and-left, and-right}
 use Rattle.message.specs.Promises.{acceptRoundOf}
 use Rattle.message.specs.Rounds.{before, equal}
 use Rattle.message.proofs.Order.{optional-rounds-ordered, equal-rounds}

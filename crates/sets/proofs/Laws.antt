@@ -14,7 +14,7 @@ use lib.Pow.{pow-pos, pow-mono, pow-lt, shr-shr, shr-lt}
 use lib.Bits.{bitOr, or-step, or-shr, or-lt, shifted-half, shifted-even}
 use lib.Count.{ones, ones-step}
 use borrow.Author.Tests.{eq-eqb, ne-eqb, lt-ltb, le-ltb, ltb-true}
-use Rattle.booleans.proofs.Tests.{not-both, or-right}
+use Rattle.basics.proofs.Tests.{not-both, or-right}
 use Rattle.sets.specs.Sets.{contains, one, count, size, insert, fits, Within}
 use Rattle.sets.proofs.Counting.{count-le, count-mono, count-ext, count-cut, count-one-more, count-some, count-meet, count-first}
 

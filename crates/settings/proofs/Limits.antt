@@ -7,7 +7,7 @@ use native.Mathlib.Nat.{le-trans}
 use native.Mathlib.Omega.{arith}
 use lib.Dec.{ltb, leb}
 use borrow.Author.Tests.{ltb-true, leb-true}
-use Rattle.booleans.proofs.Tests.{and-left, and-right}
+use Rattle.basics.proofs.Tests.{and-left, and-right}
 use Rattle.sets.specs.Sets.{contains, size, fits, Within}
 use Rattle.sets.proofs.Laws.{majorities-meet}
 use Rattle.quorum.specs.Quorum.{majorityOf}

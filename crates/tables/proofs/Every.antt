@@ -8,7 +8,7 @@ use Prim.Native.Nat.{ℕ, zero, suc, _+_, _<_}
 use native.Mathlib.Nat.{le-of-suc-le-suc, not-suc-le-zero, eq-or-lt-of-le}
 use native.Mathlib.Numerals.{add-one}
 use lib.ListN.{getD}
-use Rattle.booleans.proofs.Tests.{and-left, and-right}
+use Rattle.basics.proofs.Tests.{and-left, and-right}
 use Rattle.tables.specs.Tables.{every}
 
 -- where the loop goes on: b is the test of the first p, and r the same with the next process

@@ -7,7 +7,7 @@ use Prim.Native.Nat.{ℕ, _+_}
 use native.Mathlib.Omega.{arith}
 use lib.Dec.{eqb}
 use borrow.Author.Tests.{eqb-true}
-use Rattle.booleans.proofs.Tests.{and-left, and-right}
+use Rattle.basics.proofs.Tests.{and-left, and-right}
 use lib.ListN.{length, getD}
 use Rattle.quorum.specs.Quorum.{majorityOf, epaxosOf, fastOf, ruleOf, Table}
 use Rattle.quorum.specs.declared.QuorumRow.{QuorumRow}

@@ -55,6 +55,6 @@ or-right true p = refl
 or-right false p = p
 
 -- what holds of both cases of a choice holds of the choice
-pub of-both : {A : Type 0} (P : A → Type 0) (t : Bool) {x y : A} → P x → P y → P (cond t x y)
+pub of-both {ℓ} : {A : Type 0} (P : A → Type ℓ) (t : Bool) {x y : A} → P x → P y → P (cond t x y)
 of-both P true p q = p
 of-both P false p q = q
