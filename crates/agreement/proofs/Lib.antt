@@ -1,5 +1,4 @@
 pub mod Tests
-pub mod Rounds
 pub mod Voting
 pub mod Growth
 pub mod Moves
@@ -7,5 +6,3 @@ pub mod Handlers
 pub mod Slots
 pub mod Group
 pub mod Refinement
-pub mod Modes
-pub mod Example

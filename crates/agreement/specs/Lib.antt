@@ -2,4 +2,3 @@ pub mod Voting
 pub mod Model
 pub mod Engine
 pub mod Refinement
-pub mod Modes
