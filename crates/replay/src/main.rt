@@ -1,0 +1,294 @@
+// Reads calls on standard input, a line each, runs them on one shard, and writes the answers, a line each (docs/ORACLE.md, "Call lines" and
+// "Answer lines"). It reads and writes in blocks: what is answered is written before the next block is waited for. A line that does not fit
+// a block of 65,536 bytes is too long.
+ghost use Prim.Native.Nat.{_≤_};
+ghost use lib.ListN.{length};
+ghost use Rattle.io.specs.Counts.{Counts};
+use call_lines::Fault;
+use call_lines::Scan;
+use consensus::Shard;
+
+// The shard between two blocks: the shard, how many bytes of a line that has not ended stand at the start of the input buffer, whether
+// the rest of a line that is too long is being skipped, and whether the input may go on.
+struct Session {
+    shard: Shard,
+    kept: usize,
+    skipping: bool,
+    goes_on: bool,
+}
+
+// The shard after a line, or after some, with how many bytes of input are used and of output are put.
+struct Answered {
+    shard: Shard,
+    used: usize,
+    put: usize,
+}
+
+// Where the answering of a block begins, and whether the line that is skipped goes on behind the block.
+struct Start {
+    from: usize,
+    skipping: bool,
+}
+
+// The place of the first LF from a place on, or the length where there is none.
+fn line_end(input: &[u8], from: usize) -> usize
+    requires { ⌜ from ≤ length (now input) ⌝ }
+    ensures { λ r. ⌜ (from ≤ r) × (r ≤ length (now (input .entry))) ⌝ }
+{
+    let mut i = from;
+    while i < input.len() {
+        if input[i] == b'\n' {
+            return i;
+        }
+        i += 1;
+    }
+    i
+}
+
+fn is_skipped(line: &[u8]) -> bool {
+    if line.len() == 0 {
+        return true;
+    }
+    line[0] == b'#'
+}
+
+fn answer_numbers(shard: Shard, numbers: &[u64], out: &mut [u8], at: usize) -> Answered {
+    let fault = call_lines::numbers_fault(numbers);
+    if let Fault::NoFault = fault {
+        let answer = call_lines::answer_of(shard, numbers);
+        let put = answer_lines::put_answer(out, at, answer);
+        let next = answer.shard;
+        return Answered {
+            shard: next,
+            used: 0,
+            put,
+        };
+    }
+    let put = answer_lines::put_fault(out, at, fault);
+    Answered {
+        shard,
+        used: 0,
+        put,
+    }
+}
+
+fn answer_fault(shard: Shard, fault: Fault, out: &mut [u8], at: usize) -> Answered {
+    let put = answer_lines::put_fault(out, at, fault);
+    Answered {
+        shard,
+        used: 0,
+        put,
+    }
+}
+
+// How many numbers a line has that is read to its end without a fault.
+fn number_count(scan: Scan, numbers: &[u64]) -> usize
+    ensures { λ r. ⌜ Counts r (now (numbers .entry)) ⌝ }
+{
+    let before = scan.before;
+    if before < numbers.len() {
+        return before + 1;
+    }
+    numbers.len()
+}
+
+// Answers one line, without its LF.
+fn answer_line(
+    shard: Shard,
+    line: &[u8],
+    numbers: &mut [u64],
+    out: &mut [u8],
+    at: usize,
+) -> Answered {
+    if is_skipped(line) {
+        return Answered {
+            shard,
+            used: 0,
+            put: at,
+        };
+    }
+    let scan = call_lines::read_numbers(line, numbers);
+    let fault = scan.fault();
+    let count = number_count(scan, numbers);
+    if let Fault::NoFault = fault {
+        return answer_numbers(shard, &numbers[..count], out, at);
+    }
+    answer_fault(shard, fault, out, at)
+}
+
+// Writes the output where there is no room for the longest line, and hands back how much of it is put.
+fn with_room(out: &[u8], put: usize) -> usize {
+    if put < 32768 {
+        return put;
+    }
+    write_output(out, put);
+    0
+}
+
+// The number of bytes that are put. There are never more than fit, whatever the number says.
+fn bytes_put(out: &[u8], put: usize) -> usize
+    ensures { λ r. ⌜ Counts r (now (out .entry)) ⌝ }
+{
+    if put < out.len() {
+        return put;
+    }
+    out.len()
+}
+
+fn write_output(out: &[u8], put: usize) {
+    let n = bytes_put(out, put);
+    io::write_all(1, &out[..n]);
+}
+
+// Answers the lines that end in the input, from a place on.
+fn answer_block(
+    old: Shard,
+    from: usize,
+    input: &[u8],
+    numbers: &mut [u64],
+    out: &mut [u8],
+) -> Answered {
+    let mut shard = old;
+    let mut used = from;
+    let mut put = 0;
+    while used < input.len() {
+        let end = line_end(input, used);
+        if end >= input.len() {
+            break;
+        }
+        put = with_room(out, put);
+        let answered = answer_line(shard, &input[used..end], numbers, out, put);
+        shard = answered.shard;
+        put = answered.put;
+        used = end + 1;
+    }
+    write_output(out, put);
+    Answered { shard, used, put }
+}
+
+// Reads more behind the bytes that are kept, and hands back how many there are then.
+fn read_behind(input: &mut [u8], kept: usize) -> usize
+    ensures { λ r. ⌜ Counts r (now (input .exit)) ⌝ }
+{
+    if kept < input.len() {
+        let part = &mut input[kept..];
+        let got = io::count(libc::read(0, part), part);
+        return kept + got;
+    }
+    input.len()
+}
+
+// Moves the bytes from `used` to `end` to the start of the input, and hands back how many they are.
+fn move_to_start(input: &mut [u8], used: usize, end: usize) -> usize
+    requires { ⌜ end ≤ length (now input) ⌝ }
+{
+    let mut from = used;
+    let mut to = 0;
+    while from < end {
+        input[to] = input[from];
+        from += 1;
+        to += 1;
+    }
+    to
+}
+
+// Where the first line begins that is not skipped.
+fn first_line(input: &[u8], skipping: bool) -> Start {
+    if skipping {
+        let end = line_end(input, 0);
+        if end < input.len() {
+            return Start {
+                from: end + 1,
+                skipping: false,
+            };
+        }
+        return Start {
+            from: end,
+            skipping: true,
+        };
+    }
+    Start {
+        from: 0,
+        skipping: false,
+    }
+}
+
+// Answers the last line, which no LF ends.
+fn answer_last(session: Session, input: &[u8], numbers: &mut [u64], out: &mut [u8]) -> Session {
+    let shard = session.shard;
+    let answered = answer_line(shard, input, numbers, out, 0);
+    let next = answered.shard;
+    write_output(out, answered.put);
+    Session {
+        shard: next,
+        kept: 0,
+        skipping: false,
+        goes_on: false,
+    }
+}
+
+// A line that fills the whole buffer is answered before its end is seen.
+fn answer_too_long(input: &[u8], out: &mut [u8]) {
+    if !is_skipped(input) {
+        let put = answer_lines::put_fault(out, 0, Fault::TooLong);
+        write_output(out, put);
+    }
+}
+
+// Reads one block and answers it.
+fn take_block(session: Session, input: &mut [u8], numbers: &mut [u64], out: &mut [u8]) -> Session {
+    let kept = session.kept;
+    let end = read_behind(input, kept);
+    if end <= kept {
+        return answer_last(session, &input[..end], numbers, out);
+    }
+    let start = first_line(&input[..end], session.skipping);
+    let shard = session.shard;
+    let answered = answer_block(shard, start.from, &input[..end], numbers, out);
+    let next = answered.shard;
+    let left = move_to_start(input, answered.used, end);
+    if left >= input.len() {
+        answer_too_long(input, out);
+        return Session {
+            shard: next,
+            kept: 0,
+            skipping: true,
+            goes_on: true,
+        };
+    }
+    Session {
+        shard: next,
+        kept: left,
+        skipping: start.skipping,
+        goes_on: true,
+    }
+}
+
+// The shard before the first settings, which is not made.
+fn unmade() -> Shard {
+    let none = [0u64; 1];
+    Shard::new(call_lines::settings_of(&none))
+}
+
+fn main() {
+    let mut input_bytes = io::large_buffer();
+    let mut output_bytes = io::large_buffer();
+    let mut line_numbers = [0u64; 2048];
+    let input: &mut [u8] = &mut input_bytes;
+    let out: &mut [u8] = &mut output_bytes;
+    let numbers: &mut [u64] = &mut line_numbers;
+    let mut session = Session {
+        shard: unmade(),
+        kept: 0,
+        skipping: false,
+        goes_on: true,
+    };
+    let mut turns: u64 = 18446744073709551615;
+    while turns > 0 {
+        if !session.goes_on {
+            break;
+        }
+        session = take_block(session, input, numbers, out);
+        turns -= 1;
+    }
+}

@@ -1,0 +1,3 @@
+pub mod Random
+pub mod Log
+pub mod Network
