@@ -85,7 +85,7 @@ fn with_tracker(mut core: Core, tracker: ReadTracker) -> Core
 }
 
 // The fast mark of a commit, whoever asked for the value.
-fn is_fast(a: Asked, core: Core) -> bool
+pub fn is_fast(a: Asked, core: Core) -> bool
     ensures { λ r. ⌜ r ≡ isFast a core ⌝ }
 {
     let mode = a.mode;
@@ -99,7 +99,7 @@ fn is_fast(a: Asked, core: Core) -> bool
 }
 
 // The next slot, with the mark of the fast path cleared.
-fn next_slot(a: Asked, v: u64, s: Rounds) -> Rounds
+pub fn next_slot(a: Asked, v: u64, s: Rounds) -> Rounds
     ensures { λ r. ⌜ r ≡ nextSlot a v s ⌝ }
 {
     let mut next = paxos_family::commit_slot(a, v, s);
@@ -240,7 +240,7 @@ impl Shard {
 }
 
 // What the handlers ask of the settings.
-fn asked_of(settings: Settings) -> Asked
+pub fn asked_of(settings: Settings) -> Asked
     ensures { λ r. ⌜ r ≡ askedOf settings ⌝ }
 {
     let mode = settings.mode;
@@ -306,7 +306,7 @@ fn gatherer_of(settings: Settings, msg: ConsensusMsg) -> u64
 }
 
 // What the handlers ask of the message.
-fn heard_of(settings: Settings, d: Delivery) -> Heard
+pub fn heard_of(settings: Settings, d: Delivery) -> Heard
     ensures { λ r. ⌜ r ≡ heardOf settings d ⌝ }
 {
     let message = d.message;
@@ -328,7 +328,7 @@ fn heard_of(settings: Settings, d: Delivery) -> Heard
 }
 
 // The first slot that is not decided here yet: the own one, or the next while a value is held.
-fn next_readable(core: Core) -> u64
+pub fn next_readable(core: Core) -> u64
     ensures { λ r. ⌜ r ≡ nextReadable core ⌝ }
 {
     let paxos = core.paxos;

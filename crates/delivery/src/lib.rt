@@ -183,7 +183,7 @@ fn requester_below(n: u64, requester: OptionalProcess) -> bool
 
 impl Delivery {
     // Whether no number of the message, nor of what the host adds to it, is too large.
-    fn numbers_fit(self) -> bool
+    pub fn numbers_fit(self) -> bool
         ensures { λ r. ⌜ r ≡ numbersFit self ⌝ }
     {
         let message = self.message;
@@ -208,7 +208,7 @@ impl Delivery {
     }
 
     // Whether every process number is below the count n: source, leaders, proposer and both requesters.
-    fn processes_fit(self, n: u64) -> bool
+    pub fn processes_fit(self, n: u64) -> bool
         ensures { λ r. ⌜ r ≡ processesFit n self ⌝ }
     {
         let message = self.message;
@@ -229,7 +229,7 @@ impl Delivery {
     }
 }
 
-fn is_ahead(core: Core, slot: OptionalSlot) -> bool
+pub fn is_ahead(core: Core, slot: OptionalSlot) -> bool
     ensures { λ r. ⌜ r ≡ isAhead core slot ⌝ }
 {
     match slot {
@@ -238,7 +238,7 @@ fn is_ahead(core: Core, slot: OptionalSlot) -> bool
     }
 }
 
-fn is_own_slot(core: Core, slot: OptionalSlot) -> bool
+pub fn is_own_slot(core: Core, slot: OptionalSlot) -> bool
     ensures { λ r. ⌜ r ≡ isOwnSlot core slot ⌝ }
 {
     match slot {
@@ -264,7 +264,7 @@ fn is_other_last(core: Core, last_v: OptionalValue) -> bool
 }
 
 // Whether the message waits for its value: a Commit does, and a Prepare or an Accept of a round that oneself leads.
-fn needs_value(own: u64, msg: ConsensusMsg) -> bool
+pub fn needs_value(own: u64, msg: ConsensusMsg) -> bool
     ensures { λ r. ⌜ r ≡ needsValue own msg ⌝ }
 {
     match msg {
@@ -289,7 +289,7 @@ fn needs_value(own: u64, msg: ConsensusMsg) -> bool
 }
 
 impl Delivery {
-    fn other_last_value(self, core: Core) -> bool
+    pub fn other_last_value(self, core: Core) -> bool
         ensures { λ r. ⌜ r ≡ otherLastValue core self ⌝ }
     {
         let message = self.message;

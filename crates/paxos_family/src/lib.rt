@@ -260,7 +260,7 @@ pub fn process_fast(asked: Asked, heard: Heard, msg: ConsensusMsg, s: Rounds) ->
     }
 }
 
-fn commit_core(asked: Asked, v: u64, core: Core) -> Core
+pub fn commit_core(asked: Asked, v: u64, core: Core) -> Core
     ensures { λ r. ⌜ r ≡ commitCore asked v core ⌝ }
 {
     let old = core.paxos;

@@ -1,0 +1,17 @@
+-- `flat::thaw_set` meets its contract.
+-- Assumes nothing.
+use borrow.Author.Tests.{eq-eqb, ne-eqb}
+use Rattle.flat.specs.Thaw.{thawedSet}
+use Rattle.flat.proofs.thaw_set.Statement.{statement}
+use Rattle.flat.proofs.thaw_set.Tie as tie
+
+returns : tie.Need-returns
+unfolding thawedSet
+returns c = simp (eq-eqb _ _ (c .if1 .taken))
+
+returns-2 : tie.Need-returns-2
+unfolding thawedSet
+returns-2 c = simp (ne-eqb _ _ (c .if1 .left))
+
+pub thaw-set-spec : {M : Type 1} → statement M
+thaw-set-spec = tie.close (tie.spec returns returns-2)

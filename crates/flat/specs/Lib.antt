@@ -1,0 +1,4 @@
+pub mod Tables
+pub mod Thaw
+pub mod Freeze
+pub mod Calls

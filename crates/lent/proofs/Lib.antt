@@ -1,0 +1,9 @@
+pub mod Lent
+pub mod Within
+pub mod Rare
+pub mod Ask
+pub mod Then
+pub mod Look
+pub mod LookAt
+pub mod Types
+pub mod Runs

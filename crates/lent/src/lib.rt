@@ -1,0 +1,160 @@
+// Thin outer handlers over a shard that its owner lends and that is changed in place. Each takes out the part that the call changes, calls the
+// by-value function on it and writes the part back; a refusal writes back what was there.
+ghost use mathlib.Core.Path.{_≡_};
+ghost use Rattle.consensus.specs.Call.{callOf};
+ghost use Rattle.lent.specs.Readers.{openReadAt, servedReadAt};
+ghost use Rattle.parts.specs.Question.{questionOf};
+ghost use Rattle.parts.specs.ByParts.{byRounds, byCore};
+use consensus::Call;
+use consensus::Reply;
+use consensus::Shard;
+use message::OptionalRound;
+use message::ReadId;
+use parts::Question;
+use read_tracker::OpenRead;
+use read_tracker::ReadTable;
+use read_tracker::ServedRead;
+use steps::Core;
+
+// By a copy of the whole shard: what touches the table of the reads.
+fn whole_in_place(s: &mut Shard, q: Question) -> Reply
+    ensures { λ r. ⌜ (now (s .exit) ≡ callOf (now (s .entry)) (q .call) .shard) × (r ≡ callOf (now (s .entry)) (q .call) .reply) ⌝ }
+{
+    let old = *s;
+    let a = parts::whole_call(old, q);
+    *s = a.shard;
+    a.reply
+}
+
+// By a copy of the rounds where that is enough: EPaxos and SwiftPaxos.
+fn rounds_in_place(s: &mut Shard, q: Question) -> Reply
+    ensures { λ r. ⌜ (now (s .exit) ≡ byRounds (now (s .entry)) q .shard) × (r ≡ byRounds (now (s .entry)) q .reply) ⌝ }
+{
+    let c = s.state.rounds;
+    let a = parts::rounds_call(c, q);
+    if a.deeper {
+        return whole_in_place(s, q);
+    }
+    s.state.rounds = a.rounds;
+    a.reply
+}
+
+// By a copy of the core where that is enough: the usual call.
+fn core_in_place(s: &mut Shard, q: Question) -> Reply
+    ensures { λ r. ⌜ (now (s .exit) ≡ byCore (now (s .entry)) q .shard) × (r ≡ byCore (now (s .entry)) q .reply) ⌝ }
+{
+    let c = s.state.rounds.core;
+    let a = parts::core_call(c, q);
+    if a.deeper {
+        return rounds_in_place(s, q);
+    }
+    s.state.rounds.core = a.core;
+    a.reply
+}
+
+// The call with what it asks of the settings.
+fn question_in_place(s: &mut Shard, call: Call) -> Question
+    ensures { λ r. ⌜ (now (s .exit) ≡ now (s .entry)) × (r ≡ questionOf (now (s .entry) .made) (now (s .entry) .settings) call) ⌝ }
+{
+    let made = s.made;
+    let settings = s.settings;
+    parts::question_of(made, settings, call)
+}
+
+// A call on the shard that is lent.
+pub fn call_in_place(s: &mut Shard, call: Call) -> Reply
+    ensures { λ r. ⌜ (now (s .exit) ≡ callOf (now (s .entry)) call .shard) × (r ≡ callOf (now (s .entry)) call .reply) ⌝ }
+{
+    let q = question_in_place(s, call);
+    core_in_place(s, q)
+}
+
+fn slot_of(core: Core) -> u64
+    ensures { λ r. ⌜ r ≡ core .slot ⌝ }
+{
+    core.slot
+}
+
+fn round_of(core: Core) -> OptionalRound
+    ensures { λ r. ⌜ r ≡ core .paxos .round ⌝ }
+{
+    let paxos = core.paxos;
+    paxos.round
+}
+
+fn open_count_of(core: Core) -> u64
+    ensures { λ r. ⌜ r ≡ core .tracker .«open_count» ⌝ }
+{
+    core.tracker.open_count
+}
+
+fn open_read_at(table: ReadTable, i: u64) -> OpenRead
+    ensures { λ r. ⌜ r ≡ openReadAt table i ⌝ }
+{
+    if i < 128 {
+        let at = i as usize;
+        return table.reads[at];
+    }
+    OpenRead {
+        id: ReadId(0),
+        tag: 0,
+        arrival_slot: 0,
+        ready_count: 0,
+        local_ready: false,
+    }
+}
+
+fn served_read_at(table: ReadTable, i: u64) -> ServedRead
+    ensures { λ r. ⌜ r ≡ servedReadAt table i ⌝ }
+{
+    if i < 128 {
+        let at = i as usize;
+        return table.served[at];
+    }
+    ServedRead {
+        id: ReadId(0),
+        tag: 0,
+        waited_for: 0,
+        fast: false,
+    }
+}
+
+// The slot of a shard that is lent to be read.
+pub fn slot(s: &Shard) -> u64
+    ensures { λ r. ⌜ r ≡ now (s .entry) .state .rounds .core .slot ⌝ }
+{
+    let c = s.state.rounds.core;
+    slot_of(c)
+}
+
+// Its round.
+pub fn round(s: &Shard) -> OptionalRound
+    ensures { λ r. ⌜ r ≡ now (s .entry) .state .rounds .core .paxos .round ⌝ }
+{
+    let c = s.state.rounds.core;
+    round_of(c)
+}
+
+// The number of its open reads.
+pub fn open_reads(s: &Shard) -> u64
+    ensures { λ r. ⌜ r ≡ now (s .entry) .state .rounds .core .tracker .«open_count» ⌝ }
+{
+    let c = s.state.rounds.core;
+    open_count_of(c)
+}
+
+// Open read i.
+pub fn open_read(s: &Shard, i: u64) -> OpenRead
+    ensures { λ r. ⌜ r ≡ openReadAt (now (s .entry) .state .table) i ⌝ }
+{
+    let c = s.state.table;
+    open_read_at(c, i)
+}
+
+// Read i of those that the last call served.
+pub fn served_read(s: &Shard, i: u64) -> ServedRead
+    ensures { λ r. ⌜ r ≡ servedReadAt (now (s .entry) .state .table) i ⌝ }
+{
+    let c = s.state.table;
+    served_read_at(c, i)
+}

@@ -1,0 +1,17 @@
+-- `parts::rounds_need_more` meets its contract.
+-- Assumes nothing.
+use borrow.Author.Needs.{needs}
+use Rattle.parts.proofs.rounds_need_more.Statement.{statement}
+use Rattle.parts.proofs.rounds_need_more.Tie as tie
+
+no-messages-requires : tie.Need-no-messages-requires
+no-messages-requires c κs = search needs
+
+sent-reply-requires : tie.Need-sent-reply-requires
+sent-reply-requires c κs = search needs
+
+returns : tie.Need-returns
+returns c = simp (← c .before .no-messages .ensures, ← c .sent-reply .ensures)
+
+pub rounds-need-more-spec : {M : Type 1} → statement M
+rounds-need-more-spec = tie.close (tie.spec no-messages-requires sent-reply-requires returns)

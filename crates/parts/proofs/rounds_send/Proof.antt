@@ -1,0 +1,14 @@
+-- `parts::rounds_send` meets its contract.
+-- Assumes nothing.
+use borrow.Author.Needs.{needs}
+use Rattle.parts.proofs.rounds_send.Statement.{statement}
+use Rattle.parts.proofs.rounds_send.Tie as tie
+
+sent-reply-requires : tie.Need-sent-reply-requires
+sent-reply-requires c κs = search needs
+
+returns : tie.Need-returns
+returns c = simp (← c .sent-reply .ensures)
+
+pub rounds-send-spec : {M : Type 1} → statement M
+rounds-send-spec = tie.close (tie.spec sent-reply-requires returns)
