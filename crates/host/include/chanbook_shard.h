@@ -192,6 +192,9 @@ uint64_t chanbook_shard_new(struct chanbook_shard *s, struct chanbook_settings s
 /* A call on the shard that is lent. */
 struct chanbook_reply chanbook_shard_call(struct chanbook_shard *s, struct chanbook_call call);
 
+/* The same call by value, with a copy of the whole shard: slower, for comparison. */
+struct chanbook_reply chanbook_shard_call_by_value(struct chanbook_shard *s, struct chanbook_call call);
+
 #ifdef __cplusplus
 }
 #endif

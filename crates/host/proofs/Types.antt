@@ -85,10 +85,6 @@ answer = record {
   spells = λ r v is. ap only (SL.tells An.the-type An′.the-laws r (v ∷ []) is);
   shard-is = λ r v is. SL.owed An.the-type An′.the-laws r (v ∷ []) is .0;
   out-is = λ r v is. SL.owed An.the-type An′.the-laws r (v ∷ []) is .1 .0;
-  make = λ h z. record { shard = h; reply = z };
-  parts = λ r. refl;
-  made-is = λ h z h-is z-is. SL.owes An.the-type An′.the-laws (record { shard = h; reply = z }) (h-is, (z-is, tt));
-  makes = λ 𝓤 H A W. SL.makes An.the-type An′.the-plain 𝓤 H A;
   lawful = λ 𝓤 H A W. SL.lawful An.the-type An′.the-laws 𝓤 H A W;
 }
 
@@ -102,10 +98,6 @@ begun = record {
   spells = λ r v is. ap only (SL.tells Be.the-type Be′.the-laws r (v ∷ []) is);
   shard-is = λ r v is. SL.owed Be.the-type Be′.the-laws r (v ∷ []) is .0;
   out-is = λ r v is. SL.owed Be.the-type Be′.the-laws r (v ∷ []) is .1 .0;
-  make = λ h z. record { shard = h; made = z };
-  parts = λ r. refl;
-  made-is = λ h z h-is z-is. SL.owes Be.the-type Be′.the-laws (record { shard = h; made = z }) (h-is, (z-is, tt));
-  makes = λ 𝓤 H A W. SL.makes Be.the-type Be′.the-plain 𝓤 H A;
   lawful = λ 𝓤 H A W. SL.lawful Be.the-type Be′.the-laws 𝓤 H A W;
 }
 

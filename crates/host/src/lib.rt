@@ -63,6 +63,16 @@ pub extern "C" fn chanbook_shard_call(s: &mut FlatShard, call: FlatCall) -> Flat
     core_in_place(s, q)
 }
 
+// The same call by value: by a copy of the whole shard. It has a second use. Where a large function has one caller alone, it is compiled into that
+// one; were this not the second caller of `whole_in_place`, each usual call would make room for copies of the whole shard on the stack.
+#[no_mangle]
+pub extern "C" fn chanbook_shard_call_by_value(s: &mut FlatShard, call: FlatCall) -> FlatReply
+    ensures { λ r. ⌜ (now (s .exit) ≡ flatWholeCall (now (s .entry)) (questionIn (now (s .entry) .made) (now (s .entry) .settings) call) .shard) × (r ≡ flatWholeCall (now (s .entry)) (questionIn (now (s .entry) .made) (now (s .entry) .settings) call) .reply) ⌝ }
+{
+    let q = question_in_place(s, call);
+    whole_in_place(s, q)
+}
+
 // A shard begins in the place that is lent. The answer is 0, or 1 where the settings are outside the limits.
 #[no_mangle]
 pub extern "C" fn chanbook_shard_new(s: &mut FlatShard, settings: FlatSettings) -> u64

@@ -15,7 +15,7 @@ use base.Fml.{GName, Lft, Share, ftrue, flft, fres, fshr-bor, fat}
 use prog.Wp.{Heap, Calls, Loops, WpFn, Tables}
 use ghost.Atoms.{Atoms, sem}
 use contract.Monad.{fact}
-use types.Kit.{Given, ‵, raw, some, later, _⊛_, _$_, _∵_, !, qed, by, move, keep, drop, use1, use2, split, join, pick, rewrite, fsplit, fsplit3, fjoin, fjoin3, feqI, suffices, frame, await, done}
+use types.Kit.{Given, ‵, raw, some, later, _⊛_, _$_, _∵_, !, qed, by, move, keep, drop, use1, split, join, pick, rewrite, fsplit, fsplit3, fjoin, fjoin3, feqI, suffices, frame, await, done}
 use types.Run.{look, init, forget, stop, hop, from, load, of-opd, and-then, no-more, assigns, land, returns, enter, alloc1, alloc0, params1, pass1, pass0, free1, free0}
 use types.Part.{look-in}
 use sound.WpLaws.{FmC, fmOf, WpFn-mono}

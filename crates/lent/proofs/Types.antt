@@ -104,10 +104,6 @@ answer = record {
   spells = λ r v is. ap only (SL.tells An.the-type An′.the-laws r (v ∷ []) is);
   shard-is = λ r v is. SL.owed An.the-type An′.the-laws r (v ∷ []) is .0;
   out-is = λ r v is. SL.owed An.the-type An′.the-laws r (v ∷ []) is .1 .0;
-  make = λ h z. record { shard = h; reply = z };
-  parts = λ r. refl;
-  made-is = λ h z h-is z-is. SL.owes An.the-type An′.the-laws (record { shard = h; reply = z }) (h-is, (z-is, tt));
-  makes = λ 𝓤 H A W. SL.makes An.the-type An′.the-plain 𝓤 H A;
   lawful = λ 𝓤 H A W. SL.lawful An.the-type An′.the-laws 𝓤 H A W;
 }
 

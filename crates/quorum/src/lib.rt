@@ -10,323 +10,330 @@ pub struct QuorumRow {
     pub fast: u64,
 }
 
-const ROWS: [QuorumRow; 64] = [
-    QuorumRow {
+// A row as the table keeps it: the table is built where it is looked up, and bytes are quick to write.
+pub struct ShortRow {
+    pub majority: u8,
+    pub epaxos: u8,
+    pub fast: u8,
+}
+
+const ROWS: [ShortRow; 64] = [
+    ShortRow {
         majority: 1,
         epaxos: 1,
         fast: 1,
     },
-    QuorumRow {
+    ShortRow {
         majority: 2,
         epaxos: 2,
         fast: 2,
     },
-    QuorumRow {
+    ShortRow {
         majority: 2,
         epaxos: 2,
         fast: 3,
     },
-    QuorumRow {
+    ShortRow {
         majority: 3,
         epaxos: 3,
         fast: 3,
     },
-    QuorumRow {
+    ShortRow {
         majority: 3,
         epaxos: 3,
         fast: 4,
     },
-    QuorumRow {
+    ShortRow {
         majority: 4,
         epaxos: 4,
         fast: 5,
     },
-    QuorumRow {
+    ShortRow {
         majority: 4,
         epaxos: 5,
         fast: 6,
     },
-    QuorumRow {
+    ShortRow {
         majority: 5,
         epaxos: 5,
         fast: 6,
     },
-    QuorumRow {
+    ShortRow {
         majority: 5,
         epaxos: 6,
         fast: 7,
     },
-    QuorumRow {
+    ShortRow {
         majority: 6,
         epaxos: 7,
         fast: 8,
     },
-    QuorumRow {
+    ShortRow {
         majority: 6,
         epaxos: 8,
         fast: 9,
     },
-    QuorumRow {
+    ShortRow {
         majority: 7,
         epaxos: 8,
         fast: 9,
     },
-    QuorumRow {
+    ShortRow {
         majority: 7,
         epaxos: 9,
         fast: 10,
     },
-    QuorumRow {
+    ShortRow {
         majority: 8,
         epaxos: 10,
         fast: 11,
     },
-    QuorumRow {
+    ShortRow {
         majority: 8,
         epaxos: 11,
         fast: 12,
     },
-    QuorumRow {
+    ShortRow {
         majority: 9,
         epaxos: 11,
         fast: 12,
     },
-    QuorumRow {
+    ShortRow {
         majority: 9,
         epaxos: 12,
         fast: 13,
     },
-    QuorumRow {
+    ShortRow {
         majority: 10,
         epaxos: 13,
         fast: 14,
     },
-    QuorumRow {
+    ShortRow {
         majority: 10,
         epaxos: 14,
         fast: 15,
     },
-    QuorumRow {
+    ShortRow {
         majority: 11,
         epaxos: 14,
         fast: 15,
     },
-    QuorumRow {
+    ShortRow {
         majority: 11,
         epaxos: 15,
         fast: 16,
     },
-    QuorumRow {
+    ShortRow {
         majority: 12,
         epaxos: 16,
         fast: 17,
     },
-    QuorumRow {
+    ShortRow {
         majority: 12,
         epaxos: 17,
         fast: 18,
     },
-    QuorumRow {
+    ShortRow {
         majority: 13,
         epaxos: 17,
         fast: 18,
     },
-    QuorumRow {
+    ShortRow {
         majority: 13,
         epaxos: 18,
         fast: 19,
     },
-    QuorumRow {
+    ShortRow {
         majority: 14,
         epaxos: 19,
         fast: 20,
     },
-    QuorumRow {
+    ShortRow {
         majority: 14,
         epaxos: 20,
         fast: 21,
     },
-    QuorumRow {
+    ShortRow {
         majority: 15,
         epaxos: 20,
         fast: 21,
     },
-    QuorumRow {
+    ShortRow {
         majority: 15,
         epaxos: 21,
         fast: 22,
     },
-    QuorumRow {
+    ShortRow {
         majority: 16,
         epaxos: 22,
         fast: 23,
     },
-    QuorumRow {
+    ShortRow {
         majority: 16,
         epaxos: 23,
         fast: 24,
     },
-    QuorumRow {
+    ShortRow {
         majority: 17,
         epaxos: 23,
         fast: 24,
     },
-    QuorumRow {
+    ShortRow {
         majority: 17,
         epaxos: 24,
         fast: 25,
     },
-    QuorumRow {
+    ShortRow {
         majority: 18,
         epaxos: 25,
         fast: 26,
     },
-    QuorumRow {
+    ShortRow {
         majority: 18,
         epaxos: 26,
         fast: 27,
     },
-    QuorumRow {
+    ShortRow {
         majority: 19,
         epaxos: 26,
         fast: 27,
     },
-    QuorumRow {
+    ShortRow {
         majority: 19,
         epaxos: 27,
         fast: 28,
     },
-    QuorumRow {
+    ShortRow {
         majority: 20,
         epaxos: 28,
         fast: 29,
     },
-    QuorumRow {
+    ShortRow {
         majority: 20,
         epaxos: 29,
         fast: 30,
     },
-    QuorumRow {
+    ShortRow {
         majority: 21,
         epaxos: 29,
         fast: 30,
     },
-    QuorumRow {
+    ShortRow {
         majority: 21,
         epaxos: 30,
         fast: 31,
     },
-    QuorumRow {
+    ShortRow {
         majority: 22,
         epaxos: 31,
         fast: 32,
     },
-    QuorumRow {
+    ShortRow {
         majority: 22,
         epaxos: 32,
         fast: 33,
     },
-    QuorumRow {
+    ShortRow {
         majority: 23,
         epaxos: 32,
         fast: 33,
     },
-    QuorumRow {
+    ShortRow {
         majority: 23,
         epaxos: 33,
         fast: 34,
     },
-    QuorumRow {
+    ShortRow {
         majority: 24,
         epaxos: 34,
         fast: 35,
     },
-    QuorumRow {
+    ShortRow {
         majority: 24,
         epaxos: 35,
         fast: 36,
     },
-    QuorumRow {
+    ShortRow {
         majority: 25,
         epaxos: 35,
         fast: 36,
     },
-    QuorumRow {
+    ShortRow {
         majority: 25,
         epaxos: 36,
         fast: 37,
     },
-    QuorumRow {
+    ShortRow {
         majority: 26,
         epaxos: 37,
         fast: 38,
     },
-    QuorumRow {
+    ShortRow {
         majority: 26,
         epaxos: 38,
         fast: 39,
     },
-    QuorumRow {
+    ShortRow {
         majority: 27,
         epaxos: 38,
         fast: 39,
     },
-    QuorumRow {
+    ShortRow {
         majority: 27,
         epaxos: 39,
         fast: 40,
     },
-    QuorumRow {
+    ShortRow {
         majority: 28,
         epaxos: 40,
         fast: 41,
     },
-    QuorumRow {
+    ShortRow {
         majority: 28,
         epaxos: 41,
         fast: 42,
     },
-    QuorumRow {
+    ShortRow {
         majority: 29,
         epaxos: 41,
         fast: 42,
     },
-    QuorumRow {
+    ShortRow {
         majority: 29,
         epaxos: 42,
         fast: 43,
     },
-    QuorumRow {
+    ShortRow {
         majority: 30,
         epaxos: 43,
         fast: 44,
     },
-    QuorumRow {
+    ShortRow {
         majority: 30,
         epaxos: 44,
         fast: 45,
     },
-    QuorumRow {
+    ShortRow {
         majority: 31,
         epaxos: 44,
         fast: 45,
     },
-    QuorumRow {
+    ShortRow {
         majority: 31,
         epaxos: 45,
         fast: 46,
     },
-    QuorumRow {
+    ShortRow {
         majority: 32,
         epaxos: 46,
         fast: 47,
     },
-    QuorumRow {
+    ShortRow {
         majority: 32,
         epaxos: 47,
         fast: 48,
     },
-    QuorumRow {
+    ShortRow {
         majority: 33,
         epaxos: 47,
         fast: 48,
@@ -334,7 +341,7 @@ const ROWS: [QuorumRow; 64] = [
 ];
 
 // The table, of which the rule is proved row by row.
-fn rows() -> [QuorumRow; 64]
+fn rows() -> [ShortRow; 64]
     ensures { λ r. ⌜ Table r ⌝ }
 {
     ROWS
@@ -353,11 +360,22 @@ fn place(n: u64) -> usize
     (n - 1) as usize
 }
 
+fn wide(n: u8) -> u64
+    ensures { λ r. ⌜ r ≡ n ⌝ }
+{
+    n as u64
+}
+
 // The row for n replicas. Every count has an answer: 0 takes the row of 1, and a count above 64 that of 64.
 pub fn row(n: u64) -> QuorumRow
     ensures { λ r. ⌜ r ≡ rowOf n ⌝ }
 {
     let table = rows();
     let i = place(n);
-    table[i]
+    let short = table[i];
+    QuorumRow {
+        majority: wide(short.majority),
+        epaxos: wide(short.epaxos),
+        fast: wide(short.fast),
+    }
 }

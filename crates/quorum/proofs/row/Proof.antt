@@ -19,16 +19,28 @@ rows-requires c κs = search needs
 place-requires : tie.Need-place-requires
 place-requires c κs = search needs
 
-mul-result : tie.Need-mul-result
-mul-result c = search needs
+mul-short : tie.Need-mul-short
+mul-short c = search needs
 
-array-copy-out-result : tie.Need-array-copy-out-result
-array-copy-out-result c = search needs
+array-copy-out-short : tie.Need-array-copy-out-short
+array-copy-out-short c = search needs
+
+wide-requires : tie.Need-wide-requires
+wide-requires c κs = search needs
+
+wide-requires-2 : tie.Need-wide-requires-2
+wide-requires-2 c κs = search needs
+
+wide-requires-3 : tie.Need-wide-requires-3
+wide-requires-3 c κs = search needs
 
 returns : tie.Need-returns
 returns c =
-    let i = c .before .place in
-    c .before .before .rows .ensures .ruled _ (i .result) (omega (arith, i .ensures)) ∙ same-rule _ _ (i .ensures)
+    let i = c .before .before .before .before .place in
+    simp (c .before .before .wide .ensures, c .before .wide2 .ensures, c .wide3 .ensures)
+    (c .before .before .before .before .before .rows .ensures .ruled _ (i .result) (omega (arith, i .ensures)) ∙ same-rule _ _ (i .ensures))
 
 pub row-spec : {M : Type 1} → statement M
-row-spec = tie.close (tie.spec rows-requires place-requires mul-result array-copy-out-result returns)
+row-spec =
+    tie.close
+    (tie.spec rows-requires place-requires mul-short array-copy-out-short wide-requires wide-requires-2 wide-requires-3 returns)
