@@ -1,0 +1,106 @@
+//! A shard, owned.
+use crate::call::{Call, Delivery};
+use crate::message::{PaxosRound, RoundV, option, promise, round};
+use crate::reply::{OpenRead, Refusal, Reply, open_read, outcome, reply};
+use crate::settings::Settings;
+use crate::sys::{self, FlatShard};
+
+/// A shard: one member's part in agreeing on the slots of one log. It owns its memory and lends it to the engine for each call.
+///
+/// ```
+/// use chanbook_shard::{Delivery, PFModeSetting, Settings, Shard};
+/// let member = |me| Shard::new(&Settings::all_live(3, me, PFModeSetting::MultiPaxos));
+/// let (mut leader, mut other) = (member(0), member(1));
+///
+/// // The leader proposes, the other accepts, and with two of three the leader commits.
+/// let accept = leader.propose(10).messages[0].unwrap().message;
+/// let answer = other.receive(Delivery::of(accept)).messages[0].unwrap().message;
+/// let commit = leader.receive(Delivery::of(answer)).commit.unwrap();
+/// assert_eq!((commit.slot, commit.v), (0, 10));
+/// assert_eq!((leader.slot(), other.slot()), (1, 0));
+/// ```
+#[derive(Clone, Debug, PartialEq, Eq)]
+pub struct Shard {
+    twin: Box<FlatShard>,
+}
+
+impl Shard {
+    /// A new shard, at slot 0 and with no read open. Where the settings are outside the limits it is not made, and refuses every call with 1.
+    pub fn new(settings: &Settings) -> Shard {
+        let mut twin = Box::new(FlatShard::from_numbers([0; FlatShard::NUMBERS]));
+        sys::chanbook_shard_new(&mut twin, settings.into());
+        Shard { twin }
+    }
+
+    /// Whether the shard is made.
+    pub fn made(&self) -> Result<(), Refusal> {
+        outcome(self.twin.made)
+    }
+
+    /// A call. The reply is all that the host has to act on.
+    pub fn call(&mut self, call: Call) -> Reply {
+        let flat = sys::chanbook_shard_call(&mut self.twin, call.into());
+        reply(&flat, &self.twin.state.table.served)
+    }
+
+    /// Proposes a value in the shard's slot.
+    pub fn propose(&mut self, v: u64) -> Reply {
+        self.call(Call::Propose(v))
+    }
+
+    /// Begins a read.
+    pub fn start_read(&mut self, tag: u64, arrival_slot: u64) -> Reply {
+        self.call(Call::StartRead { tag, arrival_slot })
+    }
+
+    /// Hands in a message that another member's call sent to this member.
+    pub fn receive(&mut self, delivery: Delivery) -> Reply {
+        self.call(Call::Receive(delivery))
+    }
+
+    /// The slot that is being agreed on. Those before it are committed.
+    pub fn slot(&self) -> u64 {
+        self.twin.state.rounds.core.slot
+    }
+
+    /// The value committed last, if there is one.
+    pub fn last_v(&self) -> Option<u64> {
+        option(self.twin.state.rounds.core.last_v)
+    }
+
+    /// The round, if there is one.
+    pub fn round(&self) -> Option<PaxosRound> {
+        round(self.twin.state.rounds.core.round)
+    }
+
+    /// The held promise, if there is one.
+    pub fn max_rv(&self) -> Option<RoundV> {
+        let held = self.twin.state.rounds.core.max_rv;
+        (held.given != 0).then(|| promise(held.promise))
+    }
+
+    /// The open reads, by number.
+    pub fn open_reads(&self) -> impl Iterator<Item = OpenRead> {
+        let count = self.twin.state.rounds.core.open_count.min(128) as usize;
+        self.twin.state.table.reads[..count].iter().map(open_read)
+    }
+
+    /// The numbers of the shard, for a host that puts it aside.
+    pub fn twin(&self) -> &FlatShard {
+        &self.twin
+    }
+
+    /// A shard that was put aside. Whatever numbers it has, its calls end and are taken or refused; agreement is proved of a shard that goes
+    /// from one call to the next unchanged.
+    ///
+    /// ```
+    /// use chanbook_shard::{PFModeSetting, Settings, Shard};
+    /// let mut shard = Shard::new(&Settings::all_live(3, 0, PFModeSetting::Paxos));
+    /// shard.propose(10);
+    /// let aside = *shard.twin();
+    /// assert_eq!(Shard::from_twin(Box::new(aside)), shard);
+    /// ```
+    pub fn from_twin(twin: Box<FlatShard>) -> Shard {
+        Shard { twin }
+    }
+}

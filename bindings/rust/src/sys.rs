@@ -1,0 +1,253 @@
+//! The twins that cross `extern "C"`, as crates/flat declares them, and the functions that crates/host exports. A twin has numbers only: 0 is no
+//! and any other number yes. Every twin stands for some shard or call, whatever numbers are in it, and so the functions are safe to call.
+//!
+//! [`Shard`](crate::Shard) is the interface for a host; these are for whoever keeps shards in memory of their own.
+#![allow(missing_docs)]
+
+use std::mem::{offset_of, size_of};
+
+/// A number, if it is given.
+#[repr(C)]
+#[derive(Clone, Copy, Debug, PartialEq, Eq, Default)]
+pub struct FlatOption {
+    pub given: u64,
+    pub n: u64,
+}
+
+/// A round, if it is given.
+#[repr(C)]
+#[derive(Clone, Copy, Debug, PartialEq, Eq, Default)]
+pub struct FlatRound {
+    pub given: u64,
+    pub round_group: u64,
+    pub leader: u64,
+}
+
+/// A promise: of a proposer on the fast path, or with the round in which the value was accepted, if it was.
+#[repr(C)]
+#[derive(Clone, Copy, Debug, PartialEq, Eq, Default)]
+pub struct FlatPromise {
+    pub fast: u64,
+    pub proposer: u64,
+    pub accept_round: FlatRound,
+    pub v: u64,
+}
+
+/// The held promise, if there is one.
+#[repr(C)]
+#[derive(Clone, Copy, Debug, PartialEq, Eq, Default)]
+pub struct FlatHeld {
+    pub given: u64,
+    pub promise: FlatPromise,
+}
+
+/// Mode: 0 Paxos, 1 MultiPaxos, 2 MultiPaxos3P, 3 EPaxos, 4 Pando, 5 SwiftPaxos.
+#[repr(C)]
+#[derive(Clone, Copy, Debug, PartialEq, Eq)]
+pub struct FlatSettings {
+    pub process_count: u64,
+    pub replica_count: u64,
+    pub my_pid: u64,
+    pub alive_replicas: u64,
+    pub first_leader: u64,
+    pub mode: u64,
+    pub quorum: FlatOption,
+    pub has_committers: u64,
+    pub committers: [u64; 64],
+    pub delegates: [u64; 64],
+}
+
+/// What most calls change.
+#[repr(C)]
+#[derive(Clone, Copy, Debug, PartialEq, Eq, Default)]
+pub struct FlatCore {
+    pub slot: u64,
+    pub last_v: FlatOption,
+    pub slot_left_fast_path: u64,
+    pub round: FlatRound,
+    pub max_rv: FlatHeld,
+    pub prepared_set: u64,
+    pub accepted_set: u64,
+    pub next_id: u64,
+    pub open_count: u64,
+}
+
+/// What EPaxos and SwiftPaxos change besides.
+#[repr(C)]
+#[derive(Clone, Copy, Debug, PartialEq, Eq)]
+pub struct FlatFast {
+    pub fast_answer_set: u64,
+    pub fast_preaccepted: u64,
+    pub fast_proposers: u64,
+    pub swift_leader_answer: FlatOption,
+    pub fast_proposer_to_v: [u64; 64],
+    pub epaxos_proposer_scores: [u64; 64],
+    pub swift_proposer_scores: [u64; 64],
+}
+
+/// Both halves of the round state.
+#[repr(C)]
+#[derive(Clone, Copy, Debug, PartialEq, Eq)]
+pub struct FlatRounds {
+    pub core: FlatCore,
+    pub fast: FlatFast,
+}
+
+/// A read that waits.
+#[repr(C)]
+#[derive(Clone, Copy, Debug, PartialEq, Eq, Default)]
+pub struct FlatOpenRead {
+    pub id: u64,
+    pub tag: u64,
+    pub arrival_slot: u64,
+    pub ready_count: u64,
+    pub local_ready: u64,
+}
+
+/// A read that was served.
+#[repr(C)]
+#[derive(Clone, Copy, Debug, PartialEq, Eq, Default)]
+pub struct FlatServedRead {
+    pub id: u64,
+    pub tag: u64,
+    pub waited_for: u64,
+    pub fast: u64,
+}
+
+/// The open and the served reads.
+#[repr(C)]
+#[derive(Clone, Copy, Debug, PartialEq, Eq)]
+pub struct FlatTable {
+    pub reads: [FlatOpenRead; 128],
+    pub served: [FlatServedRead; 128],
+}
+
+/// Everything that calls change.
+#[repr(C)]
+#[derive(Clone, Copy, Debug, PartialEq, Eq)]
+pub struct FlatState {
+    pub rounds: FlatRounds,
+    pub table: FlatTable,
+}
+
+/// `made` is 0, or the number with which an unmade shard refuses every call.
+#[repr(C)]
+#[derive(Clone, Copy, Debug, PartialEq, Eq)]
+pub struct FlatShard {
+    pub made: u64,
+    pub settings: FlatSettings,
+    pub state: FlatState,
+}
+
+/// Kind: 1 Prepare, 2 Accept, 3 ForwardRequest, 4 Commit, 5 ReadRequest, 6 ReadResponse.
+#[repr(C)]
+#[derive(Clone, Copy, Debug, PartialEq, Eq, Default)]
+pub struct FlatMessage {
+    pub kind: u64,
+    pub slot: u64,
+    pub round_group: u64,
+    pub leader: u64,
+    pub rv: FlatPromise,
+    pub v: u64,
+    pub id: u64,
+    pub next_readable_slot: u64,
+    pub src: u64,
+    pub last_v: FlatOption,
+}
+
+/// Kind: 0 a proposal of v, 1 a new read with the tag v, and else a message.
+#[repr(C)]
+#[derive(Clone, Copy, Debug, PartialEq, Eq, Default)]
+pub struct FlatCall {
+    pub kind: u64,
+    pub v: u64,
+    pub arrival_slot: u64,
+    pub message: FlatMessage,
+    pub value_held: u64,
+    pub requester: FlatOption,
+    pub fast: u64,
+    pub held_requester: FlatOption,
+}
+
+/// Kind: 0 no message, 1 a message to the process `to`, 2 a message to every other process, with the one that is served first.
+#[repr(C)]
+#[derive(Clone, Copy, Debug, PartialEq, Eq, Default)]
+pub struct FlatOutgoing {
+    pub kind: u64,
+    pub to: u64,
+    pub first: FlatOption,
+    pub message: FlatMessage,
+}
+
+/// The commit of a call, if it has one.
+#[repr(C)]
+#[derive(Clone, Copy, Debug, PartialEq, Eq, Default)]
+pub struct FlatCommit {
+    pub given: u64,
+    pub slot: u64,
+    pub v: u64,
+    pub fast: u64,
+}
+
+/// The outcome is 0, or the number of the refusal.
+#[repr(C)]
+#[derive(Clone, Copy, Debug, PartialEq, Eq, Default)]
+pub struct FlatReply {
+    pub outcome: u64,
+    pub first: FlatOutgoing,
+    pub second: FlatOutgoing,
+    pub third: FlatOutgoing,
+    pub commit: FlatCommit,
+    pub served_count: u64,
+}
+
+unsafe extern "C" {
+    /// Begins a shard in place, whatever stood there. Gives 0, or 1 where the settings are outside the limits.
+    pub safe fn chanbook_shard_new(shard: &mut FlatShard, settings: FlatSettings) -> u64;
+
+    /// A call on a shard in place. Where it is refused, the shard stays as it was.
+    pub safe fn chanbook_shard_call(shard: &mut FlatShard, call: FlatCall) -> FlatReply;
+
+    /// The same call by value, with a copy of the whole shard: slower, for comparison.
+    pub safe fn chanbook_shard_call_by_value(shard: &mut FlatShard, call: FlatCall) -> FlatReply;
+}
+
+macro_rules! numbers {
+    ($twin:ty) => {
+        impl $twin {
+            /// How many numbers it has.
+            pub const NUMBERS: usize = size_of::<$twin>() / size_of::<u64>();
+
+            /// The twin that has these numbers, in the order of its fields.
+            pub fn from_numbers(numbers: [u64; Self::NUMBERS]) -> $twin {
+                // Sound: both types have the same size and alignment, and every bit pattern is a value of both.
+                unsafe { std::mem::transmute(numbers) }
+            }
+
+            /// Its numbers, in the order of its fields.
+            pub fn numbers(&self) -> [u64; Self::NUMBERS] {
+                // Sound: as above.
+                unsafe { std::mem::transmute(*self) }
+            }
+        }
+    };
+}
+
+numbers!(FlatShard);
+numbers!(FlatCall);
+
+// A place of another size or offset than C's would be read wrong on the other side.
+const _: () = {
+    assert!(size_of::<FlatMessage>() == 128);
+    assert!(size_of::<FlatCall>() == 200);
+    assert!(size_of::<FlatOutgoing>() == 160);
+    assert!(size_of::<FlatReply>() == 528);
+    assert!(size_of::<FlatSettings>() == 1096);
+    assert!(size_of::<FlatShard>() == 12040);
+    assert!(offset_of!(FlatShard, settings) == 8);
+    assert!(offset_of!(FlatShard, state) == 1104);
+    assert!(offset_of!(FlatState, table) == 1720);
+    assert!(offset_of!(FlatRounds, fast) == 144);
+    assert!(offset_of!(FlatTable, served) == 5120);
+    assert!(offset_of!(FlatReply, commit) == 488);
+};

@@ -1,0 +1,135 @@
+//! Damaged frames and shards of any numbers. Each call ends; it is taken or gives a number from 1 to 12; a refusal leaves every number of the
+//! shard as it was and hands back the number alone.
+mod support;
+
+use chanbook_shard::sys::{self, FlatCall, FlatReply, FlatShard};
+use chanbook_shard::{Call, PFModeSetting, Settings, Shard};
+use std::collections::BTreeSet;
+use support::{Group, Random, agreeing_modes, five};
+
+/// Numbers at which something changes: kinds, processes, counts, and the limits of slots and of all numbers.
+const AT_LIMITS: [u64; 18] = [0, 1, 2, 3, 4, 5, 6, 7, 63, 64, 65, 127, 128, 1 << 32, (1 << 63) - 2, (1 << 63) - 1, 1 << 63, u64::MAX];
+
+/// The outcome of the call, once what must hold of every call was checked.
+fn checked(shard: &FlatShard, call: FlatCall) -> u64 {
+    let mut after = *shard;
+    let reply = sys::chanbook_shard_call(&mut after, call);
+    assert!(reply.outcome <= 12, "{} on {call:?}", reply.outcome);
+    if reply.outcome != 0 {
+        assert_eq!(after.numbers(), shard.numbers(), "{call:?}");
+        let alone = FlatReply { outcome: reply.outcome, ..FlatReply::default() };
+        assert_eq!(reply, alone, "{call:?}");
+    }
+    reply.outcome
+}
+
+/// The call with each number replaced in turn by each number at a limit and by a few others.
+fn damage_each_number(shard: &FlatShard, call: FlatCall, random: &mut Random) -> BTreeSet<u64> {
+    let numbers = call.numbers();
+    let mut outcomes = BTreeSet::new();
+    for at in 0..FlatCall::NUMBERS {
+        let others = [random.next(), random.next() >> 40, numbers[at] ^ 1];
+        for n in AT_LIMITS.into_iter().chain(others) {
+            let mut damaged = numbers;
+            damaged[at] = n;
+            outcomes.insert(checked(shard, FlatCall::from_numbers(damaged)));
+        }
+    }
+    outcomes
+}
+
+fn modes() -> Vec<PFModeSetting> {
+    let fast = [PFModeSetting::EPaxos, PFModeSetting::SwiftPaxos { quorum: None }, PFModeSetting::SwiftPaxos { quorum: Some(0b10111) }];
+    agreeing_modes().into_iter().chain(fast).collect()
+}
+
+#[test]
+fn each_number_of_a_frame_may_be_damaged() {
+    let mut outcomes = BTreeSet::new();
+    for mode in modes() {
+        let mut group = Group::new(&five(mode), 5);
+        for _ in 0..120 {
+            let (member, call) = group.next_call();
+            let shard = *group.shards[member].twin();
+            outcomes.append(&mut damage_each_number(&shard, call.into(), &mut group.random));
+            let _ = group.make(member, call);
+            if group.random.below(10) == 0 {
+                let _ = group.make(member, Call::StartRead { tag: 1, arrival_slot: 0 });
+            }
+        }
+    }
+    for number in [0, 2, 3, 4, 5, 6, 8, 9, 11] {
+        assert!(outcomes.contains(&number), "{number} was not met: {outcomes:?}");
+    }
+}
+
+#[test]
+fn a_frame_of_any_numbers() {
+    let mut random = Random(11);
+    for mode in modes() {
+        let mut group = Group::new(&five(mode), 6);
+        (0..40).for_each(|_| group.step());
+        for _ in 0..5000 {
+            let member = group.random.below(5);
+            let call = FlatCall::from_numbers(std::array::from_fn(|_| any_number(&mut random)));
+            checked(group.shards[member].twin(), call);
+        }
+    }
+}
+
+/// A number at a limit, a small one, or any.
+fn any_number(random: &mut Random) -> u64 {
+    match random.below(3) {
+        0 => AT_LIMITS[random.below(AT_LIMITS.len())],
+        1 => random.next() % 5,
+        _ => random.next(),
+    }
+}
+
+#[test]
+fn a_shard_of_any_numbers() {
+    let mut random = Random(12);
+    for _ in 0..10_000 {
+        let shard = FlatShard::from_numbers(std::array::from_fn(|_| any_number(&mut random)));
+        let call = FlatCall::from_numbers(std::array::from_fn(|_| any_number(&mut random)));
+        checked(&shard, call);
+    }
+}
+
+#[test]
+fn a_made_shard_with_a_state_of_any_numbers() {
+    let mut random = Random(13);
+    for mode in modes() {
+        let settings = *Shard::new(&five(mode)).twin();
+        for _ in 0..2000 {
+            let mut shard = FlatShard::from_numbers(std::array::from_fn(|_| any_number(&mut random)));
+            shard.made = settings.made;
+            shard.settings = settings.settings;
+            let call = FlatCall::from_numbers(std::array::from_fn(|_| any_number(&mut random)));
+            checked(&shard, call);
+        }
+    }
+}
+
+#[test]
+fn the_readers_take_a_shard_of_any_numbers() {
+    let mut random = Random(14);
+    for _ in 0..1000 {
+        let twin = FlatShard::from_numbers(std::array::from_fn(|_| any_number(&mut random)));
+        let mut shard = Shard::from_twin(Box::new(twin));
+        assert!(shard.open_reads().count() <= 128);
+        let _ = (shard.made(), shard.slot(), shard.last_v(), shard.round(), shard.max_rv());
+        let _ = shard.propose(any_number(&mut random));
+    }
+}
+
+#[test]
+fn a_mode_that_there_is_not_is_outside_the_limits() {
+    let mut shard = *Shard::new(&Settings::all_live(5, 0, PFModeSetting::Paxos)).twin();
+    for mode in 6..9 {
+        let mut settings = shard.settings;
+        settings.mode = mode;
+        assert_eq!(sys::chanbook_shard_new(&mut shard, settings), 1);
+        assert_eq!(checked(&shard, Call::Propose(1).into()), 1);
+    }
+}

@@ -1,0 +1,62 @@
+//! The twins of this crate have the fields of crates/flat and of the C header, in the same order and of the same types. All are numbers and
+//! `#[repr(C)]`, and so equal fields are equal sizes and offsets.
+
+const MIRROR: &str = include_str!("../src/sys.rs");
+const SOURCE: &str = include_str!("../../../crates/flat/src/lib.rt");
+const HEADER: &str = include_str!("../../../crates/host/include/chanbook_shard.h");
+
+/// `FlatOpenRead` for `chanbook_open_read`.
+fn twin_of(c_name: &str) -> String {
+    let words = c_name.trim_start_matches("chanbook_").split('_');
+    let capital = |word: &str| word[..1].to_uppercase() + &word[1..];
+    format!("Flat{}", words.map(capital).collect::<String>())
+}
+
+/// The lines between `opening`, which ends with the name, and the closing brace, for each struct.
+fn structs<'a>(text: &'a str, opening: &str) -> Vec<(&'a str, Vec<&'a str>)> {
+    let bodies = text.split(opening).skip(1);
+    bodies
+        .filter_map(|rest| rest.split_once(" {\n"))
+        .filter(|(name, _)| name.chars().all(|c| c.is_alphanumeric() || c == '_'))
+        .map(|(name, rest)| (name, rest.split("\n}").next().unwrap_or("").lines().collect()))
+        .collect()
+}
+
+/// `FlatRound.leader: u64` for each field of each struct that is marked `#[repr(C)]`.
+fn fields_in_rust(text: &str) -> Vec<String> {
+    let marked: String = text.split("#[repr(C)]\n").skip(1).map(|part| part.split_inclusive("\n}").next().unwrap_or("")).collect();
+    let line = |name: &str, line: &str| {
+        let field = line.trim().trim_start_matches("pub ").trim_end_matches(',');
+        format!("{name}.{field}")
+    };
+    structs(&marked, "pub struct ").iter().flat_map(|(name, lines)| lines.iter().map(move |l| line(name, l))).collect()
+}
+
+fn field_in_c(name: &str, line: &str) -> String {
+    let declared = line.trim().trim_end_matches(';').trim_start_matches("struct ");
+    let (of, field) = declared.split_once(' ').expect("a type and a field");
+    let of = match of {
+        "uint64_t" => "u64".to_string(),
+        other => twin_of(other),
+    };
+    match field.trim_end_matches(']').split_once('[') {
+        None => format!("{}.{field}: {of}", twin_of(name)),
+        Some((field, length)) => format!("{}.{field}: [{of}; {length}]", twin_of(name)),
+    }
+}
+
+fn fields_in_c(text: &str) -> Vec<String> {
+    structs(text, "\nstruct ").iter().flat_map(|(name, lines)| lines.iter().map(|line| field_in_c(name, line))).collect()
+}
+
+#[test]
+fn the_twins_are_those_of_the_source() {
+    let source = fields_in_rust(SOURCE);
+    assert!(source.contains(&"FlatReply.served_count: u64".to_string()), "read to the last one");
+    assert_eq!(fields_in_rust(MIRROR), source);
+}
+
+#[test]
+fn the_twins_are_those_of_the_header() {
+    assert_eq!(fields_in_c(HEADER), fields_in_rust(MIRROR));
+}
