@@ -10,7 +10,7 @@ use consensus::Shard;
 
 // The shard between two blocks: the shard, how many bytes of a line that has not ended stand at the start of the input buffer, whether
 // the rest of a line that is too long is being skipped, and whether the input may go on.
-struct Session {
+struct BetweenBlocks {
     shard: Shard,
     kept: usize,
     skipping: bool,
@@ -214,12 +214,17 @@ fn first_line(input: &[u8], skipping: bool) -> Start {
 }
 
 // Answers the last line, which no LF ends.
-fn answer_last(session: Session, input: &[u8], numbers: &mut [u64], out: &mut [u8]) -> Session {
-    let shard = session.shard;
+fn answer_last(
+    between: BetweenBlocks,
+    input: &[u8],
+    numbers: &mut [u64],
+    out: &mut [u8],
+) -> BetweenBlocks {
+    let shard = between.shard;
     let answered = answer_line(shard, input, numbers, out, 0);
     let next = answered.shard;
     write_output(out, answered.put);
-    Session {
+    BetweenBlocks {
         shard: next,
         kept: 0,
         skipping: false,
@@ -236,27 +241,32 @@ fn answer_too_long(input: &[u8], out: &mut [u8]) {
 }
 
 // Reads one block and answers it.
-fn take_block(session: Session, input: &mut [u8], numbers: &mut [u64], out: &mut [u8]) -> Session {
-    let kept = session.kept;
+fn take_block(
+    between: BetweenBlocks,
+    input: &mut [u8],
+    numbers: &mut [u64],
+    out: &mut [u8],
+) -> BetweenBlocks {
+    let kept = between.kept;
     let end = read_behind(input, kept);
     if end <= kept {
-        return answer_last(session, &input[..end], numbers, out);
+        return answer_last(between, &input[..end], numbers, out);
     }
-    let start = first_line(&input[..end], session.skipping);
-    let shard = session.shard;
+    let start = first_line(&input[..end], between.skipping);
+    let shard = between.shard;
     let answered = answer_block(shard, start.from, &input[..end], numbers, out);
     let next = answered.shard;
     let left = move_to_start(input, answered.used, end);
     if left >= input.len() {
         answer_too_long(input, out);
-        return Session {
+        return BetweenBlocks {
             shard: next,
             kept: 0,
             skipping: true,
             goes_on: true,
         };
     }
-    Session {
+    BetweenBlocks {
         shard: next,
         kept: left,
         skipping: start.skipping,
@@ -277,7 +287,7 @@ fn main() {
     let input: &mut [u8] = &mut input_bytes;
     let out: &mut [u8] = &mut output_bytes;
     let numbers: &mut [u64] = &mut line_numbers;
-    let mut session = Session {
+    let mut between = BetweenBlocks {
         shard: unmade(),
         kept: 0,
         skipping: false,
@@ -285,10 +295,10 @@ fn main() {
     };
     let mut turns: u64 = 18446744073709551615;
     while turns > 0 {
-        if !session.goes_on {
+        if !between.goes_on {
             break;
         }
-        session = take_block(session, input, numbers, out);
+        between = take_block(between, input, numbers, out);
         turns -= 1;
     }
 }

@@ -6,10 +6,10 @@ use Rattle.replay.proofs.main.Statement.{statement}
 use Rattle.replay.proofs.main.Tie as tie
 
 abbrev Inv-loop : tie.InvT-loop
-Inv-loop input₀ out₀ numbers₀ session₀ turns₀ input out numbers session turns = turns ≤ 18446744073709551615
+Inv-loop input₀ out₀ numbers₀ between₀ turns₀ input out numbers between turns = turns ≤ 18446744073709551615
 
 abbrev μ-loop : tie.MeasureT-loop
-μ-loop input₀ out₀ numbers₀ session₀ turns₀ input out numbers session turns = turns
+μ-loop input₀ out₀ numbers₀ between₀ turns₀ input out numbers between turns = turns
 
 large-buffer-requires : tie.Need-large-buffer-requires Inv-loop μ-loop
 large-buffer-requires c κs = search needs
