@@ -226,7 +226,7 @@ pub fn accepting(asked: Asked, heard: Heard, round: PaxosRound, v: u64, core: Co
 {
     let paxos = core.paxos;
     let me = asked.member;
-    let step = paxos.receive_accept(me, heard.src, round, v);
+    let step = promise_accept::receive_accept(paxos, me, heard.src, round, v);
     let state = step.state;
     let outcome = step.outcome;
     after_accepted(asked, heard, round, v, core, state, outcome)

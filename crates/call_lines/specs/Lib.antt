@@ -1,5 +1,1 @@
 pub mod Reading
-pub mod Calls
-pub mod States
-pub mod Faults
-pub mod Answer

@@ -1,2 +1,3 @@
 pub mod NoReads
+pub mod ByParts
 pub mod Refusals

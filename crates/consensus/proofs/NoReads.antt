@@ -11,12 +11,14 @@ use Rattle.steps.specs.Steps.{noMessages}
 use Rattle.steps.specs.declared.Asked.{Asked}
 use Rattle.steps.specs.declared.Messages.{Messages}
 use Rattle.steps.specs.declared.Rounds.{Rounds}
-use Rattle.read_tracker.proofs.NoReads.{commit-untouched, response-untouched}
-use Rattle.read_tracker.specs.declared.Tracked.{Tracked}
-use Rattle.consensus.specs.Answers.{withRounds, nothing, served, isFast, nextSlot, committed}
+use Rattle.serving.proofs.NoReads.{commit-untouched, response-untouched}
+use Rattle.serving.specs.declared.Tracked.{Tracked}
+use Rattle.core_calls.specs.Replies.{isFast}
+use Rattle.rounds_calls.specs.RoundsCall.{nextSlot}
+use Rattle.consensus.specs.Answers.{withRounds, nothing, served, committed}
 use Rattle.consensus.specs.Handle.{onReadResponse}
 use Rattle.consensus.specs.declared.Answer.{Answer}
-use Rattle.consensus.specs.declared.OptionalCommit.the-variants.{NoCommit, Committed}
+use Rattle.calls.specs.declared.OptionalCommit.the-variants.{NoCommit, Committed}
 use Rattle.consensus.specs.declared.Shard.{Shard}
 
 -- what a commit hands back where it serves no read

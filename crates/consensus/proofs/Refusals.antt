@@ -39,11 +39,12 @@ use Rattle.delivery.specs.Admit.{isAhead, isOwnSlot, needsValue, otherLastValue
 use Rattle.consensus.specs.Answers.{refused, committed, finishAt}
 use Rattle.consensus.specs.Call.{newShard, proposing, propose, read, admitted, receive, dispatch, unlessSpent, ifMade, callWith}
 use Rattle.consensus.specs.Causes.{Spent, ProposalCause, MessageCause, Cause}
-use Rattle.consensus.specs.Handle.{askedOf, heardOf, onCommit, onReadRequest, onReadResponse, startRead, afterInsert, processed, processMessage, handle}
+use Rattle.calls.specs.Asked.{askedOf, heardOf}
+use Rattle.consensus.specs.Handle.{onCommit, onReadRequest, onReadResponse, startRead, afterInsert, processed, processMessage, handle}
 use Rattle.delivery.specs.Limits.{isNumber, isSlot, numbersFit, processesFit}
 use Rattle.consensus.specs.declared.Answer.{Answer}
-use Rattle.consensus.specs.declared.Call.{Call}
-use Rattle.consensus.specs.declared.Call.the-variants.{Propose, StartRead, Receive}
+use Rattle.calls.specs.declared.Call.{Call}
+use Rattle.calls.specs.declared.Call.the-variants.{Propose, StartRead, Receive}
 use Rattle.delivery.specs.declared.Delivery.{Delivery}
 use Rattle.consensus.specs.declared.Shard.{Shard}
 
@@ -55,11 +56,11 @@ ahead-slot : (core : Core) (o : OptionalSlot) → isAhead core o ≡ true → (s
 ahead-slot core NoSlot e = absurd (not-both e refl)
 ahead-slot core (Slot slot) e = (slot, refl, ltb-true (core .slot) slot e)
 
-awaited-not-held : (s : Settings) (core : Core) (d : Delivery) → valueAwaited s core d ≡ true → d .said .«value_held» ≡ false
+awaited-not-held : (own : ℕ) (core : Core) (d : Delivery) → valueAwaited own core d ≡ true → d .said .«value_held» ≡ false
 unfolding valueAwaited
-awaited-not-held s core d e =
+awaited-not-held own core d e =
     go (d .said .«value_held»)
-    (and-right (isOwnSlot core (msgSlot (d .message .msg)) && needsValue (s .«my_pid») (d .message .msg)) (not (d .said .«value_held»)) e)
+    (and-right (isOwnSlot core (msgSlot (d .message .msg)) && needsValue own (d .message .msg)) (not (d .said .«value_held»)) e)
   where
     go : (t : Bool) → not t ≡ true → t ≡ false
     go true f = sym f
@@ -173,11 +174,11 @@ module _ (choose : FastState → OptionalProcess) (shard : Shard) where
     unfolding receive admit ready
     receive-ok =
         go (numbersFit d) (processesFit (shard .settings .«process_count») d) (isAhead (rounds .core) (msgSlot (d .message .msg))) (otherLastValue (rounds .core) d)
-        (valueAwaited (shard .settings) (rounds .core) d) refl refl refl refl refl
+        (valueAwaited (shard .settings .«my_pid») (rounds .core) d) refl refl refl refl refl
       where
         go : (numbers processes ahead other awaited : Bool) → numbersFit d ≡ numbers → processesFit (shard .settings .«process_count») d ≡ processes
             → isAhead (rounds .core) (msgSlot (d .message .msg)) ≡ ahead → otherLastValue (rounds .core) d ≡ other
-            → valueAwaited (shard .settings) (rounds .core) d ≡ awaited
+            → valueAwaited (shard .settings .«my_pid») (rounds .core) d ≡ awaited
             → Ok (Receive d)
             (admitted choose shard d
             (cond numbers
@@ -187,7 +188,7 @@ module _ (choose : FastState → OptionalProcess) (shard : Shard) where
         go true false ahead other awaited n p a l w = inr (NoSuchProcess, refl, p)
         go true true true other awaited n p a l w = inr (SlotAhead, refl, ahead-slot (rounds .core) (msgSlot (d .message .msg)) a)
         go true true false true awaited n p a l w = inr (OtherLastValue, refl, l)
-        go true true false false true n p a l w = inr (ValueNotHeld, refl, (awaited-not-held (shard .settings) (rounds .core) d w, inl w))
+        go true true false false true n p a l w = inr (ValueNotHeld, refl, (awaited-not-held (shard .settings .«my_pid») (rounds .core) d w, inl w))
         go true true false false false n p a l w = handle-ok (d .message .msg)
 
   -- ---- every call

@@ -1,28 +1,28 @@
 -- Answers, and the commit of a value with the reads that it serves (the Rust's commit_slot and commit_commands).
 -- Assumes nothing.
-use mathlib.Core.Bool.{Bool, false, cond, not, _&&_}
+use mathlib.Core.Bool.{Bool, cond}
 use Prim.Native.Nat.{ℕ}
-use Rattle.message.specs.Modes.{hasFastPath}
 use Rattle.message.specs.declared.Outcome.the-variants.{Done, Refused}
 use Rattle.message.specs.declared.Refusal.{Refusal}
 use Rattle.message.specs.declared.Refusal.the-variants.{ValueNotHeld}
-use Rattle.read_tracker.specs.Reads.{commitSlot as serveReads}
-use Rattle.read_tracker.specs.declared.ReadTracker.{ReadTracker}
-use Rattle.read_tracker.specs.declared.Tracked.{Tracked}
+use Rattle.serving.specs.Serving.{commitSlot as serveReads}
+use Rattle.serving.specs.declared.Tracked.{Tracked}
 use Rattle.paxos_family.specs.Commit.{commitSlot}
 use Rattle.steps.specs.Steps.{noMessages}
 use Rattle.steps.specs.declared.Asked.{Asked}
-use Rattle.steps.specs.declared.Core.{Core}
 use Rattle.steps.specs.declared.Messages.{Messages}
 use Rattle.steps.specs.declared.Next.{Next}
 use Rattle.steps.specs.declared.Next.the-variants.{Stays, Continues, Commits, Refuses}
 use Rattle.steps.specs.declared.Rounds.{Rounds}
 use Rattle.steps.specs.declared.RoundsStep.{RoundsStep}
+use Rattle.core_calls.specs.Replies.{isFast}
+use Rattle.rounds_calls.specs.RoundsCall.{nextSlot}
+use Rattle.state_calls.specs.StateCall.{withTracker}
 use Rattle.consensus.specs.declared.Answer.{Answer}
-use Rattle.consensus.specs.declared.OptionalCommit.{OptionalCommit}
-use Rattle.consensus.specs.declared.OptionalCommit.the-variants.{NoCommit, Committed}
+use Rattle.calls.specs.declared.OptionalCommit.{OptionalCommit}
+use Rattle.calls.specs.declared.OptionalCommit.the-variants.{NoCommit, Committed}
 use Rattle.consensus.specs.declared.Shard.{Shard}
-use Rattle.consensus.specs.declared.State.{State}
+use Rattle.state_calls.specs.declared.State.{State}
 
 -- ---- the parts of the shard set anew
 
@@ -31,15 +31,6 @@ withState shard state = record { made = shard .made; settings = shard .settings;
 
 abbrev pub withRounds : Shard → Rounds → Shard
 withRounds shard rounds = withState shard (record { rounds = rounds; table = shard .state .table })
-
--- a core with its reads counted anew, and with the mark of the fast path cleared
-abbrev pub withTracker : ReadTracker → Core → Core
-withTracker tracker core =
-    record { slot = core .slot; «last_v» = core .«last_v»; «slot_left_fast_path» = core .«slot_left_fast_path»; paxos = core .paxos; tracker = tracker }
-
-abbrev pub onFastPath : Core → Core
-onFastPath core =
-    record { slot = core .slot; «last_v» = core .«last_v»; «slot_left_fast_path» = false; paxos = core .paxos; tracker = core .tracker }
 
 -- ---- the kinds of answer
 
@@ -63,14 +54,6 @@ served shard rounds reads messages commit =
     }
 
 -- ---- the commit of a value
-
--- "fast mark from `has_fast_path` and `slot_left_fast_path`, whoever the requester"
-abbrev pub isFast : Asked → Core → Bool
-isFast a core = hasFastPath (a .mode) && not (core .«slot_left_fast_path»)
-
--- the state after commit_slot, with the mark of the fast path cleared
-abbrev pub nextSlot : Asked → ℕ → Rounds → Rounds
-nextSlot a v s = record { core = onFastPath (commitSlot a v s .core); fast = commitSlot a v s .fast }
 
 -- commit_slot, and then commit_commands: the mark of the fast path is read and cleared, and the reads that the commit has made ready are
 -- served at the new slot

@@ -25,14 +25,15 @@ use Rattle.steps.specs.declared.Rounds.{Rounds}
 use Rattle.steps.specs.declared.RoundsStep.{RoundsStep}
 use Rattle.delivery.specs.Admit.{admit}
 use Rattle.consensus.specs.Answers.{refused, finish}
-use Rattle.consensus.specs.Handle.{askedOf, startRead, handle}
+use Rattle.calls.specs.Asked.{askedOf}
+use Rattle.consensus.specs.Handle.{startRead, handle}
 use Rattle.delivery.specs.Limits.{isNumber, isSlot}
 use Rattle.consensus.specs.declared.Answer.{Answer}
-use Rattle.consensus.specs.declared.Call.{Call}
-use Rattle.consensus.specs.declared.Call.the-variants.{Propose, StartRead, Receive}
+use Rattle.calls.specs.declared.Call.{Call}
+use Rattle.calls.specs.declared.Call.the-variants.{Propose, StartRead, Receive}
 use Rattle.delivery.specs.declared.Delivery.{Delivery}
 use Rattle.consensus.specs.declared.Shard.{Shard}
-use Rattle.consensus.specs.declared.State.{State}
+use Rattle.state_calls.specs.declared.State.{State}
 
 -- ---- new
 
@@ -76,7 +77,7 @@ module _ (choose : FastState → OptionalProcess) where
   admitted shard d (Refused why) = refused why shard
 
   unfoldable pub receive : Shard → Delivery → Answer
-  receive shard d = admitted shard d (admit (shard .settings) (shard .state .rounds .core) d)
+  receive shard d = admitted shard d (admit (shard .settings .«process_count») (shard .settings .«my_pid») (shard .state .rounds .core) d)
 
   unfoldable pub dispatch : Shard → Call → Answer
   dispatch shard (Propose v) = propose shard v

@@ -16,10 +16,11 @@ use Rattle.read_tracker.specs.declared.ReadTracker.{ReadTracker}
 use Rattle.paxos_family.specs.Causes.{HandlingCause}
 use Rattle.steps.specs.declared.Next.the-variants.{Commits}
 use Rattle.delivery.specs.Admit.{otherLastValue, valueAwaited}
-use Rattle.consensus.specs.Handle.{askedOf, heardOf, processed}
+use Rattle.calls.specs.Asked.{askedOf, heardOf}
+use Rattle.consensus.specs.Handle.{processed}
 use Rattle.delivery.specs.Limits.{isNumber, isSlot, numbersFit, processesFit}
-use Rattle.consensus.specs.declared.Call.{Call}
-use Rattle.consensus.specs.declared.Call.the-variants.{Propose, StartRead, Receive}
+use Rattle.calls.specs.declared.Call.{Call}
+use Rattle.calls.specs.declared.Call.the-variants.{Propose, StartRead, Receive}
 use Rattle.delivery.specs.declared.Delivery.{Delivery}
 use Rattle.consensus.specs.declared.Shard.{Shard}
 
@@ -70,7 +71,7 @@ module _ (choose : FastState → OptionalProcess) where
   abbrev pub NotHeld : Shard → Delivery → Type 0
   NotHeld shard d =
       (d .said .«value_held» ≡ false)
-      × ((valueAwaited (shard .settings) (shard .state .rounds .core) d ≡ true)
+      × ((valueAwaited (shard .settings .«my_pid») (shard .state .rounds .core) d ≡ true)
       ⊎ ((v : ℕ) × (processed choose (askedOf (shard .settings)) (heardOf (shard .settings) d) (d .message .msg) (shard .state .rounds) .next ≡ Commits v)))
 
   -- "slot ahead of own"

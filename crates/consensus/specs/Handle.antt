@@ -14,7 +14,8 @@ use Rattle.message.specs.declared.ReadId.{ReadId}
 use Rattle.message.specs.declared.Refusal.the-variants.{Panic, NoRoomForRead}
 use Rattle.message.specs.declared.RoundV.the-variants.{FastV, PaxosV}
 use Rattle.fast_state.specs.declared.FastState.{FastState}
-use Rattle.read_tracker.specs.Reads.{insert, receiveReady}
+use Rattle.read_tracker.specs.Reads.{insert}
+use Rattle.serving.specs.Serving.{receiveReady}
 use Rattle.read_tracker.specs.declared.Inserted.{Inserted}
 use Rattle.read_tracker.specs.declared.Opened.{Opened}
 use Rattle.read_tracker.specs.declared.Opened.the-variants.{Refused, Id}
@@ -29,49 +30,14 @@ use Rattle.steps.specs.declared.Destination.the-variants.{One}
 use Rattle.steps.specs.declared.Heard.{Heard}
 use Rattle.steps.specs.declared.Rounds.{Rounds}
 use Rattle.steps.specs.declared.RoundsStep.{RoundsStep}
-use Rattle.consensus.specs.Answers.{withTracker, refused, sent, nothing, served, committed, finish}
+use Rattle.state_calls.specs.StateCall.{withTracker}
+use Rattle.consensus.specs.Answers.{refused, sent, nothing, served, committed, finish}
+use Rattle.calls.specs.Asked.{askedOf, heardOf}
+use Rattle.core_calls.specs.CoreCall.{nextReadable}
 use Rattle.consensus.specs.declared.Answer.{Answer}
 use Rattle.delivery.specs.declared.Delivery.{Delivery}
-use Rattle.consensus.specs.declared.OptionalCommit.the-variants.{NoCommit}
+use Rattle.calls.specs.declared.OptionalCommit.the-variants.{NoCommit}
 use Rattle.consensus.specs.declared.Shard.{Shard}
-
--- ---- what the handlers ask
-
-abbrev pub askedOf : Settings → Asked
-askedOf s =
-    record {
-      member = record { «my_pid» = s .«my_pid»; replica = isReplica s; quorums = quorumsOf s };
-      mode = s .mode;
-      «starting_round» = startingRoundOf s;
-      «first_leader» = s .«first_leader»;
-      quorum = s .quorum;
-    }
-
--- in SwiftPaxos, at another than the leader, the proposer of a fast value gathers the answers
-abbrev pub proposerGathers : Settings → PaxosRound → Bool
-proposerGathers s round = isSwiftPaxos (s .mode) && not (eqb (round .leader) (s .«my_pid»))
-
--- delegate_or_leader
-unfoldable pub gathererOf : Settings → ConsensusMsg → ℕ
-gathererOf s (Prepare slot round (FastV proposer v)) =
-    cond (proposerGathers s round) proposer (delegateOf s (s .mode) (round .leader))
-gathererOf s (Prepare slot round (PaxosV at v)) = delegateOf s (s .mode) (round .leader)
-gathererOf s (Accept slot round v) = delegateOf s (s .mode) (round .leader)
-gathererOf s (ForwardRequest v) = 0
-gathererOf s (Commit slot v) = 0
-gathererOf s (ReadRequest id) = 0
-gathererOf s (ReadResponse id next) = 0
-
-abbrev pub heardOf : Settings → Delivery → Heard
-heardOf s d =
-    record {
-      src = d .message .src;
-      «source_live» = isLiveReplica s (d .message .src);
-      delegate = gathererOf s (d .message .msg);
-      requester = d .said .requester;
-      committer = committerOf s (d .said .requester);
-      «held_requester» = d .«held_requester»;
-    }
 
 -- ---- Commit
 
@@ -81,10 +47,6 @@ onCommit shard slot v =
     cond (ltb slot (shard .state .rounds .core .slot)) (nothing shard) (committed shard (askedOf (shard .settings)) v (shard .state .rounds) noMessages)
 
 -- ---- reads
-
--- the first slot that is not decided here yet: the own one, or the next while a value is held
-abbrev pub nextReadable : Core → ℕ
-nextReadable core = cond (isHeld (core .paxos .«max_rv»)) (increment (core .slot)) (core .slot)
 
 -- answered at any member; the Rust's sink asserts that nothing is sent to oneself. A ReadResponse carries no last value.
 unfoldable pub onReadRequest : Shard → ℕ → ReadId → Answer

@@ -2,3 +2,4 @@ pub mod Answers
 pub mod Handle
 pub mod Call
 pub mod Causes
+pub mod ByParts

@@ -16,7 +16,6 @@ use Rattle.message.specs.declared.Outcome.{Outcome}
 use Rattle.message.specs.declared.Outcome.the-variants.{Done, Refused}
 use Rattle.message.specs.declared.Refusal.the-variants.{NumberTooLarge, NoSuchProcess, OtherLastValue, SlotAhead, ValueNotHeld}
 use Rattle.steps.specs.declared.Core.{Core}
-use Rattle.settings.specs.declared.Settings.{Settings}
 use Rattle.delivery.specs.Limits.{numbersFit, processesFit}
 use Rattle.delivery.specs.declared.Delivery.{Delivery}
 
@@ -47,16 +46,17 @@ unfoldable pub otherLastValue : Core → Delivery → Bool
 otherLastValue core d = isOwnSlot core (msgSlot (d .message .msg)) && isOtherLast core (d .message .«last_v»)
 
 -- 6, first form: own slot, and the value is awaited
-unfoldable pub valueAwaited : Settings → Core → Delivery → Bool
-valueAwaited s core d =
-    isOwnSlot core (msgSlot (d .message .msg)) && needsValue (s .«my_pid») (d .message .msg) && not (d .said .«value_held»)
+unfoldable pub valueAwaited : ℕ → Core → Delivery → Bool
+valueAwaited own core d =
+    isOwnSlot core (msgSlot (d .message .msg)) && needsValue own (d .message .msg) && not (d .said .«value_held»)
 
 -- 5, or 4 before 6
-unfoldable pub ready : Settings → Core → Delivery → Outcome
-ready s core d =
+unfoldable pub ready : ℕ → Core → Delivery → Outcome
+ready own core d =
     cond (isAhead core (msgSlot (d .message .msg))) (Refused SlotAhead)
-    (cond (otherLastValue core d) (Refused OtherLastValue) (cond (valueAwaited s core d) (Refused ValueNotHeld) Done))
+    (cond (otherLastValue core d) (Refused OtherLastValue) (cond (valueAwaited own core d) (Refused ValueNotHeld) Done))
 
-unfoldable pub admit : Settings → Core → Delivery → Outcome
-admit s core d =
-    cond (numbersFit d) (cond (processesFit (s .«process_count») d) (ready s core d) (Refused NoSuchProcess)) (Refused NumberTooLarge)
+-- of a member with the number own in a group of so many processes
+unfoldable pub admit : ℕ → ℕ → Core → Delivery → Outcome
+admit count own core d =
+    cond (numbersFit d) (cond (processesFit count d) (ready own core d) (Refused NoSuchProcess)) (Refused NumberTooLarge)

@@ -1,77 +1,17 @@
--- Refusals 2 and 3: the numbers of a message and what the host adds to it (document 01, the table of "Message and answer").
--- "slot above 2^63−2, or other number above 2^63−1"; "A ReadResponse's slot field may be 2^63−1"; "process number not below the count".
+-- Refusals 2 and 3 of a message with what the host adds to it (document 01, the table of "Message and answer").
 -- Assumes nothing.
-use mathlib.Core.Bool.{Bool, true, _&&_}
+use mathlib.Core.Bool.{Bool, _&&_}
 use Prim.Native.Nat.{ℕ}
-use lib.Dec.{leb, ltb}
-use Rattle.message.specs.declared.ConsensusMsg.{ConsensusMsg}
-use Rattle.message.specs.declared.ConsensusMsg.the-variants.{Prepare, Accept, ForwardRequest, Commit, ReadRequest, ReadResponse}
-use Rattle.message.specs.declared.OptionalProcess.{OptionalProcess}
-use Rattle.message.specs.declared.OptionalProcess.the-variants.{NoProcess, Process}
-use Rattle.message.specs.declared.OptionalRound.the-variants.{NoRound, Round}
-use Rattle.message.specs.declared.OptionalValue.{OptionalValue}
-use Rattle.message.specs.declared.OptionalValue.the-variants.{NoValue, Value}
-use Rattle.message.specs.declared.PaxosRound.{PaxosRound}
-use Rattle.message.specs.declared.RoundV.{RoundV}
-use Rattle.message.specs.declared.RoundV.the-variants.{FastV, PaxosV}
+use lib.Dec.{ltb}
+pub use Rattle.limits.specs.Limits.{isNumber, isSlot}
+unfoldable pub use Rattle.limits.specs.Limits.{roundNumbers, rvNumbers, msgNumbers, valueNumbers, processNumbers, rvProcesses, msgProcesses, requesterBelow}
 use Rattle.delivery.specs.declared.Delivery.{Delivery}
-
--- ---- numbers
-
-abbrev pub isNumber : ℕ → Bool
-isNumber n = leb n 9223372036854775807
-
-abbrev pub isSlot : ℕ → Bool
-isSlot n = leb n 9223372036854775806
-
-unfoldable pub roundNumbers : PaxosRound → Bool
-roundNumbers round = isNumber (round .«round_group») && isNumber (round .leader)
-
-unfoldable pub rvNumbers : RoundV → Bool
-rvNumbers (FastV proposer v) = isNumber proposer && isNumber v
-rvNumbers (PaxosV NoRound v) = isNumber v
-rvNumbers (PaxosV (Round round) v) = roundNumbers round && isNumber v
-
-unfoldable pub msgNumbers : ConsensusMsg → Bool
-msgNumbers (Prepare slot round rv) = isSlot slot && roundNumbers round && rvNumbers rv
-msgNumbers (Accept slot round v) = isSlot slot && roundNumbers round && isNumber v
-msgNumbers (ForwardRequest v) = isNumber v
-msgNumbers (Commit slot v) = isSlot slot && isNumber v
-msgNumbers (ReadRequest id) = isNumber (id .0)
-msgNumbers (ReadResponse id next) = isNumber (id .0) && isNumber next
-
-unfoldable pub valueNumbers : OptionalValue → Bool
-valueNumbers NoValue = true
-valueNumbers (Value v) = isNumber v
-
-unfoldable pub processNumbers : OptionalProcess → Bool
-processNumbers NoProcess = true
-processNumbers (Process p) = isNumber p
 
 -- every number of the message, its source and its last value, and of both requesters
 unfoldable pub numbersFit : Delivery → Bool
 numbersFit d =
     msgNumbers (d .message .msg) && isNumber (d .message .src) && valueNumbers (d .message .«last_v») && processNumbers (d .said .requester)
     && processNumbers (d .«held_requester»)
-
--- ---- process numbers, below the count n
-
-unfoldable pub rvProcesses : ℕ → RoundV → Bool
-rvProcesses n (FastV proposer v) = ltb proposer n
-rvProcesses n (PaxosV NoRound v) = true
-rvProcesses n (PaxosV (Round round) v) = ltb (round .leader) n
-
-unfoldable pub msgProcesses : ℕ → ConsensusMsg → Bool
-msgProcesses n (Prepare slot round rv) = ltb (round .leader) n && rvProcesses n rv
-msgProcesses n (Accept slot round v) = ltb (round .leader) n
-msgProcesses n (ForwardRequest v) = true
-msgProcesses n (Commit slot v) = true
-msgProcesses n (ReadRequest id) = true
-msgProcesses n (ReadResponse id next) = true
-
-unfoldable pub requesterBelow : ℕ → OptionalProcess → Bool
-requesterBelow n NoProcess = true
-requesterBelow n (Process p) = ltb p n
 
 -- source, leader of the round, leader of the accept round, proposer, both requesters
 unfoldable pub processesFit : ℕ → Delivery → Bool

@@ -1,19 +1,22 @@
 // A message that comes in, with the words of the host, and what is decided of it before it is handled: whether its numbers and processes are
 // within the limits, and whether the shard is ready for it (the Rust's ready_to_process).
 ghost use mathlib.Core.Path.{_≡_};
-ghost use Rattle.delivery.specs.Limits.{isNumber, isSlot, roundNumbers, rvNumbers, msgNumbers, valueNumbers, processNumbers, numbersFit, rvProcesses, msgProcesses, requesterBelow, processesFit};
+ghost use Rattle.delivery.specs.Limits.{numbersFit, processesFit};
 ghost use Rattle.delivery.specs.Admit.{isAhead, isOwnSlot, isOtherLast, needsValue, otherLastValue, valueAwaited, ready, admit};
+pub use limits::is_number;
+pub use limits::is_slot;
+use limits::msg_numbers;
+use limits::msg_processes;
+use limits::process_numbers;
+use limits::requester_below;
+use limits::value_numbers;
 use message::ConsensusMessage;
 use message::ConsensusMsg;
 use message::OptionalProcess;
-use message::OptionalRound;
 use message::OptionalSlot;
 use message::OptionalValue;
 use message::Outcome;
-use message::PaxosRound;
 use message::Refusal;
-use message::RoundV;
-use settings::Settings;
 use steps::Core;
 
 // What the host says of a message: whether it holds the message's value, the value's requester, and the fast mark of a read.
@@ -29,156 +32,6 @@ pub struct Delivery {
     pub message: ConsensusMessage,
     pub said: Said,
     pub held_requester: OptionalProcess,
-}
-
-pub fn is_number(n: u64) -> bool
-    ensures { λ r. ⌜ r ≡ isNumber n ⌝ }
-{
-    n <= 9223372036854775807
-}
-
-// The slot after the last one that may be named is spent.
-pub fn is_slot(n: u64) -> bool
-    ensures { λ r. ⌜ r ≡ isSlot n ⌝ }
-{
-    n <= 9223372036854775806
-}
-
-fn round_numbers(round: PaxosRound) -> bool
-    ensures { λ r. ⌜ r ≡ roundNumbers round ⌝ }
-{
-    if is_number(round.round_group) {
-        return is_number(round.leader);
-    }
-    false
-}
-
-fn rv_numbers(rv: RoundV) -> bool
-    ensures { λ r. ⌜ r ≡ rvNumbers rv ⌝ }
-{
-    match rv {
-        RoundV::FastV { proposer, v } => {
-            if is_number(proposer) {
-                return is_number(v);
-            }
-            false
-        }
-        RoundV::PaxosV { accept_round, v } => match accept_round {
-            OptionalRound::NoRound => is_number(v),
-            OptionalRound::Round(round) => {
-                if round_numbers(round) {
-                    return is_number(v);
-                }
-                false
-            }
-        },
-    }
-}
-
-fn msg_numbers(msg: ConsensusMsg) -> bool
-    ensures { λ r. ⌜ r ≡ msgNumbers msg ⌝ }
-{
-    match msg {
-        ConsensusMsg::Prepare { slot, round, rv } => {
-            if is_slot(slot) {
-                if round_numbers(round) {
-                    return rv_numbers(rv);
-                }
-                return false;
-            }
-            false
-        }
-        ConsensusMsg::Accept { slot, round, v } => {
-            if is_slot(slot) {
-                if round_numbers(round) {
-                    return is_number(v);
-                }
-                return false;
-            }
-            false
-        }
-        ConsensusMsg::ForwardRequest { v } => is_number(v),
-        ConsensusMsg::Commit { slot, v } => {
-            if is_slot(slot) {
-                return is_number(v);
-            }
-            false
-        }
-        ConsensusMsg::ReadRequest { id } => is_number(id.0),
-        ConsensusMsg::ReadResponse {
-            id,
-            next_readable_slot,
-        } => {
-            if is_number(id.0) {
-                return is_number(next_readable_slot);
-            }
-            false
-        }
-    }
-}
-
-fn value_numbers(value: OptionalValue) -> bool
-    ensures { λ r. ⌜ r ≡ valueNumbers value ⌝ }
-{
-    match value {
-        OptionalValue::NoValue => true,
-        OptionalValue::Value(v) => is_number(v),
-    }
-}
-
-fn process_numbers(process: OptionalProcess) -> bool
-    ensures { λ r. ⌜ r ≡ processNumbers process ⌝ }
-{
-    match process {
-        OptionalProcess::NoProcess => true,
-        OptionalProcess::Process(p) => is_number(p),
-    }
-}
-
-fn rv_processes(n: u64, rv: RoundV) -> bool
-    ensures { λ r. ⌜ r ≡ rvProcesses n rv ⌝ }
-{
-    match rv {
-        RoundV::FastV { proposer, v: _ } => proposer < n,
-        RoundV::PaxosV { accept_round, v: _ } => match accept_round {
-            OptionalRound::NoRound => true,
-            OptionalRound::Round(round) => round.leader < n,
-        },
-    }
-}
-
-fn msg_processes(n: u64, msg: ConsensusMsg) -> bool
-    ensures { λ r. ⌜ r ≡ msgProcesses n msg ⌝ }
-{
-    match msg {
-        ConsensusMsg::Prepare { slot: _, round, rv } => {
-            if round.leader < n {
-                return rv_processes(n, rv);
-            }
-            false
-        }
-        ConsensusMsg::Accept {
-            slot: _,
-            round,
-            v: _,
-        } => round.leader < n,
-        ConsensusMsg::ForwardRequest { v: _ } => true,
-        ConsensusMsg::Commit { slot: _, v: _ } => true,
-        ConsensusMsg::ReadRequest { id: _ } => true,
-        ConsensusMsg::ReadResponse {
-            id: _,
-            next_readable_slot: _,
-        } => true,
-    }
-}
-
-fn requester_below(n: u64, requester: OptionalProcess) -> bool
-    ensures { λ r. ⌜ r ≡ requesterBelow n requester ⌝ }
-{
-    match requester {
-        OptionalProcess::NoProcess => true,
-        OptionalProcess::Process(p) => p < n,
-    }
 }
 
 impl Delivery {
@@ -301,13 +154,13 @@ impl Delivery {
         false
     }
 
-    fn value_awaited(self, settings: Settings, core: Core) -> bool
-        ensures { λ r. ⌜ r ≡ valueAwaited settings core self ⌝ }
+    fn value_awaited(self, own: u64, core: Core) -> bool
+        ensures { λ r. ⌜ r ≡ valueAwaited own core self ⌝ }
     {
         let message = self.message;
         let msg = message.msg;
         if is_own_slot(core, msg.get_slot()) {
-            if needs_value(settings.my_pid, msg) {
+            if needs_value(own, msg) {
                 if self.said.value_held {
                     return false;
                 }
@@ -319,14 +172,14 @@ impl Delivery {
     }
 
     // What the Rust's ready_to_process decides. Its assertion on the last value comes before it asks for the value.
-    fn ready(self, settings: Settings, core: Core) -> Outcome
-        ensures { λ r. ⌜ r ≡ ready settings core self ⌝ }
+    fn ready(self, own: u64, core: Core) -> Outcome
+        ensures { λ r. ⌜ r ≡ ready own core self ⌝ }
     {
         let message = self.message;
         let msg = message.msg;
         let slot_ahead = is_ahead(core, msg.get_slot());
         let other_last_v = self.other_last_value(core);
-        let awaited = self.value_awaited(settings, core);
+        let awaited = self.value_awaited(own, core);
         if slot_ahead {
             return Outcome::Refused(Refusal::SlotAhead);
         }
@@ -339,13 +192,13 @@ impl Delivery {
         Outcome::Done
     }
 
-    // What is decided before a message is handled, in document 01's order.
-    pub fn admit(self, settings: Settings, core: Core) -> Outcome
-        ensures { λ r. ⌜ r ≡ admit settings core self ⌝ }
+    // What is decided before a message is handled, in document 01's order, at a member with this number in a group of so many processes.
+    pub fn admit(self, process_count: u64, own: u64, core: Core) -> Outcome
+        ensures { λ r. ⌜ r ≡ admit «process_count» own core self ⌝ }
     {
         if self.numbers_fit() {
-            if self.processes_fit(settings.process_count) {
-                return self.ready(settings, core);
+            if self.processes_fit(process_count) {
+                return self.ready(own, core);
             }
             return Outcome::Refused(Refusal::NoSuchProcess);
         }

@@ -3,126 +3,34 @@
 -- Assumes nothing.
 use mathlib.Core.Path.{_≡_, refl, sym, ap, subst, _∙_}
 use mathlib.Core.Logic.{_⊎_, inl, inr}
-use mathlib.Core.Bool.{Bool, true, false, cond, _&&_}
-use Prim.Native.Nat.{ℕ}
-use lib.Dec.{eqb, ltb, leb}
+use mathlib.Core.Bool.{Bool, true, false, cond}
 use Rattle.basics.proofs.Tests.{not-both}
-use Rattle.message.specs.declared.ConsensusMsg.{ConsensusMsg}
-use Rattle.message.specs.declared.ConsensusMsg.the-variants.{Prepare, Accept, ForwardRequest, Commit, ReadRequest, ReadResponse}
 use Rattle.message.specs.declared.Outcome.{Outcome}
 use Rattle.message.specs.declared.Outcome.the-variants.{Done, Refused}
 use Rattle.message.specs.declared.Refusal.{Refusal}
 use Rattle.fast_state.specs.Adopt.{lowestBest}
-use Rattle.read_tracker.specs.declared.Opened.{Opened}
-use Rattle.read_tracker.specs.declared.Opened.the-variants.{Refused as NotOpened, Id}
-use Rattle.steps.specs.declared.Asked.{Asked}
-use Rattle.steps.specs.declared.Core.{Core}
-use Rattle.steps.specs.declared.Messages.{Messages}
-use Rattle.steps.specs.declared.Next.{Next}
-use Rattle.steps.specs.declared.Next.the-variants.{Stays, Continues, Commits, Refuses}
-use Rattle.steps.specs.declared.Rounds.{Rounds}
-use Rattle.steps.specs.declared.RoundsStep.{RoundsStep}
-use Rattle.delivery.specs.Admit.{admit}
-use Rattle.consensus.specs.Answers.{withState, withRounds, committed, finishAt, finish}
-use Rattle.consensus.specs.Call.{proposing, propose, read, admitted, receive, dispatch, unlessSpent, ifMade, callWith, callOf}
+use Rattle.consensus.specs.Answers.{withState, withRounds}
+use Rattle.consensus.specs.Call.{callOf}
 use Rattle.consensus.specs.Causes.{Cause}
-use Rattle.consensus.specs.Handle.{askedOf, heardOf, onCommit, onReadRequest, onReadResponse, readInserted, afterInsert, startRead, processed, processMessage, handle}
-use Rattle.delivery.specs.Limits.{isNumber, isSlot}
 use Rattle.consensus.specs.declared.Answer.{Answer}
-use Rattle.consensus.specs.declared.Call.{Call}
-use Rattle.consensus.specs.declared.Call.the-variants.{Propose, StartRead, Receive}
-use Rattle.delivery.specs.declared.Delivery.{Delivery}
+use Rattle.calls.specs.declared.Call.{Call}
 use Rattle.consensus.specs.declared.Shard.{Shard}
-use Rattle.consensus.specs.declared.State.{State}
 use Rattle.consensus.proofs.Refusals.{TakenOrRefused, taken-or-refused}
-use Rattle.parts.specs.ByParts.{withCore, fromCore, fromRounds, byRounds, byCore}
-use Rattle.parts.specs.CoreCall.{coreCall}
-use Rattle.parts.specs.RoundsCall.{roundsCall}
-use Rattle.parts.specs.declared.CoreAnswer.{CoreAnswer}
-use Rattle.parts.specs.declared.Question.{Question}
-use Rattle.parts.specs.declared.RoundsAnswer.{RoundsAnswer}
-use Rattle.parts.proofs.ByParts.{by-parts}
-use Rattle.flat.specs.Calls.{flatCore, flatCoreCall, flatRounds, flatRoundsCall, flatWhole, flatWholeCall, fromFlatRounds, fromFlatCore, flatByRounds, flatByCore, flatCall}
-use Rattle.flat.specs.Freeze.{frozenReply}
-use Rattle.flat.specs.Thaw.{thawedCore, thawedRounds, thawedShard, thawedCall, questionIn}
-use Rattle.flat.specs.declared.FlatAnswer.{FlatAnswer}
+use Rattle.calls.specs.declared.Decision.{Decision}
+use Rattle.core_calls.specs.CoreCall.{coreCall}
+use Rattle.core_calls.specs.declared.CoreAnswer.{CoreAnswer}
+use Rattle.rounds_calls.specs.RoundsCall.{roundsCall}
+use Rattle.rounds_calls.specs.declared.RoundsAnswer.{RoundsAnswer}
+use Rattle.state_calls.specs.StateCall.{stateCall}
+use Rattle.state_calls.specs.declared.StateAnswer.{StateAnswer}
+use Rattle.consensus.specs.ByParts.{withCore, fromCore, fromRounds, fromState, byState, byRounds, byCore}
+use Rattle.consensus.proofs.ByParts.{by-parts, by-core}
+use Rattle.flat.specs.Calls.{flatCore, flatCoreCall, flatRounds, flatRoundsCall, flatState, flatStateCall, FlatAnswer, withFlatState, withFlatRounds, withFlatCore, fromFlatRounds, fromFlatCore, flatByState, flatByRounds, flatByCore, flatDecision, flatCall}
+use Rattle.flat.specs.Freeze.{frozenCore, frozenRounds, frozenState, frozenReply}
+use Rattle.flat.specs.Thaw.{thawedCore, thawedRounds, thawedState, thawedShard, thawedCall}
 use Rattle.flat.specs.declared.FlatCall.{FlatCall}
 use Rattle.flat.specs.declared.FlatShard.{FlatShard}
 use Rattle.flat.proofs.Twins.{core-frozen, rounds-frozen, state-frozen}
-
--- ---- a call changes the state alone
-
-module _ (shard : Shard) where
-  record Keeps (a : Answer) : Type 0 where
-    kept : a .shard ≡ withState shard (a .shard .state)
-
-  both : (t : Bool) {x y : Answer} → Keeps x → Keeps y → Keeps (cond t x y)
-  both true p q = p
-  both false p q = q
-
-  committed-keeps : (a : Asked) (v : ℕ) (s : Rounds) (messages : Messages) → Keeps (committed shard a v s messages)
-  unfolding committed
-  committed-keeps a v s messages = record { kept = refl }
-
-  finish-keeps : (a : Asked) (held : Bool) (step : RoundsStep) → Keeps (finish shard a held step)
-  finish-keeps a held step = at (step .next)
-    where
-      at : (next : Next) → Keeps (finishAt shard a held (step .rounds) (step .messages) next)
-      at Stays = record { kept = refl }
-      at Continues = record { kept = refl }
-      at (Commits v) = both held (committed-keeps a v (step .rounds) (step .messages)) (record { kept = refl })
-      at (Refuses why) = record { kept = refl }
-
-  propose-keeps : (v : ℕ) → Keeps (propose shard v)
-  unfolding propose
-  propose-keeps v =
-      both (isNumber v) (finish-keeps (askedOf (shard .settings)) true (proposing (askedOf (shard .settings)) v (shard .state .rounds))) (record { kept = refl })
-
-  read-keeps : (tag arrival : ℕ) → Keeps (read shard tag arrival)
-  unfolding read startRead
-  read-keeps tag arrival = both (isNumber tag && isSlot arrival) (at (readInserted shard tag arrival .opened)) (record { kept = refl })
-    where
-      at : (o : Opened) → Keeps (afterInsert shard (readInserted shard tag arrival) o)
-      at NotOpened = record { kept = refl }
-      at (Id id) = record { kept = refl }
-
-  process-keeps : (d : Delivery) → Keeps (processMessage lowestBest shard d)
-  unfolding processMessage
-  process-keeps d =
-      finish-keeps (askedOf (shard .settings)) (d .said .«value_held»)
-      (processed lowestBest (askedOf (shard .settings)) (heardOf (shard .settings) d) (d .message .msg) (shard .state .rounds))
-
-  handle-keeps : (d : Delivery) (msg : ConsensusMsg) → Keeps (handle lowestBest shard d msg)
-  unfolding handle onCommit onReadRequest onReadResponse
-  handle-keeps d (Prepare slot round rv) = process-keeps d
-  handle-keeps d (Accept slot round v) = process-keeps d
-  handle-keeps d (ForwardRequest v) = process-keeps d
-  handle-keeps d (Commit slot v) =
-      both (ltb slot (shard .state .rounds .core .slot)) (record { kept = refl }) (committed-keeps (askedOf (shard .settings)) v (shard .state .rounds) _)
-  handle-keeps d (ReadRequest id) = both (eqb (d .message .src) (shard .settings .«my_pid»)) (record { kept = refl }) (record { kept = refl })
-  handle-keeps d (ReadResponse id next) = record { kept = refl }
-
-  receive-keeps : (d : Delivery) → Keeps (receive lowestBest shard d)
-  unfolding receive
-  receive-keeps d = at (admit (shard .settings) (shard .state .rounds .core) d)
-    where
-      at : (o : Outcome) → Keeps (admitted lowestBest shard d o)
-      at Done = handle-keeps d (d .message .msg)
-      at (Refused why) = record { kept = refl }
-
-  dispatch-keeps : (c : Call) → Keeps (dispatch lowestBest shard c)
-  unfolding dispatch
-  dispatch-keeps (Propose v) = propose-keeps v
-  dispatch-keeps (StartRead tag arrival) = read-keeps tag arrival
-  dispatch-keeps (Receive d) = receive-keeps d
-
-  call-keeps : (c : Call) → Keeps (callOf shard c)
-  unfolding callWith unlessSpent
-  call-keeps c = at (shard .made)
-    where
-      at : (o : Outcome) → Keeps (ifMade lowestBest shard c o)
-      at Done = both (leb 9223372036854775807 (shard .state .rounds .core .slot)) (record { kept = refl }) (dispatch-keeps c)
-      at (Refused why) = record { kept = refl }
 
 -- ---- refusals
 
@@ -149,53 +57,46 @@ module _ (f : FlatShard) (c : FlatCall) where
   abbrev whole : Answer
   whole = callOf shard (thawedCall (f .settings) c)
 
-  abbrev question : Question
-  question = questionIn (f .made) (f .settings) c
+  abbrev decision : Decision
+  decision = flatDecision f c
 
   pub record Twin (x : FlatAnswer) : Type 0 where
     pub shard-is : thawedShard (x .shard) ≡ whole .shard
     pub reply-is : x .reply ≡ frozenReply (whole .reply)
     pub left : (why : Refusal) → whole .reply .outcome ≡ Refused why → x .shard ≡ f
 
+  -- the call's answer r in a twin x: what is taken is written and stands for it, and a refusal leaves the twin
+  taken-twin : (x : FlatShard) (r : Answer) → r ≡ whole → r .reply .outcome ≡ Done → thawedShard x ≡ r .shard → Twin (record { shard = x; reply = frozenReply (r .reply) })
+  taken-twin x r p e frozen =
+      record {
+        shard-is = frozen ∙ ap (λ (y : Answer). y .shard) p;
+        reply-is = ap (λ (y : Answer). frozenReply (y .reply)) p;
+        left = λ why q. absurd (not-refused e (ap (λ (y : Answer). y .reply .outcome) p ∙ q));
+      }
+
+  left-twin : (r : Answer) (why : Refusal) → r ≡ whole → r .reply .outcome ≡ Refused why → Twin (record { shard = f; reply = frozenReply (r .reply) })
+  left-twin r why p e =
+      record {
+        shard-is = sym (refusal-leaves shard _ why (sym (ap (λ (y : Answer). y .reply .outcome) p) ∙ e));
+        reply-is = ap (λ (y : Answer). frozenReply (y .reply)) p;
+        left = λ w q. refl;
+      }
+
   from-core : (a : CoreAnswer) → fromCore shard a ≡ whole → (o : Outcome) → a .reply .outcome ≡ o → Twin (fromFlatCore f (flatCore (f .state .rounds .core) a o))
   unfolding flatCore
-  from-core a p Done e =
-      record {
-        shard-is = ap (withCore shard) (core-frozen (a .core)) ∙ ap (λ (x : Answer). x .shard) p;
-        reply-is = ap (λ (x : Answer). frozenReply (x .reply)) p;
-        left = λ why r. absurd (not-refused e (ap (λ (x : Answer). x .reply .outcome) p ∙ r));
-      }
-  from-core a p (Refused why) e =
-      record {
-        shard-is = sym (refusal-leaves shard _ why (sym (ap (λ (x : Answer). x .reply .outcome) p) ∙ e));
-        reply-is = ap (λ (x : Answer). frozenReply (x .reply)) p;
-        left = λ w r. refl;
-      }
+  from-core a p Done e = taken-twin (withFlatCore f (frozenCore (a .core))) (fromCore shard a) p e (ap (withCore shard) (core-frozen (a .core)))
+  from-core a p (Refused why) e = left-twin (fromCore shard a) why p e
 
   from-rounds : (a : RoundsAnswer) → fromRounds shard a ≡ whole → (o : Outcome) → a .reply .outcome ≡ o → Twin (fromFlatRounds f (flatRounds (f .state .rounds) a o))
   unfolding flatRounds
-  from-rounds a p Done e =
-      record {
-        shard-is = ap (withRounds shard) (rounds-frozen (a .rounds)) ∙ ap (λ (x : Answer). x .shard) p;
-        reply-is = ap (λ (x : Answer). frozenReply (x .reply)) p;
-        left = λ why r. absurd (not-refused e (ap (λ (x : Answer). x .reply .outcome) p ∙ r));
-      }
-  from-rounds a p (Refused why) e =
-      record {
-        shard-is = sym (refusal-leaves shard _ why (sym (ap (λ (x : Answer). x .reply .outcome) p) ∙ e));
-        reply-is = ap (λ (x : Answer). frozenReply (x .reply)) p;
-        left = λ w r. refl;
-      }
+  from-rounds a p Done e = taken-twin (withFlatRounds f (frozenRounds (a .rounds))) (fromRounds shard a) p e (ap (withRounds shard) (rounds-frozen (a .rounds)))
+  from-rounds a p (Refused why) e = left-twin (fromRounds shard a) why p e
 
-  from-whole : (o : Outcome) → whole .reply .outcome ≡ o → Twin (flatWhole f whole o)
-  unfolding flatWhole
-  from-whole Done e =
-      record {
-        shard-is = ap (withState shard) (state-frozen (whole .shard .state)) ∙ sym (call-keeps shard (thawedCall (f .settings) c) .kept);
-        reply-is = refl;
-        left = λ why r. absurd (not-refused e r);
-      }
-  from-whole (Refused why) e = record { shard-is = sym (refusal-leaves shard _ why e); reply-is = refl; left = λ w r. refl }
+  from-state : (a : StateAnswer) → fromState shard a ≡ whole → (o : Outcome) → a .reply .outcome ≡ o
+      → Twin (record { shard = withFlatState f (flatState (f .state) a o .state); reply = flatState (f .state) a o .reply })
+  unfolding flatState
+  from-state a p Done e = taken-twin (withFlatState f (frozenState (a .state))) (fromState shard a) p e (ap (withState shard) (state-frozen (a .state)))
+  from-state a p (Refused why) e = left-twin (fromState shard a) why p e
 
   rounds-deeper : (a : RoundsAnswer) (o : Outcome) → flatRounds (f .state .rounds) a o .deeper ≡ a .deeper
   unfolding flatRounds
@@ -207,27 +108,31 @@ module _ (f : FlatShard) (c : FlatCall) where
   core-deeper a Done = refl
   core-deeper a (Refused why) = refl
 
-  by-rounds : byRounds shard question ≡ whole → Twin (flatByRounds f question)
-  unfolding flatByRounds byRounds flatRoundsCall flatWholeCall
-  by-rounds p = subst (λ (t : Bool). Twin (cond t (flatWhole f whole (whole .reply .outcome)) (fromFlatRounds f (flatRounds (f .state .rounds) a (a .reply .outcome))))) (sym (rounds-deeper a (a .reply .outcome))) (go (a .deeper) refl)
+  by-state : byState shard decision ≡ whole → Twin (flatByState f decision)
+  unfolding flatStateCall
+  by-state p = from-state (stateCall (thawedState (f .state)) decision) p (stateCall (thawedState (f .state)) decision .reply .outcome) refl
+
+  by-rounds : byRounds shard decision ≡ whole → Twin (flatByRounds f decision)
+  unfolding flatByRounds byRounds flatRoundsCall
+  by-rounds p = subst (λ (t : Bool). Twin (cond t (flatByState f decision) (fromFlatRounds f (flatRounds (f .state .rounds) a (a .reply .outcome))))) (sym (rounds-deeper a (a .reply .outcome))) (go (a .deeper) refl)
     where
       a : RoundsAnswer
-      a = roundsCall (thawedRounds (f .state .rounds)) question
+      a = roundsCall (thawedRounds (f .state .rounds)) decision
 
-      go : (t : Bool) → a .deeper ≡ t → Twin (cond t (flatWhole f whole (whole .reply .outcome)) (fromFlatRounds f (flatRounds (f .state .rounds) a (a .reply .outcome))))
-      go true e = from-whole (whole .reply .outcome) refl
-      go false e = from-rounds a (ap (λ (t : Bool). cond t whole (fromRounds shard a)) (sym e) ∙ p) (a .reply .outcome) refl
+      go : (t : Bool) → a .deeper ≡ t → Twin (cond t (flatByState f decision) (fromFlatRounds f (flatRounds (f .state .rounds) a (a .reply .outcome))))
+      go true e = by-state (ap (λ (t : Bool). cond t (byState shard decision) (fromRounds shard a)) (sym e) ∙ p)
+      go false e = from-rounds a (ap (λ (t : Bool). cond t (byState shard decision) (fromRounds shard a)) (sym e) ∙ p) (a .reply .outcome) refl
 
-  by-core : byCore shard question ≡ whole → Twin (flatByCore f question)
+  by-core-twin : byCore shard decision ≡ whole → Twin (flatByCore f decision)
   unfolding flatByCore byCore flatCoreCall
-  by-core p = subst (λ (t : Bool). Twin (cond t (flatByRounds f question) (fromFlatCore f (flatCore (f .state .rounds .core) a (a .reply .outcome))))) (sym (core-deeper a (a .reply .outcome))) (go (a .deeper) refl)
+  by-core-twin p = subst (λ (t : Bool). Twin (cond t (flatByRounds f decision) (fromFlatCore f (flatCore (f .state .rounds .core) a (a .reply .outcome))))) (sym (core-deeper a (a .reply .outcome))) (go (a .deeper) refl)
     where
       a : CoreAnswer
-      a = coreCall (thawedCore (f .state .rounds .core)) question
+      a = coreCall (thawedCore (f .state .rounds .core)) decision
 
-      go : (t : Bool) → a .deeper ≡ t → Twin (cond t (flatByRounds f question) (fromFlatCore f (flatCore (f .state .rounds .core) a (a .reply .outcome))))
-      go true e = by-rounds (ap (λ (t : Bool). cond t (byRounds shard question) (fromCore shard a)) (sym e) ∙ p)
-      go false e = from-core a (ap (λ (t : Bool). cond t (byRounds shard question) (fromCore shard a)) (sym e) ∙ p) (a .reply .outcome) refl
+      go : (t : Bool) → a .deeper ≡ t → Twin (cond t (flatByRounds f decision) (fromFlatCore f (flatCore (f .state .rounds .core) a (a .reply .outcome))))
+      go true e = by-rounds (ap (λ (t : Bool). cond t (byRounds shard decision) (fromCore shard a)) (sym e) ∙ p)
+      go false e = from-core a (ap (λ (t : Bool). cond t (byRounds shard decision) (fromCore shard a)) (sym e) ∙ p) (a .reply .outcome) refl
 
   pub twin-call : Twin (flatCall f c)
-  twin-call = by-core (by-parts shard (thawedCall (f .settings) c))
+  twin-call = by-core-twin (by-core shard decision ∙ by-parts shard (thawedCall (f .settings) c))

@@ -17,7 +17,7 @@ use Rattle.read_tracker.specs.declared.ReadTable.{ReadTable}
 use Rattle.read_tracker.specs.declared.ServedRead.{ServedRead}
 use Rattle.steps.specs.declared.Core.{Core}
 use Rattle.steps.specs.declared.Rounds.{Rounds}
-use Rattle.consensus.specs.declared.State.{State}
+use Rattle.state_calls.specs.declared.State.{State}
 use Rattle.flat.specs.Freeze.{frozenBool, frozenValue, frozenRound, frozenPromise, frozenHeld, frozenCore, frozenFast, frozenRounds, frozenOpen, frozenServed, frozenTable, frozenState}
 use Rattle.flat.specs.Thaw.{isYes, thawedValue, thawedRound, thawedPromise, thawedHeld, thawedCore, thawedFast, thawedRounds, thawedOpen, thawedServed, thawedTable, thawedState}
 

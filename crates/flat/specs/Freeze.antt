@@ -29,10 +29,10 @@ use Rattle.steps.specs.declared.Destination.the-variants.{One, All}
 use Rattle.steps.specs.declared.OptionalMessage.{OptionalMessage}
 use Rattle.steps.specs.declared.OptionalMessage.the-variants.{NoMessage, Send}
 use Rattle.steps.specs.declared.Rounds.{Rounds}
-use Rattle.consensus.specs.declared.OptionalCommit.{OptionalCommit}
-use Rattle.consensus.specs.declared.OptionalCommit.the-variants.{NoCommit, Committed}
-use Rattle.consensus.specs.declared.Reply.{Reply}
-use Rattle.consensus.specs.declared.State.{State}
+use Rattle.calls.specs.declared.OptionalCommit.{OptionalCommit}
+use Rattle.calls.specs.declared.OptionalCommit.the-variants.{NoCommit, Committed}
+use Rattle.calls.specs.declared.Reply.{Reply}
+use Rattle.state_calls.specs.declared.State.{State}
 use Rattle.flat.specs.declared.FlatCommit.{FlatCommit}
 use Rattle.flat.specs.declared.FlatCore.{FlatCore}
 use Rattle.flat.specs.declared.FlatFast.{FlatFast}

@@ -31,13 +31,13 @@ use Rattle.read_tracker.specs.declared.ReadTable.{ReadTable}
 use Rattle.read_tracker.specs.declared.ServedRead.{ServedRead}
 use Rattle.steps.specs.declared.Core.{Core}
 use Rattle.steps.specs.declared.Rounds.{Rounds}
-use Rattle.consensus.specs.declared.Call.{Call}
-use Rattle.consensus.specs.declared.Call.the-variants.{Propose, StartRead, Receive}
+use Rattle.calls.specs.declared.Call.{Call}
+use Rattle.calls.specs.declared.Call.the-variants.{Propose, StartRead, Receive}
 use Rattle.delivery.specs.declared.Delivery.{Delivery}
 use Rattle.consensus.specs.declared.Shard.{Shard}
-use Rattle.consensus.specs.declared.State.{State}
-use Rattle.parts.specs.Question.{questionOf}
-use Rattle.parts.specs.declared.Question.{Question}
+use Rattle.state_calls.specs.declared.State.{State}
+use Rattle.calls.specs.Decision.{decisionOf}
+use Rattle.calls.specs.declared.Decision.{Decision}
 use Rattle.flat.specs.declared.FlatCall.{FlatCall}
 use Rattle.flat.specs.declared.FlatCore.{FlatCore}
 use Rattle.flat.specs.declared.FlatFast.{FlatFast}
@@ -187,5 +187,5 @@ unfoldable pub thawedCall : FlatSettings → FlatCall → Call
 thawedCall s f =
     cond (eqb (f .kind) 0) (Propose (f .v)) (cond (eqb (f .kind) 1) (StartRead (f .v) (f .«arrival_slot»)) (Receive (thawedDelivery s f)))
 
-abbrev pub questionIn : ℕ → FlatSettings → FlatCall → Question
-questionIn made s c = questionOf (thawedMade made (s .mode)) (thawedSettings s) (thawedCall s c)
+abbrev pub decisionIn : ℕ → FlatSettings → FlatCore → FlatCall → Decision
+decisionIn made s core c = decisionOf (thawedMade made (s .mode)) (thawedSettings s) (thawedCore core) (thawedCall s c)

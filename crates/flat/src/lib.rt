@@ -3,15 +3,15 @@
 ghost use mathlib.Core.List.{map};
 ghost use mathlib.Core.Path.{_≡_};
 ghost use Rattle.message.specs.Refusals.{refusalNumber};
-ghost use Rattle.flat.specs.Thaw.{isYes, thawedValue, thawedProcess, thawedSet, thawedRound, thawedPromise, thawedHeld, thawedMode, thawedMade, thawedSettings, thawedCore, thawedFast, thawedRounds, thawedOpen, thawedServed, thawedTable, thawedState, thawedShard, thawedMsg, isKnown, thawedSource, thawedMessage, thawedDelivery, thawedCall, questionIn};
+ghost use Rattle.flat.specs.Thaw.{isYes, thawedValue, thawedProcess, thawedSet, thawedRound, thawedPromise, thawedHeld, thawedMode, thawedMade, thawedSettings, thawedCore, thawedFast, thawedRounds, thawedOpen, thawedServed, thawedTable, thawedState, thawedMsg, isKnown, thawedSource, thawedMessage, thawedDelivery, thawedCall, decisionIn};
 ghost use Rattle.flat.specs.Freeze.{frozenBool, frozenOutcome, frozenValue, frozenProcess, frozenRound, frozenPromise, frozenHeld, frozenCore, frozenFast, frozenRounds, frozenOpen, frozenServed, frozenTable, frozenState, frozenMsg, frozenMessage, frozenTo, frozenOutgoing, frozenCommit, frozenReply, noPromise, noMessage};
-ghost use Rattle.flat.specs.Calls.{flatCore, flatCoreCall, flatRounds, flatRoundsCall, flatWhole, flatWholeCall, flatMade, flatNew};
-use consensus::Answer;
-use consensus::Call;
-use consensus::OptionalCommit;
-use consensus::Reply;
+ghost use Rattle.flat.specs.Calls.{flatCore, flatCoreCall, flatRounds, flatRoundsCall, flatState, flatStateCall, flatMade, flatNew};
+use calls::Call;
+use calls::Decision;
+use calls::OptionalCommit;
+use calls::Reply;
 use consensus::Shard;
-use consensus::State;
+use core_calls::CoreAnswer;
 use delivery::Delivery;
 use delivery::Said;
 use fast_state::FastState;
@@ -26,17 +26,17 @@ use message::PaxosRound;
 use message::ReadId;
 use message::Refusal;
 use message::RoundV;
-use parts::CoreAnswer;
-use parts::Question;
-use parts::RoundsAnswer;
 use read_tracker::OpenRead;
 use read_tracker::ReadTable;
 use read_tracker::ReadTracker;
 use read_tracker::ServedRead;
 use round_state::HeldPromise;
 use round_state::PaxosState;
+use rounds_calls::RoundsAnswer;
 use sets::OptionalSet;
 use settings::Settings;
+use state_calls::State;
+use state_calls::StateAnswer;
 use steps::Core;
 use steps::Destination;
 use steps::OptionalMessage;
@@ -222,8 +222,8 @@ pub struct FlatRoundsAnswer {
     pub deeper: bool,
 }
 
-pub struct FlatAnswer {
-    pub shard: FlatShard,
+pub struct FlatStateAnswer {
+    pub state: FlatState,
     pub reply: FlatReply,
 }
 
@@ -743,18 +743,6 @@ fn freeze_state(state: State) -> FlatState
     }
 }
 
-fn thaw_shard(f: FlatShard) -> Shard
-    ensures { λ r. ⌜ r ≡ thawedShard f ⌝ }
-{
-    let settings = f.settings;
-    let state = f.state;
-    Shard {
-        made: thaw_made(f.made, settings.mode),
-        settings: thaw_settings(settings),
-        state: thaw_state(state),
-    }
-}
-
 // A message of a kind that there is not is read as a ReadRequest, which `thaw_source` makes the engine refuse.
 fn thaw_msg(f: FlatMessage) -> ConsensusMsg
     ensures { λ r. ⌜ r ≡ thawedMsg f ⌝ }
@@ -862,13 +850,14 @@ fn thaw_call(settings: FlatSettings, f: FlatCall) -> Call
     Call::Receive(thaw_delivery(settings, f))
 }
 
-// The call with what it asks of the settings.
-pub fn question_in(made: u64, settings: FlatSettings, call: FlatCall) -> Question
-    ensures { λ r. ⌜ r ≡ questionIn made settings call ⌝ }
+// What is decided of the call before it is handled.
+pub fn decision_in(made: u64, settings: FlatSettings, core: FlatCore, call: FlatCall) -> Decision
+    ensures { λ r. ⌜ r ≡ decisionIn made settings core call ⌝ }
 {
     let outcome = thaw_made(made, settings.mode);
     let thawed = thaw_settings(settings);
-    parts::question_of(outcome, thawed, thaw_call(settings, call))
+    let thawed_call = thaw_call(settings, call);
+    calls::decision_of(outcome, thawed, thaw_core(core), thawed_call)
 }
 
 fn no_message() -> FlatMessage
@@ -1046,10 +1035,10 @@ fn flat_core(f: FlatCore, a: CoreAnswer, outcome: Outcome) -> FlatCoreAnswer
     }
 }
 
-pub fn flat_core_call(f: FlatCore, q: Question) -> FlatCoreAnswer
-    ensures { λ r. ⌜ r ≡ flatCoreCall f q ⌝ }
+pub fn flat_core_call(f: FlatCore, d: Decision) -> FlatCoreAnswer
+    ensures { λ r. ⌜ r ≡ flatCoreCall f d ⌝ }
 {
-    let a = parts::core_call(thaw_core(f), q);
+    let a = core_calls::core_call(thaw_core(f), d);
     let reply = a.reply;
     let outcome = reply.outcome;
     flat_core(f, a, outcome)
@@ -1074,48 +1063,39 @@ fn flat_rounds(f: FlatRounds, a: RoundsAnswer, outcome: Outcome) -> FlatRoundsAn
     }
 }
 
-pub fn flat_rounds_call(f: FlatRounds, q: Question) -> FlatRoundsAnswer
-    ensures { λ r. ⌜ r ≡ flatRoundsCall f q ⌝ }
+pub fn flat_rounds_call(f: FlatRounds, d: Decision) -> FlatRoundsAnswer
+    ensures { λ r. ⌜ r ≡ flatRoundsCall f d ⌝ }
 {
-    let a = parts::rounds_call(thaw_rounds(f), q);
+    let a = rounds_calls::rounds_call(thaw_rounds(f), d);
     let reply = a.reply;
     let outcome = reply.outcome;
     flat_rounds(f, a, outcome)
 }
 
-fn flat_whole(f: FlatShard, a: Answer, outcome: Outcome) -> FlatAnswer
-    ensures { λ r. ⌜ r ≡ flatWhole f a outcome ⌝ }
+fn flat_state(f: FlatState, a: StateAnswer, outcome: Outcome) -> FlatStateAnswer
+    ensures { λ r. ⌜ r ≡ flatState f a outcome ⌝ }
 {
-    let settings = f.settings;
-    let after = a.shard;
-    let state = after.state;
+    let state = a.state;
     let reply = a.reply;
     match outcome {
-        Outcome::Done => {
-            let shard = FlatShard {
-                made: f.made,
-                settings,
-                state: freeze_state(state),
-            };
-            FlatAnswer {
-                shard,
-                reply: freeze_reply(reply),
-            }
-        }
-        Outcome::Refused(_) => FlatAnswer {
-            shard: f,
+        Outcome::Done => FlatStateAnswer {
+            state: freeze_state(state),
+            reply: freeze_reply(reply),
+        },
+        Outcome::Refused(_) => FlatStateAnswer {
+            state: f,
             reply: freeze_reply(reply),
         },
     }
 }
 
-pub fn flat_whole_call(f: FlatShard, q: Question) -> FlatAnswer
-    ensures { λ r. ⌜ r ≡ flatWholeCall f q ⌝ }
+pub fn flat_state_call(f: FlatState, d: Decision) -> FlatStateAnswer
+    ensures { λ r. ⌜ r ≡ flatStateCall f d ⌝ }
 {
-    let a = parts::whole_call(thaw_shard(f), q);
+    let a = state_calls::state_call(thaw_state(f), d);
     let reply = a.reply;
     let outcome = reply.outcome;
-    flat_whole(f, a, outcome)
+    flat_state(f, a, outcome)
 }
 
 fn flat_made(made: Outcome, mode: u64) -> u64

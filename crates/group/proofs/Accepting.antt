@@ -25,7 +25,7 @@ use Rattle.round_state.specs.declared.HeldPromise.the-variants.{NothingHeld, He
 use Rattle.settings.specs.Questions.{quorumsOf, delegateOf, committerOf}
 use Rattle.settings.specs.declared.Settings.{Settings}
 use Rattle.accept.specs.Accept.{tellsCommitter, isCommitter, acceptTo, tellsThird, answerAccept, commitMessage, tellsCommit, commitMessages, tryCommit, answered, follower, accepted, accepting}
-use Rattle.steps.specs.Enter.{inRound}
+use Rattle.enter.specs.Enter.{inRound}
 use Rattle.paxos_family.specs.Process.{onAccept}
 use Rattle.steps.specs.Steps.{noMessages, oneMessage, twoMessages, also, heldV, withPaxos, leftFastPath, stays, commits, refuses}
 use Rattle.steps.specs.declared.Core.{Core}

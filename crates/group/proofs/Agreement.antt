@@ -28,10 +28,10 @@ use Rattle.fast_state.specs.Adopt.{lowestBest}
 use Rattle.consensus.specs.Answers.{refused}
 use Rattle.consensus.specs.Call.{newShard, ifMade, callWith, callOf}
 use Rattle.consensus.specs.declared.Answer.{Answer}
-use Rattle.consensus.specs.declared.Call.{Call}
-use Rattle.consensus.specs.declared.Call.the-variants.{Propose, StartRead, Receive}
-use Rattle.consensus.specs.declared.OptionalCommit.{OptionalCommit}
-use Rattle.consensus.specs.declared.OptionalCommit.the-variants.{NoCommit, Committed}
+use Rattle.calls.specs.declared.Call.{Call}
+use Rattle.calls.specs.declared.Call.the-variants.{Propose, StartRead, Receive}
+use Rattle.calls.specs.declared.OptionalCommit.{OptionalCommit}
+use Rattle.calls.specs.declared.OptionalCommit.the-variants.{NoCommit, Committed}
 use Rattle.consensus.specs.declared.Shard.{Shard}
 use Rattle.steps.specs.declared.Destination.{Destination}
 use Rattle.steps.specs.declared.Destination.the-variants.{One, All}

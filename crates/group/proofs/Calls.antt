@@ -53,16 +53,18 @@ use Rattle.steps.specs.declared.RoundsStep.{RoundsStep}
 use Rattle.delivery.specs.Admit.{isAhead, otherLastValue, valueAwaited, ready, admit}
 use Rattle.consensus.specs.Answers.{refused, sent, nothing, committed, finishAt, finish}
 use Rattle.consensus.specs.Call.{proposing, propose, read, admitted, receive, dispatch, unlessSpent, ifMade, callWith, callOf}
-use Rattle.consensus.specs.Handle.{gathererOf, heardOf, nextReadable, onCommit, onReadRequest, onReadResponse, afterInsert, readInserted, startRead, processed, processMessage, handle}
+use Rattle.calls.specs.Asked.{gathererOf, heardOf}
+use Rattle.core_calls.specs.CoreCall.{nextReadable}
+use Rattle.consensus.specs.Handle.{onCommit, onReadRequest, onReadResponse, afterInsert, readInserted, startRead, processed, processMessage, handle}
 use Rattle.delivery.specs.Limits.{isNumber, isSlot, numbersFit, rvProcesses, msgProcesses, requesterBelow, processesFit}
 use Rattle.consensus.specs.declared.Answer.{Answer}
-use Rattle.consensus.specs.declared.Call.{Call}
-use Rattle.consensus.specs.declared.Call.the-variants.{Propose, StartRead, Receive}
+use Rattle.calls.specs.declared.Call.{Call}
+use Rattle.calls.specs.declared.Call.the-variants.{Propose, StartRead, Receive}
 use Rattle.delivery.specs.declared.Delivery.{Delivery}
-use Rattle.consensus.specs.declared.OptionalCommit.{OptionalCommit}
-use Rattle.consensus.specs.declared.OptionalCommit.the-variants.{NoCommit, Committed}
+use Rattle.calls.specs.declared.OptionalCommit.{OptionalCommit}
+use Rattle.calls.specs.declared.OptionalCommit.the-variants.{NoCommit, Committed}
 use Rattle.consensus.specs.declared.Shard.{Shard}
-use Rattle.consensus.specs.declared.State.{State}
+use Rattle.state_calls.specs.declared.State.{State}
 use Rattle.agreement.specs.Engine.{Kind, proposes, delivers, reads, Engine}
 use Rattle.agreement.specs.Engine as engine
 use Rattle.agreement.specs.Model.{View, refuse, advanced}
@@ -206,12 +208,12 @@ pub record Admitted (n : ℕ) (core : Core) (d : Delivery) : Type 0 where
   pub processes : processesFit n d ≡ true
   pub not-ahead : isAhead core (msgSlot (d .message .msg)) ≡ false
 
-admitted-facts : (s : Settings) (core : Core) (d : Delivery) → admit s core d ≡ Done → Admitted (s .«process_count») core d
+admitted-facts : (count own : ℕ) (core : Core) (d : Delivery) → admit count own core d ≡ Done → Admitted count core d
 unfolding admit ready
-admitted-facts s core d e =
-    let n = admit-cond (numbersFit d) (cond (processesFit (s .«process_count») d) (ready s core d) (Refused NoSuchProcess)) NumberTooLarge e in
-    let p = admit-cond (processesFit (s .«process_count») d) (ready s core d) NoSuchProcess (n .1) in
-    record { processes = p .0; not-ahead = ready-cond (isAhead core (msgSlot (d .message .msg))) (cond (otherLastValue core d) (Refused OtherLastValue) (cond (valueAwaited s core d) (Refused ValueNotHeld) Done)) SlotAhead (p .1) }
+admitted-facts count own core d e =
+    let n = admit-cond (numbersFit d) (cond (processesFit count d) (ready own core d) (Refused NoSuchProcess)) NumberTooLarge e in
+    let p = admit-cond (processesFit count d) (ready own core d) NoSuchProcess (n .1) in
+    record { processes = p .0; not-ahead = ready-cond (isAhead core (msgSlot (d .message .msg))) (cond (otherLastValue core d) (Refused OtherLastValue) (cond (valueAwaited own core d) (Refused ValueNotHeld) Done)) SlotAhead (p .1) }
 
 delegate-same : (s : Settings) (i : ℕ) (m : PFMode) (l : ℕ) → delegateOf (memberSettings s i) m l ≡ delegateOf s m l
 unfolding delegateOf
@@ -421,10 +423,10 @@ module _ (s : Settings) (i : ℕ) (classic : Classic (s .mode)) (limits : within
 
     received : (d : Delivery) → asModel (kindOf (Receive d)) (receive lowestBest shard d)
     unfolding receive
-    received d = go (admit (memberSettings s i) core d) refl
+    received d = go (admit (s .«process_count») i core d) refl
       where
-        go : (o : Outcome) → admit (memberSettings s i) core d ≡ o → asModel (kindOf (Receive d)) (admitted lowestBest shard d o)
-        go Done e = handled d (admitted-facts (memberSettings s i) core d e) (d .message .msg) refl
+        go : (o : Outcome) → admit (s .«process_count») i core d ≡ o → asModel (kindOf (Receive d)) (admitted lowestBest shard d o)
+        go Done e = handled d (admitted-facts (s .«process_count») i core d e) (d .message .msg) refl
         go (Refused why) e = refuse-as-model (setupOf s) i (viewShard shard) (kindOf (Receive d))
 
     -- ---- proposals
@@ -551,10 +553,10 @@ module _ (s : Settings) (i : ℕ) (classic : Classic (s .mode)) (limits : within
 
     received-kept : (d : Delivery) → ShardKept (receive lowestBest shard d)
     unfolding receive
-    received-kept d = go (admit (memberSettings s i) core d) refl
+    received-kept d = go (admit (s .«process_count») i core d) refl
       where
-        go : (o : Outcome) → admit (memberSettings s i) core d ≡ o → ShardKept (admitted lowestBest shard d o)
-        go Done e = handled-kept d (admitted-facts (memberSettings s i) core d e) (d .message .msg) refl
+        go : (o : Outcome) → admit (s .«process_count») i core d ≡ o → ShardKept (admitted lowestBest shard d o)
+        go Done e = handled-kept d (admitted-facts (s .«process_count») i core d e) (d .message .msg) refl
         go (Refused why) e = refused-kept why
 
     proposal-kept : (v : ℕ) → ShardKept (propose shard v)

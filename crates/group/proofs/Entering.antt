@@ -20,8 +20,8 @@ use Rattle.round_state.specs.Paxos.{getLastAcceptedRound, isHeld, gotoRound, wi
 use Rattle.round_state.specs.declared.Member.{Member}
 use Rattle.round_state.proofs.Counting.{with-sender-own, with-sender-other, with-own-replica}
 use Rattle.settings.specs.declared.Settings.{Settings}
-use Rattle.consensus.specs.Handle.{askedOf}
-use Rattle.steps.specs.Enter.{inRound, isOlder, fromLive, enter}
+use Rattle.calls.specs.Asked.{askedOf}
+use Rattle.enter.specs.Enter.{inRound, isOlder, fromLive, enter}
 use Rattle.paxos_family.specs.Process.{ifContinues}
 use Rattle.steps.specs.Steps.{noMessages, heldV, withPaxos, stays, continues, refuses}
 use Rattle.steps.specs.declared.Core.{Core}

@@ -25,18 +25,19 @@ use Rattle.settings.specs.declared.Settings.{Settings}
 use Rattle.round_state.specs.Paxos.{withSender, withOwn, heldAfterPromise, receivePromise, paxosProposeV, acceptFits, receiveAccept, acceptOwn, selfAccept}
 use Rattle.accept.specs.Accept.{isCommitter, answerAccept, tellsCommit, commitMessages, tryCommit, answered, follower, accepted, accepting}
 use Rattle.paxos_family.specs.Commit.{commitSlot}
-use Rattle.steps.specs.Enter.{inRound, isOlder, fromLive, enter}
+use Rattle.enter.specs.Enter.{inRound, isOlder, fromLive, enter}
 use Rattle.prepare.specs.Prepare.{holdFirst, answerPrepare, answersNothing, preparing, prepared, broadcastAccept, acceptPhase, gather}
 use Rattle.paxos_family.specs.Process.{inPrepare, onPrepare, onAccept, processClassic}
 use Rattle.propose.specs.Propose.{electing, mayPropose, proposePrepare, proposeClassic}
 use Rattle.delivery.specs.Admit.{otherLastValue, valueAwaited, ready, admit}
 use Rattle.consensus.specs.Answers.{committed}
 use Rattle.consensus.specs.Call.{newShard, proposing, propose, receive, dispatch, unlessSpent, callWith}
-use Rattle.consensus.specs.Handle.{gathererOf, onCommit, processed, processMessage, handle}
+use Rattle.calls.specs.Asked.{gathererOf}
+use Rattle.consensus.specs.Handle.{onCommit, processed, processMessage, handle}
 use Rattle.delivery.specs.Limits.{roundNumbers, rvNumbers, msgNumbers, valueNumbers, processNumbers, numbersFit, rvProcesses, msgProcesses, requesterBelow, processesFit}
-use Rattle.consensus.specs.declared.Call.the-variants.{Propose, Receive}
-use Rattle.consensus.specs.declared.OptionalCommit.{OptionalCommit}
-use Rattle.consensus.specs.declared.OptionalCommit.the-variants.{NoCommit, Committed}
+use Rattle.calls.specs.declared.Call.the-variants.{Propose, Receive}
+use Rattle.calls.specs.declared.OptionalCommit.{OptionalCommit}
+use Rattle.calls.specs.declared.OptionalCommit.the-variants.{NoCommit, Committed}
 use Rattle.agreement.proofs.Tests.{neqb→ne}
 use Rattle.group.specs.Claim.{MemberCall, Entry, entriesFrom, entries, LegalFrom, Legal, Claim}
 use Rattle.group.proofs.Agreement.{agreement}

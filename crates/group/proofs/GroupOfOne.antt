@@ -42,13 +42,14 @@ use Rattle.steps.specs.declared.Rounds.{Rounds}
 use Rattle.steps.specs.declared.RoundsStep.{RoundsStep}
 use Rattle.consensus.specs.Answers.{refused, finishAt}
 use Rattle.consensus.specs.Call.{proposing, propose, read, dispatch, unlessSpent, ifMade, callWith, callOf}
-use Rattle.consensus.specs.Handle.{askedOf, afterInsert, readInserted, startRead}
+use Rattle.calls.specs.Asked.{askedOf}
+use Rattle.consensus.specs.Handle.{afterInsert, readInserted, startRead}
 use Rattle.delivery.specs.Limits.{isNumber, isSlot}
 use Rattle.consensus.specs.declared.Answer.{Answer}
-use Rattle.consensus.specs.declared.Call.{Call}
-use Rattle.consensus.specs.declared.Call.the-variants.{Propose, StartRead, Receive}
-use Rattle.consensus.specs.declared.OptionalCommit.the-variants.{NoCommit}
-use Rattle.consensus.specs.declared.Reply.{Reply}
+use Rattle.calls.specs.declared.Call.{Call}
+use Rattle.calls.specs.declared.Call.the-variants.{Propose, StartRead, Receive}
+use Rattle.calls.specs.declared.OptionalCommit.the-variants.{NoCommit}
+use Rattle.calls.specs.declared.Reply.{Reply}
 use Rattle.consensus.specs.declared.Shard.{Shard}
 use Rattle.basics.specs.Lists.{In}
 use Rattle.basics.proofs.Tests.{of-both}

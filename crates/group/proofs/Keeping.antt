@@ -23,7 +23,7 @@ use Rattle.round_state.specs.declared.Member.{Member}
 use Rattle.round_state.specs.declared.PaxosState.{PaxosState}
 use Rattle.round_state.specs.declared.PaxosStep.{PaxosStep}
 use Rattle.accept.specs.Accept.{isCommitter, answerAccept, tryCommit, answered, follower, accepted, afterAccepted, accepting}
-use Rattle.steps.specs.Enter.{isOlder, fromLive, enter}
+use Rattle.enter.specs.Enter.{isOlder, fromLive, enter}
 use Rattle.prepare.specs.Prepare.{holdFirst, answerPrepare, answersNothing, preparing, afterHeld, prepared, broadcastAccept, afterOwnAccept, acceptPhase, gather}
 use Rattle.paxos_family.specs.Process.{ifContinues, inPrepare, onPrepare, onAccept}
 use Rattle.propose.specs.Propose.{electing, proposalRound, mayPropose, afterPrepare, proposePrepare, afterAccept, afterOwnPromise, proposeAccept, proposeClassic}

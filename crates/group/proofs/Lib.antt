@@ -1,4 +1,3 @@
-pub mod Places
 pub mod View
 pub mod Entering
 pub mod Preparing

@@ -26,8 +26,8 @@ use Rattle.round_state.specs.declared.HeldPromise.the-variants.{NothingHeld, He
 use Rattle.round_state.specs.declared.PaxosStep.{PaxosStep}
 use Rattle.settings.specs.Questions.{quorumsOf, delegateOf}
 use Rattle.settings.specs.declared.Settings.{Settings}
-use Rattle.consensus.specs.Handle.{askedOf}
-use Rattle.steps.specs.Enter.{inRound}
+use Rattle.calls.specs.Asked.{askedOf}
+use Rattle.enter.specs.Enter.{inRound}
 use Rattle.prepare.specs.Prepare.{holdFirst, answerPrepare, answersNothing, preparing, prepared, broadcastAccept, afterOwnAccept, acceptPhase, gather}
 use Rattle.paxos_family.specs.Process.{inPrepare, onPrepare}
 use Rattle.steps.specs.Steps.{noMessages, oneMessage, sends, toAll, heldRv, heldV, withPaxos, leftFastPath, stays, continues, refuses}

@@ -13,7 +13,7 @@ use borrow.Author.Tests.{lt-ltb, eqb-true, eqb-false}
 use Rattle.basics.proofs.Tests.{either}
 use Rattle.settings.specs.declared.Settings.{Settings}
 use Rattle.consensus.specs.Call.{callOf}
-use Rattle.consensus.specs.declared.Call.{Call}
+use Rattle.calls.specs.declared.Call.{Call}
 use Rattle.consensus.specs.declared.Shard.{Shard}
 use Rattle.group.specs.Claim.{begun, MemberCall, Entry, entryOf, afterCall, entriesFrom, entries, LegalFrom, Legal, Claim, Classic}
 use Rattle.group.specs.Group.{newMembers, newGroup, shardAt, replaced, called, logFrom, logOf}

@@ -8,8 +8,8 @@ use Prim.Native.Nat.{ℕ}
 use lib.Dec.{T, eqb, eqb→eq}
 use Rattle.settings.specs.declared.Settings.{Settings}
 use Rattle.consensus.specs.Call.{newShard, callOf}
-use Rattle.consensus.specs.declared.OptionalCommit.{OptionalCommit}
-use Rattle.consensus.specs.declared.OptionalCommit.the-variants.{NoCommit, Committed}
+use Rattle.calls.specs.declared.OptionalCommit.{OptionalCommit}
+use Rattle.calls.specs.declared.OptionalCommit.the-variants.{NoCommit, Committed}
 use Rattle.consensus.specs.declared.Shard.{Shard}
 use Rattle.agreement.proofs.Refinement.{as-model-moves-on}
 use Rattle.agreement.proofs.Slots.{NextSlot}

@@ -10,7 +10,7 @@ use Rattle.settings.specs.declared.Settings.{Settings}
 use Rattle.consensus.specs.Answers.{refused}
 use Rattle.consensus.specs.Call.{callOf}
 use Rattle.consensus.specs.declared.Answer.{Answer}
-use Rattle.consensus.specs.declared.Call.{Call}
+use Rattle.calls.specs.declared.Call.{Call}
 use Rattle.consensus.specs.declared.Shard.{Shard}
 use Rattle.group.specs.Claim.{begun, Entry, MemberCall}
 use Rattle.group.specs.declared.Group.{Group}

@@ -2,9 +2,9 @@
 ghost use mathlib.Core.Path.{_≡_};
 ghost use Rattle.group.specs.Claim.{memberSettings};
 ghost use Rattle.group.specs.Group.{newGroup, called};
-use consensus::Call;
-use consensus::OptionalCommit;
-use consensus::Reply;
+use calls::Call;
+use calls::OptionalCommit;
+use calls::Reply;
 use consensus::Shard;
 use message::Outcome;
 use message::Refusal;

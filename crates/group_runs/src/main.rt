@@ -1,8 +1,8 @@
 // Random runs of groups, and demand 3's claim checked on the log of each. A run is legal: a message is delivered only to a member that it
 // was sent to. It may be lost, late, delivered twice, or before one that was sent earlier; members stop; and what the host adds is any.
-use consensus::Call;
-use consensus::OptionalCommit;
-use consensus::Reply;
+use calls::Call;
+use calls::OptionalCommit;
+use calls::Reply;
 use delivery::Delivery;
 use delivery::Said;
 use group::Group;
@@ -10,9 +10,9 @@ use message::OptionalProcess;
 use message::Outcome;
 use message::PFMode;
 use message::Refusal;
+use network::Network;
+use network::Parcel;
 use run_checks::Log;
-use run_checks::Network;
-use run_checks::Parcel;
 use run_checks::next_random;
 use sets::OptionalSet;
 use settings::Settings;

@@ -28,18 +28,18 @@ use Rattle.flat.proofs.FlatReply as Re
 use Rattle.flat.proofs.FlatReply.Laws as Re′
 use Rattle.flat.proofs.FlatCall as Ca
 use Rattle.flat.proofs.FlatCall.Laws as Ca′
-use Rattle.parts.proofs.Question as Qu
-use Rattle.parts.proofs.Question.Laws as Qu′
-use Rattle.flat.proofs.FlatAnswer as An
-use Rattle.flat.proofs.FlatAnswer.Laws as An′
+use Rattle.calls.proofs.Decision as De
+use Rattle.calls.proofs.Decision.Laws as De′
+use Rattle.flat.proofs.FlatStateAnswer as SA
+use Rattle.flat.proofs.FlatStateAnswer.Laws as SA′
 use Rattle.flat.proofs.FlatBegun as Be
 use Rattle.flat.proofs.FlatBegun.Laws as Be′
 use Rattle.flat.proofs.FlatCoreAnswer as CA
 use Rattle.flat.proofs.FlatCoreAnswer.Laws as CA′
 use Rattle.flat.proofs.FlatRoundsAnswer as RA
 use Rattle.flat.proofs.FlatRoundsAnswer.Laws as RA′
-use Rattle.flat.specs.Calls.{withFlatRounds, withFlatCore}
-use Rattle.lent.proofs.Lent.{Data, Answer, number, of-struct}
+use Rattle.flat.specs.Calls.{withFlatState, withFlatRounds, withFlatCore}
+use Rattle.lent.proofs.Data.{Data, Answer, number, of-struct, of-enum}
 use Rattle.lent.proofs.Within.{Within, fields-of}
 use Rattle.lent.proofs.Rare.{Tried}
 
@@ -70,22 +70,22 @@ reply = of-struct Re.the-type Re′.the-laws Re′.the-plain Re′.the-copy Re�
 abbrev pub call : Data
 call = of-struct Ca.the-type Ca′.the-laws Ca′.the-plain Ca′.the-copy Ca′.lowers
 
-abbrev pub question : Data
-question = of-struct Qu.the-type Qu′.the-laws Qu′.the-plain Qu′.the-copy Qu′.lowers
+abbrev pub decision : Data
+decision = of-enum De.the-type De′.the-laws tt De′.the-plain De′.the-copy De′.lowers
 
 -- ---- answers
 
-abbrev pub answer : Answer shard reply
-answer = record {
-  name = An.struct .name;
-  row = An.the-row;
+abbrev pub state-answer : Answer state reply
+state-answer = record {
+  name = SA.struct .name;
+  row = SA.the-row;
   layout = refl;
-  shard = λ r. r .shard;
+  shard = λ r. r .state;
   out = λ r. r .reply;
-  spells = λ r v is. ap only (SL.tells An.the-type An′.the-laws r (v ∷ []) is);
-  shard-is = λ r v is. SL.owed An.the-type An′.the-laws r (v ∷ []) is .0;
-  out-is = λ r v is. SL.owed An.the-type An′.the-laws r (v ∷ []) is .1 .0;
-  lawful = λ 𝓤 H A W. SL.lawful An.the-type An′.the-laws 𝓤 H A W;
+  spells = λ r v is. ap only (SL.tells SA.the-type SA′.the-laws r (v ∷ []) is);
+  shard-is = λ r v is. SL.owed SA.the-type SA′.the-laws r (v ∷ []) is .0;
+  out-is = λ r v is. SL.owed SA.the-type SA′.the-laws r (v ∷ []) is .1 .0;
+  lawful = λ 𝓤 H A W. SL.lawful SA.the-type SA′.the-laws 𝓤 H A W;
 }
 
 abbrev pub begun : Answer shard (number w64)
@@ -177,13 +177,13 @@ in-state = record {
   path = field 2 ∷ [];
   off = λ o. o + 1104;
   get = λ h. h .state;
-  set = λ h c. record { made = h .made; settings = h .settings; state = c };
+  set = withFlatState;
   back = λ h u. vstruct (setV (fields-of (shard .val h)) 2 u);
   way = λ t b o. fld t {τ = state .ty} {d = 1104} refl (stop t);
   part = λ t q b o h. sub t {ν = Sh.struct .name} {τs = shard-types} {vs = fields-of (shard .val h)} 2 {τ = state .ty} {d = 1104} refl (whole t {τ = shard .ty} {v = shard .val h});
   back-is = λ h c. refl;
   get-is = λ h is. SL.owed Sh.the-type Sh′.the-laws h _ is .1 .1 .0;
-  set-is = λ h c h-is c-is. SL.owes Sh.the-type Sh′.the-laws (record { made = h .made; settings = h .settings; state = c }) (SL.owed Sh.the-type Sh′.the-laws h _ h-is .0, (SL.owed Sh.the-type Sh′.the-laws h _ h-is .1 .0, (c-is, tt)));
+  set-is = λ h c h-is c-is. SL.owes Sh.the-type Sh′.the-laws (withFlatState h c) (SL.owed Sh.the-type Sh′.the-laws h _ h-is .0, (SL.owed Sh.the-type Sh′.the-laws h _ h-is .1 .0, (c-is, tt)));
 }
 
 -- field 0 of the state

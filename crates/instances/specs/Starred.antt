@@ -33,7 +33,8 @@ use Rattle.fast_state.specs.Fast.{noAnswers, preacceptedAfter, recorded, answer
 use Rattle.fast_state.specs.Adopt.{better, bestBelow, epaxosTryAdoptWith, epaxosTryAdopt}
 use Rattle.fast_state.specs.RoundState.{newRoundState}
 use Rattle.read_tracker.specs.declared.Inserted.{Inserted}
-use Rattle.read_tracker.specs.Reads.{readId, newTracker, newTable, insert as insertRead, afterResponse, afterCommit, keptByReady, servedByReady, keptByCommit, servedByCommit, atFront, receiveReady, commitSlot}
+use Rattle.read_tracker.specs.Reads.{readId, newTracker, newTable, insert as insertRead, afterResponse, afterCommit}
+use Rattle.serving.specs.Serving.{keptByReady, servedByReady, keptByCommit, servedByCommit, atFront, receiveReady, commitSlot}
 use Rattle.settings.specs.declared.Settings.{Settings}
 use Rattle.settings.specs.Settings.{countsFit, membersFit, committersFit, modeFits, withinLimits}
 use Rattle.propose.specs.Propose.{electing, mayPropose, proposePrepare, proposeClassic}
@@ -43,9 +44,9 @@ use Rattle.consensus.specs.Answers.{committed}
 use Rattle.consensus.specs.Call.{newShard, proposing, propose, read, receive, dispatch, unlessSpent, callWith, callOf}
 use Rattle.consensus.specs.Handle.{onCommit, onReadResponse, startRead, handle}
 use Rattle.delivery.specs.Limits.{msgNumbers, valueNumbers, processNumbers, numbersFit, msgProcesses, requesterBelow, processesFit}
-use Rattle.consensus.specs.declared.Call.the-variants.{Propose, StartRead, Receive}
-use Rattle.consensus.specs.declared.OptionalCommit.the-variants.{NoCommit, Committed}
-use Rattle.consensus.specs.declared.Reply.{Reply}
+use Rattle.calls.specs.declared.Call.the-variants.{Propose, StartRead, Receive}
+use Rattle.calls.specs.declared.OptionalCommit.the-variants.{NoCommit, Committed}
+use Rattle.calls.specs.declared.Reply.{Reply}
 use Rattle.consensus.specs.declared.Shard.{Shard}
 
 pub record Row : Type 1 where

@@ -1,5 +1,6 @@
-pub mod Lent
+pub mod Data
 pub mod Within
+pub mod Part
 pub mod Rare
 pub mod Ask
 pub mod Then

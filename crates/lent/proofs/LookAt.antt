@@ -33,7 +33,7 @@ use denote.Triple.Call.{calls-at}
 use denote.Triple.Clauses.{Ended, Clauses, ensured, lasts, closing}
 use denote.Triple.Walked.{says, Stays, stay-none, stay-none-ref, walkOf, AllGo, goes-none, goes-none-ref, Walks, ends-at, walked, walk-meets}
 use denote.Exit.{yes}
-use Rattle.lent.proofs.Lent.{Data, typed, last-of, silent-of}
+use Rattle.lent.proofs.Data.{Data, typed, last-of, silent-of}
 use Rattle.lent.proofs.Within.{Within}
 
 module _ (S C O : Data) (P : Within S C) (X : Data) where

@@ -6,7 +6,7 @@ use mathlib.Core.List.{List, [], _∷_}
 use Prim.Native.Nat.{ℕ}
 use lib.Dec.{eqb}
 use Rattle.settings.specs.declared.Settings.{Settings}
-use Rattle.consensus.specs.declared.Reply.{Reply}
+use Rattle.calls.specs.declared.Reply.{Reply}
 use Rattle.consensus.specs.declared.Shard.{Shard}
 use Rattle.group.specs.Claim.{begun, Entry, afterCall, entriesFrom, Legal, Claim, Classic}
 use Rattle.group.proofs.Agreement.{agreement}

@@ -39,7 +39,7 @@ use denote.Triple.Call.{calls-at}
 use denote.Triple.Clauses.{Clauses, ensured, lasts, closing}
 use denote.Triple.Walked.{says, Stays, stay-ref, stay-none, walkOf, AllGo, goes-none, goes-ref, Walks, ends-at, walked, walk-meets}
 use denote.Exit.{yes, Last}
-use Rattle.lent.proofs.Lent.{Data, typed, last-of, silent-of}
+use Rattle.lent.proofs.Data.{Data, typed, last-of, silent-of}
 use Rattle.lent.proofs.Rare.{ended, clauses, Handles}
 
 module _ (S X G O : Data) where

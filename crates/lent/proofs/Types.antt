@@ -12,8 +12,8 @@ use denote.Steps.{only}
 use denote.Struct.Laws as SL
 use Rattle.consensus.proofs.Shard as Sh
 use Rattle.consensus.proofs.Shard.Laws as Sh′
-use Rattle.consensus.proofs.State as St
-use Rattle.consensus.proofs.State.Laws as St′
+use Rattle.state_calls.proofs.State as St
+use Rattle.state_calls.proofs.State.Laws as St′
 use Rattle.steps.proofs.Rounds as Ro
 use Rattle.steps.proofs.Rounds.Laws as Ro′
 use Rattle.steps.proofs.Core as Co
@@ -30,23 +30,23 @@ use Rattle.message.proofs.OptionalRound as Or
 use Rattle.message.proofs.OptionalRound.Laws as Or′
 use Rattle.settings.proofs.Settings as Se
 use Rattle.settings.proofs.Settings.Laws as Se′
-use Rattle.consensus.proofs.Reply as Re
-use Rattle.consensus.proofs.Reply.Laws as Re′
-use Rattle.parts.proofs.Question as Qu
-use Rattle.parts.proofs.Question.Laws as Qu′
-use Rattle.consensus.proofs.Call as Ca
-use Rattle.consensus.proofs.Call.Laws as Ca′
+use Rattle.calls.proofs.Reply as Re
+use Rattle.calls.proofs.Reply.Laws as Re′
+use Rattle.calls.proofs.Decision as De
+use Rattle.calls.proofs.Decision.Laws as De′
+use Rattle.calls.proofs.Call as Ca
+use Rattle.calls.proofs.Call.Laws as Ca′
 use Rattle.message.proofs.Outcome as Ou
 use Rattle.message.proofs.Outcome.Laws as Ou′
-use Rattle.consensus.proofs.Answer as An
-use Rattle.consensus.proofs.Answer.Laws as An′
-use Rattle.parts.proofs.CoreAnswer as CA
-use Rattle.parts.proofs.CoreAnswer.Laws as CA′
-use Rattle.parts.proofs.RoundsAnswer as RA
-use Rattle.parts.proofs.RoundsAnswer.Laws as RA′
+use Rattle.state_calls.proofs.StateAnswer as SA
+use Rattle.state_calls.proofs.StateAnswer.Laws as SA′
+use Rattle.core_calls.proofs.CoreAnswer as CA
+use Rattle.core_calls.proofs.CoreAnswer.Laws as CA′
+use Rattle.rounds_calls.proofs.RoundsAnswer as RA
+use Rattle.rounds_calls.proofs.RoundsAnswer.Laws as RA′
 use Rattle.consensus.specs.Answers.{withState, withRounds}
-use Rattle.parts.specs.ByParts.{withCore}
-use Rattle.lent.proofs.Lent.{Data, Answer, of-struct, of-enum}
+use Rattle.consensus.specs.ByParts.{withCore}
+use Rattle.lent.proofs.Data.{Data, Answer, of-struct, of-enum}
 use Rattle.lent.proofs.Within.{Within, fields-of}
 use Rattle.lent.proofs.Rare.{Tried}
 
@@ -74,8 +74,8 @@ settings = of-struct Se.the-type Se′.the-laws Se′.the-plain Se′.the-copy S
 abbrev pub reply : Data
 reply = of-struct Re.the-type Re′.the-laws Re′.the-plain Re′.the-copy Re′.lowers
 
-abbrev pub question : Data
-question = of-struct Qu.the-type Qu′.the-laws Qu′.the-plain Qu′.the-copy Qu′.lowers
+abbrev pub decision : Data
+decision = of-enum De.the-type De′.the-laws tt De′.the-plain De′.the-copy De′.lowers
 
 abbrev pub call : Data
 call = of-enum Ca.the-type Ca′.the-laws tt Ca′.the-plain Ca′.the-copy Ca′.lowers
@@ -94,17 +94,17 @@ served-read = of-struct Sv.the-type Sv′.the-laws Sv′.the-plain Sv′.the-cop
 
 -- ---- answers
 
-abbrev pub answer : Answer shard reply
-answer = record {
-  name = An.struct .name;
-  row = An.the-row;
+abbrev pub state-answer : Answer state reply
+state-answer = record {
+  name = SA.struct .name;
+  row = SA.the-row;
   layout = refl;
-  shard = λ r. r .shard;
+  shard = λ r. r .state;
   out = λ r. r .reply;
-  spells = λ r v is. ap only (SL.tells An.the-type An′.the-laws r (v ∷ []) is);
-  shard-is = λ r v is. SL.owed An.the-type An′.the-laws r (v ∷ []) is .0;
-  out-is = λ r v is. SL.owed An.the-type An′.the-laws r (v ∷ []) is .1 .0;
-  lawful = λ 𝓤 H A W. SL.lawful An.the-type An′.the-laws 𝓤 H A W;
+  spells = λ r v is. ap only (SL.tells SA.the-type SA′.the-laws r (v ∷ []) is);
+  shard-is = λ r v is. SL.owed SA.the-type SA′.the-laws r (v ∷ []) is .0;
+  out-is = λ r v is. SL.owed SA.the-type SA′.the-laws r (v ∷ []) is .1 .0;
+  lawful = λ 𝓤 H A W. SL.lawful SA.the-type SA′.the-laws 𝓤 H A W;
 }
 
 abbrev pub core-answer : Tried core reply

@@ -7,8 +7,8 @@ use mathlib.Core.List.{List, [], _∷_}
 use Prim.Native.Nat.{ℕ}
 use lib.Dec.{eqb}
 use Rattle.consensus.specs.Call.{callOf}
-use Rattle.consensus.specs.declared.Call.{Call}
-use Rattle.consensus.specs.declared.Reply.{Reply}
+use Rattle.calls.specs.declared.Call.{Call}
+use Rattle.calls.specs.declared.Reply.{Reply}
 use Rattle.consensus.specs.declared.Shard.{Shard}
 use Rattle.group.specs.Claim.{MemberCall, Entry}
 

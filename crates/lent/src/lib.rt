@@ -1,72 +1,73 @@
 // Thin outer handlers over a shard that its owner lends and that is changed in place. Each takes out the part that the call changes, calls the
 // by-value function on it and writes the part back; a refusal writes back what was there.
 ghost use mathlib.Core.Path.{_≡_};
+ghost use Rattle.calls.specs.Decision.{decisionOf};
+ghost use Rattle.consensus.specs.ByParts.{byState, byRounds, byCore};
 ghost use Rattle.consensus.specs.Call.{callOf};
 ghost use Rattle.lent.specs.Readers.{openReadAt, servedReadAt};
-ghost use Rattle.parts.specs.Question.{questionOf};
-ghost use Rattle.parts.specs.ByParts.{byRounds, byCore};
-use consensus::Call;
-use consensus::Reply;
+use calls::Call;
+use calls::Decision;
+use calls::Reply;
 use consensus::Shard;
 use message::OptionalRound;
 use message::ReadId;
-use parts::Question;
 use read_tracker::OpenRead;
 use read_tracker::ReadTable;
 use read_tracker::ServedRead;
 use steps::Core;
 
-// By a copy of the whole shard: what touches the table of the reads.
-fn whole_in_place(s: &mut Shard, q: Question) -> Reply
-    ensures { λ r. ⌜ (now (s .exit) ≡ callOf (now (s .entry)) (q .call) .shard) × (r ≡ callOf (now (s .entry)) (q .call) .reply) ⌝ }
+// By a copy of the state: what touches the table of the reads.
+fn state_in_place(s: &mut Shard, d: Decision) -> Reply
+    ensures { λ r. ⌜ (now (s .exit) ≡ byState (now (s .entry)) d .shard) × (r ≡ byState (now (s .entry)) d .reply) ⌝ }
 {
-    let old = *s;
-    let a = parts::whole_call(old, q);
-    *s = a.shard;
+    let c = s.state;
+    let a = state_calls::state_call(c, d);
+    s.state = a.state;
     a.reply
 }
 
 // By a copy of the rounds where that is enough: EPaxos and SwiftPaxos.
-fn rounds_in_place(s: &mut Shard, q: Question) -> Reply
-    ensures { λ r. ⌜ (now (s .exit) ≡ byRounds (now (s .entry)) q .shard) × (r ≡ byRounds (now (s .entry)) q .reply) ⌝ }
+fn rounds_in_place(s: &mut Shard, d: Decision) -> Reply
+    ensures { λ r. ⌜ (now (s .exit) ≡ byRounds (now (s .entry)) d .shard) × (r ≡ byRounds (now (s .entry)) d .reply) ⌝ }
 {
     let c = s.state.rounds;
-    let a = parts::rounds_call(c, q);
+    let a = rounds_calls::rounds_call(c, d);
     if a.deeper {
-        return whole_in_place(s, q);
+        return state_in_place(s, d);
     }
     s.state.rounds = a.rounds;
     a.reply
 }
 
 // By a copy of the core where that is enough: the usual call.
-fn core_in_place(s: &mut Shard, q: Question) -> Reply
-    ensures { λ r. ⌜ (now (s .exit) ≡ byCore (now (s .entry)) q .shard) × (r ≡ byCore (now (s .entry)) q .reply) ⌝ }
+fn core_in_place(s: &mut Shard, d: Decision) -> Reply
+    ensures { λ r. ⌜ (now (s .exit) ≡ byCore (now (s .entry)) d .shard) × (r ≡ byCore (now (s .entry)) d .reply) ⌝ }
 {
     let c = s.state.rounds.core;
-    let a = parts::core_call(c, q);
+    let a = core_calls::core_call(c, d);
     if a.deeper {
-        return rounds_in_place(s, q);
+        return rounds_in_place(s, d);
     }
     s.state.rounds.core = a.core;
     a.reply
 }
 
-// The call with what it asks of the settings.
-fn question_in_place(s: &mut Shard, call: Call) -> Question
-    ensures { λ r. ⌜ (now (s .exit) ≡ now (s .entry)) × (r ≡ questionOf (now (s .entry) .made) (now (s .entry) .settings) call) ⌝ }
+// What is decided of the call before it is handled.
+fn decision_in_place(s: &mut Shard, call: Call) -> Decision
+    ensures { λ r. ⌜ (now (s .exit) ≡ now (s .entry)) × (r ≡ decisionOf (now (s .entry) .made) (now (s .entry) .settings) (now (s .entry) .state .rounds .core) call) ⌝ }
 {
     let made = s.made;
     let settings = s.settings;
-    parts::question_of(made, settings, call)
+    let core = s.state.rounds.core;
+    calls::decision_of(made, settings, core, call)
 }
 
 // A call on the shard that is lent.
 pub fn call_in_place(s: &mut Shard, call: Call) -> Reply
     ensures { λ r. ⌜ (now (s .exit) ≡ callOf (now (s .entry)) call .shard) × (r ≡ callOf (now (s .entry)) call .reply) ⌝ }
 {
-    let q = question_in_place(s, call);
-    core_in_place(s, q)
+    let d = decision_in_place(s, call);
+    core_in_place(s, d)
 }
 
 fn slot_of(core: Core) -> u64

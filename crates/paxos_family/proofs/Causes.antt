@@ -35,10 +35,11 @@ use Rattle.fast_state.specs.declared.FastState.{FastState}
 use Rattle.fast_state.specs.declared.FastStep.{FastStep}
 use Rattle.accept.specs.Accept.{isCommitter, answerAccept, tryCommit, answered, follower, accepted, afterAccepted, accepting}
 use Rattle.paxos_family.specs.Causes.{HandlingCause}
-use Rattle.steps.specs.Enter.{inRound, isOlder, fromLive, enter}
-use Rattle.fast_paths.specs.Fast.{hasAccepted, withPromise, adopting, epaxosAdopt, epaxosDecide, afterEpaxosAnswer, epaxosAnswer, epaxosGather, swiftCommits, afterSwiftAnswer, swiftAnswer, swiftClientPrepare, afterClientAccept, clientAccept, afterLeaderAnswer, leaderAnswer, leaderOutcome, swiftAccept, swiftClientAccept, swiftGather, afterReplicaAnswer, swiftAnsweredAccept, fastGather}
-use Rattle.prepare.specs.Prepare.{holdFirst, answerPrepare, answersNothing, preparing, afterHeld, prepared, broadcastAccept, afterOwnAccept, acceptPhase, gather}
-use Rattle.paxos_family.specs.Process.{ifContinues, inPrepare, onPrepare, onAccept, processClassic, inFastPrepare, entered, onFastPrepare, inFastAccept, enteredAccept, onFastAccept, processFast}
+use Rattle.enter.specs.Enter.{inRound, isOlder, fromLive, enter}
+use Rattle.epaxos_path.specs.EPaxos.{adopting, epaxosAdopt, epaxosDecide, afterEpaxosAnswer, epaxosAnswer, epaxosGather}
+use Rattle.swift_path.specs.Swift.{swiftCommits, afterSwiftAnswer, swiftAnswer, swiftClientPrepare, afterClientAccept, clientAccept, afterLeaderAnswer, leaderAnswer, leaderOutcome, swiftAccept, swiftClientAccept, swiftGather, afterReplicaAnswer, swiftAnsweredAccept}
+use Rattle.prepare.specs.Prepare.{hasAccepted, withPromise, holdFirst, answerPrepare, answersNothing, preparing, afterHeld, prepared, broadcastAccept, afterOwnAccept, acceptPhase, gather}
+use Rattle.paxos_family.specs.Process.{fastGather, ifContinues, inPrepare, onPrepare, onAccept, processClassic, inFastPrepare, entered, onFastPrepare, inFastAccept, enteredAccept, onFastAccept, processFast}
 use Rattle.propose.specs.Propose.{electing, proposalRound, mayPropose, afterPrepare, proposePrepare, afterAccept, afterOwnPromise, proposeAccept, proposeClassic, afterOwnAnswer, proposeEPaxos, proposeSwift, proposeByMode, proposeFast}
 use Rattle.steps.specs.Steps.{noMessages, withPaxos, leftFastPath, continues, refuses, onRounds}
 use Rattle.steps.specs.declared.Asked.{Asked}

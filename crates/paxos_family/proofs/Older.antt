@@ -14,7 +14,7 @@ use Rattle.message.specs.declared.OptionalRound.the-variants.{Round}
 use Rattle.message.specs.declared.PaxosRound.{PaxosRound}
 use Rattle.message.specs.declared.RoundV.{RoundV}
 use Rattle.fast_state.specs.declared.FastState.{FastState}
-use Rattle.steps.specs.Enter.{isOlder, fromLive, enter}
+use Rattle.enter.specs.Enter.{isOlder, fromLive, enter}
 use Rattle.paxos_family.specs.Process.{processClassic, onPrepare, onAccept, processFast, onFastPrepare, onFastAccept}
 use Rattle.steps.specs.Steps.{noMessages, stays, onRounds}
 use Rattle.steps.specs.declared.Asked.{Asked}

@@ -35,7 +35,7 @@ use Rattle.round_state.specs.declared.PaxosStep.{PaxosStep}
 use Rattle.round_state.proofs.Paper.{proposal, reported, heldProposal, afterPromises, reports, promises-highest, accept-paper}
 use Rattle.fast_state.specs.Fast.{hasValue}
 use Rattle.accept.specs.Accept.{isCommitter, answerAccept, tryCommit, commitMessages, answered, follower, accepted, afterAccepted, accepting}
-use Rattle.steps.specs.Enter.{inRound, isOlder, fromLive, enter}
+use Rattle.enter.specs.Enter.{inRound, isOlder, fromLive, enter}
 use Rattle.prepare.specs.Prepare.{holdFirst, answerPrepare, answersNothing, preparing, afterHeld, prepared, broadcastAccept, afterOwnAccept, acceptPhase, gather}
 use Rattle.paxos_family.specs.Process.{ifContinues, inPrepare, onPrepare, onAccept}
 use Rattle.steps.specs.Steps.{noMessages, oneMessage, sends, toAll, heldRv, heldV, withPaxos, leftFastPath, stays, continues, commits, refuses}

@@ -6,12 +6,15 @@ use Prim.Native.Nat.{ℕ}
 use Rattle.message.specs.declared.ConsensusMsg.{ConsensusMsg}
 use Rattle.message.specs.declared.ConsensusMsg.the-variants.{Prepare, Accept, ForwardRequest, Commit, ReadRequest, ReadResponse}
 use Rattle.message.specs.declared.OptionalProcess.{OptionalProcess}
+use Rattle.message.specs.declared.PFMode.{PFMode}
+use Rattle.message.specs.declared.PFMode.the-variants.{Paxos, MultiPaxos, MultiPaxos3P, EPaxos, Pando, SwiftPaxos}
 use Rattle.message.specs.declared.PaxosRound.{PaxosRound}
 use Rattle.message.specs.declared.RoundV.{RoundV}
 use Rattle.fast_state.specs.declared.FastState.{FastState}
 use Rattle.accept.specs.Accept.{accepting}
-use Rattle.steps.specs.Enter.{enter}
-use Rattle.fast_paths.specs.Fast.{swiftClientPrepare, swiftClientAccept, swiftAnsweredAccept, fastGather}
+use Rattle.enter.specs.Enter.{enter}
+use Rattle.epaxos_path.specs.EPaxos.{epaxosGather}
+use Rattle.swift_path.specs.Swift.{swiftClientPrepare, swiftClientAccept, swiftGather, swiftAnsweredAccept}
 use Rattle.prepare.specs.Prepare.{prepared, gather}
 use Rattle.steps.specs.Steps.{noMessages, stays, onRounds}
 use Rattle.steps.specs.declared.Asked.{Asked}
@@ -53,6 +56,15 @@ processClassic a h (ReadRequest id) core = stays core noMessages
 processClassic a h (ReadResponse id next) core = stays core noMessages
 
 -- ---- EPaxos and SwiftPaxos
+
+-- the delegate counts a promise as its mode does
+unfoldable pub fastGather : (FastState → OptionalProcess) → Asked → Heard → PaxosRound → RoundV → Core → FastState → PFMode → RoundsStep
+fastGather choose a h round rv core fast Paxos = onRounds fast (gather a h round rv core)
+fastGather choose a h round rv core fast MultiPaxos = onRounds fast (gather a h round rv core)
+fastGather choose a h round rv core fast MultiPaxos3P = onRounds fast (gather a h round rv core)
+fastGather choose a h round rv core fast EPaxos = epaxosGather choose a h round rv core fast
+fastGather choose a h round rv core fast Pando = onRounds fast (gather a h round rv core)
+fastGather choose a h round rv core fast SwiftPaxos = swiftGather a h round rv core fast
 
 module _ (choose : FastState → OptionalProcess) where
   unfoldable pub inFastPrepare : Asked → Heard → PaxosRound → RoundV → Core → FastState → RoundsStep

@@ -1,11 +1,14 @@
 // The handlers of the paxos family: the Rust's paxos_family.rs. Prepare and Accept by mode, and the commit of a slot.
 ghost use mathlib.Core.Path.{_≡_};
-ghost use Rattle.paxos_family.specs.Process.{inPrepare, onPrepare, onAccept, processClassic, inFastPrepare, entered, onFastPrepare, inFastAccept, enteredAccept, onFastAccept, processFast};
+ghost use Rattle.prepare.specs.Prepare.{gather};
+ghost use Rattle.steps.specs.Steps.{onRounds};
+ghost use Rattle.paxos_family.specs.Process.{fastGather, inPrepare, onPrepare, onAccept, processClassic, inFastPrepare, entered, onFastPrepare, inFastAccept, enteredAccept, onFastAccept, processFast};
 ghost use Rattle.paxos_family.specs.Commit.{commitCore, commitSlot};
 ghost use Rattle.fast_state.specs.Adopt.{lowestBest};
 use fast_state::FastState;
 use message::ConsensusMsg;
 use message::OptionalValue;
+use message::PFMode;
 use message::PaxosRound;
 use message::RoundV;
 use steps::Asked;
@@ -42,7 +45,7 @@ fn on_prepare(
 ) -> CoreStep
     ensures { λ r. ⌜ r ≡ onPrepare asked heard slot round rv core ⌝ }
 {
-    let step = asked.enter(heard, slot, round, core);
+    let step = enter::enter(asked, heard, slot, round, core);
     let next = step.next;
     match next {
         Next::Stays => step,
@@ -65,7 +68,7 @@ fn on_accept(
 ) -> CoreStep
     ensures { λ r. ⌜ r ≡ onAccept asked heard slot round v core ⌝ }
 {
-    let step = asked.enter(heard, slot, round, core);
+    let step = enter::enter(asked, heard, slot, round, core);
     let next = step.next;
     match next {
         Next::Stays => step,
@@ -102,6 +105,42 @@ pub fn process_classic(asked: Asked, heard: Heard, msg: ConsensusMsg, core: Core
     }
 }
 
+// A promise that counts as in Paxos, with the fast half as it is.
+fn classic_gather(
+    asked: Asked,
+    heard: Heard,
+    round: PaxosRound,
+    rv: RoundV,
+    core: Core,
+    fast: FastState,
+) -> RoundsStep
+    ensures { λ r. ⌜ r ≡ onRounds fast (gather asked heard round rv core) ⌝ }
+{
+    prepare::gather(asked, heard, round, rv, core).on_rounds(fast)
+}
+
+// The delegate counts a promise as its mode does.
+fn fast_gather(
+    asked: Asked,
+    heard: Heard,
+    round: PaxosRound,
+    rv: RoundV,
+    core: Core,
+    fast: FastState,
+    mode: PFMode,
+) -> RoundsStep
+    ensures { λ r. ⌜ r ≡ fastGather lowestBest asked heard round rv core fast mode ⌝ }
+{
+    match mode {
+        PFMode::Paxos => classic_gather(asked, heard, round, rv, core, fast),
+        PFMode::MultiPaxos => classic_gather(asked, heard, round, rv, core, fast),
+        PFMode::MultiPaxos3P => classic_gather(asked, heard, round, rv, core, fast),
+        PFMode::EPaxos => epaxos_path::epaxos_gather(asked, heard, round, rv, core, fast),
+        PFMode::Pando => classic_gather(asked, heard, round, rv, core, fast),
+        PFMode::SwiftPaxos => swift_path::swift_gather(asked, heard, round, rv, core, fast),
+    }
+}
+
 fn in_fast_prepare(
     asked: Asked,
     heard: Heard,
@@ -119,7 +158,7 @@ fn in_fast_prepare(
         Next::Continues => {
             let core = step.core;
             let mode = asked.mode;
-            fast_paths::fast_gather(asked, heard, round, rv, core, fast, mode)
+            fast_gather(asked, heard, round, rv, core, fast, mode)
         }
         Next::Commits(_) => step.on_rounds(fast),
         Next::Refuses(_) => step.on_rounds(fast),
@@ -140,7 +179,7 @@ fn entered(
     if asked.member.replica {
         return in_fast_prepare(asked, heard, round, rv, core, fast);
     }
-    fast_paths::swift_client_prepare(asked, heard, round, rv, core, fast)
+    swift_path::swift_client_prepare(asked, heard, round, rv, core, fast)
 }
 
 fn on_fast_prepare(
@@ -154,7 +193,7 @@ fn on_fast_prepare(
 ) -> RoundsStep
     ensures { λ r. ⌜ r ≡ onFastPrepare lowestBest asked heard slot round rv core fast ⌝ }
 {
-    let step = asked.enter(heard, slot, round, core);
+    let step = enter::enter(asked, heard, slot, round, core);
     let next = step.next;
     match next {
         Next::Stays => step.on_rounds(fast),
@@ -184,7 +223,7 @@ fn in_fast_accept(
         Next::Continues => {
             let core = step.core;
             let messages = step.messages;
-            fast_paths::swift_answered_accept(asked, heard, round, v, core, messages, fast)
+            swift_path::swift_answered_accept(asked, heard, round, v, core, messages, fast)
         }
         Next::Commits(_) => step.on_rounds(fast),
         Next::Refuses(_) => step.on_rounds(fast),
@@ -204,7 +243,7 @@ fn entered_accept(
     if asked.member.replica {
         return in_fast_accept(asked, heard, round, v, core, fast);
     }
-    fast_paths::swift_client_accept(asked, heard, round, v, core, fast)
+    swift_path::swift_client_accept(asked, heard, round, v, core, fast)
 }
 
 fn on_fast_accept(
@@ -218,7 +257,7 @@ fn on_fast_accept(
 ) -> RoundsStep
     ensures { λ r. ⌜ r ≡ onFastAccept asked heard slot round v core fast ⌝ }
 {
-    let step = asked.enter(heard, slot, round, core);
+    let step = enter::enter(asked, heard, slot, round, core);
     let next = step.next;
     match next {
         Next::Stays => step.on_rounds(fast),

@@ -1,11 +1,12 @@
 -- Handling a Prepare at a replica (the Rust's process_message, `Prepare`), up to the point where the fast modes part.
 -- Assumes nothing.
-use mathlib.Core.Bool.{Bool, cond, not, _&&_, _||_}
+use mathlib.Core.Bool.{Bool, true, false, cond, not, _&&_, _||_}
 use lib.Dec.{eqb}
 use Rattle.message.specs.Modes.{isSwiftPaxos}
 use Rattle.message.specs.Rounds.{equal}
 use Rattle.message.specs.declared.ConsensusMsg.the-variants.{Prepare, Accept}
-use Rattle.message.specs.declared.OptionalRound.the-variants.{Round}
+use Rattle.message.specs.declared.OptionalRound.{OptionalRound}
+use Rattle.message.specs.declared.OptionalRound.the-variants.{NoRound, Round}
 use Rattle.message.specs.declared.Outcome.{Outcome}
 use Rattle.message.specs.declared.Outcome.the-variants.{Done, Refused}
 use Rattle.message.specs.declared.PaxosRound.{PaxosRound}
@@ -83,3 +84,15 @@ gather a h round rv core =
     cond (not (isPrepared (a .member) (core .paxos)) && isPrepared (a .member) (receivePromise (a .member) (h .src) rv (core .paxos) .state))
     (acceptPhase a round (withPaxos (receivePromise (a .member) (h .src) rv (core .paxos) .state) core))
     (stays (withPaxos (receivePromise (a .member) (h .src) rv (core .paxos) .state) core) noMessages)
+
+abbrev pub isRound : OptionalRound → Bool
+isRound NoRound = false
+isRound (Round round) = true
+
+-- nothing is accepted yet: `get_last_accepted_round().is_none()`
+abbrev pub hasAccepted : Core → Bool
+hasAccepted core = isRound (getLastAcceptedRound (core .paxos .«max_rv»))
+
+-- the promise counted
+abbrev pub withPromise : Asked → Heard → RoundV → Core → Core
+withPromise a h rv core = withPaxos (receivePromise (a .member) (h .src) rv (core .paxos) .state) core

@@ -1,6 +1,6 @@
 // What a Prepare does: the promise that is held and answered, and the promises that the round's delegate gathers until it proposes a value.
 ghost use mathlib.Core.Path.{_≡_};
-ghost use Rattle.prepare.specs.Prepare.{holdFirst, mayAnswer, answerPrepare, leavesLeader, answersNothing, preparing, afterHeld, prepared, offFastPath, broadcastAccept, afterOwnAccept, acceptPhase, gather};
+ghost use Rattle.prepare.specs.Prepare.{holdFirst, mayAnswer, answerPrepare, leavesLeader, answersNothing, preparing, afterHeld, prepared, offFastPath, broadcastAccept, afterOwnAccept, acceptPhase, gather, isRound};
 use message::ConsensusMsg;
 use message::OptionalRound;
 use message::Outcome;
@@ -40,7 +40,7 @@ fn hold_first(asked: Asked, rv: RoundV, p: PaxosState) -> PaxosStep
         };
     }
     let me = asked.member;
-    p.paxos_propose_v(me, rv)
+    promise_accept::paxos_propose_v(p, me, rv)
 }
 
 fn answer_prepare(asked: Asked, heard: Heard, round: PaxosRound, core: Core) -> CoreStep
@@ -169,7 +169,7 @@ pub fn accept_phase(asked: Asked, round: PaxosRound, core: Core) -> CoreStep
 {
     let paxos = core.paxos;
     let me = asked.member;
-    let step = paxos.self_accept(me, round);
+    let step = promise_accept::self_accept(paxos, me, round);
     let state = step.state;
     let outcome = step.outcome;
     after_own_accept(asked, round, core, state, outcome)
@@ -181,7 +181,7 @@ pub fn gather(asked: Asked, heard: Heard, round: PaxosRound, rv: RoundV, core: C
 {
     let me = asked.member;
     let paxos = core.paxos;
-    let promised = paxos.receive_promise(me, heard.src, rv);
+    let promised = promise_accept::receive_promise(paxos, me, heard.src, rv);
     let state = promised.state;
     let counted = core.with_paxos(state);
     if paxos.is_prepared(me) {
@@ -191,4 +191,14 @@ pub fn gather(asked: Asked, heard: Heard, round: PaxosRound, rv: RoundV, core: C
         return accept_phase(asked, round, counted);
     }
     counted.stays(steps::no_messages())
+}
+
+// Whether there is a round: of what is held, whether it was accepted.
+pub fn is_round(round: OptionalRound) -> bool
+    ensures { λ r. ⌜ r ≡ isRound round ⌝ }
+{
+    match round {
+        OptionalRound::NoRound => false,
+        OptionalRound::Round(_) => true,
+    }
 }

@@ -1,10 +1,9 @@
 -- propose of the Rust's paxos_family.rs. Every assertion that it meets is refusal 11, decided before any change.
 -- Assumes nothing.
-use mathlib.Core.Bool.{Bool, false, cond, not, _&&_, _||_}
+use mathlib.Core.Bool.{false, cond}
 use Prim.Native.Nat.{ℕ}
 use lib.Dec.{eqb}
-use Rattle.message.specs.Modes.{isMultiPaxos, isSwiftPaxos}
-use Rattle.message.specs.Rounds.{equal, nextLeaderRound, unwrapOrDefault}
+use Rattle.message.specs.Modes.{isMultiPaxos}
 use Rattle.message.specs.declared.ConsensusMsg.the-variants.{Prepare, Accept}
 use Rattle.message.specs.declared.OptionalRound.the-variants.{NoRound, Round}
 use Rattle.message.specs.declared.Outcome.{Outcome}
@@ -12,41 +11,20 @@ use Rattle.message.specs.declared.Outcome.the-variants.{Done, Refused}
 use Rattle.message.specs.declared.PFMode.{PFMode}
 use Rattle.message.specs.declared.PFMode.the-variants.{Paxos, MultiPaxos, MultiPaxos3P, EPaxos, Pando, SwiftPaxos}
 use Rattle.message.specs.declared.PaxosRound.{PaxosRound}
-use Rattle.message.specs.declared.Refusal.the-variants.{ProposalNotAllowed}
 use Rattle.message.specs.declared.RoundV.{RoundV}
 use Rattle.message.specs.declared.RoundV.the-variants.{FastV, PaxosV}
-use Rattle.round_state.specs.Paxos.{gotoRound, isHeld, paxosProposeV, selfAccept}
+use Rattle.round_state.specs.Paxos.{gotoRound, paxosProposeV, selfAccept}
 use Rattle.round_state.specs.declared.PaxosState.{PaxosState}
 use Rattle.fast_state.specs.Fast.{epaxosProposeV, swiftProposeV}
 use Rattle.fast_state.specs.declared.FastState.{FastState}
-use Rattle.steps.specs.Enter.{canPropose}
-use Rattle.steps.specs.Steps.{oneMessage, sends, toAll, withPaxos, stays, refuses, onRounds}
+pub use Rattle.proposal.specs.Proposal.{notAllowed, proposalRound, leadsIfMulti}
+unfoldable pub use Rattle.proposal.specs.Proposal.{electing, mayPropose}
+use Rattle.steps.specs.Steps.{oneMessage, sends, toAll, withPaxos, stays, onRounds}
 use Rattle.steps.specs.declared.Asked.{Asked}
 use Rattle.steps.specs.declared.Core.{Core}
 use Rattle.steps.specs.declared.CoreStep.{CoreStep}
 use Rattle.steps.specs.declared.Rounds.{Rounds}
 use Rattle.steps.specs.declared.RoundsStep.{RoundsStep}
-
-abbrev pub notAllowed : Core → CoreStep
-notAllowed core = refuses ProposalNotAllowed core
-
--- `electing`: in SwiftPaxos the first leader, and else oneself
-unfoldable pub electing : Asked → ℕ
-electing a = cond (isSwiftPaxos (a .mode)) (a .«first_leader») (a .member .«my_pid»)
-
--- the round of the proposal
-abbrev pub proposalRound : Asked → Core → PaxosRound
-proposalRound a core = nextLeaderRound (unwrapOrDefault (core .paxos .round)) (electing a)
-
--- "MultiPaxos by another than the leader": there the proposal's round must be the starting round
-abbrev pub leadsIfMulti : Asked → Core → Bool
-leadsIfMulti a core = not (isMultiPaxos (a .mode)) || equal (Round (proposalRound a core)) (a .«starting_round»)
-
--- nothing is held, can_propose, the round is the starting round
-unfoldable pub mayPropose : Asked → Core → Bool
-mayPropose a core =
-    cond (isHeld (core .paxos .«max_rv»)) false
-    (canPropose a && equal (core .paxos .round) (a .«starting_round») && leadsIfMulti a core)
 
 -- the value proposed to all, in a Prepare
 abbrev pub afterPrepare : Asked → PaxosRound → RoundV → Core → PaxosState → Outcome → CoreStep

@@ -1,79 +1,24 @@
-// What a proposal does: who may propose, in which round, and the first step of the mode: a Prepare, an Accept, or a fast proposal.
+// What a proposal does: the first step of the mode, a Prepare, an Accept, or a fast proposal.
 ghost use mathlib.Core.Path.{_≡_};
-ghost use Rattle.propose.specs.Propose.{notAllowed, electing, proposalRound, leadsIfMulti, mayPropose, afterPrepare, proposePrepare, afterAccept, afterOwnPromise, proposeAccept, proposeClassic, afterOwnAnswer, proposeEPaxos, proposeSwift, proposeByMode, proposeFast};
+ghost use Rattle.steps.specs.Steps.{onRounds};
+ghost use Rattle.propose.specs.Propose.{afterPrepare, proposePrepare, afterAccept, afterOwnPromise, proposeAccept, proposeClassic, afterOwnAnswer, proposeEPaxos, proposeSwift, proposeByMode, proposeFast};
 use fast_state::FastState;
 use message::ConsensusMsg;
 use message::OptionalRound;
 use message::Outcome;
 use message::PFMode;
 use message::PaxosRound;
-use message::Refusal;
 use message::RoundV;
+use proposal::electing;
+use proposal::may_propose;
+use proposal::not_allowed;
+use proposal::proposal_round;
 use round_state::PaxosState;
 use steps::Asked;
 use steps::Core;
 use steps::CoreStep;
 use steps::Rounds;
 use steps::RoundsStep;
-
-// Every assertion that the Rust meets in `propose` is this refusal.
-fn not_allowed(core: Core) -> CoreStep
-    ensures { λ r. ⌜ r ≡ notAllowed core ⌝ }
-{
-    core.refuses(Refusal::ProposalNotAllowed)
-}
-
-// Whose round a proposal opens.
-fn electing(asked: Asked) -> u64
-    ensures { λ r. ⌜ r ≡ electing asked ⌝ }
-{
-    let mode = asked.mode;
-    if mode.is_swift_paxos() {
-        return asked.first_leader;
-    }
-    asked.member.my_pid
-}
-
-fn proposal_round(asked: Asked, core: Core) -> PaxosRound
-    ensures { λ r. ⌜ r ≡ proposalRound asked core ⌝ }
-{
-    let paxos = core.paxos;
-    let now_at = paxos.round;
-    now_at
-        .unwrap_or_default()
-        .next_leader_round(electing(asked))
-}
-
-// In MultiPaxos only the leader from the start proposes.
-fn leads_if_multi(asked: Asked, core: Core) -> bool
-    ensures { λ r. ⌜ r ≡ leadsIfMulti asked core ⌝ }
-{
-    let mode = asked.mode;
-    if mode.is_multi_paxos() {
-        let starting = asked.starting_round;
-        return OptionalRound::Round(proposal_round(asked, core)).equals(starting);
-    }
-    true
-}
-
-fn may_propose(asked: Asked, core: Core) -> bool
-    ensures { λ r. ⌜ r ≡ mayPropose asked core ⌝ }
-{
-    let paxos = core.paxos;
-    let held = paxos.max_rv;
-    let now_at = paxos.round;
-    let starting = asked.starting_round;
-    if held.is_held() {
-        return false;
-    }
-    if asked.can_propose() {
-        if now_at.equals(starting) {
-            return leads_if_multi(asked, core);
-        }
-        return false;
-    }
-    false
-}
 
 fn after_prepare(
     asked: Asked,
@@ -106,7 +51,7 @@ fn propose_prepare(asked: Asked, round: PaxosRound, rv: RoundV, core: Core) -> C
     let me = asked.member;
     let paxos = core.paxos;
     let entered = paxos.goto_round(OptionalRound::Round(round));
-    let step = entered.paxos_propose_v(me, rv);
+    let step = promise_accept::paxos_propose_v(entered, me, rv);
     let state = step.state;
     let outcome = step.outcome;
     after_prepare(asked, round, rv, core, state, outcome)
@@ -149,7 +94,7 @@ fn after_own_promise(
     match outcome {
         Outcome::Done => {
             let me = asked.member;
-            let step = p.self_accept(me, round);
+            let step = promise_accept::self_accept(p, me, round);
             let state = step.state;
             let accepted = step.outcome;
             after_accept(asked, round, v, core, state, accepted)
@@ -169,7 +114,7 @@ fn propose_accept(asked: Asked, round: PaxosRound, v: u64, core: Core) -> CoreSt
         v,
     };
     let entered = paxos.goto_round(OptionalRound::Round(round));
-    let step = entered.paxos_propose_v(me, rv);
+    let step = promise_accept::paxos_propose_v(entered, me, rv);
     let state = step.state;
     let outcome = step.outcome;
     after_own_promise(asked, round, v, core, state, outcome)
@@ -222,7 +167,7 @@ fn propose_epaxos(asked: Asked, v: u64, core: Core, fast: FastState) -> RoundsSt
 {
     let me = asked.member;
     let round = proposal_round(asked, core);
-    let step = fast.epaxos_propose_v(me, v);
+    let step = epaxos_state::epaxos_propose_v(fast, me, v);
     let state = step.state;
     let outcome = step.outcome;
     after_own_answer(asked, round, v, core, state, outcome)
@@ -238,21 +183,28 @@ fn propose_swift(asked: Asked, v: u64, core: Core, fast: FastState) -> RoundsSte
     if electing(asked) == me.my_pid {
         return propose_accept(asked, round, v, core).on_rounds(fast);
     }
-    let step = fast.swift_propose_v(me, v, quorum, false);
+    let step = swift_state::swift_propose_v(fast, me, v, quorum, false);
     let state = step.state;
     let outcome = step.outcome;
     after_own_answer(asked, round, v, core, state, outcome)
+}
+
+// A proposal as in the classic modes, with the fast half as it is.
+fn classic_on_rounds(asked: Asked, v: u64, core: Core, fast: FastState) -> RoundsStep
+    ensures { λ r. ⌜ r ≡ onRounds fast (proposeClassic asked v core) ⌝ }
+{
+    propose_classic(asked, v, core).on_rounds(fast)
 }
 
 fn propose_by_mode(asked: Asked, v: u64, core: Core, fast: FastState, mode: PFMode) -> RoundsStep
     ensures { λ r. ⌜ r ≡ proposeByMode asked v core fast mode ⌝ }
 {
     match mode {
-        PFMode::Paxos => propose_classic(asked, v, core).on_rounds(fast),
-        PFMode::MultiPaxos => propose_classic(asked, v, core).on_rounds(fast),
-        PFMode::MultiPaxos3P => propose_classic(asked, v, core).on_rounds(fast),
+        PFMode::Paxos => classic_on_rounds(asked, v, core, fast),
+        PFMode::MultiPaxos => classic_on_rounds(asked, v, core, fast),
+        PFMode::MultiPaxos3P => classic_on_rounds(asked, v, core, fast),
         PFMode::EPaxos => propose_epaxos(asked, v, core, fast),
-        PFMode::Pando => propose_classic(asked, v, core).on_rounds(fast),
+        PFMode::Pando => classic_on_rounds(asked, v, core, fast),
         PFMode::SwiftPaxos => propose_swift(asked, v, core, fast),
     }
 }

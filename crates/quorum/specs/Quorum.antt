@@ -5,7 +5,6 @@ use mathlib.Core.List.{List}
 use Prim.Native.Nat.{ℕ, _+_, _-_, _*_, _/_, _<_, max, min}
 use lib.ListN.{getD}
 use Rattle.quorum.specs.declared.QuorumRow.{QuorumRow}
-use Rattle.quorum.specs.declared.ShortRow.{ShortRow}
 
 -- divisions drop the rest
 abbrev pub majorityOf : ℕ → ℕ
@@ -26,10 +25,6 @@ ruleOf n = record { majority = majorityOf n; epaxos = epaxosOf n; fast = fastOf 
 abbrev pub rowOf : ℕ → QuorumRow
 rowOf n = ruleOf (min n 64)
 
--- the row that the table keeps in short
-abbrev pub rowIn : ShortRow → QuorumRow
-rowIn r = record { majority = r .majority; epaxos = r .epaxos; fast = r .fast }
-
--- a table of 64 rows with the row of k + 1 replicas at each place k; d is what stands past its end
-pub record Table (rows : List ShortRow) : Type 0 where
-  pub ruled : (d : ShortRow) (k : ℕ) → k < 64 → rowIn (getD rows k d) ≡ ruleOf (k + 1)
+-- a column of the table, 64 places with the rule's quorum of k + 1 replicas at each place k; d is what stands past its end
+pub record Column (rule : ℕ → ℕ) (places : List ℕ) : Type 0 where
+  pub ruled : (d k : ℕ) → k < 64 → getD places k d ≡ rule (k + 1)

@@ -1,7 +1,7 @@
-// The quorums for a number of replicas, as a constant table of 64 rows.
+// The quorums for a number of replicas, as a constant table of 64 rows in three columns.
 ghost use mathlib.Core.Path.{_≡_};
 ghost use Prim.Native.Nat.{_-_, min};
-ghost use Rattle.quorum.specs.Quorum.{Table, rowOf};
+ghost use Rattle.quorum.specs.Quorum.{majorityOf, epaxosOf, fastOf, Column, rowOf};
 
 // The quorums for one number of replicas: a majority, EPaxos's, and the fast one.
 pub struct QuorumRow {
@@ -10,341 +10,225 @@ pub struct QuorumRow {
     pub fast: u64,
 }
 
-// A row as the table keeps it: the table is built where it is looked up, and bytes are quick to write.
-pub struct ShortRow {
-    pub majority: u8,
-    pub epaxos: u8,
-    pub fast: u8,
-}
-
-const ROWS: [ShortRow; 64] = [
-    ShortRow {
-        majority: 1,
-        epaxos: 1,
-        fast: 1,
-    },
-    ShortRow {
-        majority: 2,
-        epaxos: 2,
-        fast: 2,
-    },
-    ShortRow {
-        majority: 2,
-        epaxos: 2,
-        fast: 3,
-    },
-    ShortRow {
-        majority: 3,
-        epaxos: 3,
-        fast: 3,
-    },
-    ShortRow {
-        majority: 3,
-        epaxos: 3,
-        fast: 4,
-    },
-    ShortRow {
-        majority: 4,
-        epaxos: 4,
-        fast: 5,
-    },
-    ShortRow {
-        majority: 4,
-        epaxos: 5,
-        fast: 6,
-    },
-    ShortRow {
-        majority: 5,
-        epaxos: 5,
-        fast: 6,
-    },
-    ShortRow {
-        majority: 5,
-        epaxos: 6,
-        fast: 7,
-    },
-    ShortRow {
-        majority: 6,
-        epaxos: 7,
-        fast: 8,
-    },
-    ShortRow {
-        majority: 6,
-        epaxos: 8,
-        fast: 9,
-    },
-    ShortRow {
-        majority: 7,
-        epaxos: 8,
-        fast: 9,
-    },
-    ShortRow {
-        majority: 7,
-        epaxos: 9,
-        fast: 10,
-    },
-    ShortRow {
-        majority: 8,
-        epaxos: 10,
-        fast: 11,
-    },
-    ShortRow {
-        majority: 8,
-        epaxos: 11,
-        fast: 12,
-    },
-    ShortRow {
-        majority: 9,
-        epaxos: 11,
-        fast: 12,
-    },
-    ShortRow {
-        majority: 9,
-        epaxos: 12,
-        fast: 13,
-    },
-    ShortRow {
-        majority: 10,
-        epaxos: 13,
-        fast: 14,
-    },
-    ShortRow {
-        majority: 10,
-        epaxos: 14,
-        fast: 15,
-    },
-    ShortRow {
-        majority: 11,
-        epaxos: 14,
-        fast: 15,
-    },
-    ShortRow {
-        majority: 11,
-        epaxos: 15,
-        fast: 16,
-    },
-    ShortRow {
-        majority: 12,
-        epaxos: 16,
-        fast: 17,
-    },
-    ShortRow {
-        majority: 12,
-        epaxos: 17,
-        fast: 18,
-    },
-    ShortRow {
-        majority: 13,
-        epaxos: 17,
-        fast: 18,
-    },
-    ShortRow {
-        majority: 13,
-        epaxos: 18,
-        fast: 19,
-    },
-    ShortRow {
-        majority: 14,
-        epaxos: 19,
-        fast: 20,
-    },
-    ShortRow {
-        majority: 14,
-        epaxos: 20,
-        fast: 21,
-    },
-    ShortRow {
-        majority: 15,
-        epaxos: 20,
-        fast: 21,
-    },
-    ShortRow {
-        majority: 15,
-        epaxos: 21,
-        fast: 22,
-    },
-    ShortRow {
-        majority: 16,
-        epaxos: 22,
-        fast: 23,
-    },
-    ShortRow {
-        majority: 16,
-        epaxos: 23,
-        fast: 24,
-    },
-    ShortRow {
-        majority: 17,
-        epaxos: 23,
-        fast: 24,
-    },
-    ShortRow {
-        majority: 17,
-        epaxos: 24,
-        fast: 25,
-    },
-    ShortRow {
-        majority: 18,
-        epaxos: 25,
-        fast: 26,
-    },
-    ShortRow {
-        majority: 18,
-        epaxos: 26,
-        fast: 27,
-    },
-    ShortRow {
-        majority: 19,
-        epaxos: 26,
-        fast: 27,
-    },
-    ShortRow {
-        majority: 19,
-        epaxos: 27,
-        fast: 28,
-    },
-    ShortRow {
-        majority: 20,
-        epaxos: 28,
-        fast: 29,
-    },
-    ShortRow {
-        majority: 20,
-        epaxos: 29,
-        fast: 30,
-    },
-    ShortRow {
-        majority: 21,
-        epaxos: 29,
-        fast: 30,
-    },
-    ShortRow {
-        majority: 21,
-        epaxos: 30,
-        fast: 31,
-    },
-    ShortRow {
-        majority: 22,
-        epaxos: 31,
-        fast: 32,
-    },
-    ShortRow {
-        majority: 22,
-        epaxos: 32,
-        fast: 33,
-    },
-    ShortRow {
-        majority: 23,
-        epaxos: 32,
-        fast: 33,
-    },
-    ShortRow {
-        majority: 23,
-        epaxos: 33,
-        fast: 34,
-    },
-    ShortRow {
-        majority: 24,
-        epaxos: 34,
-        fast: 35,
-    },
-    ShortRow {
-        majority: 24,
-        epaxos: 35,
-        fast: 36,
-    },
-    ShortRow {
-        majority: 25,
-        epaxos: 35,
-        fast: 36,
-    },
-    ShortRow {
-        majority: 25,
-        epaxos: 36,
-        fast: 37,
-    },
-    ShortRow {
-        majority: 26,
-        epaxos: 37,
-        fast: 38,
-    },
-    ShortRow {
-        majority: 26,
-        epaxos: 38,
-        fast: 39,
-    },
-    ShortRow {
-        majority: 27,
-        epaxos: 38,
-        fast: 39,
-    },
-    ShortRow {
-        majority: 27,
-        epaxos: 39,
-        fast: 40,
-    },
-    ShortRow {
-        majority: 28,
-        epaxos: 40,
-        fast: 41,
-    },
-    ShortRow {
-        majority: 28,
-        epaxos: 41,
-        fast: 42,
-    },
-    ShortRow {
-        majority: 29,
-        epaxos: 41,
-        fast: 42,
-    },
-    ShortRow {
-        majority: 29,
-        epaxos: 42,
-        fast: 43,
-    },
-    ShortRow {
-        majority: 30,
-        epaxos: 43,
-        fast: 44,
-    },
-    ShortRow {
-        majority: 30,
-        epaxos: 44,
-        fast: 45,
-    },
-    ShortRow {
-        majority: 31,
-        epaxos: 44,
-        fast: 45,
-    },
-    ShortRow {
-        majority: 31,
-        epaxos: 45,
-        fast: 46,
-    },
-    ShortRow {
-        majority: 32,
-        epaxos: 46,
-        fast: 47,
-    },
-    ShortRow {
-        majority: 32,
-        epaxos: 47,
-        fast: 48,
-    },
-    ShortRow {
-        majority: 33,
-        epaxos: 47,
-        fast: 48,
-    },
+// The table, a column for each quorum, with n replicas at place n - 1. It is built where it is looked up, and bytes are quick to write.
+const MAJORITY: [u8; 64] = [
+    1,
+    2,
+    2,
+    3,
+    3,
+    4,
+    4,
+    5,
+    5,
+    6,
+    6,
+    7,
+    7,
+    8,
+    8,
+    9,
+    9,
+    10,
+    10,
+    11,
+    11,
+    12,
+    12,
+    13,
+    13,
+    14,
+    14,
+    15,
+    15,
+    16,
+    16,
+    17,
+    17,
+    18,
+    18,
+    19,
+    19,
+    20,
+    20,
+    21,
+    21,
+    22,
+    22,
+    23,
+    23,
+    24,
+    24,
+    25,
+    25,
+    26,
+    26,
+    27,
+    27,
+    28,
+    28,
+    29,
+    29,
+    30,
+    30,
+    31,
+    31,
+    32,
+    32,
+    33, // 64 replicas
 ];
 
-// The table, of which the rule is proved row by row.
-fn rows() -> [ShortRow; 64]
-    ensures { λ r. ⌜ Table r ⌝ }
+const EPAXOS: [u8; 64] = [
+    1,
+    2,
+    2,
+    3,
+    3,
+    4,
+    5,
+    5,
+    6,
+    7,
+    8,
+    8,
+    9,
+    10,
+    11,
+    11,
+    12,
+    13,
+    14,
+    14,
+    15,
+    16,
+    17,
+    17,
+    18,
+    19,
+    20,
+    20,
+    21,
+    22,
+    23,
+    23,
+    24,
+    25,
+    26,
+    26,
+    27,
+    28,
+    29,
+    29,
+    30,
+    31,
+    32,
+    32,
+    33,
+    34,
+    35,
+    35,
+    36,
+    37,
+    38,
+    38,
+    39,
+    40,
+    41,
+    41,
+    42,
+    43,
+    44,
+    44,
+    45,
+    46,
+    47,
+    47, // 64 replicas
+];
+
+const FAST: [u8; 64] = [
+    1,
+    2,
+    3,
+    3,
+    4,
+    5,
+    6,
+    6,
+    7,
+    8,
+    9,
+    9,
+    10,
+    11,
+    12,
+    12,
+    13,
+    14,
+    15,
+    15,
+    16,
+    17,
+    18,
+    18,
+    19,
+    20,
+    21,
+    21,
+    22,
+    23,
+    24,
+    24,
+    25,
+    26,
+    27,
+    27,
+    28,
+    29,
+    30,
+    30,
+    31,
+    32,
+    33,
+    33,
+    34,
+    35,
+    36,
+    36,
+    37,
+    38,
+    39,
+    39,
+    40,
+    41,
+    42,
+    42,
+    43,
+    44,
+    45,
+    45,
+    46,
+    47,
+    48,
+    48, // 64 replicas
+];
+
+// Each column, of which the rule is proved place by place.
+fn majority_column() -> [u8; 64]
+    ensures { λ r. ⌜ Column majorityOf r ⌝ }
 {
-    ROWS
+    MAJORITY
+}
+
+fn epaxos_column() -> [u8; 64]
+    ensures { λ r. ⌜ Column epaxosOf r ⌝ }
+{
+    EPAXOS
+}
+
+fn fast_column() -> [u8; 64]
+    ensures { λ r. ⌜ Column fastOf r ⌝ }
+{
+    FAST
 }
 
 // The place of the row for n replicas: the first for a count of 0, and the last for a count above 64.
@@ -370,12 +254,13 @@ fn wide(n: u8) -> u64
 pub fn row(n: u64) -> QuorumRow
     ensures { λ r. ⌜ r ≡ rowOf n ⌝ }
 {
-    let table = rows();
+    let majorities = majority_column();
+    let epaxos_quorums = epaxos_column();
+    let fast_quorums = fast_column();
     let i = place(n);
-    let short = table[i];
     QuorumRow {
-        majority: wide(short.majority),
-        epaxos: wide(short.epaxos),
-        fast: wide(short.fast),
+        majority: wide(majorities[i]),
+        epaxos: wide(epaxos_quorums[i]),
+        fast: wide(fast_quorums[i]),
     }
 }

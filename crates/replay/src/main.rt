@@ -53,9 +53,9 @@ fn is_skipped(line: &[u8]) -> bool {
 }
 
 fn answer_numbers(shard: Shard, numbers: &[u64], out: &mut [u8], at: usize) -> Answered {
-    let fault = call_lines::numbers_fault(numbers);
+    let fault = line_states::numbers_fault(numbers);
     if let Fault::NoFault = fault {
-        let answer = call_lines::answer_of(shard, numbers);
+        let answer = line_states::answer_of(shard, numbers);
         let put = answer_lines::put_answer(out, at, answer);
         let next = answer.shard;
         return Answered {
@@ -64,7 +64,7 @@ fn answer_numbers(shard: Shard, numbers: &[u64], out: &mut [u8], at: usize) -> A
             put,
         };
     }
-    let put = answer_lines::put_fault(out, at, fault);
+    let put = fault_lines::put_fault(out, at, fault);
     Answered {
         shard,
         used: 0,
@@ -73,7 +73,7 @@ fn answer_numbers(shard: Shard, numbers: &[u64], out: &mut [u8], at: usize) -> A
 }
 
 fn answer_fault(shard: Shard, fault: Fault, out: &mut [u8], at: usize) -> Answered {
-    let put = answer_lines::put_fault(out, at, fault);
+    let put = fault_lines::put_fault(out, at, fault);
     Answered {
         shard,
         used: 0,
@@ -235,7 +235,7 @@ fn answer_last(
 // A line that fills the whole buffer is answered before its end is seen.
 fn answer_too_long(input: &[u8], out: &mut [u8]) {
     if !is_skipped(input) {
-        let put = answer_lines::put_fault(out, 0, Fault::TooLong);
+        let put = fault_lines::put_fault(out, 0, Fault::TooLong);
         write_output(out, put);
     }
 }
@@ -277,7 +277,7 @@ fn take_block(
 // The shard before the first settings, which is not made.
 fn unmade() -> Shard {
     let none = [0u64; 1];
-    Shard::new(call_lines::settings_of(&none))
+    Shard::new(line_states::settings_of(&none))
 }
 
 fn main() {

@@ -1,12 +1,11 @@
-// The round state of the paxos family, first half: rounds, promises and accepts. With the crate fast_state it is the Rust's
-// round_state.rs. Each operation takes the state and hands back the next one.
+// The round state of the paxos family, first half: rounds, the held promise, and who is counted. With the crates promise_accept, fast_state,
+// epaxos_state and swift_state it is the Rust's round_state.rs. Each operation takes the state and hands back the next one.
 ghost use mathlib.Core.Path.{_≡_};
-ghost use Rattle.round_state.specs.Paxos.{taken, refused, getV, getLastAcceptedRound, isHeld, isPrepared, paxosCanCommit, withSender, withOwn, counted, gotoRound, nextRound, fullClear, isClear, heldAfterPromise, receivePromise, paxosProposeV, heldIs, acceptFits, receiveAccept, acceptOwn, selfAccept, adoptFromEpaxos};
+ghost use Rattle.round_state.specs.Paxos.{getV, getLastAcceptedRound, isHeld, isPrepared, paxosCanCommit, withSender, withOwn, counted, gotoRound, nextRound, fullClear, isClear, heldAfterPromise, heldIs, acceptFits};
 use message::OptionalRound;
 use message::OptionalValue;
 use message::Outcome;
 use message::PaxosRound;
-use message::Refusal;
 use message::RoundV;
 use quorum::QuorumRow;
 
@@ -71,7 +70,7 @@ impl HeldPromise {
     }
 
     // What is held after a promise: the new one if nothing is held or its accept round is later.
-    fn after_promise(self, rv: RoundV) -> HeldPromise
+    pub fn after_promise(self, rv: RoundV) -> HeldPromise
         ensures { λ r. ⌜ r ≡ heldAfterPromise self rv ⌝ }
     {
         match self {
@@ -96,7 +95,7 @@ impl HeldPromise {
     }
 
     // Whether an accept is later than the last accepted round, or equal to what is held.
-    fn fits(self, round: PaxosRound, v: u64) -> bool
+    pub fn fits(self, round: PaxosRound, v: u64) -> bool
         ensures { λ r. ⌜ r ≡ acceptFits self round v ⌝ }
     {
         if self.get_last_accepted_round()
@@ -142,7 +141,7 @@ impl Member {
     }
 
     // The set with the sender, and with the own process if it is a replica.
-    fn counted(self, src: u64, set: u64) -> u64
+    pub fn counted(self, src: u64, set: u64) -> u64
         ensures { λ r. ⌜ r ≡ counted self src set ⌝ }
     {
         self.with_own(self.with_sender(src, set))
@@ -150,24 +149,6 @@ impl Member {
 }
 
 impl PaxosState {
-    fn taken(self) -> PaxosStep
-        ensures { λ r. ⌜ r ≡ taken self ⌝ }
-    {
-        PaxosStep {
-            state: self,
-            outcome: Outcome::Done,
-        }
-    }
-
-    fn refused(self, why: Refusal) -> PaxosStep
-        ensures { λ r. ⌜ r ≡ refused why self ⌝ }
-    {
-        PaxosStep {
-            state: self,
-            outcome: Outcome::Refused(why),
-        }
-    }
-
     pub fn is_prepared(self, me: Member) -> bool
         ensures { λ r. ⌜ r ≡ isPrepared me self ⌝ }
     {
@@ -230,94 +211,5 @@ impl PaxosState {
             return false;
         }
         false
-    }
-
-    pub fn receive_promise(mut self, me: Member, src: u64, rv: RoundV) -> Promised
-        ensures { λ r. ⌜ r ≡ receivePromise me src rv self ⌝ }
-    {
-        let round = self.round;
-        let held = self.max_rv;
-        let max_rv = held.after_promise(rv);
-        let prepared_set = me.counted(src, self.prepared_set);
-        let state = PaxosState {
-            round,
-            max_rv,
-            prepared_set,
-            accepted_set: self.accepted_set,
-        };
-        Promised { state }
-    }
-
-    // The promise for one's own proposal, where nothing is held and nothing prepared.
-    pub fn paxos_propose_v(self, me: Member, rv: RoundV) -> PaxosStep
-        ensures { λ r. ⌜ r ≡ paxosProposeV me rv self ⌝ }
-    {
-        let held = self.max_rv;
-        if held.is_held() {
-            return self.refused(Refusal::Panic);
-        }
-        if sets::is_empty(self.prepared_set) {
-            let promised = self.receive_promise(me, me.my_pid, rv);
-            let state = promised.state;
-            return state.taken();
-        }
-        self.refused(Refusal::Panic)
-    }
-
-    pub fn receive_accept(mut self, me: Member, src: u64, round: PaxosRound, v: u64) -> PaxosStep
-        ensures { λ r. ⌜ r ≡ receiveAccept me src round v self ⌝ }
-    {
-        let held = self.max_rv;
-        if held.fits(round, v) {
-            let now_at = self.round;
-            let accepted_set = me.counted(src, self.accepted_set);
-            let state = PaxosState {
-                round: now_at,
-                max_rv: HeldPromise::Held(RoundV::PaxosV {
-                    accept_round: OptionalRound::Round(round),
-                    v,
-                }),
-                prepared_set: self.prepared_set,
-                accepted_set,
-            };
-            return state.taken();
-        }
-        self.refused(Refusal::AcceptUnlikeHeld)
-    }
-
-    fn accept_own(self, me: Member, round: PaxosRound, held: OptionalValue) -> PaxosStep
-        ensures { λ r. ⌜ r ≡ acceptOwn me round self held ⌝ }
-    {
-        match held {
-            OptionalValue::NoValue => self.refused(Refusal::Panic),
-            OptionalValue::Value(v) => self.receive_accept(me, me.my_pid, round, v),
-        }
-    }
-
-    // One's own accept of the held value, where nothing is accepted yet.
-    pub fn self_accept(self, me: Member, round: PaxosRound) -> PaxosStep
-        ensures { λ r. ⌜ r ≡ selfAccept me round self ⌝ }
-    {
-        let held = self.max_rv;
-        if sets::is_empty(self.accepted_set) {
-            return self.accept_own(me, round, held.get_v());
-        }
-        self.refused(Refusal::AcceptUnlikeHeld)
-    }
-
-    pub fn adopt_from_epaxos(self, me: Member, round: PaxosRound, v: u64) -> PaxosStep
-        ensures { λ r. ⌜ r ≡ adoptFromEpaxos me round v self ⌝ }
-    {
-        let now_at = self.round;
-        let holding = PaxosState {
-            round: now_at,
-            max_rv: HeldPromise::Held(RoundV::PaxosV {
-                accept_round: OptionalRound::NoRound,
-                v,
-            }),
-            prepared_set: self.prepared_set,
-            accepted_set: self.accepted_set,
-        };
-        holding.self_accept(me, round)
     }
 }

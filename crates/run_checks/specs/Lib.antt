@@ -1,3 +1,2 @@
 pub mod Random
 pub mod Log
-pub mod Network

@@ -9,9 +9,10 @@ use lib.Seq.{drop-at, length-take-le}
 use Rattle.sheet.specs.declared.Page.{Page}
 use Rattle.sheet.specs.Text.{Put}
 use Rattle.sheet.specs.Sheet.{header, lineOf, linesOf, sheetOf}
-use Rattle.sheet.specs.Answer.{countAsked, refusal, answerFor, answerOf, pageOf}
+use Rattle.sheet_count.specs.Count.{countAsked}
+use Rattle.sheet.specs.Answer.{refusal, answerFor, answerOf, pageOf}
 use Rattle.sheet.proofs.Putting.{line-length}
-use Rattle.sheet.proofs.Counting.{count-le}
+use Rattle.sheet_count.proofs.Counting.{count-le}
 
 -- any count but 0 is answered by its sheet
 sheet-for : (n : ℕ) → (n ≡ 0 → ⊥) → sheetOf n ≡ answerFor n

@@ -10,8 +10,8 @@ use native.Mathlib.Omega.{arith}
 use lib.Dec.{leb}
 use borrow.Author.Tests.{lt-ltb, le-ltb, le-leb, leb-true}
 use Rattle.sheet.specs.Text.{text}
-use Rattle.sheet.specs.Answer.{firstLine, isLeadingDigit, isDigit, twoDigits, countOfLine, countAsked}
-use Rattle.sheet.proofs.Counting.{and-left, and-right, count-le}
+use Rattle.sheet_count.specs.Count.{firstLine, isLeadingDigit, isDigit, twoDigits, countOfLine, countAsked}
+use Rattle.sheet_count.proofs.Counting.{and-left, and-right, count-le}
 
 line-taken : (n : ℕ) → 1 ≤ n → n ≤ 64 → countOfLine (text n) ≡ n
 unfolding countOfLine text

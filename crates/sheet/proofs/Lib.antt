@@ -1,5 +1,4 @@
 -- The lemmas that the functions' proofs cite, and the laws of what is read.
 pub mod Putting
-pub mod Counting
 pub mod Decimal
 pub mod Answers

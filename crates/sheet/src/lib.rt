@@ -2,10 +2,10 @@
 ghost use mathlib.Core.Path.{_≡_};
 ghost use mathlib.Core.List.{[], _∷_};
 ghost use Prim.Native.Nat.{_+_, _≤_, _<_};
-ghost use lib.ListN.{length, getD};
+ghost use lib.ListN.{length};
 ghost use Rattle.sheet.specs.Text.{Put, text, field};
 ghost use Rattle.sheet.specs.Sheet.{lineOf, sheetOf};
-ghost use Rattle.sheet.specs.Answer.{countOfBytes, countAsked, answerOf, pageOf};
+ghost use Rattle.sheet.specs.Answer.{answerOf, pageOf};
 
 // An answer: its text at the start of bytes, zeros after it, and the length of the text. The longest has a header
 // of 31 bytes and 64 lines of at most 13, which makes 863.
@@ -87,59 +87,12 @@ fn put_sheet(out: &mut [u8], n: u64) -> usize
     at
 }
 
-// The byte at place i, and LF past the end of the input, which ends a line as LF does.
-fn byte_at(input: &[u8], i: usize) -> u8
-    ensures { λ r. ⌜ r ≡ getD (now (input .entry)) i 10 ⌝ }
-{
-    if i < input.len() { input[i] } else { b'\n' }
-}
-
-// The count that an input with these first three bytes asks for, and 0 where it asks for none.
-fn count_of_bytes(first: u8, second: u8, third: u8) -> u64
-    ensures { λ r. ⌜ r ≡ countOfBytes first second third ⌝ }
-{
-    if first < b'1' {
-        return 0;
-    }
-    if first > b'9' {
-        return 0;
-    }
-    let leading = first as u64 - 48;
-    if second == b'\n' {
-        return leading;
-    }
-    if second < b'0' {
-        return 0;
-    }
-    if second > b'9' {
-        return 0;
-    }
-    if third != b'\n' {
-        return 0;
-    }
-    let count = leading * 10 + (second as u64 - 48);
-    if count > 64 {
-        return 0;
-    }
-    count
-}
-
-// The count that the first line of the input asks for, and 0 where it asks for none.
-fn count_asked(input: &[u8]) -> u64
-    ensures { λ r. ⌜ r ≡ countAsked (now (input .entry)) ⌝ }
-{
-    let first = byte_at(input, 0);
-    let second = byte_at(input, 1);
-    let third = byte_at(input, 2);
-    count_of_bytes(first, second, third)
-}
-
 // Puts the answer to the input at the start of out.
 fn put_answer(out: &mut [u8], input: &[u8]) -> usize
     requires { ⌜ 863 ≤ length (now out) ⌝ }
     ensures { λ r. ⌜ Put (now (out .entry)) 0 (answerOf (now (input .entry))) (now (out .exit)) r ⌝ }
 {
-    let count = count_asked(input);
+    let count = sheet_count::count_asked(input);
     if count == 0 {
         put_bytes(out, 0, b"refused,1\r\n")
     } else {

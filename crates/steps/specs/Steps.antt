@@ -39,10 +39,13 @@ abbrev pub twoMessages : Outgoing → Outgoing → Messages
 twoMessages m n = record { first = Send m; second = Send n; third = NoMessage }
 
 -- one message more, behind those that there are; no call sends more than three
+abbrev pub alsoBehind : OptionalMessage → OptionalMessage → OptionalMessage → Outgoing → Messages
+alsoBehind first NoMessage third m = record { first = first; second = Send m; third = third }
+alsoBehind first (Send b) third m = record { first = first; second = Send b; third = Send m }
+
 abbrev pub alsoAt : OptionalMessage → OptionalMessage → OptionalMessage → Outgoing → Messages
 alsoAt NoMessage second third m = record { first = Send m; second = second; third = third }
-alsoAt (Send a) NoMessage third m = record { first = Send a; second = Send m; third = third }
-alsoAt (Send a) (Send b) third m = record { first = Send a; second = Send b; third = Send m }
+alsoAt (Send a) second third m = alsoBehind (Send a) second third m
 
 abbrev pub also : Messages → Outgoing → Messages
 also ms m = alsoAt (ms .first) (ms .second) (ms .third) m

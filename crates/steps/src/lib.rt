@@ -2,8 +2,7 @@
 // are chains of. A step hands back the next state, the messages to send, and how the call goes on; a refused step is dropped whole by the
 // shard that made the call, so that nothing has to be undone.
 ghost use mathlib.Core.Path.{_≡_};
-ghost use Rattle.steps.specs.Steps.{noMessages, oneMessage, twoMessages, also, sends, toAll, firstServed, heldRv, heldV, withPaxos, leftFastPath, stays, continues, commits, refuses, onRounds};
-ghost use Rattle.steps.specs.Enter.{canPropose, sourceTaken, inRound, isOlder, fromLive, enter};
+ghost use Rattle.steps.specs.Steps.{noMessages, oneMessage, twoMessages, alsoBehind, also, sends, toAll, firstServed, heldRv, heldV, withPaxos, leftFastPath, stays, continues, commits, refuses, onRounds};
 use fast_state::FastState;
 use message::ConsensusMessage;
 use message::ConsensusMsg;
@@ -11,7 +10,6 @@ use message::OptionalProcess;
 use message::OptionalRound;
 use message::OptionalValue;
 use message::PFMode;
-use message::PaxosRound;
 use message::Refusal;
 use message::RoundV;
 use read_tracker::ReadTracker;
@@ -130,6 +128,29 @@ pub fn two_messages(m: Outgoing, n: Outgoing) -> Messages
     }
 }
 
+// One message more, where there is a first one.
+fn also_behind(
+    first: OptionalMessage,
+    second: OptionalMessage,
+    third: OptionalMessage,
+    m: Outgoing,
+) -> Messages
+    ensures { λ r. ⌜ r ≡ alsoBehind first second third m ⌝ }
+{
+    match second {
+        OptionalMessage::NoMessage => Messages {
+            first,
+            second: OptionalMessage::Send(m),
+            third,
+        },
+        OptionalMessage::Send(_) => Messages {
+            first,
+            second,
+            third: OptionalMessage::Send(m),
+        },
+    }
+}
+
 impl Messages {
     // One message more, behind those that there are. No call sends more than three.
     pub fn also(self, m: Outgoing) -> Messages
@@ -144,18 +165,7 @@ impl Messages {
                 second,
                 third,
             },
-            OptionalMessage::Send(a) => match second {
-                OptionalMessage::NoMessage => Messages {
-                    first: OptionalMessage::Send(a),
-                    second: OptionalMessage::Send(m),
-                    third,
-                },
-                OptionalMessage::Send(b) => Messages {
-                    first: OptionalMessage::Send(a),
-                    second: OptionalMessage::Send(b),
-                    third: OptionalMessage::Send(m),
-                },
-            },
+            OptionalMessage::Send(_) => also_behind(first, second, third, m),
         }
     }
 }
@@ -240,30 +250,6 @@ impl Core {
             next: Next::Refuses(why),
         }
     }
-
-    // A later round is entered.
-    fn in_round(self, round: PaxosRound) -> Core
-        ensures { λ r. ⌜ r ≡ inRound round self ⌝ }
-    {
-        let paxos = self.paxos;
-        let now_at = paxos.round;
-        if now_at.before(OptionalRound::Round(round)) {
-            return self.with_paxos(paxos.goto_round(OptionalRound::Round(round)));
-        }
-        self
-    }
-
-    // Whether a message is of an older slot or round.
-    fn is_older(self, slot: u64, round: PaxosRound) -> bool
-        ensures { λ r. ⌜ r ≡ isOlder slot round self ⌝ }
-    {
-        if slot < self.slot {
-            return true;
-        }
-        let paxos = self.paxos;
-        let now_at = paxos.round;
-        OptionalRound::Round(round).before(now_at)
-    }
 }
 
 impl CoreStep {
@@ -311,49 +297,5 @@ impl Asked {
                 OptionalProcess::Process(p)
             }
         }
-    }
-
-    // Whether the member takes part: a replica does, and in SwiftPaxos its clients do.
-    pub fn can_propose(self) -> bool
-        ensures { λ r. ⌜ r ≡ canPropose self ⌝ }
-    {
-        let me = self.member;
-        if me.replica {
-            return true;
-        }
-        let mode = self.mode;
-        mode.is_swift_paxos()
-    }
-
-    fn source_taken(self, heard: Heard) -> bool
-        ensures { λ r. ⌜ r ≡ sourceTaken self heard ⌝ }
-    {
-        if heard.source_live {
-            return true;
-        }
-        let mode = self.mode;
-        mode.is_swift_paxos()
-    }
-
-    fn from_live(self, heard: Heard, round: PaxosRound, core: Core) -> CoreStep
-        ensures { λ r. ⌜ r ≡ fromLive self heard round core ⌝ }
-    {
-        if self.source_taken(heard) {
-            return core.in_round(round).continues(no_messages());
-        }
-        core.refuses(Refusal::SourceNotLive)
-    }
-
-    // What a Prepare and an Accept have in common. One that is simply old does nothing, before anything else of it is looked at.
-    pub fn enter(self, heard: Heard, slot: u64, round: PaxosRound, core: Core) -> CoreStep
-        ensures { λ r. ⌜ r ≡ enter self heard slot round core ⌝ }
-    {
-        if self.can_propose() {
-            if core.is_older(slot, round) {
-                return core.stays(no_messages());
-            }
-            return self.from_live(heard, round, core);
-        }
-        core.stays(no_messages())
     }
 }

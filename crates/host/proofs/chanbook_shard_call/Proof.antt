@@ -1,15 +1,14 @@
--- `host::chanbook_shard_call` meets its contract, by `Then.antt`'s law at `host::question_in_place` and `host::core_in_place`. Assumes nothing.
+-- `host::chanbook_shard_call` meets its contract, by `Then.antt`'s law at `host::decision_in_place` and `host::core_in_place`. Assumes nothing.
 use mathlib.Core.Path.{refl}
 use contract.Running.{givenOf, tables, tablesOf}
 use denote.Triple.Spec.{tripleOf}
 use denote.Triple.Table.{entered, cited}
-use Rattle.flat.specs.Calls.{flatByCore, flatCall}
-use Rattle.flat.specs.Thaw.{questionIn}
+use Rattle.flat.specs.Calls.{flatByCore, flatDecision, flatCall}
 use Rattle.lent.proofs.Rare.{Handles}
 use Rattle.lent.proofs.Then.{lent-then}
-use Rattle.host.proofs.Types.{shard, reply, call, question}
-use Rattle.host.proofs.question_in_place.Symbol.{name as #first, routine as first}
-use Rattle.host.proofs.question_in_place.Met as asks
+use Rattle.host.proofs.Types.{shard, reply, call, decision}
+use Rattle.host.proofs.decision_in_place.Symbol.{name as #first, routine as first}
+use Rattle.host.proofs.decision_in_place.Met as asks
 use Rattle.host.proofs.core_in_place.Symbol.{name as #second, routine as second}
 use Rattle.host.proofs.core_in_place.Met as answers
 use Rattle.host.proofs.chanbook_shard_call as f
@@ -22,8 +21,8 @@ unfolding code.routine tablesOf
 chanbook-shard-call-spec 𝓤 H 𝓜 𝓖 𝓡 =
     entered 𝓤 H (tripleOf 𝓤 H (𝓖 .A) f.signature (f.spec 𝓤 H (𝓖 .A) (𝓜 .mem) (𝓡 .run)))
     (tables 𝓤 H 𝓜 𝓡 code.env .C) (tables 𝓤 H 𝓜 𝓡 code.env .Λ) #f code.function (code.unfolded 𝓤 H 𝓜 𝓡)
-    (lent-then shard call question reply (λ h y. h) (λ h y. questionIn (h .made) (h .settings) y) (λ h y. flatByCore h y .shard) (λ h y. flatByCore h y .reply) (λ h y. flatCall h y .shard) (λ h y. flatCall h y .reply)
+    (lent-then shard call decision reply (λ h y. h) (λ h y. flatDecision h y) (λ h y. flatByCore h y .shard) (λ h y. flatByCore h y .reply) (λ h y. flatCall h y .shard) (λ h y. flatCall h y .reply)
     (λ h y. refl) (λ h y. refl)
     𝓤 H (𝓖 .A) (givenOf 𝓤 H 𝓜 𝓖) (tablesOf 𝓤 H 𝓜 (tables 𝓤 H 𝓜 𝓡 code.env)) #first #second
-    (cited 𝓤 H (Handles shard question call (λ h y. h) (λ h y. questionIn (h .made) (h .settings) y) 𝓤 H (𝓖 .A)) 𝓜 𝓡 code.env #first first code.calls-host·question-in-place (asks.met 𝓤 H 𝓜 𝓖 𝓡))
-    (cited 𝓤 H (Handles shard reply question (λ h y. flatByCore h y .shard) (λ h y. flatByCore h y .reply) 𝓤 H (𝓖 .A)) 𝓜 𝓡 code.env #second second code.calls-host·core-in-place (answers.met 𝓤 H 𝓜 𝓖 𝓡)))
+    (cited 𝓤 H (Handles shard decision call (λ h y. h) (λ h y. flatDecision h y) 𝓤 H (𝓖 .A)) 𝓜 𝓡 code.env #first first code.calls-host·decision-in-place (asks.met 𝓤 H 𝓜 𝓖 𝓡))
+    (cited 𝓤 H (Handles shard reply decision (λ h y. flatByCore h y .shard) (λ h y. flatByCore h y .reply) 𝓤 H (𝓖 .A)) 𝓜 𝓡 code.env #second second code.calls-host·core-in-place (answers.met 𝓤 H 𝓜 𝓖 𝓡)))

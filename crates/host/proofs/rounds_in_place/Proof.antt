@@ -1,39 +1,38 @@
--- `host::rounds_in_place` meets its contract, by `Rare.antt`'s law at `flat::flat_rounds_call` and `host::whole_in_place`. Assumes nothing.
+-- `host::rounds_in_place` meets its contract, by `Rare.antt`'s law at `flat::flat_rounds_call` and `host::state_in_place`. Assumes nothing.
 use mathlib.Core.Path.{_≡_, sym, ap}
 use mathlib.Core.Bool.{Bool, true, false, cond}
 use contract.Running.{givenOf, tables, tablesOf}
 use denote.Triple.Spec.{tripleOf}
 use denote.Triple.Table.{entered, cited}
-use Rattle.flat.specs.declared.FlatAnswer.{FlatAnswer}
 use Rattle.flat.specs.declared.FlatShard.{FlatShard}
-use Rattle.parts.specs.declared.Question.{Question}
-use Rattle.flat.specs.Calls.{flatRoundsCall, flatWholeCall, fromFlatRounds, flatByRounds}
+use Rattle.calls.specs.declared.Decision.{Decision}
+use Rattle.flat.specs.Calls.{FlatAnswer, flatRoundsCall, flatByState, fromFlatRounds, flatByRounds}
 use Rattle.flat.proofs.flat_rounds_call.Symbol.{name as #attempt, routine as attempt}
 use Rattle.flat.proofs.flat_rounds_call.Met.{met}
 use Rattle.lent.proofs.Rare.{Inner, Handles, lent-rare}
-use Rattle.host.proofs.Types.{shard, rounds, reply, question, rounds-answer, in-rounds}
-use Rattle.host.proofs.whole_in_place.Symbol.{name as #deep, routine as deep}
-use Rattle.host.proofs.whole_in_place.Met as deeper
+use Rattle.host.proofs.Types.{shard, rounds, reply, decision, rounds-answer, in-rounds}
+use Rattle.host.proofs.state_in_place.Symbol.{name as #deep, routine as deep}
+use Rattle.host.proofs.state_in_place.Met as deeper
 use Rattle.host.proofs.rounds_in_place as f
 use Rattle.host.proofs.rounds_in_place.Key.{name as #f}
 use Rattle.host.proofs.rounds_in_place.Statement as stated
 use Rattle.host.proofs.rounds_in_place.Code as code
 
-rare : (h : FlatShard) (y : Question) → flatRoundsCall (h .state .rounds) y .deeper ≡ true → flatWholeCall h y ≡ flatByRounds h y
+rare : (h : FlatShard) (y : Decision) → flatRoundsCall (h .state .rounds) y .deeper ≡ true → flatByState h y ≡ flatByRounds h y
 unfolding flatByRounds
-rare h y e = sym (ap (λ (t : Bool). cond t (flatWholeCall h y) (fromFlatRounds h (flatRoundsCall (h .state .rounds) y))) e)
+rare h y e = sym (ap (λ (t : Bool). cond t (flatByState h y) (fromFlatRounds h (flatRoundsCall (h .state .rounds) y))) e)
 
-usual : (h : FlatShard) (y : Question) → flatRoundsCall (h .state .rounds) y .deeper ≡ false → fromFlatRounds h (flatRoundsCall (h .state .rounds) y) ≡ flatByRounds h y
+usual : (h : FlatShard) (y : Decision) → flatRoundsCall (h .state .rounds) y .deeper ≡ false → fromFlatRounds h (flatRoundsCall (h .state .rounds) y) ≡ flatByRounds h y
 unfolding flatByRounds
-usual h y e = sym (ap (λ (t : Bool). cond t (flatWholeCall h y) (fromFlatRounds h (flatRoundsCall (h .state .rounds) y))) e)
+usual h y e = sym (ap (λ (t : Bool). cond t (flatByState h y) (fromFlatRounds h (flatRoundsCall (h .state .rounds) y))) e)
 
 pub rounds-in-place-spec : {M : Type 1} → stated.statement M
 unfolding code.routine tablesOf
 rounds-in-place-spec 𝓤 H 𝓜 𝓖 𝓡 =
     entered 𝓤 H (tripleOf 𝓤 H (𝓖 .A) f.signature (f.spec 𝓤 H (𝓖 .A) (𝓜 .mem) (𝓡 .run)))
     (tables 𝓤 H 𝓜 𝓡 code.env .C) (tables 𝓤 H 𝓜 𝓡 code.env .Λ) #f code.function (code.unfolded 𝓤 H 𝓜 𝓡)
-    (lent-rare shard rounds reply in-rounds rounds-answer question flatRoundsCall 𝓤 H (𝓖 .A) (λ h y. flatByRounds h y .shard) (λ h y. (flatWholeCall h y) .shard) (λ h y. flatByRounds h y .reply) (λ h y. (flatWholeCall h y) .reply)
+    (lent-rare shard rounds reply in-rounds rounds-answer decision flatRoundsCall 𝓤 H (𝓖 .A) (λ h y. flatByRounds h y .shard) (λ h y. (flatByState h y) .shard) (λ h y. flatByRounds h y .reply) (λ h y. (flatByState h y) .reply)
     (λ h y e. (ap (λ (a : FlatAnswer). a .shard) (rare h y e), ap (λ (a : FlatAnswer). a .reply) (rare h y e))) (λ h y e. (ap (λ (a : FlatAnswer). a .shard) (usual h y e), ap (λ (a : FlatAnswer). a .reply) (usual h y e)))
     (givenOf 𝓤 H 𝓜 𝓖) (tablesOf 𝓤 H 𝓜 (tables 𝓤 H 𝓜 𝓡 code.env)) #attempt #deep
-    (cited 𝓤 H (Inner shard rounds reply in-rounds rounds-answer question flatRoundsCall 𝓤 H (𝓖 .A)) 𝓜 𝓡 code.env #attempt attempt code.calls-flat·flat-rounds-call (met 𝓤 H 𝓜 𝓖 𝓡))
-    (cited 𝓤 H (Handles shard reply question (λ h y. (flatWholeCall h y) .shard) (λ h y. (flatWholeCall h y) .reply) 𝓤 H (𝓖 .A)) 𝓜 𝓡 code.env #deep deep code.calls-host·whole-in-place (deeper.met 𝓤 H 𝓜 𝓖 𝓡)))
+    (cited 𝓤 H (Inner shard rounds reply in-rounds rounds-answer decision flatRoundsCall 𝓤 H (𝓖 .A)) 𝓜 𝓡 code.env #attempt attempt code.calls-flat·flat-rounds-call (met 𝓤 H 𝓜 𝓖 𝓡))
+    (cited 𝓤 H (Handles shard reply decision (λ h y. (flatByState h y) .shard) (λ h y. (flatByState h y) .reply) 𝓤 H (𝓖 .A)) 𝓜 𝓡 code.env #deep deep code.calls-host·state-in-place (deeper.met 𝓤 H 𝓜 𝓖 𝓡)))

@@ -6,7 +6,7 @@ use denote.Triple.Table.{entered, cited}
 use Rattle.lent.specs.Readers.{openReadAt}
 use Rattle.lent.proofs.open_read_at.Symbol.{name as #get, routine as get}
 use Rattle.lent.proofs.open_read_at.Met.{met}
-use Rattle.lent.proofs.Lent.{number}
+use Rattle.lent.proofs.Data.{number}
 use Rattle.lent.proofs.LookAt.{Inner, looked-at}
 use Rattle.lent.proofs.Types.{shard, table, open-read, in-table}
 use Rattle.lent.proofs.open_read as f

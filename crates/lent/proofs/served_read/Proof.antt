@@ -6,7 +6,7 @@ use denote.Triple.Table.{entered, cited}
 use Rattle.lent.specs.Readers.{servedReadAt}
 use Rattle.lent.proofs.served_read_at.Symbol.{name as #get, routine as get}
 use Rattle.lent.proofs.served_read_at.Met.{met}
-use Rattle.lent.proofs.Lent.{number}
+use Rattle.lent.proofs.Data.{number}
 use Rattle.lent.proofs.LookAt.{Inner, looked-at}
 use Rattle.lent.proofs.Types.{shard, table, served-read, in-table}
 use Rattle.lent.proofs.served_read as f

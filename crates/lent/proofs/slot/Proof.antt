@@ -6,7 +6,7 @@ use denote.Triple.Table.{entered, cited}
 use Rattle.steps.specs.declared.Core.{Core}
 use Rattle.lent.proofs.slot_of.Symbol.{name as #get, routine as get}
 use Rattle.lent.proofs.slot_of.Met.{met}
-use Rattle.lent.proofs.Lent.{number}
+use Rattle.lent.proofs.Data.{number}
 use Rattle.lent.proofs.Look.{Inner, looked}
 use Rattle.lent.proofs.Types.{shard, core, in-core}
 use Rattle.lent.proofs.slot as f

@@ -1,46 +1,77 @@
--- `quorum::row` meets its contract: the table has the rule's row at each place, and the place is that of the count.
+-- `quorum::row` meets its contract: each column has the rule's quorum at each place, and the place is that of the count.
 -- Assumes nothing.
 use mathlib.Core.Path.{_≡_, ap, _∙_}
-use Prim.Native.Nat.{ℕ, zero, suc, _+_, _-_}
+use Prim.Native.Nat.{ℕ, zero, suc, _+_, _-_, _<_}
 use native.Mathlib.Omega.{arith}
 use borrow.Author.Needs.{needs}
 use Rattle.quorum.specs.Quorum.{ruleOf}
+use Rattle.quorum.specs.declared.QuorumRow.{QuorumRow}
 use Rattle.quorum.proofs.row.Statement.{statement}
 use Rattle.quorum.proofs.row.Tie as tie
+
+abbrev quorums : ℕ → ℕ → ℕ → QuorumRow
+quorums m e f = record { majority = m; epaxos = e; fast = f }
+
+equal : {m m′ e e′ f f′ : ℕ} → m ≡ m′ → e ≡ e′ → f ≡ f′ → quorums m e f ≡ quorums m′ e′ f′
+equal p q r = cc
 
 -- the row at place m - 1 is that of m replicas: at 0, where the difference stops, the rule at 1 agrees with the rule at 0
 same-rule : (m k : ℕ) → k ≡ m - 1 → ruleOf (k + 1) ≡ ruleOf m
 same-rule zero k e = ap (λ (j : ℕ). ruleOf (j + 1)) e
 same-rule (suc m) k e = let h : k + 1 ≡ suc m = omega arith in ap ruleOf h
 
-rows-requires : tie.Need-rows-requires
-rows-requires c κs = search needs
+majority-column-requires : tie.Need-majority-column-requires
+majority-column-requires c κs = search needs
+
+epaxos-column-requires : tie.Need-epaxos-column-requires
+epaxos-column-requires c κs = search needs
+
+fast-column-requires : tie.Need-fast-column-requires
+fast-column-requires c κs = search needs
 
 place-requires : tie.Need-place-requires
 place-requires c κs = search needs
 
-mul-short : tie.Need-mul-short
-mul-short c = search needs
-
-array-copy-out-short : tie.Need-array-copy-out-short
-array-copy-out-short c = search needs
+array-read-wide : tie.Need-array-read-wide
+array-read-wide c = search needs
 
 wide-requires : tie.Need-wide-requires
 wide-requires c κs = search needs
 
+array-read-wide-2 : tie.Need-array-read-wide-2
+array-read-wide-2 c = search needs
+
 wide-requires-2 : tie.Need-wide-requires-2
 wide-requires-2 c κs = search needs
+
+array-read-wide-3 : tie.Need-array-read-wide-3
+array-read-wide-3 c = search needs
 
 wide-requires-3 : tie.Need-wide-requires-3
 wide-requires-3 c κs = search needs
 
 returns : tie.Need-returns
 returns c =
-    let i = c .before .before .before .before .place in
-    simp (c .before .before .wide .ensures, c .before .wide2 .ensures, c .wide3 .ensures)
-    (c .before .before .before .before .before .rows .ensures .ruled _ (i .result) (omega (arith, i .ensures)) ∙ same-rule _ _ (i .ensures))
+    let at = c .before .before .before in
+    let i = at .place in
+    let below : i .result < 64 = omega (arith, i .ensures) in
+    equal (c .before .before .wide .ensures ∙ at .before .before .before .majority-column .ensures .ruled _ _ below)
+    (c .before .wide2 .ensures ∙ at .before .before .epaxos-column .ensures .ruled _ _ below)
+    (c .wide3 .ensures ∙ at .before .fast-column .ensures .ruled _ _ below)
+    ∙ same-rule _ _ (i .ensures)
 
 pub row-spec : {M : Type 1} → statement M
 row-spec =
     tie.close
-    (tie.spec rows-requires place-requires mul-short array-copy-out-short wide-requires wide-requires-2 wide-requires-3 returns)
+    (tie.spec
+    majority-column-requires
+    epaxos-column-requires
+    fast-column-requires
+    place-requires
+    array-read-wide
+    wide-requires
+    array-read-wide-2
+    wide-requires-2
+    array-read-wide-3
+    wide-requires-3
+    returns)

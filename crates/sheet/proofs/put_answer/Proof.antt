@@ -2,7 +2,7 @@
 -- Assumes nothing.
 use native.Mathlib.Omega.{arith}
 use borrow.Author.Needs.{needs}
-use Rattle.sheet.proofs.Counting.{count-le}
+use Rattle.sheet_count.proofs.Counting.{count-le}
 use Rattle.sheet.proofs.Answers.{put-refusal, put-sheet-asked}
 use Rattle.sheet.proofs.put_answer.Statement.{statement}
 use Rattle.sheet.proofs.put_answer.Tie as tie

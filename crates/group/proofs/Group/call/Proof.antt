@@ -12,7 +12,7 @@ use Rattle.consensus.specs.Call.{callOf}
 use Rattle.consensus.specs.declared.Answer.{Answer}
 use Rattle.consensus.specs.declared.Shard.{Shard}
 use Rattle.group.specs.Group.{shardAt, replaced, called}
-use Rattle.group.proofs.Places.{past}
+use Rattle.basics.proofs.Places.{past}
 use borrow.Author.Needs.{needs}
 use Rattle.group.proofs.Group.call.Statement.{statement}
 use Rattle.group.proofs.Group.call.Tie as tie

@@ -1,11 +1,11 @@
 -- `run_checks::Log::before` meets its contract: after i turns so_far is what the first i events say. The measure is the number of events left.
 -- Assumes nothing.
 use mathlib.Core.Path.{_≡_, refl, sym, ap, _∙_}
-use Prim.Native.Nat.{_<_, _≤_, _-_}
+use Prim.Native.Nat.{_≤_, _-_}
 use native.Mathlib.Omega.{arith}
 use lib.ListN.{length, length-map}
 use borrow.Author.Needs.{needs}
-use Rattle.group.proofs.Places.{past}
+use Rattle.basics.proofs.Places.{past}
 use Rattle.run_checks.specs.declared.Before.{Before}
 use Rattle.run_checks.specs.Log.{slotOf, allAgree, oneProposes, beforeOf}
 use Rattle.run_checks.proofs.Steps.{slot-bound, before-next}

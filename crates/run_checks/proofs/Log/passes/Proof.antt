@@ -5,7 +5,7 @@ use Prim.Native.Nat.{_≤_, _-_, min}
 use native.Mathlib.Omega.{arith}
 use lib.ListN.{length, length-map}
 use borrow.Author.Needs.{needs}
-use Rattle.group.proofs.Places.{past}
+use Rattle.basics.proofs.Places.{past}
 use Rattle.run_checks.specs.Log.{beforeOf, passes}
 use Rattle.run_checks.proofs.Steps.{passes-next}
 use Rattle.run_checks.proofs.Log.passes.Statement.{statement}

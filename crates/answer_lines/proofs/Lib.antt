@@ -1,0 +1,2 @@
+-- How long a line may be.
+pub mod Lengths

@@ -1,0 +1,2 @@
+-- What the contract of `answer_lines` cites.
+pub mod Answer

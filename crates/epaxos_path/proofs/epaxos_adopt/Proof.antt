@@ -1,0 +1,50 @@
+-- `epaxos_path::epaxos_adopt` meets its contract.
+-- Assumes nothing.
+use borrow.Author.Needs.{needs}
+use Rattle.epaxos_path.proofs.epaxos_adopt.Statement.{statement}
+use Rattle.epaxos_path.proofs.epaxos_adopt.Tie as tie
+
+enum-told : tie.Need-enum-told
+enum-told c = search needs
+
+no-messages-requires : tie.Need-no-messages-requires
+no-messages-requires c κs = search needs
+
+stays-requires : tie.Need-stays-requires
+stays-requires c κs = search needs
+
+enum-known-adoption : tie.Need-enum-known-adoption
+enum-known-adoption c = search needs
+
+adopting-requires : tie.Need-adopting-requires
+adopting-requires c κs = search needs
+
+enum-known-adoption-2 : tie.Need-enum-known-adoption-2
+enum-known-adoption-2 c = search needs
+
+refuses-requires : tie.Need-refuses-requires
+refuses-requires c κs = search needs
+
+returns : tie.Need-returns
+returns c = simp (c .before .before .enum-told .given .1, ← c .before .no-messages .ensures, ← c .stays .ensures)
+
+returns-2 : tie.Need-returns-2
+returns-2 c = simp (c .before .before .adoption .given .1, ← c .adopting .ensures)
+
+returns-3 : tie.Need-returns-3
+returns-3 c = simp (c .before .before .adoption2 .given .1, ← c .refuses .ensures)
+
+pub epaxos-adopt-spec : {M : Type 1} → statement M
+epaxos-adopt-spec =
+    tie.close
+    (tie.spec
+    enum-told
+    no-messages-requires
+    stays-requires
+    enum-known-adoption
+    adopting-requires
+    enum-known-adoption-2
+    refuses-requires
+    returns
+    returns-2
+    returns-3)

@@ -1,0 +1,2 @@
+-- What the contract of `fault_lines` cites.
+pub mod Faults

@@ -1,0 +1,2 @@
+-- What the contracts of `message_lines` cite.
+pub mod Messages

@@ -1,0 +1,31 @@
+-- `promise_accept::receive_accept` meets its contract.
+-- Assumes nothing.
+use borrow.Author.Needs.{needs}
+use Rattle.round_state.specs.Paxos.{receiveAccept}
+use Rattle.promise_accept.proofs.receive_accept.Statement.{statement}
+use Rattle.promise_accept.proofs.receive_accept.Tie as tie
+
+fits-requires : tie.Need-fits-requires
+fits-requires c κs = search needs
+
+counted-requires : tie.Need-counted-requires
+counted-requires c κs = search needs
+
+taken-requires : tie.Need-taken-requires
+taken-requires c κs = search needs
+
+returns : tie.Need-returns
+unfolding receiveAccept
+returns c = simp (← c .before .before .before .fits2 .ensures, c .before .before .if1 .taken, ← c .before .counted .ensures, ← c .taken .ensures)
+
+refused-requires : tie.Need-refused-requires
+refused-requires c κs = search needs
+
+returns-2 : tie.Need-returns-2
+unfolding receiveAccept
+returns-2 c = simp (← c .before .before .fits2 .ensures, c .before .if1 .left, ← c .refused .ensures)
+
+pub receive-accept-spec : {M : Type 1} → statement M
+receive-accept-spec =
+    tie.close
+    (tie.spec fits-requires counted-requires taken-requires returns refused-requires returns-2)

@@ -1,0 +1,19 @@
+-- `promise_accept::receive_promise` meets its contract.
+-- Assumes nothing.
+use borrow.Author.Needs.{needs}
+use Rattle.round_state.specs.Paxos.{receivePromise}
+use Rattle.promise_accept.proofs.receive_promise.Statement.{statement}
+use Rattle.promise_accept.proofs.receive_promise.Tie as tie
+
+after-promise-requires : tie.Need-after-promise-requires
+after-promise-requires c κs = search needs
+
+counted-requires : tie.Need-counted-requires
+counted-requires c κs = search needs
+
+returns : tie.Need-returns
+unfolding receivePromise
+returns c = simp (← c .before .after-promise .ensures, ← c .counted .ensures)
+
+pub receive-promise-spec : {M : Type 1} → statement M
+receive-promise-spec = tie.close (tie.spec after-promise-requires counted-requires returns)

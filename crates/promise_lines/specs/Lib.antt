@@ -1,0 +1,2 @@
+-- What the contracts of `promise_lines` cite.
+pub mod Promises

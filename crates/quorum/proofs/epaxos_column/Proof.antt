@@ -1,0 +1,14 @@
+-- `quorum::epaxos_column` meets its contract: the rule is one test, which is computed at each of the 64 places.
+-- Assumes nothing.
+use mathlib.Core.Path.{refl}
+use Rattle.quorum.specs.Quorum.{epaxosOf}
+use Rattle.quorum.proofs.Table.{right, tested}
+use Rattle.quorum.proofs.epaxos_column.Statement.{statement}
+use Rattle.quorum.proofs.epaxos_column.Tie as tie
+
+returns : tie.Need-returns
+unfolding right
+returns c = tested epaxosOf _ refl refl
+
+pub epaxos-column-spec : {M : Type 1} → statement M
+epaxos-column-spec = tie.close (tie.spec returns)

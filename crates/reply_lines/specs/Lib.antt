@@ -1,0 +1,2 @@
+-- What the contracts of `reply_lines` cite.
+pub mod Reply

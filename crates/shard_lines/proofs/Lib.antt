@@ -1,0 +1,3 @@
+-- The laws that the functions' proofs cite, and how long the texts are.
+mod Proposers
+pub mod Lengths

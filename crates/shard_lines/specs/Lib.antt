@@ -1,0 +1,2 @@
+-- What the contracts of `shard_lines` cite.
+pub mod Shard

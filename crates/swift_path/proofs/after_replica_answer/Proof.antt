@@ -1,0 +1,46 @@
+-- `swift_path::after_replica_answer` meets its contract.
+-- Assumes nothing.
+use borrow.Author.Needs.{needs}
+use Rattle.swift_path.proofs.after_replica_answer.Statement.{statement}
+use Rattle.swift_path.proofs.after_replica_answer.Tie as tie
+
+enum-told : tie.Need-enum-told
+enum-told c = search needs
+
+swift-commits-requires : tie.Need-swift-commits-requires
+swift-commits-requires c κs = search needs
+
+commits-requires : tie.Need-commits-requires
+commits-requires c κs = search needs
+
+returns : tie.Need-returns
+returns c = simp (c .before .before .before .enum-told .given .1, ← c .before .before .swift-commits .ensures, c .before .if1 .taken, ← c .commits .ensures)
+
+try-commit-requires : tie.Need-try-commit-requires
+try-commit-requires c κs = search needs
+
+enum-known-outcome : tie.Need-enum-known-outcome
+enum-known-outcome c = search needs
+
+refuses-requires : tie.Need-refuses-requires
+refuses-requires c κs = search needs
+
+returns-2 : tie.Need-returns-2
+returns-2 c = simp (c .before .before .before .enum-told .given .1, ← c .before .before .swift-commits .ensures, c .before .if1 .left, ← c .try-commit .ensures)
+
+returns-3 : tie.Need-returns-3
+returns-3 c = simp (c .before .before .outcome .given .1, ← c .refuses .ensures)
+
+pub after-replica-answer-spec : {M : Type 1} → statement M
+after-replica-answer-spec =
+    tie.close
+    (tie.spec
+    enum-told
+    swift-commits-requires
+    commits-requires
+    returns
+    try-commit-requires
+    enum-known-outcome
+    refuses-requires
+    returns-2
+    returns-3)

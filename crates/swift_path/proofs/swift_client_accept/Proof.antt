@@ -1,0 +1,41 @@
+-- `swift_path::swift_client_accept` meets its contract.
+-- Assumes nothing.
+use borrow.Author.Needs.{needs}
+use Rattle.swift_path.specs.Swift.{swiftClientAccept}
+use Rattle.swift_path.proofs.swift_client_accept.Statement.{statement}
+use Rattle.swift_path.proofs.swift_client_accept.Tie as tie
+
+is-requires : tie.Need-is-requires
+is-requires c κs = search needs
+
+swift-accept-requires : tie.Need-swift-accept-requires
+swift-accept-requires c κs = search needs
+
+returns : tie.Need-returns
+unfolding swiftClientAccept
+returns c = simp (← c .before .before .is .ensures, c .before .if1 .taken, ← c .swift-accept .ensures)
+
+no-messages-requires : tie.Need-no-messages-requires
+no-messages-requires c κs = search needs
+
+stays-requires : tie.Need-stays-requires
+stays-requires c κs = search needs
+
+on-rounds-requires : tie.Need-on-rounds-requires
+on-rounds-requires c κs = search needs
+
+returns-2 : tie.Need-returns-2
+unfolding swiftClientAccept
+returns-2 c = simp (← c .before .before .before .before .is .ensures, c .before .before .before .if1 .left, c .before .before .no-messages .ensures, c .before .stays .ensures, c .on-rounds .ensures)
+
+pub swift-client-accept-spec : {M : Type 1} → statement M
+swift-client-accept-spec =
+    tie.close
+    (tie.spec
+    is-requires
+    swift-accept-requires
+    returns
+    no-messages-requires
+    stays-requires
+    on-rounds-requires
+    returns-2)

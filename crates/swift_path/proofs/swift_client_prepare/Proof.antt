@@ -1,0 +1,41 @@
+-- `swift_path::swift_client_prepare` meets its contract.
+-- Assumes nothing.
+use borrow.Author.Needs.{needs}
+use Rattle.swift_path.specs.Swift.{swiftClientPrepare}
+use Rattle.swift_path.proofs.swift_client_prepare.Statement.{statement}
+use Rattle.swift_path.proofs.swift_client_prepare.Tie as tie
+
+is-requires : tie.Need-is-requires
+is-requires c κs = search needs
+
+swift-answer-requires : tie.Need-swift-answer-requires
+swift-answer-requires c κs = search needs
+
+returns : tie.Need-returns
+unfolding swiftClientPrepare
+returns c = simp (← c .before .before .is .ensures, c .before .if1 .taken, ← c .swift-answer .ensures)
+
+no-messages-requires : tie.Need-no-messages-requires
+no-messages-requires c κs = search needs
+
+stays-requires : tie.Need-stays-requires
+stays-requires c κs = search needs
+
+on-rounds-requires : tie.Need-on-rounds-requires
+on-rounds-requires c κs = search needs
+
+returns-2 : tie.Need-returns-2
+unfolding swiftClientPrepare
+returns-2 c = simp (← c .before .before .before .before .is .ensures, c .before .before .before .if1 .left, c .before .before .no-messages .ensures, c .before .stays .ensures, c .on-rounds .ensures)
+
+pub swift-client-prepare-spec : {M : Type 1} → statement M
+swift-client-prepare-spec =
+    tie.close
+    (tie.spec
+    is-requires
+    swift-answer-requires
+    returns
+    no-messages-requires
+    stays-requires
+    on-rounds-requires
+    returns-2)
