@@ -1,7 +1,7 @@
 //! This engine's side: through the C boundary, and through the Rust crate above it.
 use crate::cases::requester;
-use chanbook_shard::sys::{self, FlatCall, FlatMessage, FlatReply, FlatShard, FlatState};
-use chanbook_shard::{Call, Settings, Shard};
+use chanbook_shard::sys::{self, FlatCall, FlatMessage, FlatOption, FlatReply, FlatShard, FlatState};
+use chanbook_shard::{Call, ConsensusMessage, Delivery, Reply, Said, Settings, Shard};
 use std::collections::VecDeque;
 use std::hint::black_box;
 use std::time::Instant;
@@ -39,21 +39,24 @@ impl Prepared {
         ((shard.slot() - slot, shard.open_reads().count(), reply.sent().next().is_some()), number)
     }
 
-    /// Nanoseconds of one call on each shard, through the C boundary.
+    /// Nanoseconds of one call on each shard, through the C boundary as a host takes it.
     pub fn round(&mut self) -> u128 {
-        self.timed(|shard, call| sys::chanbook_shard_call(shard, call))
+        self.timed(sys::chanbook_call)
     }
 
     /// The same by value.
     pub fn round_by_value(&mut self) -> u128 {
-        self.timed(|shard, call| sys::chanbook_shard_call_by_value(shard, call))
+        self.timed(by_value)
     }
 
-    fn timed(&mut self, call_on: impl Fn(&mut FlatShard, FlatCall) -> FlatReply) -> u128 {
+    /// All calls fill the same reply.
+    fn timed(&mut self, call_on: impl Fn(&mut FlatShard, &FlatCall, &mut FlatReply)) -> u128 {
         let calls: Vec<FlatCall> = vec![self.call.into(); self.twins.len()];
+        let mut reply = FlatReply::default();
         let begin = Instant::now();
         for (shard, call) in self.twins.iter_mut().zip(&calls) {
-            black_box(call_on(shard, *call));
+            call_on(shard, call, &mut reply);
+            black_box(&reply);
         }
         let time = begin.elapsed().as_nanos();
         for shard in &mut self.twins {
@@ -70,7 +73,7 @@ impl Prepared {
         let calls: Vec<Call> = vec![self.call; self.shards.len()];
         let begin = Instant::now();
         for (shard, call) in self.shards.iter_mut().zip(&calls) {
-            black_box(shard.call(*call));
+            black_box(&shard.call(*call));
         }
         let time = begin.elapsed().as_nanos();
         for shard in &mut self.shards {
@@ -82,15 +85,24 @@ impl Prepared {
     }
 }
 
+fn by_value(shard: &mut FlatShard, call: &FlatCall, reply: &mut FlatReply) {
+    *reply = sys::chanbook_shard_call_by_value(shard, *call);
+}
+
 /// A group of five, whose member 0 proposes slot after slot; every message is delivered, in the order of sending.
 pub struct Cycle {
     settings: Settings,
     queue: VecDeque<(usize, FlatMessage)>,
+    queue_in_crate: VecDeque<(usize, ConsensusMessage)>,
 }
 
 impl Cycle {
     pub fn new(settings: &Settings) -> Cycle {
-        Cycle { settings: settings.clone(), queue: VecDeque::new() }
+        Cycle { settings: settings.clone(), queue: VecDeque::new(), queue_in_crate: VecDeque::new() }
+    }
+
+    fn members(&self) -> Vec<Shard> {
+        (0..self.settings.process_count).map(|my_pid| Shard::new(&Settings { my_pid, ..self.settings.clone() })).collect()
     }
 
     fn collect(&mut self, reply: &FlatReply) {
@@ -107,24 +119,64 @@ impl Cycle {
         }
     }
 
-    /// Nanoseconds of so many slots, and the calls made.
+    /// Nanoseconds of so many slots, and the calls made, through the C boundary as a host takes it.
     pub fn run(&mut self, slots: u64) -> (u128, u64) {
-        let member = |my_pid| *Shard::new(&Settings { my_pid, ..self.settings.clone() }).twin();
-        let mut group: Vec<FlatShard> = (0..self.settings.process_count).map(member).collect();
+        self.run_by(sys::chanbook_call, slots)
+    }
+
+    /// The same by value.
+    pub fn run_by_value(&mut self, slots: u64) -> (u128, u64) {
+        self.run_by(by_value, slots)
+    }
+
+    fn run_by(&mut self, call_on: impl Fn(&mut FlatShard, &FlatCall, &mut FlatReply), slots: u64) -> (u128, u64) {
+        let mut group: Vec<FlatShard> = self.members().iter().map(|shard| *shard.twin()).collect();
+        let mut reply = FlatReply::default();
         let (mut calls, mut commits) = (0, 0);
         let begin = Instant::now();
         for slot in 0..slots {
             let v = 2 * self.settings.process_count * slot;
-            let reply = sys::chanbook_shard_call(&mut group[0], FlatCall { v, ..FlatCall::default() });
+            call_on(&mut group[0], &FlatCall { v, ..FlatCall::default() }, &mut reply);
             calls += 1;
             self.collect(&reply);
-            let requester = chanbook_shard::sys::FlatOption { given: 1, n: requester(&self.settings, v).unwrap_or(0) };
+            let requester = FlatOption { given: 1, n: requester(&self.settings, v).unwrap_or(0) };
             while let Some((to, message)) = self.queue.pop_front() {
                 let call = FlatCall { kind: 2, message, value_held: 1, requester, held_requester: requester, ..FlatCall::default() };
-                let reply = sys::chanbook_shard_call(&mut group[to], call);
+                call_on(&mut group[to], &call, &mut reply);
                 commits += reply.commit.given;
                 calls += 1;
                 self.collect(&reply);
+            }
+        }
+        let time = begin.elapsed().as_nanos();
+        assert_eq!(commits, self.settings.process_count * slots, "every member commits every slot");
+        (time, calls)
+    }
+
+    fn collect_in_crate(&mut self, reply: &Reply) {
+        for sent in reply.sent() {
+            let receivers = sent.receivers(self.settings.process_count);
+            self.queue_in_crate.extend(receivers.map(|to| (to as usize, sent.message)));
+        }
+    }
+
+    /// The same through the Rust crate.
+    pub fn run_in_crate(&mut self, slots: u64) -> (u128, u64) {
+        let mut group = self.members();
+        let (mut calls, mut commits) = (0, 0);
+        let begin = Instant::now();
+        for slot in 0..slots {
+            let v = 2 * self.settings.process_count * slot;
+            let reply = group[0].propose(v);
+            calls += 1;
+            self.collect_in_crate(&reply);
+            let requester = requester(&self.settings, v);
+            let said = Said { value_held: true, requester, fast: false };
+            while let Some((to, message)) = self.queue_in_crate.pop_front() {
+                let reply = group[to].receive(Delivery { message, said, held_requester: requester });
+                commits += u64::from(reply.commit.is_some());
+                calls += 1;
+                self.collect_in_crate(&reply);
             }
         }
         let time = begin.elapsed().as_nanos();

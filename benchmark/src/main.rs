@@ -77,10 +77,10 @@ fn time_cycle(name: &str, settings: &chanbook_shard::Settings, runs: usize) {
     let mut bare = original_bare::Cycle::new(settings);
     let mut full = original_full::Cycle::new(settings);
     let mut lent = lent::Cycle::new(settings);
-    let mut times: [Times; 3] = Default::default();
+    let mut times: [Times; 5] = Default::default();
     let mut calls = 0;
     for run in 0..=runs {
-        let sides = [bare.run(SLOTS), full.run(SLOTS), lent.run(SLOTS)];
+        let sides = [bare.run(SLOTS), full.run(SLOTS), lent.run(SLOTS), lent.run_in_crate(SLOTS), lent.run_by_value(SLOTS)];
         calls = sides[0].1;
         assert!(sides.iter().all(|side| side.1 == calls), "{name}: {sides:?}");
         if run > 0 {
@@ -89,16 +89,7 @@ fn time_cycle(name: &str, settings: &chanbook_shard::Settings, runs: usize) {
             }
         }
     }
-    let [bare, full, lent] = times;
-    println!(
-        "| {name}, {} calls a slot | {:.0} | {:.0} | {:.0} | | | {:.2} | {:.2} |",
-        calls / SLOTS,
-        best(&bare),
-        best(&full),
-        best(&lent),
-        ratio(&lent, &bare),
-        ratio(&lent, &full)
-    );
+    print_row(&format!("{name}, {} calls a slot", calls / SLOTS), &times);
 }
 
 fn main() {

@@ -1,9 +1,12 @@
-//! Links the engine, which `rt staticlib host` proves and compiles at the root of the repository. It is made anew where it is missing or
+//! Links the engine's libraries, which `rt staticlib` proves and compiles at the root of the repository. One is made anew where it is missing or
 //! older than a source.
 use std::fs;
 use std::path::{Path, PathBuf};
 use std::process::Command;
 use std::time::SystemTime;
+
+/// The crates that export functions; each is a library of its name.
+const LIBRARIES: [&str; 2] = ["host", "direct"];
 
 /// The folders of a crate that `rt` reads.
 const READ: [&str; 3] = ["src", "specs", "proofs"];
@@ -27,27 +30,30 @@ fn newest_source(root: &Path) -> Option<SystemTime> {
         .max()
 }
 
-fn prove_and_compile(root: &Path) {
+fn prove_and_compile(root: &Path, name: &str) {
     let status = Command::new("rt")
-        .args(["staticlib", "host"])
+        .args(["staticlib", name])
         .current_dir(root)
         .status()
         .expect("`rt`, the command of the Rattle kit, could not be started");
-    assert!(status.success(), "`rt staticlib host` failed in {root:?}");
+    assert!(status.success(), "`rt staticlib {name}` failed in {root:?}");
 }
 
 fn main() {
     let here = PathBuf::from(std::env::var("CARGO_MANIFEST_DIR").unwrap());
     let root = here.join("../..").canonicalize().unwrap();
     let folder = root.join("target/staticlib");
-    let library = folder.join("libhost.a");
-    let built = changed(&library);
-    if built.is_none() || built < newest_source(&root) {
-        prove_and_compile(&root);
-    }
+    let newest = newest_source(&root);
     println!("cargo:rustc-link-search=native={}", folder.display());
-    println!("cargo:rustc-link-lib=static=host");
-    println!("cargo:rerun-if-changed={}", library.display());
+    for name in LIBRARIES {
+        let library = folder.join(format!("lib{name}.a"));
+        let built = changed(&library);
+        if built.is_none() || built < newest {
+            prove_and_compile(&root, name);
+        }
+        println!("cargo:rustc-link-lib=static={name}");
+        println!("cargo:rerun-if-changed={}", library.display());
+    }
     println!("cargo:rerun-if-changed={}", root.join("crates").display());
     println!("cargo:rerun-if-changed={}", root.join("crates.txt").display());
 }

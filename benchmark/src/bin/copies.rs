@@ -4,7 +4,7 @@
 mod cases;
 
 use chanbook_shard::Shard;
-use chanbook_shard::sys::{self, FlatCall};
+use chanbook_shard::sys::{self, FlatCall, FlatReply};
 use std::ffi::{c_int, c_void};
 use std::sync::atomic::{AtomicBool, AtomicUsize, Ordering};
 
@@ -47,6 +47,7 @@ unsafe extern "C" fn __wrap_memset(to: *mut c_void, byte: c_int, bytes: usize) -
 fn main() {
     println!("| call | copies | bytes |");
     println!("|---|---|---|");
+    let mut reply = FlatReply::default();
     for case in cases::all() {
         let mut shard = Shard::new(&case.settings);
         for call in &case.before {
@@ -56,7 +57,7 @@ fn main() {
         let call = FlatCall::from(case.call);
         (COPIES.store(0, Ordering::Relaxed), BYTES.store(0, Ordering::Relaxed));
         COUNTS.store(true, Ordering::Relaxed);
-        let reply = sys::chanbook_shard_call(&mut twin, call);
+        sys::chanbook_call(&mut twin, &call, &mut reply);
         COUNTS.store(false, Ordering::Relaxed);
         assert_eq!(reply.outcome != 0, case.refused, "{}", case.name);
         println!("| {} | {} | {} |", case.name, COPIES.load(Ordering::Relaxed), BYTES.load(Ordering::Relaxed));

@@ -3,7 +3,7 @@ use crate::call::{Call, Delivery};
 use crate::message::{PaxosRound, RoundV, option, promise, round};
 use crate::reply::{OpenRead, Refusal, Reply, open_read, outcome, reply};
 use crate::settings::Settings;
-use crate::sys::{self, FlatShard};
+use crate::sys::{self, FlatReply, FlatShard};
 
 /// A shard: one member's part in agreeing on the slots of one log. It owns its memory and lends it to the engine for each call.
 ///
@@ -39,7 +39,8 @@ impl Shard {
 
     /// A call. The reply is all that the host has to act on.
     pub fn call(&mut self, call: Call) -> Reply {
-        let flat = sys::chanbook_shard_call(&mut self.twin, call.into());
+        let mut flat = FlatReply::default();
+        sys::chanbook_call(&mut self.twin, &call.into(), &mut flat);
         reply(&flat, &self.twin.state.table.served)
     }
 

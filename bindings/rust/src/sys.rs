@@ -1,5 +1,5 @@
-//! The twins that cross `extern "C"`, as crates/flat declares them, and the functions that crates/host exports. A twin has numbers only: 0 is no
-//! and any other number yes. Every twin stands for some shard or call, whatever numbers are in it, and so the functions are safe to call.
+//! The twins that cross `extern "C"`, as crates/flat declares them, and the functions that crates/host and crates/direct export. A twin has numbers
+//! only: 0 is no and any other number yes. Every twin stands for some shard or call, whatever numbers are in it, and so a call on one is safe.
 //!
 //! [`Shard`](crate::Shard) is the interface for a host; these are for whoever keeps shards in memory of their own.
 #![allow(missing_docs)]
@@ -210,6 +210,78 @@ unsafe extern "C" {
 
     /// The same call by value, with a copy of the whole shard: slower, for comparison.
     pub safe fn chanbook_shard_call_by_value(shard: &mut FlatShard, call: FlatCall) -> FlatReply;
+
+    /// A call in place, on parts of a shard, of a call and of a reply as rows of numbers: `setup` has the numbers of a shard up to
+    /// `has_committers`, and `rest` a reply's commit and `served_count`. Gives 0 where the call is taken; of a message that is not sent only the
+    /// kind is written. Gives the number of a refusal, or [`PASSED_ON`], where nothing at all is written.
+    ///
+    /// # Safety
+    ///
+    /// Each row can be read, and written where it is `mut`, and none that is written overlaps another.
+    pub unsafe fn chanbook_direct_call(
+        setup: *const [u64; 10],
+        committers: *const [u64; 64],
+        delegates: *const [u64; 64],
+        core: *mut [u64; 18],
+        open: *mut [u64; 640],
+        served: *mut [u64; 512],
+        call: *const [u64; 25],
+        first: *mut [u64; 20],
+        second: *mut [u64; 20],
+        third: *mut [u64; 20],
+        rest: *mut [u64; 5],
+    ) -> u64;
+}
+
+/// [`chanbook_direct_call`] does not handle the call: it has to go to [`chanbook_shard_call`].
+pub const PASSED_ON: u64 = 255;
+
+/// A call as a host makes it: in place, or by [`chanbook_shard_call`] where it is passed on. The reply may be one that an earlier call has filled.
+/// Of a message that is not sent, and of a commit that is not given, the other numbers say nothing.
+#[inline]
+pub fn chanbook_call(shard: &mut FlatShard, call: &FlatCall, reply: &mut FlatReply) {
+    match direct_call(shard, call, reply) {
+        PASSED_ON => *reply = chanbook_shard_call(shard, *call),
+        0 => reply.outcome = 0,
+        refusal => {
+            // Nothing is written, and what an earlier call sent may still stand there.
+            reply.outcome = refusal;
+            reply.first.kind = 0;
+            reply.second.kind = 0;
+            reply.third.kind = 0;
+            reply.commit.given = 0;
+            reply.served_count = 0;
+        }
+    }
+}
+
+#[inline]
+fn direct_call(shard: &mut FlatShard, call: &FlatCall, reply: &mut FlatReply) -> u64 {
+    let (shard, call, reply) = (&raw mut *shard, &raw const *call, &raw mut *reply);
+    // SAFETY: shard, call and reply are borrowed for as long as the call lasts, and have numbers only. The rows are parts of them that do not
+    // overlap. `row` checks the length of a field that is handed over whole. The lengths of the other three are checked at the end of this file:
+    // from the shard's first number to its committers, the whole call, and from the reply's commit to its end.
+    unsafe {
+        chanbook_direct_call(
+            shard.cast(),
+            &raw const (*shard).settings.committers,
+            &raw const (*shard).settings.delegates,
+            row(&raw mut (*shard).state.rounds.core),
+            row(&raw mut (*shard).state.table.reads),
+            row(&raw mut (*shard).state.table.served),
+            call.cast(),
+            row(&raw mut (*reply).first),
+            row(&raw mut (*reply).second),
+            row(&raw mut (*reply).third),
+            (&raw mut (*reply).commit).cast(),
+        )
+    }
+}
+
+/// The numbers of a twin, or of a list of twins, as a row.
+fn row<T, const LENGTH: usize>(part: *mut T) -> *mut [u64; LENGTH] {
+    const { assert!(size_of::<T>() == LENGTH * size_of::<u64>()) };
+    part.cast()
 }
 
 macro_rules! numbers {
@@ -250,4 +322,8 @@ const _: () = {
     assert!(offset_of!(FlatRounds, fast) == 144);
     assert!(offset_of!(FlatTable, served) == 5120);
     assert!(offset_of!(FlatReply, commit) == 488);
+    assert!(offset_of!(FlatShard, settings.committers) == size_of::<[u64; 10]>());
+    assert!(size_of::<FlatCall>() == size_of::<[u64; 25]>());
+    assert!(offset_of!(FlatReply, served_count) == offset_of!(FlatReply, commit) + size_of::<FlatCommit>());
+    assert!(size_of::<FlatReply>() == offset_of!(FlatReply, commit) + size_of::<[u64; 5]>());
 };

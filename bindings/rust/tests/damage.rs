@@ -1,14 +1,13 @@
 //! Damaged frames and shards of any numbers. Each call ends; it is taken or gives a number from 1 to 12; a refusal leaves every number of the
 //! shard as it was and hands back the number alone.
+mod numbers;
 mod support;
 
 use chanbook_shard::sys::{self, FlatCall, FlatReply, FlatShard};
 use chanbook_shard::{Call, PFModeSetting, Settings, Shard};
+use numbers::{AT_LIMITS, any_number};
 use std::collections::BTreeSet;
-use support::{Group, Random, agreeing_modes, five};
-
-/// Numbers at which something changes: kinds, processes, counts, and the limits of slots and of all numbers.
-const AT_LIMITS: [u64; 18] = [0, 1, 2, 3, 4, 5, 6, 7, 63, 64, 65, 127, 128, 1 << 32, (1 << 63) - 2, (1 << 63) - 1, 1 << 63, u64::MAX];
+use support::{Group, Random, all_modes, five};
 
 /// The outcome of the call, once what must hold of every call was checked.
 fn checked(shard: &FlatShard, call: FlatCall) -> u64 {
@@ -38,15 +37,10 @@ fn damage_each_number(shard: &FlatShard, call: FlatCall, random: &mut Random) ->
     outcomes
 }
 
-fn modes() -> Vec<PFModeSetting> {
-    let fast = [PFModeSetting::EPaxos, PFModeSetting::SwiftPaxos { quorum: None }, PFModeSetting::SwiftPaxos { quorum: Some(0b10111) }];
-    agreeing_modes().into_iter().chain(fast).collect()
-}
-
 #[test]
 fn each_number_of_a_frame_may_be_damaged() {
     let mut outcomes = BTreeSet::new();
-    for mode in modes() {
+    for mode in all_modes() {
         let mut group = Group::new(&five(mode), 5);
         for _ in 0..120 {
             let (member, call) = group.next_call();
@@ -66,7 +60,7 @@ fn each_number_of_a_frame_may_be_damaged() {
 #[test]
 fn a_frame_of_any_numbers() {
     let mut random = Random(11);
-    for mode in modes() {
+    for mode in all_modes() {
         let mut group = Group::new(&five(mode), 6);
         (0..40).for_each(|_| group.step());
         for _ in 0..5000 {
@@ -74,15 +68,6 @@ fn a_frame_of_any_numbers() {
             let call = FlatCall::from_numbers(std::array::from_fn(|_| any_number(&mut random)));
             checked(group.shards[member].twin(), call);
         }
-    }
-}
-
-/// A number at a limit, a small one, or any.
-fn any_number(random: &mut Random) -> u64 {
-    match random.below(3) {
-        0 => AT_LIMITS[random.below(AT_LIMITS.len())],
-        1 => random.next() % 5,
-        _ => random.next(),
     }
 }
 
@@ -99,7 +84,7 @@ fn a_shard_of_any_numbers() {
 #[test]
 fn a_made_shard_with_a_state_of_any_numbers() {
     let mut random = Random(13);
-    for mode in modes() {
+    for mode in all_modes() {
         let settings = *Shard::new(&five(mode)).twin();
         for _ in 0..2000 {
             let mut shard = FlatShard::from_numbers(std::array::from_fn(|_| any_number(&mut random)));

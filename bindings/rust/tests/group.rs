@@ -2,7 +2,7 @@
 mod support;
 
 use chanbook_shard::{PFModeSetting, sys};
-use support::{Group, agreeing_modes, five};
+use support::{Group, agreeing_modes, all_modes, five};
 
 const SLOTS: usize = 1000;
 
@@ -45,8 +45,7 @@ fn a_run_with_the_same_seed_is_the_same_run() {
 
 #[test]
 fn the_call_by_value_does_the_same() {
-    let fast = [PFModeSetting::EPaxos, PFModeSetting::SwiftPaxos { quorum: None }];
-    for mode in agreeing_modes().into_iter().chain(fast) {
+    for mode in all_modes() {
         let mut group = Group::new(&five(mode), 9);
         for _ in 0..5000 {
             let (member, call) = group.next_call();

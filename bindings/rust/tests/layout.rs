@@ -1,8 +1,11 @@
-//! The twins of this crate have the fields of crates/flat and of the C header, in the same order and of the same types. All are numbers and
-//! `#[repr(C)]`, and so equal fields are equal sizes and offsets.
+//! The twins of this crate have the fields of crates/twins, of crates/flat and of the C header, in the same order and of the same types. All are numbers and
+//! `#[repr(C)]`, and so equal fields are equal sizes and offsets. The call in place has the rows of the header, in the same order.
+
+use std::collections::BTreeMap;
 
 const MIRROR: &str = include_str!("../src/sys.rs");
-const SOURCE: &str = include_str!("../../../crates/flat/src/lib.rt");
+const TWINS: &str = include_str!("../../../crates/twins/src/lib.rt");
+const FLAT: &str = include_str!("../../../crates/flat/src/lib.rt");
 const HEADER: &str = include_str!("../../../crates/host/include/chanbook_shard.h");
 
 /// `FlatOpenRead` for `chanbook_open_read`.
@@ -49,11 +52,44 @@ fn fields_in_c(text: &str) -> Vec<String> {
     structs(text, "\nstruct ").iter().flat_map(|(name, lines)| lines.iter().map(|line| field_in_c(name, line))).collect()
 }
 
+/// What stands between the brackets of the function's declaration, argument by argument.
+fn arguments<'a>(text: &'a str, opening: &str) -> Vec<&'a str> {
+    let (_, rest) = text.split_once(opening).expect("the function");
+    let (list, _) = rest.split_once(')').expect("the end of its arguments");
+    list.split(',').map(str::trim).filter(|argument| !argument.is_empty()).collect()
+}
+
+/// `setup: *const [u64; 10]` for `const uint64_t setup[10]`.
+fn row_in_c(argument: &str) -> String {
+    let (kind, declared) = argument.split_once("uint64_t ").expect("a row of numbers");
+    let (name, length) = declared.trim_end_matches(']').split_once('[').expect("a name and a length");
+    let kind = if kind.is_empty() { "mut" } else { kind.trim_end() };
+    format!("{name}: *{kind} [u64; {length}]")
+}
+
+#[test]
+fn the_rows_are_those_of_the_header() {
+    let rows: Vec<String> = arguments(HEADER, "\nuint64_t chanbook_direct_call(").into_iter().map(row_in_c).collect();
+    assert_eq!(rows.len(), 11);
+    assert_eq!(arguments(MIRROR, "fn chanbook_direct_call("), rows);
+}
+
+/// The fields of each struct, in their order: the structs stand in another order in the source.
+fn by_struct(fields: Vec<String>) -> BTreeMap<String, Vec<String>> {
+    let mut structs: BTreeMap<String, Vec<String>> = BTreeMap::new();
+    for field in fields {
+        let name = field.split('.').next().unwrap_or_default().to_string();
+        structs.entry(name).or_default().push(field);
+    }
+    structs
+}
+
 #[test]
 fn the_twins_are_those_of_the_source() {
-    let source = fields_in_rust(SOURCE);
+    let mut source = fields_in_rust(TWINS);
+    source.extend(fields_in_rust(FLAT));
     assert!(source.contains(&"FlatReply.served_count: u64".to_string()), "read to the last one");
-    assert_eq!(fields_in_rust(MIRROR), source);
+    assert_eq!(by_struct(fields_in_rust(MIRROR)), by_struct(source));
 }
 
 #[test]

@@ -1,6 +1,6 @@
 -- Handling an Accept at a replica (the Rust's process_message, `Accept`), up to the point where SwiftPaxos parts.
 -- Assumes nothing.
-use mathlib.Core.Bool.{Bool, true, false, cond, not, _&&_}
+use mathlib.Core.Bool.{Bool, true, false, cond, not, _&&_, _||_}
 use Prim.Native.Nat.{ℕ}
 use lib.Dec.{eqb}
 use Rattle.message.specs.Modes.{isSwiftPaxos}
@@ -91,6 +91,23 @@ follower a h round v core =
 unfoldable pub accepted : Asked → Heard → PaxosRound → ℕ → Core → CoreStep
 accepted a h round v core =
     cond (eqb (a .member .«my_pid») (round .leader)) (tryCommit a h round v core noMessages) (follower a h round v core)
+
+-- ---- the same by what is answered and who counts
+
+-- what the delegate's accept is answered with
+unfoldable pub acceptAnswer : Asked → Heard → PaxosRound → Core → Messages
+acceptAnswer a h round core =
+    cond (eqb (a .member .«my_pid») (round .leader)) noMessages
+    (cond (eqb (h .src) (h .delegate)) (answerAccept a round core (h .committer)) noMessages)
+
+-- in SwiftPaxos a committer that has answered goes on with the fast half
+unfoldable pub continuesFast : Asked → Heard → PaxosRound → Bool
+continuesFast a h round =
+    not (eqb (a .member .«my_pid») (round .leader)) && (eqb (h .src) (h .delegate) && (isSwiftPaxos (a .mode) && isCommitter a h))
+
+-- the leader counts accepts, and a committer
+unfoldable pub countsAccepts : Asked → Heard → PaxosRound → Bool
+countsAccepts a h round = eqb (a .member .«my_pid») (round .leader) || isCommitter a h
 
 abbrev pub afterAccepted : Asked → Heard → PaxosRound → ℕ → Core → PaxosState → Outcome → CoreStep
 afterAccepted a h round v core p Done = accepted a h round v (cond (isSwiftPaxos (a .mode)) (withPaxos p core) (leftFastPath (withPaxos p core)))

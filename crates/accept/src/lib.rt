@@ -1,6 +1,6 @@
 // What an Accept does: who is told of an accepted value, who counts, and the commit that the last of the accepts brings.
 ghost use mathlib.Core.Path.{_≡_};
-ghost use Rattle.accept.specs.Accept.{tellsCommitter, isCommitter, acceptTo, tellsThird, answerAccept, commitMessage, tellsCommit, commitMessages, tryCommit, answered, follower, accepted, afterAccepted, accepting};
+ghost use Rattle.accept.specs.Accept.{tellsCommitter, isCommitter, acceptTo, tellsThird, answerAccept, commitMessage, tellsCommit, commitMessages, tryCommit, acceptAnswer, continuesFast, countsAccepts, accepted, afterAccepted, accepting};
 use message::ConsensusMsg;
 use message::OptionalProcess;
 use message::Outcome;
@@ -162,42 +162,63 @@ pub fn try_commit(
     core.stays(messages)
 }
 
-// The delegate's accept is answered. A committer goes on: in SwiftPaxos with the fast half, and else by the accepts.
-fn answered(asked: Asked, heard: Heard, round: PaxosRound, v: u64, core: Core) -> CoreStep
-    ensures { λ r. ⌜ r ≡ answered asked heard round v core ⌝ }
+// What the delegate's accept is answered with. The leader answers nobody, and no other accept is answered.
+fn accept_answer(asked: Asked, heard: Heard, round: PaxosRound, core: Core) -> Messages
+    ensures { λ r. ⌜ r ≡ acceptAnswer asked heard round core ⌝ }
 {
-    let mode = asked.mode;
-    let committer = heard.committer;
-    let answer = answer_accept(asked, round, core, committer);
-    if is_committer(asked, heard) {
-        if mode.is_swift_paxos() {
-            return core.continues(answer);
-        }
-        return try_commit(asked, heard, round, v, core, answer);
+    if asked.member.my_pid == round.leader {
+        return steps::no_messages();
     }
-    core.stays(answer)
-}
-
-// Another than the leader hears any other's accept as the committer alone.
-fn follower(asked: Asked, heard: Heard, round: PaxosRound, v: u64, core: Core) -> CoreStep
-    ensures { λ r. ⌜ r ≡ follower asked heard round v core ⌝ }
-{
     if heard.src == heard.delegate {
-        return answered(asked, heard, round, v, core);
+        let committer = heard.committer;
+        return answer_accept(asked, round, core, committer);
     }
-    if is_committer(asked, heard) {
-        return try_commit(asked, heard, round, v, core, steps::no_messages());
-    }
-    core.refuses(Refusal::Panic)
+    steps::no_messages()
 }
 
+// Whether the fast half goes on: in SwiftPaxos, at a committer that has answered.
+fn continues_fast(asked: Asked, heard: Heard, round: PaxosRound) -> bool
+    ensures { λ r. ⌜ r ≡ continuesFast asked heard round ⌝ }
+{
+    if asked.member.my_pid == round.leader {
+        return false;
+    }
+    if heard.src == heard.delegate {
+        let mode = asked.mode;
+        if mode.is_swift_paxos() {
+            return is_committer(asked, heard);
+        }
+        return false;
+    }
+    false
+}
+
+// Whether the accepts that are heard may commit the value here: at the leader, and at a committer.
+fn counts_accepts(asked: Asked, heard: Heard, round: PaxosRound) -> bool
+    ensures { λ r. ⌜ r ≡ countsAccepts asked heard round ⌝ }
+{
+    if asked.member.my_pid == round.leader {
+        return true;
+    }
+    is_committer(asked, heard)
+}
+
+// The Rust's three branches, of the leader, of one that answers and of one that only counts, meet in one place that commits: a function with one
+// caller is compiled into it, and then nothing is copied.
 fn accepted(asked: Asked, heard: Heard, round: PaxosRound, v: u64, core: Core) -> CoreStep
     ensures { λ r. ⌜ r ≡ accepted asked heard round v core ⌝ }
 {
-    if asked.member.my_pid == round.leader {
-        return try_commit(asked, heard, round, v, core, steps::no_messages());
+    let answer = accept_answer(asked, heard, round, core);
+    if continues_fast(asked, heard, round) {
+        return core.continues(answer);
     }
-    follower(asked, heard, round, v, core)
+    if counts_accepts(asked, heard, round) {
+        return try_commit(asked, heard, round, v, core, answer);
+    }
+    if heard.src == heard.delegate {
+        return core.stays(answer);
+    }
+    core.refuses(Refusal::Panic)
 }
 
 fn after_accepted(

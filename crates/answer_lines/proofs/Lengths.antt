@@ -16,7 +16,7 @@ use Rattle.shard_lines.proofs.Lengths.{shard}
 pub answer-length : (a : Answer) → length (answerText a) ≤ 27257
 unfolding answerText
 answer-length a =
-    simp length-append (omega (arith, reply (a .reply) (a .shard .state .table .served), shard (a .shard) (a .shard .made)))
+    simp length-append (omega (arith, reply (a .reply) (a .shard .state .table .served), shard (a .shard .state .rounds) (a .shard .state .table .reads) (a .shard .made)))
 
 -- the whole line is put where so many bytes are left
 pub answer-fits : (a : Answer) (out : List ℕ) (at : ℕ) → at + 27257 ≤ length out

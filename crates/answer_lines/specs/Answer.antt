@@ -8,4 +8,6 @@ use Rattle.reply_lines.specs.Reply.{replyText}
 use Rattle.shard_lines.specs.Shard.{shardText}
 
 unfoldable pub answerText : Answer → List ℕ
-answerText a = replyText (a .reply) (a .shard .state .table .served) ++ shardText (a .shard) (a .shard .made) ++ ascii "\n"
+answerText a =
+    replyText (a .reply) (a .shard .state .table .served)
+    ++ shardText (a .shard .state .rounds) (a .shard .state .table .reads) (a .shard .made) ++ ascii "\n"

@@ -12,8 +12,10 @@ pub fn put_answer(out: &mut [u8], at: usize, answer: Answer) -> usize
     let shard = answer.shard;
     let reply = answer.reply;
     let served = shard.state.table.served;
+    let rounds = shard.state.rounds;
+    let reads = shard.state.table.reads;
     let made = shard.made;
     let second = reply_lines::put_reply(out, at, reply, served);
-    let third = shard_lines::put_shard(out, second, shard, made);
+    let third = shard_lines::put_shard(out, second, rounds, reads, made);
     texts::put_byte(out, third, b'\n')
 }

@@ -162,7 +162,7 @@ fn core_finish(a: Asked, held: bool, old: Core, step: CoreStep) -> CoreAnswer
 }
 
 // The host holds the value that it proposes.
-fn core_proposed(a: Asked, v: u64, core: Core) -> CoreAnswer
+pub fn core_proposed(a: Asked, v: u64, core: Core) -> CoreAnswer
     ensures { λ r. ⌜ r ≡ coreProposed a v core ⌝ }
 {
     let mode = a.mode;
@@ -172,7 +172,13 @@ fn core_proposed(a: Asked, v: u64, core: Core) -> CoreAnswer
     core_finish(a, true, core, propose::propose_classic(a, v, core))
 }
 
-fn core_processed(a: Asked, heard: Heard, held: bool, msg: ConsensusMsg, core: Core) -> CoreAnswer
+pub fn core_processed(
+    a: Asked,
+    heard: Heard,
+    held: bool,
+    msg: ConsensusMsg,
+    core: Core,
+) -> CoreAnswer
     ensures { λ r. ⌜ r ≡ coreProcessed a heard held msg core ⌝ }
 {
     let mode = a.mode;
@@ -184,7 +190,7 @@ fn core_processed(a: Asked, heard: Heard, held: bool, msg: ConsensusMsg, core: C
 }
 
 // A Commit of an older slot does nothing. The own slot's commits, from any source and at any member.
-fn core_on_commit(a: Asked, slot: u64, v: u64, core: Core) -> CoreAnswer
+pub fn core_on_commit(a: Asked, slot: u64, v: u64, core: Core) -> CoreAnswer
     ensures { λ r. ⌜ r ≡ coreOnCommit a slot v core ⌝ }
 {
     let mode = a.mode;
@@ -210,7 +216,7 @@ fn next_readable(core: Core) -> u64
 }
 
 // Answered at any member. The Rust's sink asserts that nothing is sent to oneself.
-fn core_on_read_request(own: u64, src: u64, id: ReadId, core: Core) -> CoreAnswer
+pub fn core_on_read_request(own: u64, src: u64, id: ReadId, core: Core) -> CoreAnswer
     ensures { λ r. ⌜ r ≡ coreOnReadRequest own src id core ⌝ }
 {
     if src == own {

@@ -101,7 +101,7 @@ pub fn is_own_slot(core: Core, slot: OptionalSlot) -> bool
 }
 
 // Whether a last value is given that is not the own one.
-fn is_other_last(core: Core, last_v: OptionalValue) -> bool
+pub fn is_other_last(core: Core, last_v: OptionalValue) -> bool
     ensures { λ r. ⌜ r ≡ isOtherLast core «last_v» ⌝ }
 {
     let own = core.last_v;

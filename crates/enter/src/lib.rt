@@ -71,9 +71,9 @@ pub fn enter(asked: Asked, heard: Heard, slot: u64, round: PaxosRound, core: Cor
 {
     if can_propose(asked) {
         if is_older(core, slot, round) {
-            return core.stays(no_messages());
+            return core.stays_silent();
         }
         return from_live(asked, heard, round, core);
     }
-    core.stays(no_messages())
+    core.stays_silent()
 }

@@ -55,7 +55,7 @@ fn epaxos_adopt(asked: Asked, round: PaxosRound, core: Core, adoption: Adoption)
     ensures { λ r. ⌜ r ≡ epaxosAdopt asked round core adoption ⌝ }
 {
     match adoption {
-        Adoption::NoAdoption => core.stays(steps::no_messages()),
+        Adoption::NoAdoption => core.stays_silent(),
         Adoption::Adopt(v) => adopting(asked, round, v, core),
         Adoption::AdoptionRefused(why) => core.refuses(why),
     }
@@ -92,7 +92,7 @@ fn after_epaxos_answer(
 {
     match outcome {
         Outcome::Done => epaxos_decide(asked, heard, round, v, core, fast).on_rounds(fast),
-        Outcome::Refused(why) => core.refuses(why).on_rounds(fast),
+        Outcome::Refused(why) => core.refuses_on_rounds(why, fast),
     }
 }
 
@@ -118,7 +118,7 @@ fn epaxos_answer(
         RoundV::PaxosV {
             accept_round: _,
             v: _,
-        } => core.refuses(Refusal::Panic).on_rounds(fast),
+        } => core.refuses_on_rounds(Refusal::Panic, fast),
     }
 }
 

@@ -1,7 +1,7 @@
 -- A call on a twin is the call on the shard that it stands for: the twin afterwards stands for the new shard, the reply is the call's, and after a
 -- refusal the twin is as it was, number for number.
 -- Assumes nothing.
-use mathlib.Core.Path.{_≡_, refl, sym, ap, subst, _∙_}
+use mathlib.Core.Path.{_≡_, refl, sym, ap, ap₂, subst, _∙_}
 use mathlib.Core.Logic.{_⊎_, inl, inr}
 use mathlib.Core.Bool.{Bool, true, false, cond}
 use Rattle.basics.proofs.Tests.{not-both}
@@ -9,6 +9,9 @@ use Rattle.message.specs.declared.Outcome.{Outcome}
 use Rattle.message.specs.declared.Outcome.the-variants.{Done, Refused}
 use Rattle.message.specs.declared.Refusal.{Refusal}
 use Rattle.fast_state.specs.Adopt.{lowestBest}
+use Rattle.read_tracker.specs.declared.ReadTable.{ReadTable}
+use Rattle.steps.specs.declared.Rounds.{Rounds}
+use Rattle.state_calls.specs.declared.State.{State}
 use Rattle.consensus.specs.Answers.{withState, withRounds}
 use Rattle.consensus.specs.Call.{callOf}
 use Rattle.consensus.specs.Causes.{Cause}
@@ -26,11 +29,15 @@ use Rattle.state_calls.specs.declared.StateAnswer.{StateAnswer}
 use Rattle.consensus.specs.ByParts.{withCore, fromCore, fromRounds, fromState, byState, byRounds, byCore}
 use Rattle.consensus.proofs.ByParts.{by-parts, by-core}
 use Rattle.flat.specs.Calls.{flatCore, flatCoreCall, flatRounds, flatRoundsCall, flatState, flatStateCall, FlatAnswer, withFlatState, withFlatRounds, withFlatCore, fromFlatRounds, fromFlatCore, flatByState, flatByRounds, flatByCore, flatDecision, flatCall}
-use Rattle.flat.specs.Freeze.{frozenCore, frozenRounds, frozenState, frozenReply}
-use Rattle.flat.specs.Thaw.{thawedCore, thawedRounds, thawedState, thawedShard, thawedCall}
-use Rattle.flat.specs.declared.FlatCall.{FlatCall}
+use Rattle.twins.specs.Freeze.{frozenCore, frozenRounds, frozenReply}
+use Rattle.twins.specs.Thaw.{thawedCore, thawedRounds, thawedCall}
+use Rattle.flat.specs.State.{thawedState, frozenState, thawedShard}
+use Rattle.twins.specs.declared.FlatCall.{FlatCall}
 use Rattle.flat.specs.declared.FlatShard.{FlatShard}
-use Rattle.flat.proofs.Twins.{core-frozen, rounds-frozen, state-frozen}
+use Rattle.twins.proofs.Twins.{core-frozen, rounds-frozen, table-frozen}
+
+pub state-frozen : (s : State) → thawedState (frozenState s) ≡ s
+state-frozen s = ap₂ (λ (r : Rounds) (t : ReadTable). record { rounds = r; table = t }) (rounds-frozen (s .rounds)) (table-frozen (s .table))
 
 -- ---- refusals
 
@@ -55,7 +62,7 @@ module _ (f : FlatShard) (c : FlatCall) where
   shard = thawedShard f
 
   abbrev whole : Answer
-  whole = callOf shard (thawedCall (f .settings) c)
+  whole = callOf shard (thawedCall (f .settings .«process_count») (f .settings .«my_pid») c)
 
   abbrev decision : Decision
   decision = flatDecision f c
@@ -135,4 +142,4 @@ module _ (f : FlatShard) (c : FlatCall) where
       go false e = from-core a (ap (λ (t : Bool). cond t (byRounds shard decision) (fromCore shard a)) (sym e) ∙ p) (a .reply .outcome) refl
 
   pub twin-call : Twin (flatCall f c)
-  twin-call = by-core-twin (by-core shard decision ∙ by-parts shard (thawedCall (f .settings) c))
+  twin-call = by-core-twin (by-core shard decision ∙ by-parts shard (thawedCall (f .settings .«process_count») (f .settings .«my_pid») c))

@@ -13,16 +13,17 @@ use Rattle.rounds_calls.specs.declared.RoundsAnswer.{RoundsAnswer}
 use Rattle.state_calls.specs.StateCall.{stateCall}
 use Rattle.state_calls.specs.declared.StateAnswer.{StateAnswer}
 use Rattle.consensus.specs.Call.{newShard}
-use Rattle.flat.specs.Freeze.{frozenOutcome, frozenCore, frozenRounds, frozenState, frozenReply}
-use Rattle.flat.specs.Thaw.{thawedSettings, thawedCore, thawedRounds, thawedState, decisionIn}
+use Rattle.twins.specs.Freeze.{frozenOutcome, frozenCore, frozenRounds, frozenReply}
+use Rattle.twins.specs.Thaw.{thawedSettings, thawedCore, thawedRounds, decisionIn}
+use Rattle.flat.specs.State.{thawedState, frozenState}
 use Rattle.flat.specs.declared.FlatBegun.{FlatBegun}
-use Rattle.flat.specs.declared.FlatCall.{FlatCall}
-use Rattle.flat.specs.declared.FlatCore.{FlatCore}
+use Rattle.twins.specs.declared.FlatCall.{FlatCall}
+use Rattle.twins.specs.declared.FlatCore.{FlatCore}
 use Rattle.flat.specs.declared.FlatCoreAnswer.{FlatCoreAnswer}
-use Rattle.flat.specs.declared.FlatRounds.{FlatRounds}
+use Rattle.twins.specs.declared.FlatRounds.{FlatRounds}
 use Rattle.flat.specs.declared.FlatRoundsAnswer.{FlatRoundsAnswer}
-use Rattle.flat.specs.declared.FlatSettings.{FlatSettings}
-use Rattle.flat.specs.declared.FlatReply.{FlatReply}
+use Rattle.twins.specs.declared.FlatSettings.{FlatSettings}
+use Rattle.twins.specs.declared.FlatReply.{FlatReply}
 use Rattle.flat.specs.declared.FlatShard.{FlatShard}
 use Rattle.flat.specs.declared.FlatState.{FlatState}
 use Rattle.flat.specs.declared.FlatStateAnswer.{FlatStateAnswer}

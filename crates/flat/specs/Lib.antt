@@ -1,4 +1,2 @@
-pub mod Tables
-pub mod Thaw
-pub mod Freeze
+pub mod State
 pub mod Calls

@@ -1,4 +1,5 @@
-/* Chanbook's shard engine for a host in C, C++ or Rust. Link libhost.a, which `rt staticlib host` writes.
+/* Chanbook's shard engine for a host in C, C++ or Rust. Link libhost.a and libdirect.a, which `rt staticlib host` and `rt staticlib direct` write.
+   A host begins a shard with chanbook_shard_new and makes its calls with chanbook_call.
 
    Every field is a number. 0 is no and any other number yes; the engine writes 1. A field that is not given is 0 where the engine writes it.
    Whatever numbers stand in a shard or a call, the call is taken or answered with a refusal's number of document 01. A refused call leaves
@@ -6,6 +7,7 @@
 #ifndef CHANBOOK_SHARD_H
 #define CHANBOOK_SHARD_H
 
+#include <stddef.h>
 #include <stdint.h>
 
 #ifdef __cplusplus
@@ -194,6 +196,43 @@ struct chanbook_reply chanbook_shard_call(struct chanbook_shard *s, struct chanb
 
 /* The same call by value, with a copy of the whole shard: slower, for comparison. */
 struct chanbook_reply chanbook_shard_call_by_value(struct chanbook_shard *s, struct chanbook_call call);
+
+enum { CHANBOOK_PASSED_ON = 255 };
+
+/* A call in place, on parts of a shard, of a call and of a reply as rows of numbers: `setup` is the shard from its start up to has_committers,
+   `rest` is the reply's commit and served_count. No row that is written may overlap another.
+   0: the call is taken. Core, reads and reply are written; of a message that is not sent only the kind is written.
+   A refusal's number: nothing at all is written.
+   CHANBOOK_PASSED_ON: nothing is written, and the call has to go to chanbook_shard_call. */
+uint64_t chanbook_direct_call(
+    const uint64_t setup[10], const uint64_t committers[64], const uint64_t delegates[64], uint64_t core[18], uint64_t open[640],
+    uint64_t served[512], const uint64_t call[25], uint64_t first[20], uint64_t second[20], uint64_t third[20], uint64_t rest[5]);
+
+/* A call as a host makes it: in place, or by chanbook_shard_call where it is passed on. The reply may be one that an earlier call has filled.
+   Of a message whose kind is CHANBOOK_NO_MESSAGE, and of a commit that is not given, the other numbers say nothing. */
+static inline void chanbook_call(struct chanbook_shard *s, const struct chanbook_call *call, struct chanbook_reply *reply)
+{
+    /* Rows that go over more than one field begin at the struct that they are in. */
+    const uint64_t *setup = (const uint64_t *)s;
+    uint64_t *rest = (uint64_t *)reply + offsetof(struct chanbook_reply, commit) / sizeof(uint64_t);
+    uint64_t number = chanbook_direct_call(
+        setup, s->settings.committers, s->settings.delegates, (uint64_t *)&s->state.rounds.core, (uint64_t *)s->state.table.reads,
+        (uint64_t *)s->state.table.served, (const uint64_t *)call, (uint64_t *)&reply->first, (uint64_t *)&reply->second,
+        (uint64_t *)&reply->third, rest);
+    if (number == CHANBOOK_PASSED_ON) {
+        *reply = chanbook_shard_call(s, *call);
+        return;
+    }
+    reply->outcome = number;
+    if (number != 0) {
+        /* Nothing is written, and what an earlier call sent may still stand there. */
+        reply->first.kind = CHANBOOK_NO_MESSAGE;
+        reply->second.kind = CHANBOOK_NO_MESSAGE;
+        reply->third.kind = CHANBOOK_NO_MESSAGE;
+        reply->commit.given = 0;
+        reply->served_count = 0;
+    }
+}
 
 #ifdef __cplusplus
 }

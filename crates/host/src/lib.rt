@@ -3,10 +3,10 @@
 ghost use mathlib.Core.Path.{_≡_};
 ghost use Rattle.flat.specs.Calls.{flatByState, flatByRounds, flatByCore, flatDecision, flatCall, flatNew};
 use calls::Decision;
-use flat::FlatCall;
-use flat::FlatReply;
-use flat::FlatSettings;
 use flat::FlatShard;
+use twins::FlatCall;
+use twins::FlatReply;
+use twins::FlatSettings;
 
 // By a copy of the state: what touches the table of the reads.
 fn state_in_place(s: &mut FlatShard, d: Decision) -> FlatReply
@@ -51,7 +51,7 @@ fn decision_in_place(s: &mut FlatShard, call: FlatCall) -> Decision
     let made = s.made;
     let settings = s.settings;
     let core = s.state.rounds.core;
-    flat::decision_in(made, settings, core, call)
+    twins::decision_in(made, settings, core, call)
 }
 
 // A call on the shard that is lent.

@@ -1,10 +1,21 @@
-/* A group of three in Paxos over the exported functions: two slots are committed by all, refusals leave every byte, a read is served.
-   Build: cc -I crates/host/include crates/host/test/host_test.c target/staticlib/libhost.a -o host_test */
+/* A group of three over the exported functions, in Paxos, whose calls are handled in place, and in EPaxos, most of whose calls are passed on: two
+   slots are committed by all, a read is served, refusals leave every byte. Every call is made both ways, and both do the same.
+   Build: cc -I crates/host/include crates/host/test/host_test.c target/staticlib/libhost.a target/staticlib/libdirect.a -o host_test */
 #include <stdio.h>
 #include <stdlib.h>
 #include <string.h>
 
 #include "chanbook_shard.h"
+
+/* The rows of chanbook_direct_call are parts of the structs. */
+#define IS_A_ROW(bytes, numbers) _Static_assert((bytes) == sizeof(uint64_t[numbers]), "a row of another length")
+IS_A_ROW(offsetof(struct chanbook_shard, settings.committers), 10);
+IS_A_ROW(sizeof(struct chanbook_core), 18);
+IS_A_ROW(sizeof(struct chanbook_open_read[128]), 640);
+IS_A_ROW(sizeof(struct chanbook_served_read[128]), 512);
+IS_A_ROW(sizeof(struct chanbook_call), 25);
+IS_A_ROW(sizeof(struct chanbook_outgoing), 20);
+IS_A_ROW(sizeof(struct chanbook_reply) - offsetof(struct chanbook_reply, commit), 5);
 
 enum { MEMBERS = 3, WAITING = 4096 };
 
@@ -31,12 +42,39 @@ static void post(uint64_t source, const struct chanbook_outgoing *o)
         }
 }
 
+static int same_outgoing(const struct chanbook_outgoing *a, const struct chanbook_outgoing *b)
+{
+    return a->kind == b->kind && (a->kind == CHANBOOK_NO_MESSAGE || memcmp(a, b, sizeof *a) == 0);
+}
+
+static int same_commit(const struct chanbook_commit *a, const struct chanbook_commit *b)
+{
+    return a->given == b->given && (!a->given || memcmp(a, b, sizeof *a) == 0);
+}
+
+static int same_reply(const struct chanbook_reply *a, const struct chanbook_reply *b)
+{
+    return a->outcome == b->outcome && same_outgoing(&a->first, &b->first) && same_outgoing(&a->second, &b->second)
+        && same_outgoing(&a->third, &b->third) && same_commit(&a->commit, &b->commit) && a->served_count == b->served_count;
+}
+
+/* As a host makes the call, and by chanbook_shard_call on a copy. One reply is filled again and again. */
+static struct chanbook_reply call_both_ways(struct chanbook_shard *s, struct chanbook_call c)
+{
+    static struct chanbook_reply r;
+    struct chanbook_shard before = *s, copy = *s;
+    struct chanbook_reply expected = chanbook_shard_call(&copy, c);
+    chanbook_call(s, &c, &r);
+    require(same_reply(&r, &expected), "another reply in place");
+    require(memcmp(&copy, s, sizeof copy) == 0, "another shard in place");
+    if (r.outcome != 0)
+        require(memcmp(&before, s, sizeof before) == 0, "a refusal changed the shard");
+    return r;
+}
+
 static struct chanbook_reply call(uint64_t member, struct chanbook_call c)
 {
-    struct chanbook_shard before = shards[member];
-    struct chanbook_reply r = chanbook_shard_call(&shards[member], c);
-    if (r.outcome != 0)
-        require(memcmp(&before, &shards[member], sizeof before) == 0, "a refusal changed the shard");
+    struct chanbook_reply r = call_both_ways(&shards[member], c);
     post(member, &r.first);
     post(member, &r.second);
     post(member, &r.third);
@@ -72,16 +110,24 @@ static void deliver_all(void)
     }
 }
 
-int main(void)
+static struct chanbook_settings settings_of(uint64_t mode)
 {
     struct chanbook_settings s = {0};
     s.process_count = MEMBERS;
     s.replica_count = MEMBERS;
     s.alive_replicas = 7;
-    s.mode = CHANBOOK_PAXOS;
+    s.mode = mode;
+    return s;
+}
+
+static void a_group_commits_and_reads(uint64_t mode)
+{
+    struct chanbook_settings s = settings_of(mode);
+    from = until = 0;
     for (uint64_t p = 0; p < MEMBERS; p++) {
         s.my_pid = p;
         require(chanbook_shard_new(&shards[p], s) == 0, "settings refused");
+        commits[p] = 0;
     }
     for (uint64_t slot = 0; slot < 2; slot++) {
         require(propose(0, 10 * (slot + 1)).outcome == 0, "proposal refused");
@@ -99,7 +145,10 @@ int main(void)
     require(opened.outcome == 0 && shards[1].state.rounds.core.open_count == 1, "read not opened");
     deliver_all();
     require(shards[1].state.rounds.core.open_count == 0 && shards[1].state.table.served[0].tag == 77, "read not served");
+}
 
+static void messages_are_refused(void)
+{
     struct chanbook_message m = {0};
     m.kind = CHANBOOK_PREPARE;
     m.slot = 9;
@@ -114,17 +163,28 @@ int main(void)
     require(receive(2, m).outcome == 8, "unknown kind: 8");
     m.src = 3;
     require(receive(2, m).outcome == 3, "unknown kind of no process: 3");
+}
 
+static void shards_are_not_made(void)
+{
+    struct chanbook_settings s = settings_of(6);
+    struct chanbook_call c = {0};
     struct chanbook_shard other;
     memset(&other, 0x5a, sizeof other);
-    s.mode = 6;
     require(chanbook_shard_new(&other, s) == 1 && other.made == 1, "unknown mode: 1");
     memset(&other, 0xff, sizeof other);
-    struct chanbook_call c = {0};
-    require(chanbook_shard_call(&other, c).outcome == 1, "damaged shard: 1");
+    require(call_both_ways(&other, c).outcome == 1, "damaged shard: 1");
     s.mode = CHANBOOK_PAXOS;
     s.process_count = 65;
-    require(chanbook_shard_new(&other, s) == 1 && chanbook_shard_call(&other, c).outcome == 1, "65 processes: 1");
+    require(chanbook_shard_new(&other, s) == 1 && call_both_ways(&other, c).outcome == 1, "65 processes: 1");
+}
+
+int main(void)
+{
+    a_group_commits_and_reads(CHANBOOK_EPAXOS);
+    a_group_commits_and_reads(CHANBOOK_PAXOS);
+    messages_are_refused();
+    shards_are_not_made();
     puts("host_test: ok");
     return 0;
 }

@@ -1,3 +1,2 @@
 pub mod States
 pub mod Faults
-pub mod Answer

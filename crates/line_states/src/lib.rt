@@ -1,25 +1,17 @@
-// The numbers of a line as settings or a state, what is wrong with them, and what a line without a fault makes of a shard (docs/ORACLE.md,
-// "Call lines").
+// The numbers of a line as settings or a state, and what is wrong with them (docs/ORACLE.md, "Call lines").
 ghost use mathlib.Core.Path.{_≡_};
 ghost use mathlib.Core.Bool.{_&&_};
 ghost use Prim.Native.Nat.{_≤_, _<_, min};
 ghost use lib.Dec.{ltb};
 ghost use Rattle.line_states.specs.States.{optionalSet, modeOf, entryAt, tableTo, settingsWith, settingsAt, settingsOf, heldOf, paxosOf, coreAt, proposersTo, fastAt, readAt, readTableAt, stateAt, stateOf};
 ghost use Rattle.line_states.specs.Faults.{isKind, settingsCountAt, stateCountAt, expectedCount, isFlag, readFlags, settingsFlags, stateFlagsAt, messageFlags, flagsFit, modeFits, promiseFits, settingsPlaces, proposersFit, statePlacesAt, placesFit, numbersFault};
-ghost use Rattle.line_states.specs.Answer.{answered, newAnswer, withState, answerOf};
 use call_lines::Fault;
-use calls::OptionalCommit;
-use calls::Reply;
-use consensus::Answer;
-use consensus::Shard;
 use fast_state::FastState;
-use line_calls::call_of;
 use line_calls::number_at;
 use line_calls::optional_round;
 use line_calls::optional_value;
 use line_calls::promise;
 use line_calls::words_place;
-use message::Outcome;
 use message::PFMode;
 use message::ReadId;
 use read_tracker::OpenRead;
@@ -512,47 +504,4 @@ pub fn numbers_fault(numbers: &[u64]) -> Fault
         return Fault::PlaceAboveLimit;
     }
     Fault::NoFault
-}
-
-fn answered(shard: Shard, outcome: Outcome) -> Answer
-    ensures { λ r. ⌜ r ≡ answered shard outcome ⌝ }
-{
-    let reply = Reply {
-        outcome,
-        messages: steps::no_messages(),
-        commit: OptionalCommit::NoCommit,
-        served_count: 0,
-    };
-    Answer { shard, reply }
-}
-
-// A shard as it begins, in place of the old one.
-fn new_shard(settings: Settings) -> Answer
-    ensures { λ r. ⌜ r ≡ newAnswer settings ⌝ }
-{
-    let shard = Shard::new(settings);
-    let made = shard.made;
-    answered(shard, made)
-}
-
-fn with_state(mut shard: Shard, state: State) -> Answer
-    ensures { λ r. ⌜ r ≡ withState shard state ⌝ }
-{
-    let made = shard.made;
-    shard.state = state;
-    answered(shard, made)
-}
-
-// What a line without a fault makes of the shard.
-pub fn answer_of(shard: Shard, numbers: &[u64]) -> Answer
-    ensures { λ r. ⌜ r ≡ answerOf shard (now (numbers .entry)) ⌝ }
-{
-    let kind = number_at(numbers, 0);
-    if kind == 1 {
-        return new_shard(settings_of(numbers));
-    }
-    if kind == 2 {
-        return with_state(shard, state_of(numbers));
-    }
-    shard.call(call_of(numbers))
 }

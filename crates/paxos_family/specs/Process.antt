@@ -16,22 +16,18 @@ use Rattle.enter.specs.Enter.{enter}
 use Rattle.epaxos_path.specs.EPaxos.{epaxosGather}
 use Rattle.swift_path.specs.Swift.{swiftClientPrepare, swiftClientAccept, swiftGather, swiftAnsweredAccept}
 use Rattle.prepare.specs.Prepare.{prepared, gather}
-use Rattle.steps.specs.Steps.{noMessages, stays, onRounds}
+use Rattle.steps.specs.Steps.{noMessages, stays, onRounds, goesOn}
 use Rattle.steps.specs.declared.Asked.{Asked}
 use Rattle.steps.specs.declared.Core.{Core}
 use Rattle.steps.specs.declared.CoreStep.{CoreStep}
 use Rattle.steps.specs.declared.Heard.{Heard}
 use Rattle.steps.specs.declared.Next.{Next}
-use Rattle.steps.specs.declared.Next.the-variants.{Stays, Continues, Commits, Refuses}
 use Rattle.steps.specs.declared.Rounds.{Rounds}
 use Rattle.steps.specs.declared.RoundsStep.{RoundsStep}
 
 -- the rest where a step continues, and else the step
 abbrev pub ifContinues : {A : Type 0} → Next → A → A → A
-ifContinues Stays rest step = step
-ifContinues Continues rest step = rest
-ifContinues (Commits v) rest step = step
-ifContinues (Refuses why) rest step = step
+ifContinues next rest step = cond (goesOn next) rest step
 
 -- ---- the classic modes
 

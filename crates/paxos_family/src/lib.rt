@@ -95,13 +95,13 @@ pub fn process_classic(asked: Asked, heard: Heard, msg: ConsensusMsg, core: Core
             core,
         ),
         ConsensusMsg::Accept { slot, round, v } => on_accept(asked, heard, slot, round, v, core),
-        ConsensusMsg::ForwardRequest { v: _ } => core.stays(steps::no_messages()),
-        ConsensusMsg::Commit { slot: _, v: _ } => core.stays(steps::no_messages()),
-        ConsensusMsg::ReadRequest { id: _ } => core.stays(steps::no_messages()),
+        ConsensusMsg::ForwardRequest { v: _ } => core.stays_silent(),
+        ConsensusMsg::Commit { slot: _, v: _ } => core.stays_silent(),
+        ConsensusMsg::ReadRequest { id: _ } => core.stays_silent(),
         ConsensusMsg::ReadResponse {
             id: _,
             next_readable_slot: _,
-        } => core.stays(steps::no_messages()),
+        } => core.stays_silent(),
     }
 }
 
@@ -153,16 +153,12 @@ fn in_fast_prepare(
 {
     let step = prepare::prepared(asked, heard, round, rv, core);
     let next = step.next;
-    match next {
-        Next::Stays => step.on_rounds(fast),
-        Next::Continues => {
-            let core = step.core;
-            let mode = asked.mode;
-            fast_gather(asked, heard, round, rv, core, fast, mode)
-        }
-        Next::Commits(_) => step.on_rounds(fast),
-        Next::Refuses(_) => step.on_rounds(fast),
+    if next.goes_on() {
+        let core = step.core;
+        let mode = asked.mode;
+        return fast_gather(asked, heard, round, rv, core, fast, mode);
     }
+    step.on_rounds(fast)
 }
 
 // One that is no replica and comes here is a SwiftPaxos client.
@@ -195,15 +191,11 @@ fn on_fast_prepare(
 {
     let step = enter::enter(asked, heard, slot, round, core);
     let next = step.next;
-    match next {
-        Next::Stays => step.on_rounds(fast),
-        Next::Continues => {
-            let core = step.core;
-            entered(asked, heard, round, rv, core, fast)
-        }
-        Next::Commits(_) => step.on_rounds(fast),
-        Next::Refuses(_) => step.on_rounds(fast),
+    if next.goes_on() {
+        let core = step.core;
+        return entered(asked, heard, round, rv, core, fast);
     }
+    step.on_rounds(fast)
 }
 
 fn in_fast_accept(
@@ -218,16 +210,12 @@ fn in_fast_accept(
 {
     let step = accept::accepting(asked, heard, round, v, core);
     let next = step.next;
-    match next {
-        Next::Stays => step.on_rounds(fast),
-        Next::Continues => {
-            let core = step.core;
-            let messages = step.messages;
-            swift_path::swift_answered_accept(asked, heard, round, v, core, messages, fast)
-        }
-        Next::Commits(_) => step.on_rounds(fast),
-        Next::Refuses(_) => step.on_rounds(fast),
+    if next.goes_on() {
+        let core = step.core;
+        let messages = step.messages;
+        return swift_path::swift_answered_accept(asked, heard, round, v, core, messages, fast);
     }
+    step.on_rounds(fast)
 }
 
 fn entered_accept(
@@ -259,15 +247,11 @@ fn on_fast_accept(
 {
     let step = enter::enter(asked, heard, slot, round, core);
     let next = step.next;
-    match next {
-        Next::Stays => step.on_rounds(fast),
-        Next::Continues => {
-            let core = step.core;
-            entered_accept(asked, heard, round, v, core, fast)
-        }
-        Next::Commits(_) => step.on_rounds(fast),
-        Next::Refuses(_) => step.on_rounds(fast),
+    if next.goes_on() {
+        let core = step.core;
+        return entered_accept(asked, heard, round, v, core, fast);
     }
+    step.on_rounds(fast)
 }
 
 // A message in EPaxos and SwiftPaxos.
@@ -289,13 +273,13 @@ pub fn process_fast(asked: Asked, heard: Heard, msg: ConsensusMsg, s: Rounds) ->
             core,
             fast,
         ),
-        ConsensusMsg::ForwardRequest { v: _ } => core.stays(steps::no_messages()).on_rounds(fast),
-        ConsensusMsg::Commit { slot: _, v: _ } => core.stays(steps::no_messages()).on_rounds(fast),
-        ConsensusMsg::ReadRequest { id: _ } => core.stays(steps::no_messages()).on_rounds(fast),
+        ConsensusMsg::ForwardRequest { v: _ } => core.stays_on_rounds(fast),
+        ConsensusMsg::Commit { slot: _, v: _ } => core.stays_on_rounds(fast),
+        ConsensusMsg::ReadRequest { id: _ } => core.stays_on_rounds(fast),
         ConsensusMsg::ReadResponse {
             id: _,
             next_readable_slot: _,
-        } => core.stays(steps::no_messages()).on_rounds(fast),
+        } => core.stays_on_rounds(fast),
     }
 }
 

@@ -91,7 +91,7 @@ fn preparing(asked: Asked, heard: Heard, round: PaxosRound, core: Core) -> CoreS
         return core.continues(steps::no_messages());
     }
     if answers_nothing(asked, heard, round, core) {
-        return core.stays(steps::no_messages());
+        return core.stays_silent();
     }
     answer_prepare(asked, heard, round, core)
 }
@@ -185,12 +185,12 @@ pub fn gather(asked: Asked, heard: Heard, round: PaxosRound, rv: RoundV, core: C
     let state = promised.state;
     let counted = core.with_paxos(state);
     if paxos.is_prepared(me) {
-        return counted.stays(steps::no_messages());
+        return counted.stays_silent();
     }
     if state.is_prepared(me) {
         return accept_phase(asked, round, counted);
     }
-    counted.stays(steps::no_messages())
+    counted.stays_silent()
 }
 
 // Whether there is a round: of what is held, whether it was accepted.

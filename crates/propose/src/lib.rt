@@ -8,6 +8,7 @@ use message::OptionalRound;
 use message::Outcome;
 use message::PFMode;
 use message::PaxosRound;
+use message::Refusal;
 use message::RoundV;
 use proposal::electing;
 use proposal::may_propose;
@@ -157,7 +158,7 @@ fn after_own_answer(
             };
             propose_prepare(asked, round, rv, core).on_rounds(fast)
         }
-        Outcome::Refused(_) => not_allowed(core).on_rounds(fast),
+        Outcome::Refused(_) => core.refuses_on_rounds(Refusal::ProposalNotAllowed, fast),
     }
 }
 
@@ -219,5 +220,5 @@ pub fn propose_fast(asked: Asked, v: u64, s: Rounds) -> RoundsStep
     if may_propose(asked, core) {
         return propose_by_mode(asked, v, core, fast, mode);
     }
-    not_allowed(core).on_rounds(fast)
+    core.refuses_on_rounds(Refusal::ProposalNotAllowed, fast)
 }

@@ -1,12 +1,20 @@
 // Reads calls on standard input, a line each, runs them on one shard, and writes the answers, a line each (docs/ORACLE.md, "Call lines" and
 // "Answer lines"). It reads and writes in blocks: what is answered is written before the next block is waited for. A line that does not fit
 // a block of 65,536 bytes is too long.
+ghost use mathlib.Core.Path.{_≡_};
 ghost use Prim.Native.Nat.{_≤_};
 ghost use lib.ListN.{length};
 ghost use Rattle.io.specs.Counts.{Counts};
+ghost use Rattle.replay.specs.Answer.{answered, newAnswer, withState, answerOf};
 use call_lines::Fault;
 use call_lines::Scan;
+use calls::OptionalCommit;
+use calls::Reply;
+use consensus::Answer;
 use consensus::Shard;
+use message::Outcome;
+use settings::Settings;
+use state_calls::State;
 
 // The shard between two blocks: the shard, how many bytes of a line that has not ended stand at the start of the input buffer, whether
 // the rest of a line that is too long is being skipped, and whether the input may go on.
@@ -52,10 +60,53 @@ fn is_skipped(line: &[u8]) -> bool {
     line[0] == b'#'
 }
 
+fn answer_with(shard: Shard, outcome: Outcome) -> Answer
+    ensures { λ r. ⌜ r ≡ answered shard outcome ⌝ }
+{
+    let reply = Reply {
+        outcome,
+        messages: steps::no_messages(),
+        commit: OptionalCommit::NoCommit,
+        served_count: 0,
+    };
+    Answer { shard, reply }
+}
+
+// A shard as it begins, in place of the old one.
+fn new_shard(settings: Settings) -> Answer
+    ensures { λ r. ⌜ r ≡ newAnswer settings ⌝ }
+{
+    let shard = Shard::new(settings);
+    let made = shard.made;
+    answer_with(shard, made)
+}
+
+fn with_state(mut shard: Shard, state: State) -> Answer
+    ensures { λ r. ⌜ r ≡ withState shard state ⌝ }
+{
+    let made = shard.made;
+    shard.state = state;
+    answer_with(shard, made)
+}
+
+// What a line without a fault makes of the shard.
+fn answer_of(shard: Shard, numbers: &[u64]) -> Answer
+    ensures { λ r. ⌜ r ≡ answerOf shard (now (numbers .entry)) ⌝ }
+{
+    let kind = line_calls::number_at(numbers, 0);
+    if kind == 1 {
+        return new_shard(line_states::settings_of(numbers));
+    }
+    if kind == 2 {
+        return with_state(shard, line_states::state_of(numbers));
+    }
+    shard.call(line_calls::call_of(numbers))
+}
+
 fn answer_numbers(shard: Shard, numbers: &[u64], out: &mut [u8], at: usize) -> Answered {
     let fault = line_states::numbers_fault(numbers);
     if let Fault::NoFault = fault {
-        let answer = line_states::answer_of(shard, numbers);
+        let answer = answer_of(shard, numbers);
         let put = answer_lines::put_answer(out, at, answer);
         let next = answer.shard;
         return Answered {

@@ -13,7 +13,6 @@ use Rattle.sets.specs.Sets.{contains}
 use Rattle.tables.specs.Tables.{lookUp}
 use Rattle.steps.specs.declared.Core.{Core}
 use Rattle.steps.specs.declared.Rounds.{Rounds}
-use Rattle.consensus.specs.declared.Shard.{Shard}
 use Rattle.texts.specs.Text.{ascii, each, fields}
 use Rattle.shard_lines.specs.Shard.{coreText, setsText, proposerText, ifProposer, proposersBelow, openText, madeText, shardText}
 use Rattle.texts.proofs.Lengths.{number, short, flag, places-length, fields-length}
@@ -64,19 +63,19 @@ opened r =
     simp length-append
     (omega (arith, number (r .id .0), number (r .tag), number (r .«arrival_slot»), number (r .«ready_count»), flag (r .«local_ready»)))
 
-made : (s : Shard) → length (madeText s) ≤ 17142
+made : (s : Rounds) (reads : List OpenRead) → length (madeText s reads) ≤ 17142
 unfolding madeText
-made s =
+made s reads =
     simp length-append
     (omega (
       arith,
-      core (s .state .rounds .core),
-      rest-of-rounds (s .state .rounds),
-      proposers (s .state .rounds .fast) 64 (omega arith),
-      places-length openText 93 opened (s .state .table .reads) (s .state .rounds .core .tracker .«open_count»),
+      core (s .core),
+      rest-of-rounds s,
+      proposers (s .fast) 64 (omega arith),
+      places-length openText 93 opened reads (s .core .tracker .«open_count»),
     ))
 
-pub shard : (s : Shard) (o : Outcome) → length (shardText s o) ≤ 17142
+pub shard : (s : Rounds) (reads : List OpenRead) (o : Outcome) → length (shardText s reads o) ≤ 17142
 unfolding shardText
-shard s Done = made s
-shard s (Refused why) = omega arith
+shard s reads Done = made s reads
+shard s reads (Refused why) = omega arith

@@ -11,7 +11,6 @@ use Rattle.fast_state.specs.declared.FastState.{FastState}
 use Rattle.read_tracker.specs.declared.OpenRead.{OpenRead}
 use Rattle.steps.specs.declared.Core.{Core}
 use Rattle.steps.specs.declared.Rounds.{Rounds}
-use Rattle.consensus.specs.declared.Shard.{Shard}
 use Rattle.texts.specs.Text.{ascii, field, fields, flagNumber, firstPlaces}
 use Rattle.promise_lines.specs.Promises.{optionalValueText, optionalRoundText, heldText}
 
@@ -53,12 +52,11 @@ openText r = fields (ascii " | read") (r .id .0 ∷ r .tag ∷ r .«arrival_slot
 
 -- ---- all of them
 
--- 5 to 7
-unfoldable pub madeText : Shard → List ℕ
-madeText s =
-    coreText (s .state .rounds .core) ++ setsText (s .state .rounds) ++ proposersBelow (s .state .rounds .fast) 64
-    ++ firstPlaces openText (s .state .table .reads) (s .state .rounds .core .tracker .«open_count»)
+-- 5 to 7, of a shard's rounds and its table of reads
+unfoldable pub madeText : Rounds → List OpenRead → List ℕ
+madeText s reads =
+    coreText (s .core) ++ setsText s ++ proposersBelow (s .fast) 64 ++ firstPlaces openText reads (s .core .tracker .«open_count»)
 
-unfoldable pub shardText : Shard → Outcome → List ℕ
-shardText s Done = madeText s
-shardText s (Refused why) = ascii " | not_made"
+unfoldable pub shardText : Rounds → List OpenRead → Outcome → List ℕ
+shardText s reads Done = madeText s reads
+shardText s reads (Refused why) = ascii " | not_made"

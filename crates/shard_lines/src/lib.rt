@@ -2,7 +2,6 @@
 ghost use mathlib.Core.Path.{_≡_};
 ghost use Rattle.texts.specs.Text.{put, firstPlaces};
 ghost use Rattle.shard_lines.specs.Shard.{coreText, setsText, ifProposer, proposersBelow, openText, shardText};
-use consensus::Shard;
 use fast_state::FastState;
 use message::Outcome;
 use read_tracker::OpenRead;
@@ -110,13 +109,17 @@ fn put_open(out: &mut [u8], at: usize, reads: [OpenRead; 128], open_count: u64) 
 }
 
 // The shard's numbers, its proposers and its open reads.
-pub fn put_shard(out: &mut [u8], at: usize, shard: Shard, made: Outcome) -> usize
-    ensures { λ r. ⌜ (now (out .exit), r) ≡ put (shardText shard made) (now (out .entry), at) ⌝ }
+pub fn put_shard(
+    out: &mut [u8],
+    at: usize,
+    rounds: Rounds,
+    reads: [OpenRead; 128],
+    made: Outcome,
+) -> usize
+    ensures { λ r. ⌜ (now (out .exit), r) ≡ put (shardText rounds reads made) (now (out .entry), at) ⌝ }
 {
     match made {
         Outcome::Done => {
-            let rounds = shard.state.rounds;
-            let reads = shard.state.table.reads;
             let core = rounds.core;
             let fast = rounds.fast;
             let second = put_core(out, at, core);

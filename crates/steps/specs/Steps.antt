@@ -1,6 +1,6 @@
 -- Steps of a call, and the messages that they send (document 01, "Message and answer").
 -- Assumes nothing.
-use mathlib.Core.Bool.{true, cond}
+use mathlib.Core.Bool.{Bool, true, false, cond}
 use Prim.Native.Nat.{ℕ}
 use lib.Dec.{eqb}
 use Rattle.message.specs.Promises.{valueOf}
@@ -21,6 +21,7 @@ use Rattle.steps.specs.declared.CoreStep.{CoreStep}
 use Rattle.steps.specs.declared.Destination.{Destination}
 use Rattle.steps.specs.declared.Destination.the-variants.{All}
 use Rattle.steps.specs.declared.Messages.{Messages}
+use Rattle.steps.specs.declared.Next.{Next}
 use Rattle.steps.specs.declared.Next.the-variants.{Stays, Continues, Commits, Refuses}
 use Rattle.steps.specs.declared.OptionalMessage.{OptionalMessage}
 use Rattle.steps.specs.declared.OptionalMessage.the-variants.{NoMessage, Send}
@@ -95,6 +96,13 @@ commits v core messages = record { core = core; messages = messages; next = Comm
 
 abbrev pub refuses : Refusal → Core → CoreStep
 refuses why core = record { core = core; messages = noMessages; next = Refuses why }
+
+-- whether the handler goes on with the step's core
+abbrev pub goesOn : Next → Bool
+goesOn Stays = false
+goesOn Continues = true
+goesOn (Commits v) = false
+goesOn (Refuses why) = false
 
 -- a step of the core, with the fast half as it is
 abbrev pub onRounds : FastState → CoreStep → RoundsStep

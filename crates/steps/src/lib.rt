@@ -2,7 +2,7 @@
 // are chains of. A step hands back the next state, the messages to send, and how the call goes on; a refused step is dropped whole by the
 // shard that made the call, so that nothing has to be undone.
 ghost use mathlib.Core.Path.{_≡_};
-ghost use Rattle.steps.specs.Steps.{noMessages, oneMessage, twoMessages, alsoBehind, also, sends, toAll, firstServed, heldRv, heldV, withPaxos, leftFastPath, stays, continues, commits, refuses, onRounds};
+ghost use Rattle.steps.specs.Steps.{noMessages, oneMessage, twoMessages, alsoBehind, also, sends, toAll, firstServed, heldRv, heldV, withPaxos, leftFastPath, stays, continues, commits, refuses, onRounds, goesOn};
 use fast_state::FastState;
 use message::ConsensusMessage;
 use message::ConsensusMsg;
@@ -84,6 +84,20 @@ pub enum Next {
     Continues,
     Commits(u64),
     Refuses(Refusal),
+}
+
+impl Next {
+    // Whether the handler goes on with the step's core.
+    pub fn goes_on(self) -> bool
+        ensures { λ r. ⌜ r ≡ goesOn self ⌝ }
+    {
+        match self {
+            Next::Stays => false,
+            Next::Continues => true,
+            Next::Commits(_) => false,
+            Next::Refuses(_) => false,
+        }
+    }
 }
 
 pub struct CoreStep {
@@ -249,6 +263,31 @@ impl Core {
             messages: no_messages(),
             next: Next::Refuses(why),
         }
+    }
+
+    // The same where nothing is sent, and with the fast half as it is.
+    pub fn stays_silent(self) -> CoreStep
+        ensures { λ r. ⌜ r ≡ stays self noMessages ⌝ }
+    {
+        self.stays(no_messages())
+    }
+
+    pub fn commits_silent(self, v: u64) -> CoreStep
+        ensures { λ r. ⌜ r ≡ commits v self noMessages ⌝ }
+    {
+        self.commits(v, no_messages())
+    }
+
+    pub fn stays_on_rounds(self, fast: FastState) -> RoundsStep
+        ensures { λ r. ⌜ r ≡ onRounds fast (stays self noMessages) ⌝ }
+    {
+        self.stays_silent().on_rounds(fast)
+    }
+
+    pub fn refuses_on_rounds(self, why: Refusal, fast: FastState) -> RoundsStep
+        ensures { λ r. ⌜ r ≡ onRounds fast (refuses why self) ⌝ }
+    {
+        self.refuses(why).on_rounds(fast)
     }
 }
 

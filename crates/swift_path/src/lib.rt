@@ -44,9 +44,9 @@ fn after_swift_answer(
     match outcome {
         Outcome::Done => {
             if swift_commits(asked, fast) {
-                return core.commits(v, steps::no_messages());
+                return core.commits_silent(v);
             }
-            core.stays(steps::no_messages())
+            core.stays_silent()
         }
         Outcome::Refused(why) => core.refuses(why),
     }
@@ -66,7 +66,7 @@ fn swift_answer(
     match rv {
         RoundV::FastV { proposer, v } => {
             if heard.src == round.leader {
-                return core.refuses(Refusal::Panic).on_rounds(fast);
+                return core.refuses_on_rounds(Refusal::Panic, fast);
             }
             let me = asked.member;
             let quorum = asked.quorum;
@@ -78,7 +78,7 @@ fn swift_answer(
         RoundV::PaxosV {
             accept_round: _,
             v: _,
-        } => core.refuses(Refusal::Panic).on_rounds(fast),
+        } => core.refuses_on_rounds(Refusal::Panic, fast),
     }
 }
 
@@ -96,7 +96,7 @@ pub fn swift_client_prepare(
     if committer.is(asked.member.my_pid) {
         return swift_answer(asked, heard, round, rv, core, fast);
     }
-    core.stays(steps::no_messages()).on_rounds(fast)
+    core.stays_on_rounds(fast)
 }
 
 fn after_client_accept(
@@ -113,9 +113,9 @@ fn after_client_accept(
             let me = asked.member;
             let taken = core.with_paxos(p);
             if p.paxos_can_commit(me) {
-                return taken.commits(v, steps::no_messages());
+                return taken.commits_silent(v);
             }
-            taken.stays(steps::no_messages())
+            taken.stays_silent()
         }
         Outcome::Refused(why) => core.refuses(why),
     }
@@ -147,7 +147,7 @@ fn after_leader_answer(
     match outcome {
         Outcome::Done => {
             if swift_commits(asked, fast) {
-                return core.commits(v, steps::no_messages());
+                return core.commits_silent(v);
             }
             client_accept(asked, heard, round, v, core)
         }
@@ -190,7 +190,7 @@ pub fn swift_client_accept(
     if committer.is(asked.member.my_pid) {
         return swift_accept(asked, heard, round, v, core, fast);
     }
-    core.stays(steps::no_messages()).on_rounds(fast)
+    core.stays_on_rounds(fast)
 }
 
 // The leader accepts at once. A proposer, which is the delegate of its value, tries to complete the fast path.
@@ -212,7 +212,7 @@ pub fn swift_gather(
     let counted = core.with_paxos(state);
     if round.leader == me.my_pid {
         if prepare::is_round(held.get_last_accepted_round()) {
-            return counted.stays(steps::no_messages()).on_rounds(fast);
+            return counted.stays_on_rounds(fast);
         }
         return prepare::accept_phase(asked, round, counted).on_rounds(fast);
     }

@@ -1,4 +1,5 @@
 //! A group of shards whose messages are lost, repeated and reordered, by a seeded row of numbers.
+#![allow(dead_code, reason = "each test takes what it needs")]
 use chanbook_shard::{Call, ConsensusMessage, Delivery, PFModeSetting, Refusal, RoundV, Said, Settings, Shard};
 
 /// The row of numbers of splitmix64, which is the same on every machine.
@@ -139,4 +140,10 @@ fn next_of_five(step: u64) -> [u64; 64] {
 pub fn agreeing_modes() -> [PFModeSetting; 4] {
     let delegates = next_of_five(1);
     [PFModeSetting::Paxos, PFModeSetting::MultiPaxos, PFModeSetting::MultiPaxos3P, PFModeSetting::Pando { delegates }]
+}
+
+/// All six, SwiftPaxos with and without a fixed quorum.
+pub fn all_modes() -> Vec<PFModeSetting> {
+    let fast = [PFModeSetting::EPaxos, PFModeSetting::SwiftPaxos { quorum: None }, PFModeSetting::SwiftPaxos { quorum: Some(0b10111) }];
+    agreeing_modes().into_iter().chain(fast).collect()
 }

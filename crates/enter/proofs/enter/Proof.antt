@@ -11,15 +11,12 @@ can-propose-requires c κs = search needs
 is-older-requires : tie.Need-is-older-requires
 is-older-requires c κs = search needs
 
-no-messages-requires : tie.Need-no-messages-requires
-no-messages-requires c κs = search needs
-
-stays-requires : tie.Need-stays-requires
-stays-requires c κs = search needs
+stays-silent-requires : tie.Need-stays-silent-requires
+stays-silent-requires c κs = search needs
 
 returns : tie.Need-returns
 unfolding enter
-returns c = simp (← c .before .before .before .before .before .can-propose .ensures, c .before .before .before .before .if1 .taken, ← c .before .before .before .is-older .ensures, c .before .before .if2 .taken, ← c .before .no-messages .ensures, ← c .stays .ensures)
+returns c = simp (← c .before .before .before .before .can-propose .ensures, c .before .before .before .if1 .taken, ← c .before .before .is-older .ensures, c .before .if2 .taken, ← c .stays-silent .ensures)
 
 from-live-requires : tie.Need-from-live-requires
 from-live-requires c κs = search needs
@@ -28,15 +25,12 @@ returns-2 : tie.Need-returns-2
 unfolding enter
 returns-2 c = simp (← c .before .before .before .before .can-propose .ensures, c .before .before .before .if1 .taken, ← c .before .before .is-older .ensures, c .before .if2 .left, ← c .from-live .ensures)
 
-no-messages-requires-2 : tie.Need-no-messages-requires-2
-no-messages-requires-2 c κs = search needs
-
-stays-requires-2 : tie.Need-stays-requires-2
-stays-requires-2 c κs = search needs
+stays-silent-requires-2 : tie.Need-stays-silent-requires-2
+stays-silent-requires-2 c κs = search needs
 
 returns-3 : tie.Need-returns-3
 unfolding enter
-returns-3 c = simp (← c .before .before .before .can-propose .ensures, c .before .before .if1 .left, ← c .before .no-messages2 .ensures, ← c .stays2 .ensures)
+returns-3 c = simp (← c .before .before .can-propose .ensures, c .before .if1 .left, ← c .stays-silent2 .ensures)
 
 pub enter-spec : {M : Type 1} → statement M
 enter-spec =
@@ -44,11 +38,9 @@ enter-spec =
     (tie.spec
     can-propose-requires
     is-older-requires
-    no-messages-requires
-    stays-requires
+    stays-silent-requires
     returns
     from-live-requires
     returns-2
-    no-messages-requires-2
-    stays-requires-2
+    stays-silent-requires-2
     returns-3)

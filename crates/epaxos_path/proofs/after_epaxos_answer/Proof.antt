@@ -16,17 +16,14 @@ on-rounds-requires c κs = search needs
 enum-known-outcome : tie.Need-enum-known-outcome
 enum-known-outcome c = search needs
 
-refuses-requires : tie.Need-refuses-requires
-refuses-requires c κs = search needs
-
-on-rounds-requires-2 : tie.Need-on-rounds-requires-2
-on-rounds-requires-2 c κs = search needs
+refuses-on-rounds-requires : tie.Need-refuses-on-rounds-requires
+refuses-on-rounds-requires c κs = search needs
 
 returns : tie.Need-returns
 returns c = simp (c .before .before .enum-told .given .1, ← c .before .epaxos-decide .ensures, ← c .on-rounds .ensures)
 
 returns-2 : tie.Need-returns-2
-returns-2 c = simp (c .before .before .before .outcome .given .1, c .before .refuses .ensures, c .on-rounds2 .ensures)
+returns-2 c = simp (c .before .before .outcome .given .1, c .refuses-on-rounds .ensures)
 
 pub after-epaxos-answer-spec : {M : Type 1} → statement M
 after-epaxos-answer-spec =
@@ -36,7 +33,6 @@ after-epaxos-answer-spec =
     epaxos-decide-requires
     on-rounds-requires
     enum-known-outcome
-    refuses-requires
-    on-rounds-requires-2
+    refuses-on-rounds-requires
     returns
     returns-2)

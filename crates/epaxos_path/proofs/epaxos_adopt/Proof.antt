@@ -7,11 +7,8 @@ use Rattle.epaxos_path.proofs.epaxos_adopt.Tie as tie
 enum-told : tie.Need-enum-told
 enum-told c = search needs
 
-no-messages-requires : tie.Need-no-messages-requires
-no-messages-requires c κs = search needs
-
-stays-requires : tie.Need-stays-requires
-stays-requires c κs = search needs
+stays-silent-requires : tie.Need-stays-silent-requires
+stays-silent-requires c κs = search needs
 
 enum-known-adoption : tie.Need-enum-known-adoption
 enum-known-adoption c = search needs
@@ -26,7 +23,7 @@ refuses-requires : tie.Need-refuses-requires
 refuses-requires c κs = search needs
 
 returns : tie.Need-returns
-returns c = simp (c .before .before .enum-told .given .1, ← c .before .no-messages .ensures, ← c .stays .ensures)
+returns c = simp (c .before .enum-told .given .1, ← c .stays-silent .ensures)
 
 returns-2 : tie.Need-returns-2
 returns-2 c = simp (c .before .before .adoption .given .1, ← c .adopting .ensures)
@@ -39,8 +36,7 @@ epaxos-adopt-spec =
     tie.close
     (tie.spec
     enum-told
-    no-messages-requires
-    stays-requires
+    stays-silent-requires
     enum-known-adoption
     adopting-requires
     enum-known-adoption-2

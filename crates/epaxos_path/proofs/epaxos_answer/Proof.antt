@@ -17,11 +17,8 @@ after-epaxos-answer-requires c κs = search needs
 enum-told : tie.Need-enum-told
 enum-told c = search needs
 
-refuses-requires : tie.Need-refuses-requires
-refuses-requires c κs = search needs
-
-on-rounds-requires : tie.Need-on-rounds-requires
-on-rounds-requires c κs = search needs
+refuses-on-rounds-requires : tie.Need-refuses-on-rounds-requires
+refuses-on-rounds-requires c κs = search needs
 
 returns : tie.Need-returns
 unfolding epaxosAnswer
@@ -29,7 +26,7 @@ returns c = simp (c .before .before .before .before .before .rv .given .1, ← c
 
 returns-2 : tie.Need-returns-2
 unfolding epaxosAnswer
-returns-2 c = simp (c .before .before .enum-told .given .1, c .before .refuses .ensures, c .on-rounds .ensures)
+returns-2 c = simp (c .before .enum-told .given .1, c .refuses-on-rounds .ensures)
 
 pub epaxos-answer-spec : {M : Type 1} → statement M
 epaxos-answer-spec =
@@ -39,7 +36,6 @@ epaxos-answer-spec =
     epaxos-answered-requires
     after-epaxos-answer-requires
     enum-told
-    refuses-requires
-    on-rounds-requires
+    refuses-on-rounds-requires
     returns
     returns-2)

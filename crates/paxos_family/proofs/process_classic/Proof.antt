@@ -20,38 +20,26 @@ on-accept-requires c κs = search needs
 enum-told : tie.Need-enum-told
 enum-told c = search needs
 
-no-messages-requires : tie.Need-no-messages-requires
-no-messages-requires c κs = search needs
-
-stays-requires : tie.Need-stays-requires
-stays-requires c κs = search needs
+stays-silent-requires : tie.Need-stays-silent-requires
+stays-silent-requires c κs = search needs
 
 enum-told-2 : tie.Need-enum-told-2
 enum-told-2 c = search needs
 
-no-messages-requires-2 : tie.Need-no-messages-requires-2
-no-messages-requires-2 c κs = search needs
-
-stays-requires-2 : tie.Need-stays-requires-2
-stays-requires-2 c κs = search needs
+stays-silent-requires-2 : tie.Need-stays-silent-requires-2
+stays-silent-requires-2 c κs = search needs
 
 enum-told-3 : tie.Need-enum-told-3
 enum-told-3 c = search needs
 
-no-messages-requires-3 : tie.Need-no-messages-requires-3
-no-messages-requires-3 c κs = search needs
-
-stays-requires-3 : tie.Need-stays-requires-3
-stays-requires-3 c κs = search needs
+stays-silent-requires-3 : tie.Need-stays-silent-requires-3
+stays-silent-requires-3 c κs = search needs
 
 enum-told-4 : tie.Need-enum-told-4
 enum-told-4 c = search needs
 
-no-messages-requires-4 : tie.Need-no-messages-requires-4
-no-messages-requires-4 c κs = search needs
-
-stays-requires-4 : tie.Need-stays-requires-4
-stays-requires-4 c κs = search needs
+stays-silent-requires-4 : tie.Need-stays-silent-requires-4
+stays-silent-requires-4 c κs = search needs
 
 returns : tie.Need-returns
 unfolding processClassic
@@ -63,19 +51,19 @@ returns-2 c = simp (c .before .before .msg2 .given .1, ← c .on-accept .ensures
 
 returns-3 : tie.Need-returns-3
 unfolding processClassic
-returns-3 c = simp (c .before .before .enum-told .given .1, ← c .before .no-messages .ensures, ← c .stays .ensures)
+returns-3 c = simp (c .before .enum-told .given .1, ← c .stays-silent .ensures)
 
 returns-4 : tie.Need-returns-4
 unfolding processClassic
-returns-4 c = simp (c .before .before .enum-told2 .given .1, ← c .before .no-messages2 .ensures, ← c .stays2 .ensures)
+returns-4 c = simp (c .before .enum-told2 .given .1, ← c .stays-silent2 .ensures)
 
 returns-5 : tie.Need-returns-5
 unfolding processClassic
-returns-5 c = simp (c .before .before .enum-told3 .given .1, ← c .before .no-messages3 .ensures, ← c .stays3 .ensures)
+returns-5 c = simp (c .before .enum-told3 .given .1, ← c .stays-silent3 .ensures)
 
 returns-6 : tie.Need-returns-6
 unfolding processClassic
-returns-6 c = simp (c .before .before .enum-told4 .given .1, ← c .before .no-messages4 .ensures, ← c .stays4 .ensures)
+returns-6 c = simp (c .before .enum-told4 .given .1, ← c .stays-silent4 .ensures)
 
 pub process-classic-spec : {M : Type 1} → statement M
 process-classic-spec =
@@ -86,17 +74,13 @@ process-classic-spec =
     enum-known-msg-2
     on-accept-requires
     enum-told
-    no-messages-requires
-    stays-requires
+    stays-silent-requires
     enum-told-2
-    no-messages-requires-2
-    stays-requires-2
+    stays-silent-requires-2
     enum-told-3
-    no-messages-requires-3
-    stays-requires-3
+    stays-silent-requires-3
     enum-told-4
-    no-messages-requires-4
-    stays-requires-4
+    stays-silent-requires-4
     returns
     returns-2
     returns-3

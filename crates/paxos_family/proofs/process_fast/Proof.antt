@@ -20,50 +20,26 @@ on-fast-accept-requires c κs = search needs
 enum-told : tie.Need-enum-told
 enum-told c = search needs
 
-no-messages-requires : tie.Need-no-messages-requires
-no-messages-requires c κs = search needs
-
-stays-requires : tie.Need-stays-requires
-stays-requires c κs = search needs
-
-on-rounds-requires : tie.Need-on-rounds-requires
-on-rounds-requires c κs = search needs
+stays-on-rounds-requires : tie.Need-stays-on-rounds-requires
+stays-on-rounds-requires c κs = search needs
 
 enum-told-2 : tie.Need-enum-told-2
 enum-told-2 c = search needs
 
-no-messages-requires-2 : tie.Need-no-messages-requires-2
-no-messages-requires-2 c κs = search needs
-
-stays-requires-2 : tie.Need-stays-requires-2
-stays-requires-2 c κs = search needs
-
-on-rounds-requires-2 : tie.Need-on-rounds-requires-2
-on-rounds-requires-2 c κs = search needs
+stays-on-rounds-requires-2 : tie.Need-stays-on-rounds-requires-2
+stays-on-rounds-requires-2 c κs = search needs
 
 enum-told-3 : tie.Need-enum-told-3
 enum-told-3 c = search needs
 
-no-messages-requires-3 : tie.Need-no-messages-requires-3
-no-messages-requires-3 c κs = search needs
-
-stays-requires-3 : tie.Need-stays-requires-3
-stays-requires-3 c κs = search needs
-
-on-rounds-requires-3 : tie.Need-on-rounds-requires-3
-on-rounds-requires-3 c κs = search needs
+stays-on-rounds-requires-3 : tie.Need-stays-on-rounds-requires-3
+stays-on-rounds-requires-3 c κs = search needs
 
 enum-told-4 : tie.Need-enum-told-4
 enum-told-4 c = search needs
 
-no-messages-requires-4 : tie.Need-no-messages-requires-4
-no-messages-requires-4 c κs = search needs
-
-stays-requires-4 : tie.Need-stays-requires-4
-stays-requires-4 c κs = search needs
-
-on-rounds-requires-4 : tie.Need-on-rounds-requires-4
-on-rounds-requires-4 c κs = search needs
+stays-on-rounds-requires-4 : tie.Need-stays-on-rounds-requires-4
+stays-on-rounds-requires-4 c κs = search needs
 
 returns : tie.Need-returns
 unfolding processFast
@@ -75,19 +51,19 @@ returns-2 c = simp (c .before .before .msg2 .given .1, ← c .on-fast-accept .en
 
 returns-3 : tie.Need-returns-3
 unfolding processFast
-returns-3 c = simp (c .before .before .before .enum-told .given .1, c .before .before .no-messages .ensures, c .before .stays .ensures, c .on-rounds .ensures)
+returns-3 c = simp (c .before .enum-told .given .1, c .stays-on-rounds .ensures)
 
 returns-4 : tie.Need-returns-4
 unfolding processFast
-returns-4 c = simp (c .before .before .before .enum-told2 .given .1, c .before .before .no-messages2 .ensures, c .before .stays2 .ensures, c .on-rounds2 .ensures)
+returns-4 c = simp (c .before .enum-told2 .given .1, c .stays-on-rounds2 .ensures)
 
 returns-5 : tie.Need-returns-5
 unfolding processFast
-returns-5 c = simp (c .before .before .before .enum-told3 .given .1, c .before .before .no-messages3 .ensures, c .before .stays3 .ensures, c .on-rounds3 .ensures)
+returns-5 c = simp (c .before .enum-told3 .given .1, c .stays-on-rounds3 .ensures)
 
 returns-6 : tie.Need-returns-6
 unfolding processFast
-returns-6 c = simp (c .before .before .before .enum-told4 .given .1, c .before .before .no-messages4 .ensures, c .before .stays4 .ensures, c .on-rounds4 .ensures)
+returns-6 c = simp (c .before .enum-told4 .given .1, c .stays-on-rounds4 .ensures)
 
 pub process-fast-spec : {M : Type 1} → statement M
 process-fast-spec =
@@ -98,21 +74,13 @@ process-fast-spec =
     enum-known-msg-2
     on-fast-accept-requires
     enum-told
-    no-messages-requires
-    stays-requires
-    on-rounds-requires
+    stays-on-rounds-requires
     enum-told-2
-    no-messages-requires-2
-    stays-requires-2
-    on-rounds-requires-2
+    stays-on-rounds-requires-2
     enum-told-3
-    no-messages-requires-3
-    stays-requires-3
-    on-rounds-requires-3
+    stays-on-rounds-requires-3
     enum-told-4
-    no-messages-requires-4
-    stays-requires-4
-    on-rounds-requires-4
+    stays-on-rounds-requires-4
     returns
     returns-2
     returns-3

@@ -14,15 +14,12 @@ with-paxos-requires c κs = search needs
 is-prepared-requires : tie.Need-is-prepared-requires
 is-prepared-requires c κs = search needs
 
-no-messages-requires : tie.Need-no-messages-requires
-no-messages-requires c κs = search needs
-
-stays-requires : tie.Need-stays-requires
-stays-requires c κs = search needs
+stays-silent-requires : tie.Need-stays-silent-requires
+stays-silent-requires c κs = search needs
 
 returns : tie.Need-returns
 unfolding gather
-returns c = simp (← c .before .before .before .before .before .before .receive-promise .ensures, ← c .before .before .before .before .with-paxos .ensures, ← c .before .before .before .is-prepared .ensures, c .before .before .if1 .taken, ← c .before .no-messages .ensures, ← c .stays .ensures)
+returns c = simp (← c .before .before .before .before .before .receive-promise .ensures, ← c .before .before .before .with-paxos .ensures, ← c .before .before .is-prepared .ensures, c .before .if1 .taken, ← c .stays-silent .ensures)
 
 is-prepared-requires-2 : tie.Need-is-prepared-requires-2
 is-prepared-requires-2 c κs = search needs
@@ -34,15 +31,12 @@ returns-2 : tie.Need-returns-2
 unfolding gather
 returns-2 c = simp (← c .before .before .before .before .before .before .before .receive-promise .ensures, ← c .before .before .before .before .before .with-paxos .ensures, ← c .before .before .before .before .is-prepared .ensures, c .before .before .before .if1 .left, ← c .before .before .is-prepared2 .ensures, c .before .if2 .taken, ← c .accept-phase .ensures)
 
-no-messages-requires-2 : tie.Need-no-messages-requires-2
-no-messages-requires-2 c κs = search needs
-
-stays-requires-2 : tie.Need-stays-requires-2
-stays-requires-2 c κs = search needs
+stays-silent-requires-2 : tie.Need-stays-silent-requires-2
+stays-silent-requires-2 c κs = search needs
 
 returns-3 : tie.Need-returns-3
 unfolding gather
-returns-3 c = simp (← c .before .before .before .before .before .before .before .before .receive-promise .ensures, ← c .before .before .before .before .before .before .with-paxos .ensures, ← c .before .before .before .before .before .is-prepared .ensures, c .before .before .before .before .if1 .left, ← c .before .before .before .is-prepared2 .ensures, c .before .before .if2 .left, ← c .before .no-messages2 .ensures, ← c .stays2 .ensures)
+returns-3 c = simp (← c .before .before .before .before .before .before .before .receive-promise .ensures, ← c .before .before .before .before .before .with-paxos .ensures, ← c .before .before .before .before .is-prepared .ensures, c .before .before .before .if1 .left, ← c .before .before .is-prepared2 .ensures, c .before .if2 .left, ← c .stays-silent2 .ensures)
 
 pub gather-spec : {M : Type 1} → statement M
 gather-spec =
@@ -51,12 +45,10 @@ gather-spec =
     receive-promise-requires
     with-paxos-requires
     is-prepared-requires
-    no-messages-requires
-    stays-requires
+    stays-silent-requires
     returns
     is-prepared-requires-2
     accept-phase-requires
     returns-2
-    no-messages-requires-2
-    stays-requires-2
+    stays-silent-requires-2
     returns-3)

@@ -19,15 +19,12 @@ returns c = simp (eq-eqb _ _ (c .before .before .if1 .taken), ← c .before .no-
 answers-nothing-requires : tie.Need-answers-nothing-requires
 answers-nothing-requires c κs = search needs
 
-no-messages-requires-2 : tie.Need-no-messages-requires-2
-no-messages-requires-2 c κs = search needs
-
-stays-requires : tie.Need-stays-requires
-stays-requires c κs = search needs
+stays-silent-requires : tie.Need-stays-silent-requires
+stays-silent-requires c κs = search needs
 
 returns-2 : tie.Need-returns-2
 unfolding preparing
-returns-2 c = simp (ne-eqb _ _ (c .before .before .before .before .if1 .left), ← c .before .before .before .answers-nothing .ensures, c .before .before .if2 .taken, ← c .before .no-messages2 .ensures, ← c .stays .ensures)
+returns-2 c = simp (ne-eqb _ _ (c .before .before .before .if1 .left), ← c .before .before .answers-nothing .ensures, c .before .if2 .taken, ← c .stays-silent .ensures)
 
 answer-prepare-requires : tie.Need-answer-prepare-requires
 answer-prepare-requires c κs = search needs
@@ -44,8 +41,7 @@ preparing-spec =
     continues-requires
     returns
     answers-nothing-requires
-    no-messages-requires-2
-    stays-requires
+    stays-silent-requires
     returns-2
     answer-prepare-requires
     returns-3)

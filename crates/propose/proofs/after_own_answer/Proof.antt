@@ -16,17 +16,14 @@ on-rounds-requires c κs = search needs
 enum-told-2 : tie.Need-enum-told-2
 enum-told-2 c = search needs
 
-not-allowed-requires : tie.Need-not-allowed-requires
-not-allowed-requires c κs = search needs
-
-on-rounds-requires-2 : tie.Need-on-rounds-requires-2
-on-rounds-requires-2 c κs = search needs
+refuses-on-rounds-requires : tie.Need-refuses-on-rounds-requires
+refuses-on-rounds-requires c κs = search needs
 
 returns : tie.Need-returns
 returns c = simp (c .before .before .enum-told .given .1, ← c .before .propose-prepare .ensures, ← c .on-rounds .ensures)
 
 returns-2 : tie.Need-returns-2
-returns-2 c = simp (c .before .before .enum-told2 .given .1, c .before .not-allowed .ensures, c .on-rounds2 .ensures)
+returns-2 c = simp (c .before .enum-told2 .given .1, c .refuses-on-rounds .ensures)
 
 pub after-own-answer-spec : {M : Type 1} → statement M
 after-own-answer-spec =
@@ -36,7 +33,6 @@ after-own-answer-spec =
     propose-prepare-requires
     on-rounds-requires
     enum-told-2
-    not-allowed-requires
-    on-rounds-requires-2
+    refuses-on-rounds-requires
     returns
     returns-2)

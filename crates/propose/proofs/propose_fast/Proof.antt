@@ -15,15 +15,12 @@ returns : tie.Need-returns
 unfolding proposeFast
 returns c = simp (← c .before .before .may-propose .ensures, c .before .if1 .taken, ← c .propose-by-mode .ensures)
 
-not-allowed-requires : tie.Need-not-allowed-requires
-not-allowed-requires c κs = search needs
-
-on-rounds-requires : tie.Need-on-rounds-requires
-on-rounds-requires c κs = search needs
+refuses-on-rounds-requires : tie.Need-refuses-on-rounds-requires
+refuses-on-rounds-requires c κs = search needs
 
 returns-2 : tie.Need-returns-2
 unfolding proposeFast
-returns-2 c = simp (← c .before .before .before .may-propose .ensures, c .before .before .if1 .left, c .before .not-allowed .ensures, c .on-rounds .ensures)
+returns-2 c = simp (← c .before .before .may-propose .ensures, c .before .if1 .left, c .refuses-on-rounds .ensures)
 
 pub propose-fast-spec : {M : Type 1} → statement M
 propose-fast-spec =
@@ -32,6 +29,5 @@ propose-fast-spec =
     may-propose-requires
     propose-by-mode-requires
     returns
-    not-allowed-requires
-    on-rounds-requires
+    refuses-on-rounds-requires
     returns-2)

@@ -20,6 +20,6 @@ put-shard-spec =
     (λ c. search needs)
     (λ c κs. search needs)
     (λ c. search needs)
-    (λ c. rw (c .before .before .before .before .before .before .before .before .before .before .before .before .before .before .before .before .before .before .before .before .enum-told .given .1) (put-then _ _ _ (put-then _ _ _ (put-then _ _ _ (c .before .before .before .before .before .before .before .before .before .before .before .before .before .before .put-core .ensures) (c .before .before .before .before .before .before .before .before .before .before .put-sets .ensures)) (c .before .before .before .before .before .before .put-proposers .ensures)) (c .before .before .put-open .ensures)))
+    (λ c. rw (c .before .before .before .before .before .before .before .before .before .before .before .before .before .before .before .before .before .before .enum-told .given .1) (put-then _ _ _ (put-then _ _ _ (put-then _ _ _ (c .before .before .before .before .before .before .before .before .before .before .before .before .before .before .put-core .ensures) (c .before .before .before .before .before .before .before .before .before .before .put-sets .ensures)) (c .before .before .before .before .before .before .put-proposers .ensures)) (c .before .before .put-open .ensures)))
     (λ c. search needs)
     (λ c. rw (c .before .before .before .before .before .enum-told2 .given .1) (c .before .before .put-bytes .ensures)))

@@ -10,14 +10,11 @@ enum-told c = search needs
 swift-commits-requires : tie.Need-swift-commits-requires
 swift-commits-requires c κs = search needs
 
-no-messages-requires : tie.Need-no-messages-requires
-no-messages-requires c κs = search needs
-
-commits-requires : tie.Need-commits-requires
-commits-requires c κs = search needs
+commits-silent-requires : tie.Need-commits-silent-requires
+commits-silent-requires c κs = search needs
 
 returns : tie.Need-returns
-returns c = simp (c .before .before .before .before .enum-told .given .1, ← c .before .before .before .swift-commits .ensures, c .before .before .if1 .taken, ← c .before .no-messages .ensures, ← c .commits .ensures)
+returns c = simp (c .before .before .before .enum-told .given .1, ← c .before .before .swift-commits .ensures, c .before .if1 .taken, ← c .commits-silent .ensures)
 
 client-accept-requires : tie.Need-client-accept-requires
 client-accept-requires c κs = search needs
@@ -40,8 +37,7 @@ after-leader-answer-spec =
     (tie.spec
     enum-told
     swift-commits-requires
-    no-messages-requires
-    commits-requires
+    commits-silent-requires
     returns
     client-accept-requires
     enum-known-outcome

@@ -15,18 +15,12 @@ returns : tie.Need-returns
 unfolding swiftClientPrepare
 returns c = simp (← c .before .before .is .ensures, c .before .if1 .taken, ← c .swift-answer .ensures)
 
-no-messages-requires : tie.Need-no-messages-requires
-no-messages-requires c κs = search needs
-
-stays-requires : tie.Need-stays-requires
-stays-requires c κs = search needs
-
-on-rounds-requires : tie.Need-on-rounds-requires
-on-rounds-requires c κs = search needs
+stays-on-rounds-requires : tie.Need-stays-on-rounds-requires
+stays-on-rounds-requires c κs = search needs
 
 returns-2 : tie.Need-returns-2
 unfolding swiftClientPrepare
-returns-2 c = simp (← c .before .before .before .before .is .ensures, c .before .before .before .if1 .left, c .before .before .no-messages .ensures, c .before .stays .ensures, c .on-rounds .ensures)
+returns-2 c = simp (← c .before .before .is .ensures, c .before .if1 .left, c .stays-on-rounds .ensures)
 
 pub swift-client-prepare-spec : {M : Type 1} → statement M
 swift-client-prepare-spec =
@@ -35,7 +29,5 @@ swift-client-prepare-spec =
     is-requires
     swift-answer-requires
     returns
-    no-messages-requires
-    stays-requires
-    on-rounds-requires
+    stays-on-rounds-requires
     returns-2)

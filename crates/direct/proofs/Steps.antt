@@ -1,0 +1,179 @@
+-- What the steps of a call leave, put together: each law takes what the callees of one function ensure.
+-- Assumes nothing.
+use mathlib.Core.Bool.{Bool, true, false, cond}
+use mathlib.Core.List.{List}
+use mathlib.Core.Path.{_≡_, refl, sym, ap, ap₂, _∙_}
+use Prim.Native.Nat.{ℕ, _+_}
+use lib.Dec.{eqb, leb, ltb}
+use lib.ListN.{set}
+use Rattle.arrays.specs.Arrays.{coreOf, coreNumbers}
+use Rattle.arrays.specs.declared.Setup.{Setup}
+use Rattle.core_calls.specs.Replies.{sentReply}
+use Rattle.direct_core.specs.Handled.{Written, putReply, putServed, Lent, putAnswer, askedHere, coreAnswer}
+use Rattle.message.specs.declared.ConsensusMsg.the-variants.{ReadRequest}
+use Rattle.quorum.specs.Quorum.{rowOf}
+use Rattle.quorum.specs.declared.QuorumRow.{QuorumRow}
+use Rattle.read_tracker.specs.Reads.{readId}
+use Rattle.read_tracker.specs.declared.OpenRead.{OpenRead}
+use Rattle.read_tracker.specs.declared.ReadTable.{ReadTable}
+use Rattle.read_tracker.specs.declared.ReadTracker.{ReadTracker}
+use Rattle.serving.specs.Serving.{receiveReady, commitSlot}
+use Rattle.serving.specs.declared.Tracked.{Tracked}
+use Rattle.steps.specs.Steps.{oneMessage, sends, toAll}
+use Rattle.steps.specs.declared.Asked.{Asked}
+use Rattle.steps.specs.declared.Core.{Core}
+use Rattle.steps.specs.declared.Destination.{Destination}
+use Rattle.steps.specs.declared.Outgoing.{Outgoing}
+use Rattle.twins.specs.Freeze.{frozenBool}
+use Rattle.twins.specs.Thaw.{isYes, thawedCore}
+use Rattle.twins.specs.declared.FlatCall.{FlatCall}
+use Rattle.twins.specs.declared.FlatCore.{FlatCore}
+use Rattle.direct.specs.Direct.{trackerOf, withTracker, majorityOf, Opening, opening, opened, openRead, Direct, direct, counted, countResponse, response, Serving, servings, servedBy, serveReady, withServing, served, isResponse, passesOn, isOlder, handled, taken, refusalOf, fromOpening, directCall}
+
+-- ---- a new read
+
+module _ (s : Setup) (reads : List OpenRead) (f : FlatCall) (w : Written) where
+  abbrev readOf : FlatCore → ℕ → OpenRead
+  readOf c count =
+      record {
+        id = readId (c .«next_id»);
+        tag = f .v;
+        «arrival_slot» = f .«arrival_slot»;
+        «ready_count» = count;
+        «local_ready» = eqb (c .«max_rv» .given) 0;
+      }
+
+  pub opened-is : (c : FlatCore) {b : ℕ} {reads′ : List OpenRead} {core′ : List ℕ} {asked : Asked} {thawed : Core} {to : Destination} {m : Outgoing} {w′ : Written}
+      → b ≡ frozenBool (eqb (c .«max_rv» .given) 0)
+      → reads′ ≡ set reads (c .«open_count») (readOf c b)
+      → core′ ≡ coreNumbers (withTracker (record { «next_id» = c .«next_id» + 1; «open_count» = c .«open_count» + 1 }) c)
+      → asked ≡ askedHere s
+      → thawed ≡ thawedCore c
+      → to ≡ toAll
+      → m ≡ sends asked thawed to (ReadRequest (readId (c .«next_id»)))
+      → w′ ≡ putReply (sentReply (oneMessage m)) w
+      → opening 0 core′ reads′ w′ ≡ opened s c reads f w
+  unfolding opened
+  opened-is c {b} {reads′} {core′} {asked} {thawed} {to} {m} {w′} eb er ec ea et ed em ew =
+      ap (λ (x : List ℕ). opening 0 x reads′ w′) ec
+      ∙ ap₂ (opening 0 _) (er ∙ ap (λ (n : ℕ). set reads (c .«open_count») (readOf c n)) eb) (ew ∙ ap (λ (x : Outgoing). putReply (sentReply (oneMessage x)) w) message)
+    where
+      message : m ≡ sends (askedHere s) (thawedCore c) toAll (ReadRequest (readId (c .«next_id»)))
+      message =
+          em
+          ∙ ap (λ (x : Asked). sends x thawed to (ReadRequest (readId (c .«next_id»)))) ea
+          ∙ ap (λ (x : Core). sends (askedHere s) x to (ReadRequest (readId (c .«next_id»)))) et
+          ∙ ap (λ (x : Destination). sends (askedHere s) (thawedCore c) x (ReadRequest (readId (c .«next_id»)))) ed
+
+  module _ (core : List ℕ) {c : FlatCore} (e : c ≡ coreOf core) where
+    pub open-full : leb 128 (c .«open_count») ≡ true → opening 12 core reads w ≡ openRead s core reads f w
+    unfolding openRead
+    open-full p = simp (ap (λ (x : FlatCore). leb 128 (x .«open_count»)) (sym e) ∙ p)
+
+    pub open-spent : leb 128 (c .«open_count») ≡ false → ltb 9223372036854775807 (c .«next_id») ≡ true → opening 12 core reads w ≡ openRead s core reads f w
+    unfolding openRead
+    open-spent p q =
+        simp (ap (λ (x : FlatCore). leb 128 (x .«open_count»)) (sym e) ∙ p, ap (λ (x : FlatCore). ltb 9223372036854775807 (x .«next_id»)) (sym e) ∙ q)
+
+    pub open-done : {o : Opening} → leb 128 (c .«open_count») ≡ false → ltb 9223372036854775807 (c .«next_id») ≡ false → o ≡ opened s c reads f w → o ≡ openRead s core reads f w
+    unfolding openRead
+    open-done p q d =
+        d
+        ∙ ap (λ (x : FlatCore). opened s x reads f w) e
+        ∙ simp (ap (λ (x : FlatCore). leb 128 (x .«open_count»)) (sym e) ∙ p, ap (λ (x : FlatCore). ltb 9223372036854775807 (x .«next_id»)) (sym e) ∙ q)
+
+-- ---- responses, and commits where reads are open
+
+module _ (s : Setup) (core : List ℕ) (table : ReadTable) where
+  module _ {c next : FlatCore} {row : QuorumRow} {t : ReadTracker} {core′ : List ℕ} (ec : c ≡ coreOf core) (er : row ≡ rowOf (s .«replica_count»)) (et : t ≡ trackerOf c) where
+    numbers : (left : Tracked) → next ≡ withTracker (left .tracker) c → core′ ≡ coreNumbers next → core′ ≡ coreNumbers (withTracker (left .tracker) (coreOf core))
+    numbers left en ep = ep ∙ ap coreNumbers en ∙ ap (λ (x : FlatCore). coreNumbers (withTracker (left .tracker) x)) ec
+
+    pub serve-ready : (rest : List ℕ) {left : Tracked} → left ≡ commitSlot t table (row .majority) (c .slot) → next ≡ withTracker (left .tracker) c → core′ ≡ coreNumbers next
+        → servings core′ (left .table) (set rest 4 (left .«served_count»)) ≡ serveReady s core table rest
+    unfolding serveReady
+    serve-ready rest {left} e en ep =
+        ap (λ (x : List ℕ). servings x (left .table) (set rest 4 (left .«served_count»))) (numbers left en ep)
+        ∙ ap (servedBy (coreOf core) rest)
+        (e
+        ∙ ap (λ (x : ReadTracker). commitSlot x table (row .majority) (c .slot)) (et ∙ ap trackerOf ec)
+        ∙ ap₂ (λ (x : QuorumRow) (y : FlatCore). commitSlot (trackerOf (coreOf core)) table (x .majority) (y .slot)) er ec)
+
+    pub count-response : (f : FlatCall) (w : Written) {left : Tracked} {fast : Bool} {w′ : Written} → fast ≡ isYes (f .fast)
+        → left ≡ receiveReady t table (readId (f .message .id)) (row .majority) (c .slot) fast
+        → next ≡ withTracker (left .tracker) c
+        → core′ ≡ coreNumbers next
+        → w′ ≡ putServed (left .«served_count») w
+        → direct 0 core′ (left .table) w′ ≡ countResponse s core table f w
+    unfolding countResponse
+    count-response f w {left} {fast} {w′} ef e en ep ew =
+        ap₂ (λ (x : List ℕ) (y : Written). direct 0 x (left .table) y) (numbers left en ep) ew
+        ∙ ap (counted (coreOf core) w)
+        (e
+        ∙ ap (λ (x : ReadTracker). receiveReady x table (readId (f .message .id)) (row .majority) (c .slot) fast) (et ∙ ap trackerOf ec)
+        ∙ ap₂ (λ (x : QuorumRow) (y : FlatCore). receiveReady (trackerOf (coreOf core)) table (readId (f .message .id)) (x .majority) (y .slot) fast) er ec
+        ∙ ap (receiveReady (trackerOf (coreOf core)) table (readId (f .message .id)) (majorityOf s) (coreOf core .slot)) ef)
+
+  module _ (f : FlatCall) (w : Written) {c : FlatCore} (ec : c ≡ coreOf core) where
+    pub none-open : {w′ : Written} → eqb (c .«open_count») 0 ≡ true → w′ ≡ putServed 0 w → direct 0 core table w′ ≡ response s core table f w
+    unfolding response
+    none-open p e = ap (direct 0 core table) e ∙ simp (ap (λ (x : FlatCore). eqb (x .«open_count») 0) (sym ec) ∙ p)
+
+    pub some-open : {d : Direct} → eqb (c .«open_count») 0 ≡ false → d ≡ countResponse s core table f w → d ≡ response s core table f w
+    unfolding response
+    some-open p e = e ∙ simp (ap (λ (x : FlatCore). eqb (x .«open_count») 0) (sym ec) ∙ p)
+
+-- ---- calls
+
+module _ (s : Setup) (committers delegates core : List ℕ) (table : ReadTable) (f : FlatCall) (w : Written) where
+  pub older : {w′ : Written} → isOlder (coreOf core) f ≡ true → w′ ≡ putServed 0 w → direct 0 core table w′ ≡ handled s committers delegates core table f w
+  unfolding handled
+  older p e = ap (direct 0 core table) e ∙ simp (p)
+
+  abbrev answer : Lent
+  answer = putAnswer (coreAnswer s committers delegates (thawedCore (coreOf core)) f) core w
+
+  pub served-too : (l : Lent) {v : Serving} → isOlder (coreOf core) f ≡ false → l ≡ answer → l .handled .deeper ≡ true → v ≡ serveReady s (l .core) table (l .reply .rest)
+      → withServing (l .reply) v ≡ handled s committers delegates core table f w
+  unfolding handled served
+  served-too l p e q v = ap (withServing (l .reply)) v ∙ by-served q ∙ ap (served s table) e ∙ simp (p)
+    where
+      by-served : l .handled .deeper ≡ true → withServing (l .reply) (serveReady s (l .core) table (l .reply .rest)) ≡ served s table l
+      by-served q = simp (q)
+
+  pub not-served : (l : Lent) → isOlder (coreOf core) f ≡ false → l ≡ answer → l .handled .deeper ≡ false → direct (l .handled .number) (l .core) table (l .reply) ≡ handled s committers delegates core table f w
+  unfolding handled served
+  not-served l p e q = by-served q ∙ ap (served s table) e ∙ simp (p)
+    where
+      by-served : l .handled .deeper ≡ false → direct (l .handled .number) (l .core) table (l .reply) ≡ served s table l
+      by-served q = simp (q)
+
+  pub response-taken : {d : Direct} → isResponse f ≡ true → d ≡ response s core table f w → d ≡ taken s committers delegates core table f w
+  unfolding taken
+  response-taken p e = e ∙ simp (p)
+
+  pub passed-on : isResponse f ≡ false → passesOn s f ≡ true → direct 255 core table w ≡ taken s committers delegates core table f w
+  unfolding taken
+  passed-on p q = simp (p, q)
+
+  pub handled-taken : {d : Direct} → isResponse f ≡ false → passesOn s f ≡ false → d ≡ handled s committers delegates core table f w → d ≡ taken s committers delegates core table f w
+  unfolding taken
+  handled-taken p q e = e ∙ simp (p, q)
+
+  pub refused : {n : ℕ} → n ≡ refusalOf s core f → eqb n 0 ≡ false → direct n core table w ≡ directCall s committers delegates core table f w
+  unfolding directCall
+  refused {n} e p = ap (λ (x : ℕ). direct x core table w) e ∙ simp (ap (λ (x : ℕ). eqb x 0) (sym e) ∙ p)
+
+  pub read-opened : {n : ℕ} {o : Opening} → n ≡ refusalOf s core f → eqb n 0 ≡ true → eqb (f .kind) 1 ≡ true → o ≡ openRead s core (table .reads) f w
+      → fromOpening table o ≡ directCall s committers delegates core table f w
+  unfolding directCall
+  read-opened e p q o = ap (fromOpening table) o ∙ simp (ap (λ (x : ℕ). eqb x 0) (sym e) ∙ p, q)
+
+  pub call-taken : {n : ℕ} {d : Direct} → n ≡ refusalOf s core f → eqb n 0 ≡ true → eqb (f .kind) 1 ≡ false → d ≡ taken s committers delegates core table f w
+      → d ≡ directCall s committers delegates core table f w
+  unfolding directCall
+  call-taken e p q d = d ∙ simp (ap (λ (x : ℕ). eqb x 0) (sym e) ∙ p, q)
+
+pub read-in : (committers delegates core : List ℕ) (table : ReadTable) (w : Written) {s s′ : Setup} {f f′ : FlatCall} {d : Direct} → s ≡ s′ → f ≡ f′
+    → d ≡ directCall s committers delegates core table f w → d ≡ directCall s′ committers delegates core table f′ w
+read-in committers delegates core table w es ef e = e ∙ ap₂ (λ (x : Setup) (y : FlatCall). directCall x committers delegates core table y w) es ef

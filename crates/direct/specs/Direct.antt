@@ -1,0 +1,166 @@
+-- What a call leaves in the arrays that are lent, and the number that it hands back: 0 where it is taken, a refusal's number, or 255 where the call is
+-- passed on to the fast half. The open and the served reads are what the numbers of their arrays stand for (`tableOf`).
+-- Assumes nothing.
+use mathlib.Core.Bool.{Bool, true, cond, not, _&&_}
+use mathlib.Core.List.{List}
+use mathlib.Core.Path.{_≡_}
+use Prim.Native.Nat.{ℕ, _+_}
+use lib.Dec.{eqb, leb, ltb}
+use lib.ListN.{set}
+use Rattle.arrays.specs.Arrays.{coreOf, coreNumbers}
+use Rattle.arrays.specs.declared.Setup.{Setup}
+use Rattle.calls.specs.Decision.{ifMade}
+use Rattle.core_calls.specs.Replies.{sentReply}
+use Rattle.direct_core.specs.Handled.{Written, putReply, putServed, Lent, putAnswer, askedHere, coreAnswer}
+use Rattle.message.specs.Modes.{hasFastPath}
+use Rattle.message.specs.declared.ConsensusMsg.the-variants.{ReadRequest}
+use Rattle.quorum.specs.Quorum.{rowOf}
+use Rattle.read_tracker.specs.Reads.{newRead, readId}
+use Rattle.read_tracker.specs.declared.OpenRead.{OpenRead}
+use Rattle.read_tracker.specs.declared.ReadTable.{ReadTable}
+use Rattle.read_tracker.specs.declared.ReadTracker.{ReadTracker}
+use Rattle.serving.specs.Serving.{receiveReady, commitSlot}
+use Rattle.serving.specs.declared.Tracked.{Tracked}
+use Rattle.steps.specs.Steps.{oneMessage, sends, toAll}
+use Rattle.twins.specs.Freeze.{frozenOutcome}
+use Rattle.twins.specs.Thaw.{isYes, thawedCall, thawedCore, thawedMade, thawedMode}
+use Rattle.twins.specs.declared.FlatCall.{FlatCall}
+use Rattle.twins.specs.declared.FlatCore.{FlatCore}
+
+-- ---- the reads of a core
+
+abbrev pub trackerOf : FlatCore → ReadTracker
+trackerOf c = record { «next_id» = c .«next_id»; «open_count» = c .«open_count» }
+
+abbrev pub withTracker : ReadTracker → FlatCore → FlatCore
+withTracker t c =
+    record {
+      slot = c .slot;
+      «last_v» = c .«last_v»;
+      «slot_left_fast_path» = c .«slot_left_fast_path»;
+      round = c .round;
+      «max_rv» = c .«max_rv»;
+      «prepared_set» = c .«prepared_set»;
+      «accepted_set» = c .«accepted_set»;
+      «next_id» = t .«next_id»;
+      «open_count» = t .«open_count»;
+    }
+
+abbrev pub majorityOf : Setup → ℕ
+majorityOf s = rowOf (s .«replica_count») .majority
+
+-- ---- a new read
+
+pub record Opening : Type 0 where
+  pub number : ℕ
+  pub core : List ℕ
+  pub reads : List OpenRead
+  pub reply : Written
+
+abbrev pub opening : ℕ → List ℕ → List OpenRead → Written → Opening
+opening number core reads reply = record { number = number; core = core; reads = reads; reply = reply }
+
+-- the own answer counts where nothing is held
+unfoldable pub opened : Setup → FlatCore → List OpenRead → FlatCall → Written → Opening
+opened s c reads f w =
+    opening 0 (coreNumbers (withTracker (record { «next_id» = c .«next_id» + 1; «open_count» = c .«open_count» + 1 }) c))
+    (set reads (c .«open_count») (newRead (readId (c .«next_id»)) (f .v) (f .«arrival_slot») (eqb (c .«max_rv» .given) 0)))
+    (putReply (sentReply (oneMessage (sends (askedHere s) (thawedCore c) toAll (ReadRequest (readId (c .«next_id»)))))) w)
+
+-- 12 where 128 reads are open or ids are spent
+unfoldable pub openRead : Setup → List ℕ → List OpenRead → FlatCall → Written → Opening
+openRead s core reads f w =
+    cond (leb 128 (coreOf core .«open_count»)) (opening 12 core reads w)
+    (cond (ltb 9223372036854775807 (coreOf core .«next_id»)) (opening 12 core reads w) (opened s (coreOf core) reads f w))
+
+-- ---- a response, and a commit where reads are open
+
+pub record Direct : Type 0 where
+  pub number : ℕ
+  pub core : List ℕ
+  pub table : ReadTable
+  pub reply : Written
+
+abbrev pub direct : ℕ → List ℕ → ReadTable → Written → Direct
+direct number core table reply = record { number = number; core = core; table = table; reply = reply }
+
+abbrev pub counted : FlatCore → Written → Tracked → Direct
+counted c w t = direct 0 (coreNumbers (withTracker (t .tracker) c)) (t .table) (putServed (t .«served_count») w)
+
+unfoldable pub countResponse : Setup → List ℕ → ReadTable → FlatCall → Written → Direct
+countResponse s core table f w =
+    counted (coreOf core) w
+    (receiveReady (trackerOf (coreOf core)) table (readId (f .message .id)) (majorityOf s) (coreOf core .slot) (isYes (f .fast)))
+
+-- where no read is open nothing changes
+unfoldable pub response : Setup → List ℕ → ReadTable → FlatCall → Written → Direct
+response s core table f w = cond (eqb (coreOf core .«open_count») 0) (direct 0 core table (putServed 0 w)) (countResponse s core table f w)
+
+pub record Serving : Type 0 where
+  pub core : List ℕ
+  pub table : ReadTable
+  pub rest : List ℕ
+
+abbrev pub servings : List ℕ → ReadTable → List ℕ → Serving
+servings core table rest = record { core = core; table = table; rest = rest }
+
+abbrev pub servedBy : FlatCore → List ℕ → Tracked → Serving
+servedBy c rest t = servings (coreNumbers (withTracker (t .tracker) c)) (t .table) (set rest 4 (t .«served_count»))
+
+unfoldable pub serveReady : Setup → List ℕ → ReadTable → List ℕ → Serving
+serveReady s core table rest = servedBy (coreOf core) rest (commitSlot (trackerOf (coreOf core)) table (majorityOf s) (coreOf core .slot))
+
+abbrev pub withServing : Written → Serving → Direct
+withServing w v = direct 0 (v .core) (v .table) (record { first = w .first; second = w .second; third = w .third; rest = v .rest })
+
+unfoldable pub served : Setup → ReadTable → Lent → Direct
+served s table l =
+    cond (l .handled .deeper) (withServing (l .reply) (serveReady s (l .core) table (l .reply .rest)))
+    (direct (l .handled .number) (l .core) table (l .reply))
+
+-- ---- calls
+
+unfoldable pub isResponse : FlatCall → Bool
+isResponse f = not (eqb (f .kind) 0) && eqb (f .message .kind) 6
+
+-- EPaxos and SwiftPaxos: proposals, Prepare, Accept, ForwardRequest and Commit
+unfoldable pub passesOn : Setup → FlatCall → Bool
+passesOn s f = hasFastPath (thawedMode (s .mode)) && cond (eqb (f .kind) 0) true (leb 1 (f .message .kind) && leb (f .message .kind) 4)
+
+-- a Prepare, an Accept or a Commit
+unfoldable pub namesSlot : ℕ → Bool
+namesSlot kind = cond (eqb kind 1) true (cond (eqb kind 2) true (eqb kind 4))
+
+-- of an older slot
+unfoldable pub isOlder : FlatCore → FlatCall → Bool
+isOlder c f = not (eqb (f .kind) 0) && (namesSlot (f .message .kind) && ltb (f .message .slot) (c .slot))
+
+unfoldable pub handled : Setup → List ℕ → List ℕ → List ℕ → ReadTable → FlatCall → Written → Direct
+handled s committers delegates core table f w =
+    cond (isOlder (coreOf core) f) (direct 0 core table (putServed 0 w))
+    (served s table (putAnswer (coreAnswer s committers delegates (thawedCore (coreOf core)) f) core w))
+
+unfoldable pub taken : Setup → List ℕ → List ℕ → List ℕ → ReadTable → FlatCall → Written → Direct
+taken s committers delegates core table f w =
+    cond (isResponse f) (response s core table f w)
+    (cond (passesOn s f) (direct 255 core table w) (handled s committers delegates core table f w))
+
+-- the number with which a call is refused before it is handled, or 0
+abbrev pub refusalOf : Setup → List ℕ → FlatCall → ℕ
+refusalOf s core f =
+    frozenOutcome
+    (ifMade (thawedMade (s .made) (s .mode)) (s .«process_count») (s .«my_pid») (thawedCore (coreOf core))
+    (thawedCall (s .«process_count») (s .«my_pid») f))
+
+abbrev pub fromOpening : ReadTable → Opening → Direct
+fromOpening table o = direct (o .number) (o .core) (record { reads = o .reads; served = table .served }) (o .reply)
+
+unfoldable pub directCall : Setup → List ℕ → List ℕ → List ℕ → ReadTable → FlatCall → Written → Direct
+directCall s committers delegates core table f w =
+    cond (eqb (refusalOf s core f) 0)
+    (cond (eqb (f .kind) 1) (fromOpening table (openRead s core (table .reads) f w)) (taken s committers delegates core table f w))
+    (direct (refusalOf s core f) core table w)
+
+-- what is not taken leaves the arrays of the reads as they were, number for number; the equation says that of the others
+abbrev pub LeftUnlessTaken : ℕ → List ℕ → List ℕ → Type 0
+LeftUnlessTaken number before after = (number ≡ 0 → ⊥) → after ≡ before

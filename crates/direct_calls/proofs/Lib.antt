@@ -1,0 +1,3 @@
+mod Taken
+mod Deeper
+pub mod Calls

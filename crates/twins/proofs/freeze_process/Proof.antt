@@ -1,0 +1,23 @@
+-- `twins::freeze_process` meets its contract.
+-- Assumes nothing.
+use borrow.Author.Needs.{needs}
+use Rattle.twins.specs.Freeze.{frozenProcess}
+use Rattle.twins.proofs.freeze_process.Statement.{statement}
+use Rattle.twins.proofs.freeze_process.Tie as tie
+
+enum-told : tie.Need-enum-told
+enum-told c = search needs
+
+enum-known-process : tie.Need-enum-known-process
+enum-known-process c = search needs
+
+returns : tie.Need-returns
+unfolding frozenProcess
+returns c = simp (c .enum-told .given .1)
+
+returns-2 : tie.Need-returns-2
+unfolding frozenProcess
+returns-2 c = simp (c .before .process .given .1)
+
+pub freeze-process-spec : {M : Type 1} → statement M
+freeze-process-spec = tie.close (tie.spec enum-told enum-known-process returns returns-2)

@@ -1,0 +1,23 @@
+-- `twins::freeze_value` meets its contract.
+-- Assumes nothing.
+use borrow.Author.Needs.{needs}
+use Rattle.twins.specs.Freeze.{frozenValue}
+use Rattle.twins.proofs.freeze_value.Statement.{statement}
+use Rattle.twins.proofs.freeze_value.Tie as tie
+
+enum-told : tie.Need-enum-told
+enum-told c = search needs
+
+enum-known-value : tie.Need-enum-known-value
+enum-known-value c = search needs
+
+returns : tie.Need-returns
+unfolding frozenValue
+returns c = simp (c .enum-told .given .1)
+
+returns-2 : tie.Need-returns-2
+unfolding frozenValue
+returns-2 c = simp (c .before .value .given .1)
+
+pub freeze-value-spec : {M : Type 1} → statement M
+freeze-value-spec = tie.close (tie.spec enum-told enum-known-value returns returns-2)

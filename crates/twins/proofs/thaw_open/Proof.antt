@@ -1,0 +1,14 @@
+-- `twins::thaw_open` meets its contract.
+-- Assumes nothing.
+use borrow.Author.Needs.{needs}
+use Rattle.twins.proofs.thaw_open.Statement.{statement}
+use Rattle.twins.proofs.thaw_open.Tie as tie
+
+is-yes-requires : tie.Need-is-yes-requires
+is-yes-requires c κs = search needs
+
+returns : tie.Need-returns
+returns c = simp (← c .is-yes .ensures)
+
+pub thaw-open-spec : {M : Type 1} → statement M
+thaw-open-spec = tie.close (tie.spec is-yes-requires returns)
