@@ -39,7 +39,7 @@ impl Prepared {
         ((shard.slot() - slot, shard.open_reads().count(), reply.sent().next().is_some()), number)
     }
 
-    /// Nanoseconds of one call on each shard, through the C boundary as a host takes it.
+    /// Nanoseconds of one call on each shard, through the C boundary as a host takes it: in place, in every mode.
     pub fn round(&mut self) -> u128 {
         self.timed(sys::chanbook_call)
     }

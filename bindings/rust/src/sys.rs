@@ -1,5 +1,6 @@
-//! The twins that cross `extern "C"`, as crates/flat declares them, and the functions that crates/host and crates/direct export. A twin has numbers
-//! only: 0 is no and any other number yes. Every twin stands for some shard or call, whatever numbers are in it, and so a call on one is safe.
+//! The twins that cross `extern "C"`, as crates/twins and crates/flat declare them, and the functions that crates/host, crates/direct and
+//! crates/direct_fast export. A twin has numbers only: 0 is no and any other number yes. Every twin stands for some shard or call, whatever numbers
+//! are in it, and so a call on one is safe.
 //!
 //! [`Shard`](crate::Shard) is the interface for a host; these are for whoever keeps shards in memory of their own.
 #![allow(missing_docs)]
@@ -205,15 +206,15 @@ unsafe extern "C" {
     /// Begins a shard in place, whatever stood there. Gives 0, or 1 where the settings are outside the limits.
     pub safe fn chanbook_shard_new(shard: &mut FlatShard, settings: FlatSettings) -> u64;
 
-    /// A call on a shard in place. Where it is refused, the shard stays as it was.
+    /// A call on a shard over whole twins: slower than [`chanbook_call`], for comparison. Where it is refused, the shard stays as it was.
     pub safe fn chanbook_shard_call(shard: &mut FlatShard, call: FlatCall) -> FlatReply;
 
-    /// The same call by value, with a copy of the whole shard: slower, for comparison.
+    /// The same call by value, with a copy of the whole shard: slower still.
     pub safe fn chanbook_shard_call_by_value(shard: &mut FlatShard, call: FlatCall) -> FlatReply;
 
     /// A call in place, on parts of a shard, of a call and of a reply as rows of numbers: `setup` has the numbers of a shard up to
     /// `has_committers`, and `rest` a reply's commit and `served_count`. Gives 0 where the call is taken; of a message that is not sent only the
-    /// kind is written. Gives the number of a refusal, or [`PASSED_ON`], where nothing at all is written.
+    /// kind is written. Gives the number of a refusal, or [`PASSED_ON`] for a call that [`chanbook_fast_call`] takes: nothing at all is written then.
     ///
     /// # Safety
     ///
@@ -223,7 +224,32 @@ unsafe extern "C" {
         committers: *const [u64; 64],
         delegates: *const [u64; 64],
         core: *mut [u64; 18],
-        open: *mut [u64; 640],
+        reads: *mut [u64; 640],
+        served: *mut [u64; 512],
+        call: *const [u64; 25],
+        first: *mut [u64; 20],
+        second: *mut [u64; 20],
+        third: *mut [u64; 20],
+        rest: *mut [u64; 5],
+    ) -> u64;
+
+    /// The same for EPaxos and SwiftPaxos: proposals, Prepare, Accept, ForwardRequest and Commit. The fast half is lent besides: `answers` has its
+    /// numbers up to its tables, and `values`, `epaxos` and `swift` are these. Gives [`PASSED_ON`] for a call that [`chanbook_direct_call`] takes: a
+    /// new read, a message of a read or of an unknown kind, and all of the other modes.
+    ///
+    /// # Safety
+    ///
+    /// Each row can be read, and written where it is `mut`, and none that is written overlaps another.
+    pub unsafe fn chanbook_fast_call(
+        setup: *const [u64; 10],
+        committers: *const [u64; 64],
+        delegates: *const [u64; 64],
+        core: *mut [u64; 18],
+        answers: *mut [u64; 5],
+        values: *mut [u64; 64],
+        epaxos: *mut [u64; 64],
+        swift: *mut [u64; 64],
+        reads: *mut [u64; 640],
         served: *mut [u64; 512],
         call: *const [u64; 25],
         first: *mut [u64; 20],
@@ -233,34 +259,71 @@ unsafe extern "C" {
     ) -> u64;
 }
 
-/// [`chanbook_direct_call`] does not handle the call: it has to go to [`chanbook_shard_call`].
+/// [`chanbook_direct_call`] or [`chanbook_fast_call`] does not take the call: it has to go to the other.
 pub const PASSED_ON: u64 = 255;
 
-/// A call as a host makes it: in place, or by [`chanbook_shard_call`] where it is passed on. The reply may be one that an earlier call has filled.
-/// Of a message that is not sent, and of a commit that is not given, the other numbers say nothing.
+/// A call as a host makes it, in place in every mode. The reply may be one that an earlier call has filled. Of a message that is not sent, and of a
+/// commit that is not given, the other numbers say nothing.
 #[inline]
 pub fn chanbook_call(shard: &mut FlatShard, call: &FlatCall, reply: &mut FlatReply) {
-    match direct_call(shard, call, reply) {
-        PASSED_ON => *reply = chanbook_shard_call(shard, *call),
-        0 => reply.outcome = 0,
-        refusal => {
-            // Nothing is written, and what an earlier call sent may still stand there.
-            reply.outcome = refusal;
-            reply.first.kind = 0;
-            reply.second.kind = 0;
-            reply.third.kind = 0;
-            reply.commit.given = 0;
-            reply.served_count = 0;
+    reply.outcome = outcome(shard, call, reply);
+    if reply.outcome != 0 {
+        // Nothing is written, and what an earlier call sent may still stand there.
+        reply.first.kind = 0;
+        reply.second.kind = 0;
+        reply.third.kind = 0;
+        reply.commit.given = 0;
+        reply.served_count = 0;
+    }
+}
+
+/// By the function that takes the call. In this order [`chanbook_direct_call`] never passes on.
+#[inline]
+fn outcome(shard: &mut FlatShard, call: &FlatCall, reply: &mut FlatReply) -> u64 {
+    if matches!(shard.settings.mode, 3 | 5) {
+        let number = fast_call(shard, call, reply);
+        if number != PASSED_ON {
+            return number;
         }
+    }
+    direct_call(shard, call, reply)
+}
+
+// SAFETY, of both functions below: shard, call and reply are borrowed for as long as the call lasts, and have numbers only. The rows are parts of
+// them that do not overlap. `row` checks the length of a field that is handed over whole. The lengths of the other four are checked at the end of
+// this file: from the shard's first number to its committers, from the fast half's first number to its tables, the whole call, and from the reply's
+// commit to its end.
+
+#[inline]
+fn fast_call(shard: &mut FlatShard, call: &FlatCall, reply: &mut FlatReply) -> u64 {
+    let (shard, call, reply) = (&raw mut *shard, &raw const *call, &raw mut *reply);
+    // SAFETY: as above.
+    unsafe {
+        let fast = &raw mut (*shard).state.rounds.fast;
+        chanbook_fast_call(
+            shard.cast(),
+            &raw const (*shard).settings.committers,
+            &raw const (*shard).settings.delegates,
+            row(&raw mut (*shard).state.rounds.core),
+            fast.cast(),
+            &raw mut (*fast).fast_proposer_to_v,
+            &raw mut (*fast).epaxos_proposer_scores,
+            &raw mut (*fast).swift_proposer_scores,
+            row(&raw mut (*shard).state.table.reads),
+            row(&raw mut (*shard).state.table.served),
+            call.cast(),
+            row(&raw mut (*reply).first),
+            row(&raw mut (*reply).second),
+            row(&raw mut (*reply).third),
+            (&raw mut (*reply).commit).cast(),
+        )
     }
 }
 
 #[inline]
 fn direct_call(shard: &mut FlatShard, call: &FlatCall, reply: &mut FlatReply) -> u64 {
     let (shard, call, reply) = (&raw mut *shard, &raw const *call, &raw mut *reply);
-    // SAFETY: shard, call and reply are borrowed for as long as the call lasts, and have numbers only. The rows are parts of them that do not
-    // overlap. `row` checks the length of a field that is handed over whole. The lengths of the other three are checked at the end of this file:
-    // from the shard's first number to its committers, the whole call, and from the reply's commit to its end.
+    // SAFETY: as above.
     unsafe {
         chanbook_direct_call(
             shard.cast(),
@@ -322,6 +385,11 @@ const _: () = {
     assert!(offset_of!(FlatRounds, fast) == 144);
     assert!(offset_of!(FlatTable, served) == 5120);
     assert!(offset_of!(FlatReply, commit) == 488);
+    assert!(size_of::<FlatFast>() == 1576);
+    assert!(offset_of!(FlatFast, swift_leader_answer) == 24);
+    assert!(offset_of!(FlatFast, fast_proposer_to_v) == size_of::<[u64; 5]>());
+    assert!(offset_of!(FlatFast, epaxos_proposer_scores) == 552);
+    assert!(offset_of!(FlatFast, swift_proposer_scores) == 1064);
     assert!(offset_of!(FlatShard, settings.committers) == size_of::<[u64; 10]>());
     assert!(size_of::<FlatCall>() == size_of::<[u64; 25]>());
     assert!(offset_of!(FlatReply, served_count) == offset_of!(FlatReply, commit) + size_of::<FlatCommit>());

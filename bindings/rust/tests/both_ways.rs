@@ -1,11 +1,12 @@
-//! Every call both ways: as a host makes it, which is in place but for a few kinds, and by `chanbook_shard_call` on a copy. Outcome, sent messages,
-//! commit, served reads and the shard afterwards mean the same. The numbers need not be the same: any number but 0 is yes, and what stands under
-//! a `given` of 0 does not count.
+//! Every call both ways: as a host makes it, which is by `chanbook_fast_call` or by `chanbook_direct_call`, and by `chanbook_shard_call` on a copy.
+//! Outcome, sent messages, commit, served reads and the shard afterwards mean the same. The numbers need not be the same: any number but 0 is yes,
+//! and what stands under a `given` of 0 does not count. A call that is refused leaves every number of the shard, and of the reply all but those that
+//! say that there is nothing in it.
 mod numbers;
 mod support;
 
 use chanbook_shard::sys::{
-    self, FlatCall, FlatCommit, FlatCore, FlatHeld, FlatMessage, FlatOption, FlatOutgoing, FlatPromise, FlatReply, FlatRound,
+    self, FlatCall, FlatCommit, FlatCore, FlatFast, FlatHeld, FlatMessage, FlatOption, FlatOutgoing, FlatPromise, FlatReply, FlatRound,
     FlatServedRead, FlatShard,
 };
 use chanbook_shard::{
@@ -158,12 +159,14 @@ struct BothWays {
     reply: FlatReply,
 }
 
-/// What was met: outcomes, and how many commits and served reads.
+/// What was met: outcomes, and how many commits, served reads, changes of the fast half and commits on the fast path.
 #[derive(Default)]
 struct Met {
     outcomes: BTreeSet<u64>,
     commits: u64,
     served: u64,
+    fast_changes: u64,
+    fast_commits: u64,
 }
 
 impl BothWays {
@@ -176,13 +179,14 @@ impl BothWays {
     }
 
     fn call(&mut self, call: FlatCall, met: &mut Met) {
-        let before = self.lent;
+        let (before, reply_before) = (self.lent, self.reply);
         let expected = sys::chanbook_shard_call(&mut self.copied, call);
         sys::chanbook_call(&mut self.lent, &call, &mut self.reply);
         assert_eq!(reply(&self.reply), expected, "{call:?}");
         assert_eq!(differences(&self.lent, &self.copied), [], "{call:?}");
         if expected.outcome != 0 {
             assert!(self.lent.numbers() == before.numbers(), "refused, and yet written: {call:?}");
+            assert_eq!(self.reply, emptied(&reply_before, expected.outcome), "refused, and yet written: {call:?}");
         }
         match call_in(&call) {
             Some(call) => self.call_in_crate(call, &expected),
@@ -191,6 +195,8 @@ impl BothWays {
         met.outcomes.insert(expected.outcome);
         met.commits += expected.commit.given;
         met.served += expected.served_count;
+        met.fast_changes += u64::from(self.lent.state.rounds.fast != before.state.rounds.fast);
+        met.fast_commits += expected.commit.fast;
     }
 
     fn call_in_crate(&mut self, call: Call, expected: &FlatReply) {
@@ -202,6 +208,13 @@ impl BothWays {
     }
 }
 
+/// The reply after a refusal: nothing is sent, committed or served, and all other numbers stay.
+fn emptied(before: &FlatReply, outcome: u64) -> FlatReply {
+    let nothing = |sent: FlatOutgoing| FlatOutgoing { kind: 0, ..sent };
+    let (first, second, third) = (nothing(before.first), nothing(before.second), nothing(before.third));
+    FlatReply { outcome, first, second, third, commit: FlatCommit { given: 0, ..before.commit }, served_count: 0 }
+}
+
 /// Up to three numbers are others.
 fn damaged_call(call: FlatCall, random: &mut Random) -> FlatCall {
     let mut numbers = call.numbers();
@@ -211,15 +224,30 @@ fn damaged_call(call: FlatCall, random: &mut Random) -> FlatCall {
     FlatCall::from_numbers(numbers)
 }
 
-/// A few numbers are others: of the setup and the core, which decide most, or anywhere.
+fn place(offset: usize) -> usize {
+    offset / size_of::<u64>()
+}
+
+/// A place in the fast half: before its tables, or that of one of the first processes in a table.
+fn place_in_fast(random: &mut Random) -> usize {
+    let values = offset_of!(FlatFast, fast_proposer_to_v);
+    let tables = [values, offset_of!(FlatFast, epaxos_proposer_scores), offset_of!(FlatFast, swift_proposer_scores)];
+    place(offset_of!(FlatShard, state.rounds.fast))
+        + match random.below(2) {
+            0 => random.below(place(values)),
+            _ => place(tables[random.below(3)]) + random.below(8),
+        }
+}
+
+/// A few numbers are others: of the setup, the core and the fast half, which decide most, or anywhere.
 fn damaged_shard(twin: &FlatShard, random: &mut Random) -> FlatShard {
-    let place = |offset: usize| offset / size_of::<u64>();
     let core = place(offset_of!(FlatShard, state.rounds.core));
     let mut numbers = twin.numbers();
     for _ in 0..=random.below(4) {
-        let at = match random.below(4) {
+        let at = match random.below(6) {
             0 => random.below(place(offset_of!(FlatShard, settings.committers))),
             1 => random.below(FlatShard::NUMBERS),
+            2 | 3 => place_in_fast(random),
             _ => core + random.below(place(size_of::<FlatCore>())),
         };
         numbers[at] = any_number(random);
@@ -227,9 +255,12 @@ fn damaged_shard(twin: &FlatShard, random: &mut Random) -> FlatShard {
     FlatShard::from_numbers(numbers)
 }
 
+/// Sizes of groups.
+const SIZES: [u64; 8] = [1, 2, 3, 4, 5, 7, 33, 64];
+
 /// Settings within the limits, of groups of all sizes, in which not all are replicas and not all of these live.
 fn any_settings(mode: PFModeSetting, random: &mut Random) -> Settings {
-    let count = [1, 2, 3, 4, 5, 7, 33, 64][random.below(8)];
+    let count = SIZES[random.below(SIZES.len())];
     let process = |random: &mut Random| random.next() % count;
     let replica_count = 1 + process(random);
     let replicas = (0..count).filter(|_| random.below(5) != 0).take(replica_count as usize);
@@ -281,6 +312,60 @@ fn likely_call(twin: &FlatShard, random: &mut Random) -> FlatCall {
     Call::Receive(Delivery { message, said, held_requester }).into()
 }
 
+fn heard(src: u64, msg: ConsensusMsg, requester: u64) -> FlatCall {
+    let message = ConsensusMessage { msg, src, last_v: None };
+    let said = Said { value_held: true, requester: Some(requester), fast: false };
+    Call::Receive(Delivery { message, said, held_requester: Some(requester) }).into()
+}
+
+/// A slot on the fast path: the member proposes, and hears an answer of every process to the value of one of so many proposers, and then an Accept of
+/// every process for what it holds. Gives whether that has brought a commit.
+fn fast_slot(member: &mut BothWays, proposers: u64, random: &mut Random, met: &mut Met) -> bool {
+    let settings = member.lent.settings;
+    let slot = member.lent.state.rounds.core.slot;
+    let value = |proposer: u64| 64 * slot + proposer;
+    member.call(Call::Propose(value(settings.my_pid)).into(), met);
+    for at in 0..2 * settings.process_count {
+        let src = (settings.my_pid + 1 + at) % settings.process_count;
+        let core = member.lent.state.rounds.core;
+        let round = PaxosRound { round_group: core.round.round_group, leader: core.round.leader };
+        let proposer = (settings.my_pid + random.next() % proposers) % settings.process_count;
+        let leader_answers = settings.mode == 5 && src == settings.first_leader;
+        let msg = match at / settings.process_count {
+            0 if !leader_answers => ConsensusMsg::Prepare { slot, round, rv: RoundV::FastV { proposer, v: value(proposer) } },
+            0 => ConsensusMsg::Accept { slot, round, v: value(proposer) },
+            _ => ConsensusMsg::Accept { slot, round, v: core.max_rv.promise.v },
+        };
+        let call = heard(src, msg, proposer);
+        member.clone().call(damaged_call(call, random), met);
+        member.call(call, met);
+    }
+    let committed = member.lent.state.rounds.core.slot > slot;
+    member.call(heard(settings.first_leader, ConsensusMsg::Commit { slot, v: value(0) }, 0), met);
+    committed
+}
+
+/// The modes with a fast path, SwiftPaxos also with a majority as its fixed quorum.
+fn fast_modes(count: u64) -> [PFModeSetting; 3] {
+    let quorum = (0..=count / 2).fold(0, |set, p| set | 1 << p);
+    [PFModeSetting::EPaxos, PFModeSetting::SwiftPaxos { quorum: None }, PFModeSetting::SwiftPaxos { quorum: Some(quorum) }]
+}
+
+#[test]
+fn fast_paths_in_groups_of_all_sizes() {
+    let mut random = Random(26);
+    for (mode, proposers) in (0..3).flat_map(|mode| [1, 2, 64].map(|proposers| (mode, proposers))) {
+        let (mut met, mut committed) = (Met::default(), 0);
+        for (count, my_pid) in SIZES.into_iter().flat_map(|count| [0, count / 2, count - 1].map(|my_pid| (count, my_pid))) {
+            let settings = Settings::all_live(count, my_pid, fast_modes(count)[mode].clone());
+            let mut member = BothWays::new(*Shard::new(&settings).twin());
+            committed += (0..6).filter(|_| fast_slot(&mut member, proposers, &mut random, &mut met)).count();
+        }
+        let figures = (committed, met.fast_commits, met.fast_changes);
+        assert!(committed > 80 && met.fast_commits > 50 && met.fast_changes > 250, "mode {mode}, {proposers} proposers: {figures:?}");
+    }
+}
+
 #[test]
 fn calls_of_a_group_and_damaged_ones_beside_them() {
     let mut outcomes = BTreeSet::new();
@@ -305,6 +390,8 @@ fn calls_of_a_group_and_damaged_ones_beside_them() {
             }
         }
         assert!(met.commits > 100 && met.served > 100, "{mode:?}: {} commits, {} reads served", met.commits, met.served);
+        let has_fast_path = matches!(mode, PFModeSetting::EPaxos | PFModeSetting::SwiftPaxos { .. });
+        assert!(!has_fast_path || (met.fast_changes > 300 && met.fast_commits > 100), "{mode:?}: the fast half had little to do");
         outcomes.append(&mut met.outcomes);
     }
     assert!(outcomes.into_iter().eq(0..=12), "every refusal was met");

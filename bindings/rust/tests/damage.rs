@@ -1,5 +1,5 @@
 //! Damaged frames and shards of any numbers. Each call ends; it is taken or gives a number from 1 to 12; a refusal leaves every number of the
-//! shard as it was and hands back the number alone.
+//! shard as it was and hands back the number alone. A host's way and `chanbook_shard_call` give the same number.
 mod numbers;
 mod support;
 
@@ -18,6 +18,18 @@ fn checked(shard: &FlatShard, call: FlatCall) -> u64 {
         assert_eq!(after.numbers(), shard.numbers(), "{call:?}");
         let alone = FlatReply { outcome: reply.outcome, ..FlatReply::default() };
         assert_eq!(reply, alone, "{call:?}");
+    }
+    assert_eq!(in_place(shard, call), reply.outcome, "{call:?}");
+    reply.outcome
+}
+
+/// The outcome of the call as a host makes it.
+fn in_place(shard: &FlatShard, call: FlatCall) -> u64 {
+    let (mut after, mut reply) = (*shard, FlatReply::default());
+    sys::chanbook_call(&mut after, &call, &mut reply);
+    if reply.outcome != 0 {
+        assert_eq!(after.numbers(), shard.numbers(), "{call:?}");
+        assert_eq!(reply, FlatReply { outcome: reply.outcome, ..FlatReply::default() }, "{call:?}");
     }
     reply.outcome
 }

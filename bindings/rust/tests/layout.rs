@@ -1,11 +1,14 @@
 //! The twins of this crate have the fields of crates/twins, of crates/flat and of the C header, in the same order and of the same types. All are numbers and
-//! `#[repr(C)]`, and so equal fields are equal sizes and offsets. The call in place has the rows of the header, in the same order.
+//! `#[repr(C)]`, and so equal fields are equal sizes and offsets. The two calls in place have the rows of the source and of the header, in the same
+//! order.
 
 use std::collections::BTreeMap;
 
 const MIRROR: &str = include_str!("../src/sys.rs");
 const TWINS: &str = include_str!("../../../crates/twins/src/lib.rt");
 const FLAT: &str = include_str!("../../../crates/flat/src/lib.rt");
+const DIRECT: &str = include_str!("../../../crates/direct/src/lib.rt");
+const DIRECT_FAST: &str = include_str!("../../../crates/direct_fast/src/lib.rt");
 const HEADER: &str = include_str!("../../../crates/host/include/chanbook_shard.h");
 
 /// `FlatOpenRead` for `chanbook_open_read`.
@@ -67,11 +70,24 @@ fn row_in_c(argument: &str) -> String {
     format!("{name}: *{kind} [u64; {length}]")
 }
 
+/// `setup: *const [u64; 10]` for `setup: &[u64; 10]`.
+fn row_in_source(argument: &str) -> String {
+    argument.replace("&mut [", "*mut [").replace("&[", "*const [")
+}
+
+/// The call has so many rows, and they are the same ones on all three sides.
+fn same_rows(function: &str, source: &str, count: usize) {
+    let (in_rust, in_c) = (format!("fn {function}("), format!("\nuint64_t {function}("));
+    let rows = arguments(MIRROR, &in_rust);
+    assert_eq!(rows.len(), count, "{function}");
+    assert_eq!(arguments(HEADER, &in_c).into_iter().map(row_in_c).collect::<Vec<_>>(), rows);
+    assert_eq!(arguments(source, &in_rust).into_iter().map(row_in_source).collect::<Vec<_>>(), rows);
+}
+
 #[test]
-fn the_rows_are_those_of_the_header() {
-    let rows: Vec<String> = arguments(HEADER, "\nuint64_t chanbook_direct_call(").into_iter().map(row_in_c).collect();
-    assert_eq!(rows.len(), 11);
-    assert_eq!(arguments(MIRROR, "fn chanbook_direct_call("), rows);
+fn the_rows_are_those_of_the_source_and_of_the_header() {
+    same_rows("chanbook_direct_call", DIRECT, 11);
+    same_rows("chanbook_fast_call", DIRECT_FAST, 15);
 }
 
 /// The fields of each struct, in their order: the structs stand in another order in the source.

@@ -13,14 +13,13 @@ use Rattle.message.specs.Messages.{msgSlot}
 use Rattle.message.specs.Modes.{hasFastPath}
 use Rattle.message.specs.declared.ConsensusMsg.{ConsensusMsg}
 use Rattle.message.specs.declared.ConsensusMsg.the-variants.{Prepare, Accept, ForwardRequest, Commit, ReadRequest, ReadResponse}
-use Rattle.message.specs.declared.OptionalProcess.{OptionalProcess}
 use Rattle.message.specs.declared.OptionalSlot.{OptionalSlot}
 use Rattle.message.specs.declared.OptionalSlot.the-variants.{NoSlot, Slot}
 use Rattle.message.specs.declared.Outcome.{Outcome}
 use Rattle.message.specs.declared.Outcome.the-variants.{Done, Refused}
 use Rattle.message.specs.declared.Refusal.{Refusal}
 use Rattle.message.specs.declared.Refusal.the-variants.{SettingsOutsideLimits, NumberTooLarge, NoSuchProcess, OtherLastValue, SlotAhead, ValueNotHeld, SourceNotLive, Panic, AcceptUnlikeHeld, SecondFastAnswer, ProposalNotAllowed, NoRoomForRead}
-use Rattle.fast_state.specs.declared.FastState.{FastState}
+use Rattle.fast_state.specs.Adopt.{Choice}
 use Rattle.read_tracker.specs.Reads.{insert, inserted, refused as notInserted}
 use Rattle.read_tracker.specs.declared.Inserted.{Inserted}
 use Rattle.settings.specs.Settings.{withinLimits}
@@ -66,7 +65,7 @@ awaited-not-held own core d e =
     go true f = sym f
     go false f = refl
 
-module _ (choose : FastState → OptionalProcess) (shard : Shard) where
+module _ (choose : Choice) (shard : Shard) where
   abbrev pub Ok : Call → Answer → Type 0
   Ok c r = TakenOrRefused (Cause choose shard c) shard r
 

@@ -5,13 +5,11 @@ use mathlib.Core.Bool.{true, false, cond, _&&_}
 use Prim.Native.Nat.{ℕ}
 use lib.Dec.{leb}
 use Rattle.message.specs.Modes.{hasFastPath}
-use Rattle.message.specs.declared.OptionalProcess.{OptionalProcess}
 use Rattle.message.specs.declared.Outcome.{Outcome}
 use Rattle.message.specs.declared.Outcome.the-variants.{Done, Refused}
 use Rattle.message.specs.declared.Refusal.the-variants.{SettingsOutsideLimits, NumberTooLarge}
-use Rattle.fast_state.specs.Adopt.{lowestBest}
+use Rattle.fast_state.specs.Adopt.{Choice, lowestBest}
 use Rattle.fast_state.specs.RoundState.{newRoundState}
-use Rattle.fast_state.specs.declared.FastState.{FastState}
 use Rattle.read_tracker.specs.Reads.{newTracker, newTable}
 use Rattle.settings.specs.Questions.{startingRoundOf}
 use Rattle.settings.specs.Settings.{withinLimits}
@@ -71,7 +69,7 @@ read shard tag arrival = cond (isNumber tag && isSlot arrival) (startRead shard 
 
 -- ---- messages and calls; the choice among the best proposers of EPaxos is a parameter
 
-module _ (choose : FastState → OptionalProcess) where
+module _ (choose : Choice) where
   abbrev pub admitted : Shard → Delivery → Outcome → Answer
   admitted shard d Done = handle choose shard d (d .message .msg)
   admitted shard d (Refused why) = refused why shard

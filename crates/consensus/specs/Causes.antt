@@ -7,11 +7,10 @@ use mathlib.Core.Bool.{true, false, _&&_}
 use Prim.Native.Nat.{ℕ, _<_}
 use lib.Dec.{leb, ltb}
 use Rattle.message.specs.Messages.{msgSlot}
-use Rattle.message.specs.declared.OptionalProcess.{OptionalProcess}
 use Rattle.message.specs.declared.OptionalSlot.the-variants.{Slot}
 use Rattle.message.specs.declared.Refusal.{Refusal}
 use Rattle.message.specs.declared.Refusal.the-variants.{SettingsOutsideLimits, NumberTooLarge, NoSuchProcess, OtherLastValue, SlotAhead, ValueNotHeld, SourceNotLive, Panic, AcceptUnlikeHeld, SecondFastAnswer, ProposalNotAllowed, NoRoomForRead}
-use Rattle.fast_state.specs.declared.FastState.{FastState}
+use Rattle.fast_state.specs.Adopt.{Choice}
 use Rattle.read_tracker.specs.declared.ReadTracker.{ReadTracker}
 use Rattle.paxos_family.specs.Causes.{HandlingCause}
 use Rattle.steps.specs.declared.Next.the-variants.{Commits}
@@ -66,7 +65,7 @@ ReadCause shard tag arrival NoRoomForRead = NoRoom (shard .state .rounds .core .
 
 -- ---- a message
 
-module _ (choose : FastState → OptionalProcess) where
+module _ (choose : Choice) where
   -- "value not held, and `ready_to_process` waits or the call would commit"
   abbrev pub NotHeld : Shard → Delivery → Type 0
   NotHeld shard d =

@@ -7,13 +7,12 @@ use Rattle.message.specs.Modes.{hasFastPath, isSwiftPaxos}
 use Rattle.message.specs.Rounds.{increment}
 use Rattle.message.specs.declared.ConsensusMsg.{ConsensusMsg}
 use Rattle.message.specs.declared.ConsensusMsg.the-variants.{Prepare, Accept, ForwardRequest, Commit, ReadRequest, ReadResponse}
-use Rattle.message.specs.declared.OptionalProcess.{OptionalProcess}
 use Rattle.message.specs.declared.OptionalValue.the-variants.{NoValue}
 use Rattle.message.specs.declared.PaxosRound.{PaxosRound}
 use Rattle.message.specs.declared.ReadId.{ReadId}
 use Rattle.message.specs.declared.Refusal.the-variants.{Panic, NoRoomForRead}
 use Rattle.message.specs.declared.RoundV.the-variants.{FastV, PaxosV}
-use Rattle.fast_state.specs.declared.FastState.{FastState}
+use Rattle.fast_state.specs.Adopt.{Choice}
 use Rattle.read_tracker.specs.Reads.{insert}
 use Rattle.serving.specs.Serving.{receiveReady}
 use Rattle.read_tracker.specs.declared.Inserted.{Inserted}
@@ -95,7 +94,7 @@ startRead shard tag arrival = afterInsert shard (readInserted shard tag arrival)
 
 -- ---- Prepare, Accept and ForwardRequest
 
-module _ (choose : FastState → OptionalProcess) where
+module _ (choose : Choice) where
   unfoldable pub processed : Asked → Heard → ConsensusMsg → Rounds → RoundsStep
   processed a h msg s = cond (hasFastPath (a .mode)) (processFast choose a h msg s) (onRounds (s .fast) (processClassic a h msg (s .core)))
 

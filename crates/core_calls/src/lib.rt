@@ -116,7 +116,7 @@ pub fn needs_more(core: Core) -> CoreAnswer
 }
 
 // The commit of a value in a classic mode. Open reads may have become ready by it.
-fn core_committed(a: Asked, v: u64, core: Core, messages: Messages) -> CoreAnswer
+pub fn core_committed(a: Asked, v: u64, core: Core, messages: Messages) -> CoreAnswer
     ensures { λ r. ⌜ r ≡ coreCommitted a v core messages ⌝ }
 {
     let mut next = paxos_family::commit_core(a, v, core);
@@ -152,7 +152,7 @@ fn core_finish_at(
     }
 }
 
-fn core_finish(a: Asked, held: bool, old: Core, step: CoreStep) -> CoreAnswer
+pub fn core_finish(a: Asked, held: bool, old: Core, step: CoreStep) -> CoreAnswer
     ensures { λ r. ⌜ r ≡ coreFinish a held old step ⌝ }
 {
     let core = step.core;

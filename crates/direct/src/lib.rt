@@ -126,7 +126,7 @@ fn response(
 }
 
 // After a commit: the reads that it has made ready.
-fn serve_ready(
+pub fn serve_ready(
     setup: Setup,
     core: &mut [u64; 18],
     reads: &mut [u64; 640],
@@ -153,7 +153,7 @@ fn is_response(f: FlatCall) -> bool
 }
 
 // Whether the fast half has to act, in EPaxos and SwiftPaxos.
-fn passes_on(setup: Setup, f: FlatCall) -> bool
+pub fn passes_on(setup: Setup, f: FlatCall) -> bool
     ensures { λ r. ⌜ r ≡ passesOn setup f ⌝ }
 {
     let mode = twins::thaw_mode(setup.mode);
@@ -182,7 +182,7 @@ fn names_slot(kind: u64) -> bool
 }
 
 // Whether the message is a Prepare, an Accept or a Commit of an older slot, which does nothing.
-fn is_older(c: FlatCore, f: FlatCall) -> bool
+pub fn is_older(c: FlatCore, f: FlatCall) -> bool
     ensures { λ r. ⌜ r ≡ isOlder c f ⌝ }
 {
     if f.kind == 0 {

@@ -30,6 +30,7 @@ use Rattle.core_calls.specs.declared.CoreAnswer.{CoreAnswer}
 use Rattle.delivery.specs.declared.Delivery.{Delivery}
 use Rattle.direct.specs.Direct.{Direct, direct, majorityOf, opening, opened, openRead, fromOpening, countResponse, response, served, isResponse, passesOn, namesSlot, isOlder, handled, taken, refusalOf, directCall}
 use Rattle.direct_core.specs.Handled.{Written, putServed, putAnswer, forRounds, messageAnswer, coreAnswer}
+use Rattle.direct_fast.specs.DirectFast.{fastHalfActs}
 use Rattle.fast_state.specs.declared.FastState.{FastState}
 use Rattle.message.specs.Modes.{hasFastPath}
 use Rattle.message.specs.Refusals.{refusalNumber}
@@ -66,7 +67,7 @@ use Rattle.direct_calls.proofs.Deeper.{answer-deeper}
 use Rattle.direct_calls.proofs.Taken.{Parts, onState, answered}
 
 -- no refusal has the number 0
-numbered : (why : Refusal) → eqb (refusalNumber why) 0 ≡ false
+pub numbered : (why : Refusal) → eqb (refusalNumber why) 0 ≡ false
 numbered SettingsOutsideLimits = refl
 numbered NumberTooLarge = refl
 numbered NoSuchProcess = refl
@@ -111,7 +112,7 @@ module _ (s : Setup) (committers delegates core : List ℕ) (fast : FastState) (
   StandsFor x d = Parts core fast table w x (x .reply .outcome) d
 
   abbrev Passed : Direct → Type 0
-  Passed d = (hasFastPath (thawedMode (s .mode)) ≡ true) × (d ≡ direct 255 core table w)
+  Passed d = (fastHalfActs s f ≡ true) × (d ≡ direct 255 core table w)
 
   -- ---- a call whose answer the core gives
 
@@ -349,9 +350,9 @@ module _ (s : Setup) (committers delegates core : List ℕ) (fast : FastState) (
       unfolding directCall
       taken-is = simp (z, k)
 
-      passed : isResponse f ≡ false → passesOn s f ≡ true → hasFastPath (thawedMode (s .mode)) ≡ true → Done?
-      unfolding taken
-      passed r p h = inl (h, taken-is ∙ simp (r, p))
+      passed : isResponse f ≡ false → passesOn s f ≡ true → Done?
+      unfolding taken fastHalfActs
+      passed r p = inl (simp (k, p), taken-is ∙ simp (r, p))
 
       served-is : isResponse f ≡ false → passesOn s f ≡ false → isOlder (coreOf core) f ≡ false
           → result ≡ served s table (putAnswer (coreAnswer s committers delegates thawed f) core w)
@@ -367,7 +368,7 @@ module _ (s : Setup) (committers delegates core : List ℕ) (fast : FastState) (
       proposal k0 = go (either (hasFastPath (thawedMode (s .mode))))
         where
           go : (hasFastPath (thawedMode (s .mode)) ≡ true) ⊎ (hasFastPath (thawedMode (s .mode)) ≡ false) → Done?
-          go (inl h) = passed (simp (k0)) (simp (h, k0)) h
+          go (inl h) = passed (simp (k0)) (simp (h, k0))
           go (inr h) = stands-as (Propose (f .v)) _ (simp (k0)) (served-is (simp (k0)) (simp (h)) (simp (k0))) (proposed k0 h)
 
       module _ (k0 : eqb (f .kind) 0 ≡ false) where
@@ -401,7 +402,7 @@ module _ (s : Setup) (committers delegates core : List ℕ) (fast : FastState) (
         in-any-mode l m k6 handles = go (either (hasFastPath (thawedMode (s .mode))))
           where
             go : (hasFastPath (thawedMode (s .mode)) ≡ true) ⊎ (hasFastPath (thawedMode (s .mode)) ≡ false) → Done?
-            go (inl h) = passed (no-response k6) (simp (h, k0, l, m)) h
+            go (inl h) = passed (no-response k6) (simp (h, k0, l, m))
             go (inr h) = in-classic k6 h handles
 
         -- a kind n from 1 to 4 has the other tests decided

@@ -32,7 +32,7 @@ by-test : (t : Bool) (x y : CoreAnswer) → DeeperDone x → DeeperDone y → De
 by-test true x y p q = p
 by-test false x y p q = q
 
-finish : (a : Asked) (held : Bool) (old s : Core) (ms : Messages) (next : Next) → DeeperDone (coreFinishAt a held old s ms next)
+pub finish : (a : Asked) (held : Bool) (old s : Core) (ms : Messages) (next : Next) → DeeperDone (coreFinishAt a held old s ms next)
 unfolding coreCommitted
 finish a held old s ms Stays = λ h. refl
 finish a held old s ms Continues = λ h. refl

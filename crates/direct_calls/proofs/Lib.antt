@@ -1,3 +1,4 @@
 mod Taken
 mod Deeper
 pub mod Calls
+pub mod FastCalls

@@ -40,7 +40,7 @@ module _ (core : List ℕ) (fast : FastState) (table : ReadTable) (w : Written) 
       × (d .reply ≡ putReply (x .reply) w)
   Parts x (Refused why) d = d ≡ direct (refusalNumber why) core table w
 
-abbrev isDone : Outcome → Bool
+abbrev pub isDone : Outcome → Bool
 isDone Done = true
 isDone (Refused why) = false
 

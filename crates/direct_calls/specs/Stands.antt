@@ -13,13 +13,13 @@ use Rattle.consensus.specs.declared.Answer.{Answer}
 use Rattle.consensus.specs.declared.Shard.{Shard}
 use Rattle.direct.specs.Direct.{Direct, direct, directCall}
 use Rattle.direct_core.specs.Handled.{Written, putReply}
+use Rattle.direct_fast.specs.DirectFast.{fastHalfActs}
 use Rattle.fast_state.specs.declared.FastState.{FastState}
-use Rattle.message.specs.Modes.{hasFastPath}
 use Rattle.message.specs.Refusals.{refusalNumber}
 use Rattle.message.specs.declared.Outcome.{Outcome}
 use Rattle.message.specs.declared.Outcome.the-variants.{Done, Refused}
 use Rattle.read_tracker.specs.declared.ReadTable.{ReadTable}
-use Rattle.twins.specs.Thaw.{thawedCall, thawedCore, thawedMade, thawedMode, thawedSettings}
+use Rattle.twins.specs.Thaw.{thawedCall, thawedCore, thawedMade, thawedSettings}
 use Rattle.twins.specs.declared.FlatCall.{FlatCall}
 
 -- the shard that the arrays stand for, with its fast half
@@ -38,10 +38,10 @@ module _ (s : Setup) (committers delegates core : List ℕ) (fast : FastState) (
       (d .number ≡ 0) × (shardOf s committers delegates (d .core) fast (d .table) ≡ a .shard) × (d .reply ≡ putReply (a .reply) w)
   Stands a (Refused why) d = d ≡ direct (refusalNumber why) core table w
 
--- the call is passed on, in EPaxos or SwiftPaxos alone, and nothing is written; or it is done
+-- the call is passed on, where the fast half acts, and nothing is written; or it is done
 abbrev pub Claim : Setup → List ℕ → List ℕ → List ℕ → FastState → ReadTable → FlatCall → Written → Answer → Type 0
 Claim s committers delegates core fast table f w a =
-    ((hasFastPath (thawedMode (s .mode)) ≡ true) × (directCall s committers delegates core table f w ≡ direct 255 core table w))
+    ((fastHalfActs s f ≡ true) × (directCall s committers delegates core table f w ≡ direct 255 core table w))
     ⊎ Stands s committers delegates core fast table w a (a .reply .outcome) (directCall s committers delegates core table f w)
 
 abbrev pub DirectIsCall : Type 0

@@ -75,7 +75,7 @@ pub fn put_sent(
 }
 
 // What the core answers, written into the arrays.
-fn put_answer(
+pub fn put_answer(
     core: &mut [u64; 18],
     first: &mut [u64; 20],
     second: &mut [u64; 20],

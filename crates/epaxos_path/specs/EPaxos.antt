@@ -1,6 +1,7 @@
 -- Where EPaxos parts from the other modes (the Rust's process_message).
 -- Assumes nothing.
 use mathlib.Core.Bool.{cond}
+use mathlib.Core.List.{List}
 use Prim.Native.Nat.{ℕ}
 use lib.Dec.{eqb}
 use Rattle.message.specs.declared.OptionalProcess.{OptionalProcess}
@@ -11,19 +12,20 @@ use Rattle.message.specs.declared.Refusal.the-variants.{Panic}
 use Rattle.message.specs.declared.RoundV.{RoundV}
 use Rattle.message.specs.declared.RoundV.the-variants.{FastV, PaxosV}
 use Rattle.round_state.specs.Paxos.{isPrepared, adoptFromEpaxos}
-use Rattle.fast_state.specs.Adopt.{epaxosTryAdoptWith}
-use Rattle.fast_state.specs.Fast.{epaxosAnswered, epaxosCanCommit}
+use Rattle.fast_state.specs.Adopt.{Choice, epaxosTryAdopt}
+use Rattle.fast_state.specs.Fast.{unchanged, epaxosAnswered, epaxosCanCommit}
 use Rattle.fast_state.specs.declared.Adoption.{Adoption}
 use Rattle.fast_state.specs.declared.Adoption.the-variants.{NoAdoption, Adopt, AdoptionRefused}
-use Rattle.fast_state.specs.declared.FastState.{FastState}
+use Rattle.fast_state.specs.declared.FastAnswers.{FastAnswers}
+use Rattle.fast_state.specs.declared.FastChange.{FastChange}
 use Rattle.accept.specs.Accept.{commitMessage}
 use Rattle.prepare.specs.Prepare.{hasAccepted, withPromise, afterOwnAccept, gather}
-use Rattle.steps.specs.Steps.{noMessages, oneMessage, heldV, stays, commits, refuses, onRounds}
+use Rattle.steps.specs.Steps.{noMessages, oneMessage, heldV, stays, commits, refuses, withChange}
 use Rattle.steps.specs.declared.Asked.{Asked}
+use Rattle.steps.specs.declared.ChangeStep.{ChangeStep}
 use Rattle.steps.specs.declared.Core.{Core}
 use Rattle.steps.specs.declared.CoreStep.{CoreStep}
 use Rattle.steps.specs.declared.Heard.{Heard}
-use Rattle.steps.specs.declared.RoundsStep.{RoundsStep}
 
 -- The requester of a value by the host's two answers: the first where it is the message's value v, and else the second, which is for the
 -- value that was held when the call came.
@@ -45,24 +47,25 @@ epaxosAdopt a round core NoAdoption = stays core noMessages
 epaxosAdopt a round core (Adopt v) = adopting a round v core
 epaxosAdopt a round core (AdoptionRefused why) = refuses why core
 
-module _ (choose : FastState → OptionalProcess) where
+module _ (choose : Choice) where
   -- commit on the fast path, adopt, or wait
-  unfoldable pub epaxosDecide : Asked → Heard → PaxosRound → ℕ → Core → FastState → CoreStep
-  epaxosDecide a h round v core fast =
-      cond (epaxosCanCommit (a .member) fast) (epaxosCommit a h v core) (epaxosAdopt a round core (epaxosTryAdoptWith choose (a .member) fast))
+  unfoldable pub epaxosDecide : Asked → Heard → PaxosRound → ℕ → Core → FastChange → List ℕ → List ℕ → CoreStep
+  epaxosDecide a h round v core change values scores =
+      cond (epaxosCanCommit (a .member) (change .answers)) (epaxosCommit a h v core)
+      (epaxosAdopt a round core (epaxosTryAdopt choose (a .member) change values scores))
 
-  abbrev pub afterEpaxosAnswer : Asked → Heard → PaxosRound → ℕ → Core → FastState → Outcome → RoundsStep
-  afterEpaxosAnswer a h round v core fast Done = onRounds fast (epaxosDecide a h round v core fast)
-  afterEpaxosAnswer a h round v core fast (Refused why) = onRounds fast (refuses why core)
+  abbrev pub afterEpaxosAnswer : Asked → Heard → PaxosRound → ℕ → Core → List ℕ → List ℕ → FastChange → Outcome → ChangeStep
+  afterEpaxosAnswer a h round v core values scores change Done = withChange change (epaxosDecide a h round v core change values scores)
+  afterEpaxosAnswer a h round v core values scores change (Refused why) = withChange change (refuses why core)
 
   -- a fast answer; a promise without a proposer can't be one
-  unfoldable pub epaxosAnswer : Asked → Heard → PaxosRound → RoundV → Core → FastState → RoundsStep
-  epaxosAnswer a h round (FastV proposer v) core fast =
-      afterEpaxosAnswer a h round v core (epaxosAnswered (a .member) (h .src) proposer v fast .state)
-      (epaxosAnswered (a .member) (h .src) proposer v fast .outcome)
-  epaxosAnswer a h round (PaxosV at v) core fast = onRounds fast (refuses Panic core)
+  unfoldable pub epaxosAnswer : Asked → Heard → PaxosRound → RoundV → Core → FastAnswers → List ℕ → List ℕ → ChangeStep
+  epaxosAnswer a h round (FastV proposer v) core answers values scores =
+      afterEpaxosAnswer a h round v core values scores (epaxosAnswered (a .member) (h .src) proposer v answers scores .change)
+      (epaxosAnswered (a .member) (h .src) proposer v answers scores .outcome)
+  epaxosAnswer a h round (PaxosV at v) core answers values scores = withChange (unchanged answers) (refuses Panic core)
 
-  unfoldable pub epaxosGather : Asked → Heard → PaxosRound → RoundV → Core → FastState → RoundsStep
-  epaxosGather a h round rv core fast =
-      cond (hasAccepted (withPromise a h rv core)) (onRounds fast (gather a h round rv core))
-      (epaxosAnswer a h round rv (withPromise a h rv core) fast)
+  unfoldable pub epaxosGather : Asked → Heard → PaxosRound → RoundV → Core → FastAnswers → List ℕ → List ℕ → ChangeStep
+  epaxosGather a h round rv core answers values scores =
+      cond (hasAccepted (withPromise a h rv core)) (withChange (unchanged answers) (gather a h round rv core))
+      (epaxosAnswer a h round rv (withPromise a h rv core) answers values scores)

@@ -3,17 +3,18 @@ ghost use mathlib.Core.Path.{_≡_};
 ghost use Rattle.epaxos_path.specs.EPaxos.{requesterOf, epaxosCommit, adopting, epaxosAdopt, epaxosDecide, afterEpaxosAnswer, epaxosAnswer, epaxosGather};
 ghost use Rattle.fast_state.specs.Adopt.{lowestBest};
 use fast_state::Adoption;
-use fast_state::FastState;
+use fast_state::FastAnswers;
+use fast_state::FastChange;
 use message::OptionalProcess;
 use message::Outcome;
 use message::PaxosRound;
 use message::Refusal;
 use message::RoundV;
 use steps::Asked;
+use steps::ChangeStep;
 use steps::Core;
 use steps::CoreStep;
 use steps::Heard;
-use steps::RoundsStep;
 
 // The requester of a value by the host's two answers: the first is for the message's value v, and the second for the value that was
 // held when the call came.
@@ -68,15 +69,19 @@ fn epaxos_decide(
     round: PaxosRound,
     v: u64,
     core: Core,
-    fast: FastState,
+    change: FastChange,
+    values: &[u64; 64],
+    scores: &[u64; 64],
 ) -> CoreStep
-    ensures { λ r. ⌜ r ≡ epaxosDecide lowestBest asked heard round v core fast ⌝ }
+    ensures { λ r. ⌜ r ≡ epaxosDecide lowestBest asked heard round v core change (now (values .entry)) (now (scores .entry)) ⌝ }
 {
     let me = asked.member;
-    if epaxos_state::epaxos_can_commit(fast, me) {
+    let answers = change.answers;
+    if epaxos_state::epaxos_can_commit(answers, me) {
         return epaxos_commit(asked, heard, v, core);
     }
-    epaxos_adopt(asked, round, core, epaxos_state::epaxos_try_adopt(fast, me))
+    let adoption = epaxos_state::epaxos_try_adopt(change, values, scores, me);
+    epaxos_adopt(asked, round, core, adoption)
 }
 
 fn after_epaxos_answer(
@@ -85,14 +90,25 @@ fn after_epaxos_answer(
     round: PaxosRound,
     v: u64,
     core: Core,
-    fast: FastState,
+    values: &[u64; 64],
+    scores: &[u64; 64],
+    change: FastChange,
     outcome: Outcome,
-) -> RoundsStep
-    ensures { λ r. ⌜ r ≡ afterEpaxosAnswer lowestBest asked heard round v core fast outcome ⌝ }
+) -> ChangeStep
+    ensures { λ r. ⌜ r ≡ afterEpaxosAnswer lowestBest asked heard round v core (now (values .entry)) (now (scores .entry)) change outcome ⌝ }
 {
     match outcome {
-        Outcome::Done => epaxos_decide(asked, heard, round, v, core, fast).on_rounds(fast),
-        Outcome::Refused(why) => core.refuses_on_rounds(why, fast),
+        Outcome::Done => epaxos_decide(
+            asked,
+            heard,
+            round,
+            v,
+            core,
+            change,
+            values,
+            scores,
+        ).with_change(change),
+        Outcome::Refused(why) => core.refuses(why).with_change(change),
     }
 }
 
@@ -103,22 +119,34 @@ fn epaxos_answer(
     round: PaxosRound,
     rv: RoundV,
     core: Core,
-    fast: FastState,
-) -> RoundsStep
-    ensures { λ r. ⌜ r ≡ epaxosAnswer lowestBest asked heard round rv core fast ⌝ }
+    answers: FastAnswers,
+    values: &[u64; 64],
+    scores: &[u64; 64],
+) -> ChangeStep
+    ensures { λ r. ⌜ r ≡ epaxosAnswer lowestBest asked heard round rv core answers (now (values .entry)) (now (scores .entry)) ⌝ }
 {
     match rv {
         RoundV::FastV { proposer, v } => {
             let me = asked.member;
-            let step = epaxos_state::epaxos_answered(fast, me, heard.src, proposer, v);
-            let state = step.state;
+            let step = epaxos_state::epaxos_answered(answers, scores, me, heard.src, proposer, v);
+            let change = step.change;
             let outcome = step.outcome;
-            after_epaxos_answer(asked, heard, round, v, core, state, outcome)
+            after_epaxos_answer(
+                asked,
+                heard,
+                round,
+                v,
+                core,
+                values,
+                scores,
+                change,
+                outcome,
+            )
         }
         RoundV::PaxosV {
             accept_round: _,
             v: _,
-        } => core.refuses_on_rounds(Refusal::Panic, fast),
+        } => core.refuses_unchanged(Refusal::Panic, answers),
     }
 }
 
@@ -129,9 +157,11 @@ pub fn epaxos_gather(
     round: PaxosRound,
     rv: RoundV,
     core: Core,
-    fast: FastState,
-) -> RoundsStep
-    ensures { λ r. ⌜ r ≡ epaxosGather lowestBest asked heard round rv core fast ⌝ }
+    answers: FastAnswers,
+    values: &[u64; 64],
+    scores: &[u64; 64],
+) -> ChangeStep
+    ensures { λ r. ⌜ r ≡ epaxosGather lowestBest asked heard round rv core answers (now (values .entry)) (now (scores .entry)) ⌝ }
 {
     let me = asked.member;
     let paxos = core.paxos;
@@ -139,7 +169,16 @@ pub fn epaxos_gather(
     let state = promised.state;
     let held = state.max_rv;
     if prepare::is_round(held.get_last_accepted_round()) {
-        return prepare::gather(asked, heard, round, rv, core).on_rounds(fast);
+        return prepare::gather(asked, heard, round, rv, core).unchanged(answers);
     }
-    epaxos_answer(asked, heard, round, rv, core.with_paxos(state), fast)
+    epaxos_answer(
+        asked,
+        heard,
+        round,
+        rv,
+        core.with_paxos(state),
+        answers,
+        values,
+        scores,
+    )
 }

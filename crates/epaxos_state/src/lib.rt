@@ -1,12 +1,17 @@
 // EPaxos on the second half of the round state: fast answers and the scores of their proposers, the fast commit, and the value that is
 // adopted where there are two proposers or more.
 ghost use mathlib.Core.Path.{_≡_};
+ghost use mathlib.Core.Bool.{cond};
+ghost use lib.Dec.{eqb};
+ghost use Rattle.tables.specs.Tables.{lookUp};
 ghost use Prim.Native.Nat.{_-_};
 ghost use Rattle.fast_state.specs.Fast.{scoreAfter, epaxosCounted, epaxosAnswered, epaxosProposeV, epaxosCanCommit};
-ghost use Rattle.fast_state.specs.Adopt.{better, bestBelow, adopted, epaxosTryAdopt};
+ghost use Rattle.fast_state.specs.Adopt.{better, bestBelow, lowestBest, adopted, valueIn, scoreIn, epaxosTryAdopt};
 use fast_state::Adoption;
 use fast_state::Best;
-use fast_state::FastState;
+use fast_state::Entry;
+use fast_state::FastAnswers;
+use fast_state::FastChange;
 use fast_state::FastStep;
 use message::OptionalProcess;
 use message::Refusal;
@@ -31,50 +36,119 @@ fn one_less(n: u64) -> u64
     n - 1
 }
 
-fn epaxos_counted(mut state: FastState, me: Member, src: u64, proposer: u64) -> FastState
-    ensures { λ r. ⌜ r ≡ epaxosCounted me src proposer state ⌝ }
+fn epaxos_counted(
+    answers: FastAnswers,
+    scores: &[u64; 64],
+    me: Member,
+    src: u64,
+    proposer: u64,
+    v: u64,
+) -> FastChange
+    ensures { λ r. ⌜ r ≡ epaxosCounted me src proposer v answers (now (scores .entry)) ⌝ }
 {
-    let old = state.epaxos_proposer_scores;
-    let score = tables::look_up(old, proposer);
-    let scores = tables::store(old, proposer, score_after(src, proposer, score));
-    let preaccepted = fast_state::preaccepted_after(me, proposer, state.fast_preaccepted);
-    state.fast_preaccepted = preaccepted;
-    state.epaxos_proposer_scores = scores;
-    state
+    let leader_answer = answers.swift_leader_answer;
+    let score = tables::read(scores, proposer);
+    let counted = FastAnswers {
+        fast_answer_set: sets::insert(answers.fast_answer_set, src),
+        fast_preaccepted: fast_state::preaccepted_after(me, proposer, answers.fast_preaccepted),
+        fast_proposers: sets::insert(answers.fast_proposers, proposer),
+        swift_leader_answer: leader_answer,
+    };
+    FastChange {
+        answers: counted,
+        entry: Entry::EPaxosScored {
+            proposer,
+            v,
+            score: score_after(src, proposer, score),
+        },
+    }
 }
 
-pub fn epaxos_answered(state: FastState, me: Member, src: u64, proposer: u64, v: u64) -> FastStep
-    ensures { λ r. ⌜ r ≡ epaxosAnswered me src proposer v state ⌝ }
+pub fn epaxos_answered(
+    answers: FastAnswers,
+    scores: &[u64; 64],
+    me: Member,
+    src: u64,
+    proposer: u64,
+    v: u64,
+) -> FastStep
+    ensures { λ r. ⌜ r ≡ epaxosAnswered me src proposer v answers (now (scores .entry)) ⌝ }
 {
-    if sets::contains(state.fast_answer_set, src) {
-        return state.answered_before(me, src);
+    if sets::contains(answers.fast_answer_set, src) {
+        return answers.answered_before(me, src);
     }
-    let recorded = state.recorded(src, proposer, v);
-    let counted = epaxos_counted(recorded, me, src, proposer);
-    counted.taken()
+    epaxos_counted(answers, scores, me, src, proposer, v).taken()
 }
 
 // The first answer for one's own proposal is one's own.
-pub fn epaxos_propose_v(state: FastState, me: Member, v: u64) -> FastStep
-    ensures { λ r. ⌜ r ≡ epaxosProposeV me v state ⌝ }
+pub fn epaxos_propose_v(answers: FastAnswers, scores: &[u64; 64], me: Member, v: u64) -> FastStep
+    ensures { λ r. ⌜ r ≡ epaxosProposeV me v answers (now (scores .entry)) ⌝ }
 {
-    let scores = state.epaxos_proposer_scores;
-    if state.is_unanswered() {
-        if tables::look_up(scores, me.my_pid) == 2 {
-            return epaxos_answered(state, me, me.my_pid, me.my_pid, v);
+    if answers.is_unanswered() {
+        if tables::read(scores, me.my_pid) == 2 {
+            return epaxos_answered(answers, scores, me, me.my_pid, me.my_pid, v);
         }
-        return state.refused(Refusal::Panic);
+        return answers.refused(Refusal::Panic);
     }
-    state.refused(Refusal::Panic)
+    answers.refused(Refusal::Panic)
 }
 
-pub fn epaxos_can_commit(state: FastState, me: Member) -> bool
-    ensures { λ r. ⌜ r ≡ epaxosCanCommit me state ⌝ }
+pub fn epaxos_can_commit(answers: FastAnswers, me: Member) -> bool
+    ensures { λ r. ⌜ r ≡ epaxosCanCommit me answers ⌝ }
 {
-    if sets::size(state.fast_proposers) == 1 {
-        return state.fast_preaccepted >= me.quorums.epaxos;
+    if sets::size(answers.fast_proposers) == 1 {
+        return answers.fast_preaccepted >= me.quorums.epaxos;
     }
     false
+}
+
+fn unless_changed(table: &[u64; 64], changed: u64, to: u64, p: u64) -> u64
+    ensures { λ r. ⌜ r ≡ cond (eqb p changed) to (lookUp (now (table .entry)) p) ⌝ }
+{
+    if p == changed {
+        return to;
+    }
+    tables::read(table, p)
+}
+
+// The value of a proposer after a change.
+fn value_in(entry: Entry, values: &[u64; 64], p: u64) -> u64
+    ensures { λ r. ⌜ r ≡ valueIn entry (now (values .entry)) p ⌝ }
+{
+    match entry {
+        Entry::SameEntries => tables::read(values, p),
+        Entry::Recorded { proposer, v } => unless_changed(values, proposer, v, p),
+        Entry::EPaxosScored {
+            proposer,
+            v,
+            score: _,
+        } => unless_changed(values, proposer, v, p),
+        Entry::SwiftScored {
+            proposer,
+            v,
+            score: _,
+        } => unless_changed(values, proposer, v, p),
+    }
+}
+
+// The score of a proposer after a change.
+fn score_in(entry: Entry, scores: &[u64; 64], p: u64) -> u64
+    ensures { λ r. ⌜ r ≡ scoreIn entry (now (scores .entry)) p ⌝ }
+{
+    match entry {
+        Entry::SameEntries => tables::read(scores, p),
+        Entry::Recorded { proposer: _, v: _ } => tables::read(scores, p),
+        Entry::EPaxosScored {
+            proposer,
+            v: _,
+            score,
+        } => unless_changed(scores, proposer, score, p),
+        Entry::SwiftScored {
+            proposer: _,
+            v: _,
+            score: _,
+        } => tables::read(scores, p),
+    }
 }
 
 // A proposer with a higher score than the best so far takes its place.
@@ -94,48 +168,53 @@ fn better(best: Best, present: bool, score: u64, p: u64) -> Best
 }
 
 // The best score, with the lowest proposer that has it.
-fn best(state: FastState) -> Best
-    ensures { λ r. ⌜ r ≡ bestBelow state 64 ⌝ }
+fn best(proposers: u64, entry: Entry, scores: &[u64; 64]) -> Best
+    ensures { λ r. ⌜ r ≡ bestBelow proposers (scoreIn entry (now (scores .entry))) 64 ⌝ }
 {
-    let scores = state.epaxos_proposer_scores;
     let mut best = Best {
         score: 0,
         proposer: OptionalProcess::NoProcess,
     };
     let mut p: u64 = 0;
     while p < 64 {
-        let present = sets::contains(state.fast_proposers, p);
-        let score = tables::look_up(scores, p);
+        let present = sets::contains(proposers, p);
+        let score = score_in(entry, scores, p);
         best = better(best, present, score, p);
         p += 1;
     }
     best
 }
 
-fn adopted(state: FastState, proposer: OptionalProcess) -> Adoption
-    ensures { λ r. ⌜ r ≡ adopted state proposer ⌝ }
+fn adopted(entry: Entry, values: &[u64; 64], proposer: OptionalProcess) -> Adoption
+    ensures { λ r. ⌜ r ≡ adopted (valueIn entry (now (values .entry))) proposer ⌝ }
 {
-    let to_v = state.fast_proposer_to_v;
     match proposer {
         OptionalProcess::NoProcess => Adoption::NoAdoption,
-        OptionalProcess::Process(p) => Adoption::Adopt(tables::look_up(to_v, p)),
+        OptionalProcess::Process(p) => Adoption::Adopt(value_in(entry, values, p)),
     }
 }
 
 // The value of the best proposer, once a majority has answered and there are two proposers or more.
-pub fn epaxos_try_adopt(state: FastState, me: Member) -> Adoption
-    ensures { λ r. ⌜ r ≡ epaxosTryAdopt me state ⌝ }
+pub fn epaxos_try_adopt(
+    change: FastChange,
+    values: &[u64; 64],
+    scores: &[u64; 64],
+    me: Member,
+) -> Adoption
+    ensures { λ r. ⌜ r ≡ epaxosTryAdopt lowestBest me change (now (values .entry)) (now (scores .entry)) ⌝ }
 {
-    if sets::contains(state.fast_proposers, me.my_pid) {
-        if sets::size(state.fast_answer_set) < me.quorums.majority {
+    let answers = change.answers;
+    let entry = change.entry;
+    if sets::contains(answers.fast_proposers, me.my_pid) {
+        if sets::size(answers.fast_answer_set) < me.quorums.majority {
             return Adoption::NoAdoption;
         }
-        if sets::size(state.fast_proposers) < 2 {
+        if sets::size(answers.fast_proposers) < 2 {
             return Adoption::NoAdoption;
         }
-        let best = best(state);
+        let best = best(answers.fast_proposers, entry, scores);
         let proposer = best.proposer;
-        return adopted(state, proposer);
+        return adopted(entry, values, proposer);
     }
     Adoption::AdoptionRefused(Refusal::Panic)
 }

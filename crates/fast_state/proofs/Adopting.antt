@@ -10,23 +10,21 @@ use lib.Dec.{ltb}
 use borrow.Author.Tests.{ltb-true, ltb-false}
 use Rattle.basics.proofs.Tests.{either, not-both, and-left, and-right, and-both}
 use Rattle.sets.specs.Sets.{contains}
-use Rattle.tables.specs.Tables.{lookUp}
 use Rattle.message.specs.declared.OptionalProcess.the-variants.{NoProcess, Process}
 use Rattle.fast_state.specs.Adopt.{better, bestBelow}
 use Rattle.fast_state.specs.declared.Best.{Best}
-use Rattle.fast_state.specs.declared.FastState.{FastState}
 
 -- p is a proposer with a score
-abbrev pub Scored : FastState → ℕ → ℕ → Type 0
-Scored f p score = (contains (f .«fast_proposers») p ≡ true) × (lookUp (f .«epaxos_proposer_scores») p ≡ score)
+abbrev pub Scored : ℕ → (ℕ → ℕ) → ℕ → ℕ → Type 0
+Scored proposers scores p score = (contains proposers p ≡ true) × (scores p ≡ score)
 
 -- the best of the proposers below n
-pub record IsBest (f : FastState) (n : ℕ) (best : Best) : Type 0 where
+pub record IsBest (proposers : ℕ) (scores : ℕ → ℕ) (n : ℕ) (best : Best) : Type 0 where
   -- none has a higher score
-  pub none-higher : (q score : ℕ) → q < n → Scored f q score → score ≤ best .score
+  pub none-higher : (q score : ℕ) → q < n → Scored proposers scores q score → score ≤ best .score
   -- where one is chosen, it has that score, and every lower proposer has a lower one
-  pub chosen : (p : ℕ) → best .proposer ≡ Process p → Scored f p (best .score) × (p < n) × (0 < best .score)
-  pub lowest : (p q score : ℕ) → best .proposer ≡ Process p → q < p → Scored f q score → score < best .score
+  pub chosen : (p : ℕ) → best .proposer ≡ Process p → Scored proposers scores p (best .score) × (p < n) × (0 < best .score)
+  pub lowest : (p q score : ℕ) → best .proposer ≡ Process p → q < p → Scored proposers scores q score → score < best .score
   -- where none is chosen, every score is 0
   pub nobody : best .proposer ≡ NoProcess → best .score ≡ 0
 
@@ -36,28 +34,28 @@ no-process p e = let z : _≡_ {A = ℕ} 0 1 = cc in omega arith
 same-process : (p q : ℕ) → Process p ≡ Process q → p ≡ q
 same-process p q e = cc
 
-module _ (f : FastState) (n : ℕ) (best : Best) (h : IsBest f n best) where
+module _ (proposers : ℕ) (scores : ℕ → ℕ) (n : ℕ) (best : Best) (h : IsBest proposers scores n best) where
   abbrev score : ℕ
-  score = lookUp (f .«epaxos_proposer_scores») n
+  score = scores n
 
   abbrev present : Bool
-  present = contains (f .«fast_proposers») n
+  present = contains proposers n
 
   -- the next proposer is better
-  taken : present ≡ true → best .score < score → IsBest f (suc n) (record { score = score; proposer = Process n })
+  taken : present ≡ true → best .score < score → IsBest proposers scores (suc n) (record { score = score; proposer = Process n })
   taken there more = record {
     none-higher = λ q s l e. higher q s e (eq-or-lt-of-le (le-of-suc-le-suc l));
-    chosen = λ p e. let d : n ≡ p = same-process n p e in (subst (λ (x : ℕ). Scored f x score) d (there, refl), omega arith, omega arith);
+    chosen = λ p e. let d : n ≡ p = same-process n p e in (subst (λ (x : ℕ). Scored proposers scores x score) d (there, refl), omega arith, omega arith);
     lowest = λ p q s e l r. let d : n ≡ p = same-process n p e in let k : s ≤ best .score = h .none-higher q s (omega arith) r in omega arith;
     nobody = λ e. absurd (no-process n (sym e));
   }
     where
-      higher : (q s : ℕ) → Scored f q s → (q ≡ n) ⊎ (q < n) → s ≤ score
-      higher q s e (inl d) = let z : lookUp (f .«epaxos_proposer_scores») q ≡ score = ap (lookUp (f .«epaxos_proposer_scores»)) d in omega (arith, e .1)
+      higher : (q s : ℕ) → Scored proposers scores q s → (q ≡ n) ⊎ (q < n) → s ≤ score
+      higher q s e (inl d) = let z : scores q ≡ score = ap scores d in omega (arith, e .1)
       higher q s e (inr l) = let z : s ≤ best .score = h .none-higher q s l e in omega arith
 
   -- the next proposer is not there, or not better
-  left : (present && ltb (best .score) score) ≡ false → IsBest f (suc n) best
+  left : (present && ltb (best .score) score) ≡ false → IsBest proposers scores (suc n) best
   left no-better = record {
     none-higher = λ q s l e. higher q s e (eq-or-lt-of-le (le-of-suc-le-suc l));
     chosen = λ p e. let k = h .chosen p e in (k .0, omega (arith, k .1), k .2);
@@ -65,34 +63,34 @@ module _ (f : FastState) (n : ℕ) (best : Best) (h : IsBest f n best) where
     nobody = h .nobody;
   }
     where
-      higher : (q s : ℕ) → Scored f q s → (q ≡ n) ⊎ (q < n) → s ≤ best .score
+      higher : (q s : ℕ) → Scored proposers scores q s → (q ≡ n) ⊎ (q < n) → s ≤ best .score
       higher q s e (inr l) = h .none-higher q s l e
       higher q s e (inl d) = go (either (ltb (best .score) score))
         where
           same : s ≡ score
-          same = sym (e .1) ∙ ap (lookUp (f .«epaxos_proposer_scores»)) d
+          same = sym (e .1) ∙ ap scores d
 
           there : present ≡ true
-          there = ap (contains (f .«fast_proposers»)) (sym d) ∙ e .0
+          there = ap (contains proposers) (sym d) ∙ e .0
 
           go : (ltb (best .score) score ≡ true) ⊎ (ltb (best .score) score ≡ false) → s ≤ best .score
           go (inl t) = absurd (not-both (and-both there t) no-better)
           go (inr t) = let z : score ≤ best .score = ltb-false (best .score) score t in omega (arith, same)
 
-  next : IsBest f (suc n) (better best present score n)
+  next : IsBest proposers scores (suc n) (better best present score n)
   unfolding better
   next = go (present && ltb (best .score) score) refl
     where
-      go : (t : Bool) → (present && ltb (best .score) score) ≡ t → IsBest f (suc n) (cond t (record { score = score; proposer = Process n }) best)
+      go : (t : Bool) → (present && ltb (best .score) score) ≡ t → IsBest proposers scores (suc n) (cond t (record { score = score; proposer = Process n }) best)
       go true e = taken (and-left present (ltb (best .score) score) e) (ltb-true (best .score) score (and-right present (ltb (best .score) score) e))
       go false e = left e
 
-pub best-below : (f : FastState) (n : ℕ) → IsBest f n (bestBelow f n)
+pub best-below : (proposers : ℕ) (scores : ℕ → ℕ) (n : ℕ) → IsBest proposers scores n (bestBelow proposers scores n)
 unfolding bestBelow
-best-below f zero = record {
+best-below proposers scores zero = record {
   none-higher = λ q s l e. absurd (not-suc-le-zero l);
   chosen = λ p e. absurd (no-process p e);
   lowest = λ p q s e l r. absurd (no-process p e);
   nobody = λ e. refl;
 }
-best-below f (suc n) = next f n (bestBelow f n) (best-below f n)
+best-below proposers scores (suc n) = next proposers scores n (bestBelow proposers scores n) (best-below proposers scores n)

@@ -3,7 +3,8 @@
 -- Assumes nothing.
 use mathlib.Core.Bool.{Bool, cond, _&&_}
 use Prim.Native.Nat.{ℕ, zero, suc}
-use lib.Dec.{ltb}
+use mathlib.Core.List.{List}
+use lib.Dec.{eqb, ltb}
 use Rattle.sets.specs.Sets.{contains, size}
 use Rattle.tables.specs.Tables.{lookUp}
 use Rattle.message.specs.declared.OptionalProcess.{OptionalProcess}
@@ -12,33 +13,55 @@ use Rattle.message.specs.declared.Refusal.the-variants.{Panic}
 use Rattle.fast_state.specs.declared.Adoption.{Adoption}
 use Rattle.fast_state.specs.declared.Adoption.the-variants.{NoAdoption, Adopt, AdoptionRefused}
 use Rattle.fast_state.specs.declared.Best.{Best}
-use Rattle.fast_state.specs.declared.FastState.{FastState}
+use Rattle.fast_state.specs.declared.Entry.{Entry}
+use Rattle.fast_state.specs.declared.Entry.the-variants.{SameEntries, Recorded, EPaxosScored, SwiftScored}
+use Rattle.fast_state.specs.declared.FastAnswers.{FastAnswers}
+use Rattle.fast_state.specs.declared.FastChange.{FastChange}
 use Rattle.round_state.specs.declared.Member.{Member}
 
 -- a proposer with a higher score than the best so far takes its place
 unfoldable pub better : Best → Bool → ℕ → ℕ → Best
 better best present score p = cond (present && ltb (best .score) score) (record { score = score; proposer = Process p }) best
 
--- the best of the proposers below n: the lowest of those with the highest score
-unfoldable pub bestBelow : FastState → ℕ → Best
-bestBelow f zero = record { score = 0; proposer = NoProcess }
-bestBelow f (suc p) = better (bestBelow f p) (contains (f .«fast_proposers») p) (lookUp (f .«epaxos_proposer_scores») p) p
+-- the best of the proposers below n, by the score of each: the lowest of those with the highest score
+unfoldable pub bestBelow : ℕ → (ℕ → ℕ) → ℕ → Best
+bestBelow proposers score zero = record { score = 0; proposer = NoProcess }
+bestBelow proposers score (suc p) = better (bestBelow proposers score p) (contains proposers p) (score p) p
 
-abbrev pub lowestBest : FastState → OptionalProcess
-lowestBest f = bestBelow f 64 .proposer
+-- how one of the best proposers is chosen, by the answers and the score of each
+abbrev pub Choice : Type 0
+Choice = FastAnswers → (ℕ → ℕ) → OptionalProcess
 
-abbrev pub adopted : FastState → OptionalProcess → Adoption
-adopted f NoProcess = NoAdoption
-adopted f (Process p) = Adopt (lookUp (f .«fast_proposer_to_v») p)
+abbrev pub lowestBest : Choice
+lowestBest f score = bestBelow (f .«fast_proposers») score 64 .proposer
+
+unfoldable pub adopted : (ℕ → ℕ) → OptionalProcess → Adoption
+adopted value NoProcess = NoAdoption
+adopted value (Process p) = Adopt (value p)
+
+-- the value and the score of a proposer after a change: those that are changed, and else those in the tables
+unfoldable pub valueIn : Entry → List ℕ → ℕ → ℕ
+valueIn SameEntries table p = lookUp table p
+valueIn (Recorded proposer v) table p = cond (eqb p proposer) v (lookUp table p)
+valueIn (EPaxosScored proposer v score) table p = cond (eqb p proposer) v (lookUp table p)
+valueIn (SwiftScored proposer v score) table p = cond (eqb p proposer) v (lookUp table p)
+
+unfoldable pub scoreIn : Entry → List ℕ → ℕ → ℕ
+scoreIn SameEntries table p = lookUp table p
+scoreIn (Recorded proposer v) table p = lookUp table p
+scoreIn (EPaxosScored proposer v score) table p = cond (eqb p proposer) score (lookUp table p)
+scoreIn (SwiftScored proposer v score) table p = lookUp table p
 
 -- `epaxos_try_adopt` "needs a majority of answers and two proposers"; it asserts that the own proposal is there. The choice among the best
 -- proposers is a parameter.
-unfoldable pub epaxosTryAdoptWith : (FastState → OptionalProcess) → Member → FastState → Adoption
-epaxosTryAdoptWith choose me f =
+unfoldable pub epaxosTryAdoptWith : Choice → Member → FastAnswers → (ℕ → ℕ) → (ℕ → ℕ) → Adoption
+epaxosTryAdoptWith choose me f value score =
     cond (contains (f .«fast_proposers») (me .«my_pid»))
     (cond (ltb (size (f .«fast_answer_set»)) (me .quorums .majority)) NoAdoption
-    (cond (ltb (size (f .«fast_proposers»)) 2) NoAdoption (adopted f (choose f))))
+    (cond (ltb (size (f .«fast_proposers»)) 2) NoAdoption (adopted value (choose f score))))
     (AdoptionRefused Panic)
 
-abbrev pub epaxosTryAdopt : Member → FastState → Adoption
-epaxosTryAdopt me f = epaxosTryAdoptWith lowestBest me f
+-- after a change
+abbrev pub epaxosTryAdopt : Choice → Member → FastChange → List ℕ → List ℕ → Adoption
+epaxosTryAdopt choose me change values scores =
+    epaxosTryAdoptWith choose me (change .answers) (valueIn (change .entry) values) (scoreIn (change .entry) scores)

@@ -2,6 +2,7 @@
 -- "Round state"). The number of fast answers is the size of their set in EPaxos, the only mode that asks for it.
 -- Assumes nothing.
 use mathlib.Core.Bool.{Bool, true, false, cond, _&&_}
+use mathlib.Core.List.{List}
 use Prim.Native.Nat.{ℕ, _-_}
 use lib.Dec.{leb, eqb}
 use lib.ListN.{replicate}
@@ -15,15 +16,67 @@ use Rattle.message.specs.declared.OptionalValue.the-variants.{NoValue, Value}
 use Rattle.message.specs.declared.Outcome.the-variants.{Done, Refused}
 use Rattle.message.specs.declared.Refusal.{Refusal}
 use Rattle.message.specs.declared.Refusal.the-variants.{Panic, SecondFastAnswer}
+use Rattle.fast_state.specs.declared.Entry.{Entry}
+use Rattle.fast_state.specs.declared.Entry.the-variants.{SameEntries, Recorded, EPaxosScored, SwiftScored}
+use Rattle.fast_state.specs.declared.FastAnswers.{FastAnswers}
+use Rattle.fast_state.specs.declared.FastChange.{FastChange}
 use Rattle.fast_state.specs.declared.FastState.{FastState}
 use Rattle.fast_state.specs.declared.FastStep.{FastStep}
 use Rattle.round_state.specs.declared.Member.{Member}
 
-abbrev pub taken : FastState → FastStep
-taken f = record { state = f; outcome = Done }
+-- ---- what a call changes
 
-abbrev pub refused : Refusal → FastState → FastStep
-refused why f = record { state = f; outcome = Refused why }
+-- the state without its tables
+abbrev pub answersOf : FastState → FastAnswers
+answersOf f =
+    record {
+      «fast_answer_set» = f .«fast_answer_set»;
+      «fast_preaccepted» = f .«fast_preaccepted»;
+      «fast_proposers» = f .«fast_proposers»;
+      «swift_leader_answer» = f .«swift_leader_answer»;
+    }
+
+abbrev pub unchanged : FastAnswers → FastChange
+unchanged answers = record { answers = answers; entry = SameEntries }
+
+abbrev pub taken : FastChange → FastStep
+taken change = record { change = change; outcome = Done }
+
+abbrev pub refused : Refusal → FastAnswers → FastStep
+refused why answers = record { change = unchanged answers; outcome = Refused why }
+
+-- the tables afterwards: of one proposer the value, or the value and the score of the mode
+unfoldable pub toVAfter : Entry → List ℕ → List ℕ
+toVAfter SameEntries table = table
+toVAfter (Recorded proposer v) table = store table proposer v
+toVAfter (EPaxosScored proposer v score) table = store table proposer v
+toVAfter (SwiftScored proposer v score) table = store table proposer v
+
+unfoldable pub epaxosScoresAfter : Entry → List ℕ → List ℕ
+epaxosScoresAfter SameEntries table = table
+epaxosScoresAfter (Recorded proposer v) table = table
+epaxosScoresAfter (EPaxosScored proposer v score) table = store table proposer score
+epaxosScoresAfter (SwiftScored proposer v score) table = table
+
+unfoldable pub swiftScoresAfter : Entry → List ℕ → List ℕ
+swiftScoresAfter SameEntries table = table
+swiftScoresAfter (Recorded proposer v) table = table
+swiftScoresAfter (EPaxosScored proposer v score) table = table
+swiftScoresAfter (SwiftScored proposer v score) table = store table proposer score
+
+abbrev pub changed : FastChange → FastState → FastState
+changed change f =
+    record {
+      «fast_answer_set» = change .answers .«fast_answer_set»;
+      «fast_preaccepted» = change .answers .«fast_preaccepted»;
+      «fast_proposers» = change .answers .«fast_proposers»;
+      «fast_proposer_to_v» = toVAfter (change .entry) (f .«fast_proposer_to_v»);
+      «epaxos_proposer_scores» = epaxosScoresAfter (change .entry) (f .«epaxos_proposer_scores»);
+      «swift_proposer_scores» = swiftScoresAfter (change .entry) (f .«swift_proposer_scores»);
+      «swift_leader_answer» = change .answers .«swift_leader_answer»;
+    }
+
+-- ---- what both modes have in common
 
 -- a state with no answer: as new and full_clear make it. "EPaxos scores start at 2"
 abbrev pub noAnswers : FastState
@@ -42,22 +95,13 @@ noAnswers =
 unfoldable pub preacceptedAfter : Member → ℕ → ℕ → ℕ
 preacceptedAfter me proposer n = cond (eqb proposer (me .«my_pid»)) (increment n) n
 
--- what both modes record of an answer: the source, and the proposer with its value
-unfoldable pub recorded : ℕ → ℕ → ℕ → FastState → FastState
-recorded src proposer v f =
-    record {
-      «fast_answer_set» = insert (f .«fast_answer_set») src;
-      «fast_preaccepted» = f .«fast_preaccepted»;
-      «fast_proposers» = insert (f .«fast_proposers») proposer;
-      «fast_proposer_to_v» = store (f .«fast_proposer_to_v») proposer v;
-      «epaxos_proposer_scores» = f .«epaxos_proposer_scores»;
-      «swift_proposer_scores» = f .«swift_proposer_scores»;
-      «swift_leader_answer» = f .«swift_leader_answer»;
-    }
-
 -- a second answer: nothing if it is one's own, and else refused with 10
-unfoldable pub answeredBefore : Member → ℕ → FastState → FastStep
-answeredBefore me src f = cond (eqb src (me .«my_pid»)) (taken f) (refused SecondFastAnswer f)
+unfoldable pub answeredBefore : Member → ℕ → FastAnswers → FastStep
+answeredBefore me src f = cond (eqb src (me .«my_pid»)) (taken (unchanged f)) (refused SecondFastAnswer f)
+
+-- the assertions that both proposals make first: no answer, none preaccepted, no proposer
+unfoldable pub isUnanswered : FastAnswers → Bool
+isUnanswered f = isEmpty (f .«fast_answer_set») && eqb (f .«fast_preaccepted») 0 && isEmpty (f .«fast_proposers»)
 
 -- ---- EPaxos
 
@@ -65,35 +109,31 @@ answeredBefore me src f = cond (eqb src (me .«my_pid»)) (taken f) (refused Sec
 unfoldable pub scoreAfter : ℕ → ℕ → ℕ → ℕ
 scoreAfter src proposer score = cond (eqb src proposer) (score - 1) (increment score)
 
-unfoldable pub epaxosCounted : Member → ℕ → ℕ → FastState → FastState
-epaxosCounted me src proposer f =
+-- the source and the proposer are recorded, with the proposer's value and its new score
+abbrev pub epaxosCounted : Member → ℕ → ℕ → ℕ → FastAnswers → List ℕ → FastChange
+epaxosCounted me src proposer v f scores =
     record {
-      «fast_answer_set» = f .«fast_answer_set»;
-      «fast_preaccepted» = preacceptedAfter me proposer (f .«fast_preaccepted»);
-      «fast_proposers» = f .«fast_proposers»;
-      «fast_proposer_to_v» = f .«fast_proposer_to_v»;
-      «epaxos_proposer_scores» =
-          store (f .«epaxos_proposer_scores») proposer (scoreAfter src proposer (lookUp (f .«epaxos_proposer_scores») proposer));
-      «swift_proposer_scores» = f .«swift_proposer_scores»;
-      «swift_leader_answer» = f .«swift_leader_answer»;
+      answers =
+          record {
+            «fast_answer_set» = insert (f .«fast_answer_set») src;
+            «fast_preaccepted» = preacceptedAfter me proposer (f .«fast_preaccepted»);
+            «fast_proposers» = insert (f .«fast_proposers») proposer;
+            «swift_leader_answer» = f .«swift_leader_answer»;
+          };
+      entry = EPaxosScored proposer v (scoreAfter src proposer (lookUp scores proposer));
     }
 
-unfoldable pub epaxosAnswered : Member → ℕ → ℕ → ℕ → FastState → FastStep
-epaxosAnswered me src proposer v f =
-    cond (contains (f .«fast_answer_set») src) (answeredBefore me src f) (taken (epaxosCounted me src proposer (recorded src proposer v f)))
-
--- the assertions that both proposals make first: no answer, none preaccepted, no proposer
-unfoldable pub isUnanswered : FastState → Bool
-isUnanswered f = isEmpty (f .«fast_answer_set») && eqb (f .«fast_preaccepted») 0 && isEmpty (f .«fast_proposers»)
+unfoldable pub epaxosAnswered : Member → ℕ → ℕ → ℕ → FastAnswers → List ℕ → FastStep
+epaxosAnswered me src proposer v f scores =
+    cond (contains (f .«fast_answer_set») src) (answeredBefore me src f) (taken (epaxosCounted me src proposer v f scores))
 
 -- epaxos_propose_v
-unfoldable pub epaxosProposeV : Member → ℕ → FastState → FastStep
-epaxosProposeV me v f =
-    cond (isUnanswered f && eqb (lookUp (f .«epaxos_proposer_scores») (me .«my_pid»)) 2)
-    (epaxosAnswered me (me .«my_pid») (me .«my_pid») v f) (refused Panic f)
+unfoldable pub epaxosProposeV : Member → ℕ → FastAnswers → List ℕ → FastStep
+epaxosProposeV me v f scores =
+    cond (isUnanswered f && eqb (lookUp scores (me .«my_pid»)) 2) (epaxosAnswered me (me .«my_pid») (me .«my_pid») v f scores) (refused Panic f)
 
 -- epaxos_can_commit
-abbrev pub epaxosCanCommit : Member → FastState → Bool
+abbrev pub epaxosCanCommit : Member → FastAnswers → Bool
 epaxosCanCommit me f = eqb (size (f .«fast_proposers»)) 1 && leb (me .quorums .epaxos) (f .«fast_preaccepted»)
 
 -- ---- SwiftPaxos
@@ -107,52 +147,68 @@ inQuorum (Set quorum) src = contains quorum src
 unfoldable pub leaderAnswerAfter : Bool → ℕ → OptionalValue → OptionalValue
 leaderAnswerAfter leader v old = cond leader (Value v) old
 
-unfoldable pub swiftCounted : Member → ℕ → ℕ → Bool → FastState → FastState
-swiftCounted me proposer v leader f =
+-- the source and the proposer are recorded, with the proposer's value and one more for its score
+abbrev pub swiftCounted : Member → ℕ → ℕ → ℕ → Bool → FastAnswers → List ℕ → FastChange
+swiftCounted me src proposer v leader f scores =
     record {
-      «fast_answer_set» = f .«fast_answer_set»;
-      «fast_preaccepted» = preacceptedAfter me proposer (f .«fast_preaccepted»);
-      «fast_proposers» = f .«fast_proposers»;
-      «fast_proposer_to_v» = f .«fast_proposer_to_v»;
-      «epaxos_proposer_scores» = f .«epaxos_proposer_scores»;
-      «swift_proposer_scores» = store (f .«swift_proposer_scores») proposer (increment (lookUp (f .«swift_proposer_scores») proposer));
-      «swift_leader_answer» = leaderAnswerAfter leader v (f .«swift_leader_answer»);
+      answers =
+          record {
+            «fast_answer_set» = insert (f .«fast_answer_set») src;
+            «fast_preaccepted» = preacceptedAfter me proposer (f .«fast_preaccepted»);
+            «fast_proposers» = insert (f .«fast_proposers») proposer;
+            «swift_leader_answer» = leaderAnswerAfter leader v (f .«swift_leader_answer»);
+          };
+      entry = SwiftScored proposer v (increment (lookUp scores proposer));
     }
 
 -- an answer from outside the fixed quorum is uncounted, yet its proposer is recorded; the leader's may not come from there
-unfoldable pub swiftUncounted : ℕ → ℕ → ℕ → Bool → FastState → FastStep
-swiftUncounted src proposer v leader f = cond leader (refused Panic f) (taken (recorded src proposer v f))
+abbrev pub swiftRecorded : ℕ → ℕ → ℕ → FastAnswers → FastChange
+swiftRecorded src proposer v f =
+    record {
+      answers =
+          record {
+            «fast_answer_set» = insert (f .«fast_answer_set») src;
+            «fast_preaccepted» = f .«fast_preaccepted»;
+            «fast_proposers» = insert (f .«fast_proposers») proposer;
+            «swift_leader_answer» = f .«swift_leader_answer»;
+          };
+      entry = Recorded proposer v;
+    }
 
-unfoldable pub swiftFirst : Member → ℕ → ℕ → ℕ → OptionalSet → Bool → FastState → FastStep
-swiftFirst me src proposer v quorum leader f =
-    cond (inQuorum quorum src) (taken (swiftCounted me proposer v leader (recorded src proposer v f))) (swiftUncounted src proposer v leader f)
+unfoldable pub swiftUncounted : ℕ → ℕ → ℕ → Bool → FastAnswers → FastStep
+swiftUncounted src proposer v leader f = cond leader (refused Panic f) (taken (swiftRecorded src proposer v f))
+
+unfoldable pub swiftFirst : Member → ℕ → ℕ → ℕ → OptionalSet → Bool → FastAnswers → List ℕ → FastStep
+swiftFirst me src proposer v quorum leader f scores =
+    cond (inQuorum quorum src) (taken (swiftCounted me src proposer v leader f scores)) (swiftUncounted src proposer v leader f)
 
 -- swift_answered
-unfoldable pub swiftAnswered : Member → ℕ → ℕ → ℕ → OptionalSet → Bool → FastState → FastStep
-swiftAnswered me src proposer v quorum leader f =
-    cond (contains (f .«fast_answer_set») src) (answeredBefore me src f) (swiftFirst me src proposer v quorum leader f)
+unfoldable pub swiftAnswered : Member → ℕ → ℕ → ℕ → OptionalSet → Bool → FastAnswers → List ℕ → FastStep
+swiftAnswered me src proposer v quorum leader f scores =
+    cond (contains (f .«fast_answer_set») src) (answeredBefore me src f) (swiftFirst me src proposer v quorum leader f scores)
 
 abbrev pub hasValue : OptionalValue → Bool
 hasValue NoValue = false
 hasValue (Value v) = true
 
 -- swift_propose_v: a replica answers its own proposal
-unfoldable pub swiftOwn : Member → ℕ → OptionalSet → Bool → FastState → FastStep
-swiftOwn me v quorum leader f = cond (me .replica) (swiftAnswered me (me .«my_pid») (me .«my_pid») v quorum leader f) (taken f)
+unfoldable pub swiftOwn : Member → ℕ → OptionalSet → Bool → FastAnswers → List ℕ → FastStep
+swiftOwn me v quorum leader f scores =
+    cond (me .replica) (swiftAnswered me (me .«my_pid») (me .«my_pid») v quorum leader f scores) (taken (unchanged f))
 
-unfoldable pub swiftUnanswered : Member → FastState → Bool
-swiftUnanswered me f =
-    cond (hasValue (f .«swift_leader_answer»)) false (isUnanswered f && eqb (lookUp (f .«swift_proposer_scores») (me .«my_pid»)) 0)
+unfoldable pub swiftUnanswered : Member → FastAnswers → List ℕ → Bool
+swiftUnanswered me f scores = cond (hasValue (f .«swift_leader_answer»)) false (isUnanswered f && eqb (lookUp scores (me .«my_pid»)) 0)
 
-unfoldable pub swiftProposeV : Member → ℕ → OptionalSet → Bool → FastState → FastStep
-swiftProposeV me v quorum leader f = cond (swiftUnanswered me f) (swiftOwn me v quorum leader f) (refused Panic f)
+unfoldable pub swiftProposeV : Member → ℕ → OptionalSet → Bool → FastAnswers → List ℕ → FastStep
+swiftProposeV me v quorum leader f scores =
+    cond (swiftUnanswered me f scores) (swiftOwn me v quorum leader f scores) (refused Panic f)
 
 -- a fixed quorum is a majority, and without one the fast quorum is needed
 unfoldable pub swiftQuorum : Member → Bool → ℕ
 swiftQuorum me fixed = cond fixed (me .quorums .majority) (me .quorums .fast)
 
 -- swift_can_commit
-unfoldable pub swiftCanCommit : Member → Bool → FastState → Bool
+unfoldable pub swiftCanCommit : Member → Bool → FastAnswers → Bool
 swiftCanCommit me fixed f =
     cond (hasValue (f .«swift_leader_answer»))
     (eqb (size (f .«fast_proposers»)) 1 && leb (swiftQuorum me fixed) (f .«fast_preaccepted»)) false

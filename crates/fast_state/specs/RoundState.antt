@@ -3,7 +3,7 @@
 use mathlib.Core.Bool.{Bool, false, cond, _&&_}
 use Rattle.tables.specs.Tables.{allAre}
 use Rattle.message.specs.declared.OptionalRound.{OptionalRound}
-use Rattle.fast_state.specs.Fast.{noAnswers, isUnanswered, hasValue}
+use Rattle.fast_state.specs.Fast.{answersOf, noAnswers, isUnanswered, hasValue}
 use Rattle.round_state.specs.Paxos.{fullClear, isClear}
 use Rattle.fast_state.specs.declared.FastState.{FastState}
 use Rattle.round_state.specs.declared.HeldPromise.the-variants.{NothingHeld}
@@ -22,7 +22,7 @@ fullClearAll s = record { paxos = fullClear (s .paxos); fast = noAnswers }
 unfoldable pub fastIsClear : FastState → Bool
 fastIsClear f =
     cond (hasValue (f .«swift_leader_answer»)) false
-    (isUnanswered f && allAre (f .«epaxos_proposer_scores») 2 && allAre (f .«swift_proposer_scores») 0)
+    (isUnanswered (answersOf f) && allAre (f .«epaxos_proposer_scores») 2 && allAre (f .«swift_proposer_scores») 0)
 
 unfoldable pub isClearAll : OptionalRound → PaxosFamilyRoundState → Bool
 isClearAll starting s = isClear starting (s .paxos) && fastIsClear (s .fast)

@@ -1,7 +1,8 @@
 // The round state of the paxos family, second half: fast answers, proposers and their scores, and what EPaxos and SwiftPaxos have in
-// common; and the two halves together.
+// common; and the two halves together. A call changes the answers and, in the tables by proposer, the entry of one proposer: so the handlers hand
+// back this change, and the tables are read where they stand.
 ghost use mathlib.Core.Path.{_≡_};
-ghost use Rattle.fast_state.specs.Fast.{taken as takenFast, refused as refusedFast, noAnswers, preacceptedAfter, recorded, answeredBefore, isUnanswered, hasValue};
+ghost use Rattle.fast_state.specs.Fast.{answersOf, unchanged, taken as takenFast, refused as refusedFast, toVAfter, epaxosScoresAfter, swiftScoresAfter, changed, noAnswers, preacceptedAfter, answeredBefore, isUnanswered, hasValue};
 ghost use Rattle.fast_state.specs.RoundState.{newRoundState, fullClearAll, fastIsClear, isClearAll};
 use message::OptionalProcess;
 use message::OptionalRound;
@@ -23,6 +24,28 @@ pub struct FastState {
     pub swift_leader_answer: OptionalValue,
 }
 
+// The same without the tables.
+pub struct FastAnswers {
+    pub fast_answer_set: u64,
+    pub fast_preaccepted: u64,
+    pub fast_proposers: u64,
+    pub swift_leader_answer: OptionalValue,
+}
+
+// What a call changes in the tables: nothing, the value of a proposer, or its value and its score.
+pub enum Entry {
+    SameEntries,
+    Recorded { proposer: u64, v: u64 },
+    EPaxosScored { proposer: u64, v: u64, score: u64 },
+    SwiftScored { proposer: u64, v: u64, score: u64 },
+}
+
+// What a call changes in the state: the answers that there are afterwards, and the entry of a proposer.
+pub struct FastChange {
+    pub answers: FastAnswers,
+    pub entry: Entry,
+}
+
 pub struct PaxosFamilyRoundState {
     pub paxos: PaxosState,
     pub fast: FastState,
@@ -30,7 +53,7 @@ pub struct PaxosFamilyRoundState {
 
 // A step of the fast half, and whether it is refused.
 pub struct FastStep {
-    pub state: FastState,
+    pub change: FastChange,
     pub outcome: Outcome,
 }
 
@@ -65,28 +88,24 @@ pub fn has_value(value: OptionalValue) -> bool
     }
 }
 
-impl FastState {
-    // A state with no answer: as it is at the start of each slot.
-    pub fn no_answers() -> FastState
-        ensures { λ r. ⌜ r ≡ noAnswers ⌝ }
-    {
-        FastState {
-            fast_answer_set: 0,
-            fast_preaccepted: 0,
-            fast_proposers: 0,
-            fast_proposer_to_v: [0; 64],
-            epaxos_proposer_scores: [2; 64],
-            swift_proposer_scores: [0; 64],
-            swift_leader_answer: OptionalValue::NoValue,
-        }
-    }
-
+impl FastChange {
     pub fn taken(self) -> FastStep
         ensures { λ r. ⌜ r ≡ takenFast self ⌝ }
     {
         FastStep {
-            state: self,
+            change: self,
             outcome: Outcome::Done,
+        }
+    }
+}
+
+impl FastAnswers {
+    pub fn unchanged(self) -> FastChange
+        ensures { λ r. ⌜ r ≡ unchanged self ⌝ }
+    {
+        FastChange {
+            answers: self,
+            entry: Entry::SameEntries,
         }
     }
 
@@ -94,23 +113,9 @@ impl FastState {
         ensures { λ r. ⌜ r ≡ refusedFast why self ⌝ }
     {
         FastStep {
-            state: self,
+            change: self.unchanged(),
             outcome: Outcome::Refused(why),
         }
-    }
-
-    // The source of an answer, and the proposer that it names with the proposer's value.
-    pub fn recorded(mut self, src: u64, proposer: u64, v: u64) -> FastState
-        ensures { λ r. ⌜ r ≡ recorded src proposer v self ⌝ }
-    {
-        let old = self.fast_proposer_to_v;
-        let to_v = tables::store(old, proposer, v);
-        let answers = sets::insert(self.fast_answer_set, src);
-        let proposers = sets::insert(self.fast_proposers, proposer);
-        self.fast_answer_set = answers;
-        self.fast_proposers = proposers;
-        self.fast_proposer_to_v = to_v;
-        self
     }
 
     // A second answer from one process.
@@ -118,7 +123,7 @@ impl FastState {
         ensures { λ r. ⌜ r ≡ answeredBefore me src self ⌝ }
     {
         if src == me.my_pid {
-            return self.taken();
+            return self.unchanged().taken();
         }
         self.refused(Refusal::SecondFastAnswer)
     }
@@ -137,17 +142,123 @@ impl FastState {
     }
 }
 
+fn to_v_after(entry: Entry, table: [u64; 64]) -> [u64; 64]
+    ensures { λ r. ⌜ r ≡ toVAfter entry table ⌝ }
+{
+    match entry {
+        Entry::SameEntries => table,
+        Entry::Recorded { proposer, v } => tables::store(table, proposer, v),
+        Entry::EPaxosScored {
+            proposer,
+            v,
+            score: _,
+        } => tables::store(table, proposer, v),
+        Entry::SwiftScored {
+            proposer,
+            v,
+            score: _,
+        } => tables::store(table, proposer, v),
+    }
+}
+
+fn epaxos_scores_after(entry: Entry, table: [u64; 64]) -> [u64; 64]
+    ensures { λ r. ⌜ r ≡ epaxosScoresAfter entry table ⌝ }
+{
+    match entry {
+        Entry::SameEntries => table,
+        Entry::Recorded { proposer: _, v: _ } => table,
+        Entry::EPaxosScored {
+            proposer,
+            v: _,
+            score,
+        } => tables::store(table, proposer, score),
+        Entry::SwiftScored {
+            proposer: _,
+            v: _,
+            score: _,
+        } => table,
+    }
+}
+
+fn swift_scores_after(entry: Entry, table: [u64; 64]) -> [u64; 64]
+    ensures { λ r. ⌜ r ≡ swiftScoresAfter entry table ⌝ }
+{
+    match entry {
+        Entry::SameEntries => table,
+        Entry::Recorded { proposer: _, v: _ } => table,
+        Entry::EPaxosScored {
+            proposer: _,
+            v: _,
+            score: _,
+        } => table,
+        Entry::SwiftScored {
+            proposer,
+            v: _,
+            score,
+        } => tables::store(table, proposer, score),
+    }
+}
+
 impl FastState {
+    // A state with no answer: as it is at the start of each slot.
+    pub fn no_answers() -> FastState
+        ensures { λ r. ⌜ r ≡ noAnswers ⌝ }
+    {
+        FastState {
+            fast_answer_set: 0,
+            fast_preaccepted: 0,
+            fast_proposers: 0,
+            fast_proposer_to_v: [0; 64],
+            epaxos_proposer_scores: [2; 64],
+            swift_proposer_scores: [0; 64],
+            swift_leader_answer: OptionalValue::NoValue,
+        }
+    }
+
+    pub fn answers(self) -> FastAnswers
+        ensures { λ r. ⌜ r ≡ answersOf self ⌝ }
+    {
+        let answer = self.swift_leader_answer;
+        FastAnswers {
+            fast_answer_set: self.fast_answer_set,
+            fast_preaccepted: self.fast_preaccepted,
+            fast_proposers: self.fast_proposers,
+            swift_leader_answer: answer,
+        }
+    }
+
+    // The state with a change made to it.
+    pub fn changed(self, change: FastChange) -> FastState
+        ensures { λ r. ⌜ r ≡ changed change self ⌝ }
+    {
+        let answers = change.answers;
+        let entry = change.entry;
+        let leader_answer = answers.swift_leader_answer;
+        let to_v = self.fast_proposer_to_v;
+        let epaxos_scores = self.epaxos_proposer_scores;
+        let swift_scores = self.swift_proposer_scores;
+        FastState {
+            fast_answer_set: answers.fast_answer_set,
+            fast_preaccepted: answers.fast_preaccepted,
+            fast_proposers: answers.fast_proposers,
+            fast_proposer_to_v: to_v_after(entry, to_v),
+            epaxos_proposer_scores: epaxos_scores_after(entry, epaxos_scores),
+            swift_proposer_scores: swift_scores_after(entry, swift_scores),
+            swift_leader_answer: leader_answer,
+        }
+    }
+
     fn is_clear(self) -> bool
         ensures { λ r. ⌜ r ≡ fastIsClear self ⌝ }
     {
+        let answers = self.answers();
         let answer = self.swift_leader_answer;
         let epaxos_scores = self.epaxos_proposer_scores;
         let swift_scores = self.swift_proposer_scores;
         if has_value(answer) {
             return false;
         }
-        if self.is_unanswered() {
+        if answers.is_unanswered() {
             if tables::all_are(epaxos_scores, 2) {
                 return tables::all_are(swift_scores, 0);
             }

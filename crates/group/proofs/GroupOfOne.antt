@@ -13,8 +13,6 @@ use Rattle.message.specs.declared.ConsensusMessage.{ConsensusMessage}
 use Rattle.message.specs.declared.OptionalRound.the-variants.{NoRound, Round}
 use Rattle.message.specs.declared.Outcome.{Outcome}
 use Rattle.message.specs.declared.Outcome.the-variants.{Done, Refused}
-use Rattle.message.specs.declared.PFMode.{PFMode}
-use Rattle.message.specs.declared.PFMode.the-variants.{Paxos, MultiPaxos, MultiPaxos3P, EPaxos, Pando, SwiftPaxos}
 use Rattle.message.specs.declared.PaxosRound.{PaxosRound}
 use Rattle.message.specs.declared.Refusal.{Refusal}
 use Rattle.message.specs.declared.Refusal.the-variants.{NumberTooLarge}
@@ -23,13 +21,14 @@ use Rattle.message.specs.declared.RoundV.the-variants.{FastV, PaxosV}
 use Rattle.settings.specs.declared.Settings.{Settings}
 use Rattle.round_state.specs.Paxos.{paxosProposeV, gotoRound, selfAccept}
 use Rattle.round_state.specs.declared.PaxosState.{PaxosState}
-use Rattle.fast_state.specs.declared.FastState.{FastState}
+use Rattle.fast_state.specs.declared.FastAnswers.{FastAnswers}
+use Rattle.fast_state.specs.declared.FastChange.{FastChange}
 use Rattle.fast_state.specs.Adopt.{lowestBest}
-use Rattle.fast_state.specs.Fast.{epaxosProposeV, swiftProposeV}
 use Rattle.read_tracker.specs.declared.Opened.{Opened}
 use Rattle.read_tracker.specs.declared.Opened.the-variants.{Refused as NotOpened, Id}
-use Rattle.propose.specs.Propose.{electing, proposalRound, mayPropose, afterPrepare, proposePrepare, afterAccept, afterOwnPromise, proposeAccept, proposeClassic, afterOwnAnswer, proposeEPaxos, proposeSwift, proposeByMode, proposeFast}
+use Rattle.propose.specs.Propose.{proposalRound, mayPropose, afterPrepare, proposePrepare, afterAccept, afterOwnPromise, proposeAccept, proposeClassic, afterOwnAnswer, ownAnswer, leadsSwift, proposeChange, proposeFast}
 use Rattle.steps.specs.declared.Asked.{Asked}
+use Rattle.steps.specs.declared.ChangeStep.{ChangeStep}
 use Rattle.steps.specs.declared.Core.{Core}
 use Rattle.steps.specs.declared.CoreStep.{CoreStep}
 use Rattle.steps.specs.declared.Destination.{Destination}
@@ -76,6 +75,9 @@ EndToAll messages (Refuses why) = Unit {0}
 abbrev StepToAll : CoreStep → Type 0
 StepToAll step = EndToAll (step .messages) (step .next)
 
+abbrev ChangeToAll : ChangeStep → Type 0
+ChangeToAll step = EndToAll (step .messages) (step .next)
+
 abbrev RoundsToAll : RoundsStep → Type 0
 RoundsToAll step = EndToAll (step .messages) (step .next)
 
@@ -111,27 +113,20 @@ module _ (a : Asked) where
       (of-both StepToAll (isMultiPaxos (a .mode)) (propose-accept-to-all (proposalRound a core) v core) (propose-prepare-to-all (proposalRound a core) (PaxosV NoRound v) core))
       tt
 
-  own-answer-to-all : (round : PaxosRound) (v : ℕ) (core : Core) (fast : FastState) (o : Outcome) → RoundsToAll (afterOwnAnswer a round v core fast o)
-  own-answer-to-all round v core fast Done = propose-prepare-to-all round (FastV (a .member .«my_pid») v) core
-  own-answer-to-all round v core fast (Refused why) = tt
+  own-answer-to-all : (round : PaxosRound) (v : ℕ) (core : Core) (c : FastChange) (o : Outcome) → ChangeToAll (afterOwnAnswer a round v core c o)
+  own-answer-to-all round v core c Done = propose-prepare-to-all round (FastV (a .member .«my_pid») v) core
+  own-answer-to-all round v core c (Refused why) = tt
 
-  by-mode-to-all : (v : ℕ) (core : Core) (fast : FastState) (m : PFMode) → RoundsToAll (proposeByMode a v core fast m)
-  unfolding proposeEPaxos proposeSwift
-  by-mode-to-all v core fast Paxos = propose-classic-to-all v core
-  by-mode-to-all v core fast MultiPaxos = propose-classic-to-all v core
-  by-mode-to-all v core fast MultiPaxos3P = propose-classic-to-all v core
-  by-mode-to-all v core fast EPaxos = own-answer-to-all (proposalRound a core) v core _ (epaxosProposeV (a .member) v fast .outcome)
-  by-mode-to-all v core fast Pando = propose-classic-to-all v core
-  by-mode-to-all v core fast SwiftPaxos =
-      of-both RoundsToAll (eqb (electing a) (a .member .«my_pid»)) (propose-accept-to-all (proposalRound a core) v core)
-      (own-answer-to-all (proposalRound a core) v core _ (swiftProposeV (a .member) v (a .quorum) false fast .outcome))
+  fast-to-all : (v : ℕ) (core : Core) (f : FastAnswers) (epaxos swift : List ℕ) → ChangeToAll (proposeChange a v core f epaxos swift)
+  unfolding proposeChange
+  fast-to-all v core f epaxos swift =
+      of-both ChangeToAll (mayPropose a core)
+      (of-both ChangeToAll (leadsSwift a) (propose-accept-to-all (proposalRound a core) v core)
+      (own-answer-to-all (proposalRound a core) v core _ (ownAnswer a v f epaxos swift .outcome))) tt
 
   proposing-to-all : (v : ℕ) (s : Rounds) → RoundsToAll (proposing a v s)
   unfolding proposing proposeFast
-  proposing-to-all v s =
-      of-both RoundsToAll (hasFastPath (a .mode))
-      (of-both RoundsToAll (mayPropose a (s .core)) (by-mode-to-all v (s .core) (s .fast) (a .mode)) tt)
-      (propose-classic-to-all v (s .core))
+  proposing-to-all v s = of-both RoundsToAll (hasFastPath (a .mode)) (fast-to-all v (s .core) _ _ _) (propose-classic-to-all v (s .core))
 
 refused-to-all : (why : Refusal) (shard : Shard) → CallToAll (refused why shard .reply)
 refused-to-all why shard = (tt, refl)

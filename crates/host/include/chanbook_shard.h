@@ -1,4 +1,5 @@
-/* Chanbook's shard engine for a host in C, C++ or Rust. Link libhost.a and libdirect.a, which `rt staticlib host` and `rt staticlib direct` write.
+/* Chanbook's shard engine for a host in C, C++ or Rust. Link libhost.a, libdirect.a and libdirect_fast.a, which `rt staticlib host`,
+   `rt staticlib direct` and `rt staticlib direct_fast` write.
    A host begins a shard with chanbook_shard_new and makes its calls with chanbook_call.
 
    Every field is a number. 0 is no and any other number yes; the engine writes 1. A field that is not given is 0 where the engine writes it.
@@ -191,10 +192,10 @@ struct chanbook_reply {
 /* A shard begins at *s, whatever stood there: 0, or 1 where the settings are outside the limits and the shard is not made. */
 uint64_t chanbook_shard_new(struct chanbook_shard *s, struct chanbook_settings settings);
 
-/* A call on the shard that is lent. */
+/* A call on the shard that is lent, over whole structs: slower than chanbook_call, for comparison. */
 struct chanbook_reply chanbook_shard_call(struct chanbook_shard *s, struct chanbook_call call);
 
-/* The same call by value, with a copy of the whole shard: slower, for comparison. */
+/* The same call by value, with a copy of the whole shard: slower still. */
 struct chanbook_reply chanbook_shard_call_by_value(struct chanbook_shard *s, struct chanbook_call call);
 
 enum { CHANBOOK_PASSED_ON = 255 };
@@ -203,28 +204,61 @@ enum { CHANBOOK_PASSED_ON = 255 };
    `rest` is the reply's commit and served_count. No row that is written may overlap another.
    0: the call is taken. Core, reads and reply are written; of a message that is not sent only the kind is written.
    A refusal's number: nothing at all is written.
-   CHANBOOK_PASSED_ON: nothing is written, and the call has to go to chanbook_shard_call. */
+   CHANBOOK_PASSED_ON: nothing is written, and the call is one of those that chanbook_fast_call takes. */
 uint64_t chanbook_direct_call(
-    const uint64_t setup[10], const uint64_t committers[64], const uint64_t delegates[64], uint64_t core[18], uint64_t open[640],
+    const uint64_t setup[10], const uint64_t committers[64], const uint64_t delegates[64], uint64_t core[18], uint64_t reads[640],
     uint64_t served[512], const uint64_t call[25], uint64_t first[20], uint64_t second[20], uint64_t third[20], uint64_t rest[5]);
 
-/* A call as a host makes it: in place, or by chanbook_shard_call where it is passed on. The reply may be one that an earlier call has filled.
-   Of a message whose kind is CHANBOOK_NO_MESSAGE, and of a commit that is not given, the other numbers say nothing. */
+/* The same for EPaxos and SwiftPaxos: proposals, Prepare, Accept, ForwardRequest and Commit. The fast half is lent besides, and written where the
+   call is taken: `answers` is the fast half up to its tables, and `values`, `epaxos` and `swift` are these.
+   CHANBOOK_PASSED_ON: nothing is written, and the call is one of those that chanbook_direct_call takes: a new read, a message of a read or of an
+   unknown kind, and all of the other modes. */
+uint64_t chanbook_fast_call(
+    const uint64_t setup[10], const uint64_t committers[64], const uint64_t delegates[64], uint64_t core[18], uint64_t answers[5],
+    uint64_t values[64], uint64_t epaxos[64], uint64_t swift[64], uint64_t reads[640], uint64_t served[512], const uint64_t call[25],
+    uint64_t first[20], uint64_t second[20], uint64_t third[20], uint64_t rest[5]);
+
+/* Rows that go over more than one field begin at the struct that they are in. */
+static inline uint64_t *chanbook_rest(struct chanbook_reply *reply)
+{
+    return (uint64_t *)reply + offsetof(struct chanbook_reply, commit) / sizeof(uint64_t);
+}
+
+static inline uint64_t chanbook_direct_on(struct chanbook_shard *s, const struct chanbook_call *call, struct chanbook_reply *reply)
+{
+    return chanbook_direct_call(
+        (const uint64_t *)s, s->settings.committers, s->settings.delegates, (uint64_t *)&s->state.rounds.core, (uint64_t *)s->state.table.reads,
+        (uint64_t *)s->state.table.served, (const uint64_t *)call, (uint64_t *)&reply->first, (uint64_t *)&reply->second,
+        (uint64_t *)&reply->third, chanbook_rest(reply));
+}
+
+static inline uint64_t chanbook_fast_on(struct chanbook_shard *s, const struct chanbook_call *call, struct chanbook_reply *reply)
+{
+    struct chanbook_fast *fast = &s->state.rounds.fast;
+    return chanbook_fast_call(
+        (const uint64_t *)s, s->settings.committers, s->settings.delegates, (uint64_t *)&s->state.rounds.core, (uint64_t *)fast,
+        fast->fast_proposer_to_v, fast->epaxos_proposer_scores, fast->swift_proposer_scores, (uint64_t *)s->state.table.reads,
+        (uint64_t *)s->state.table.served, (const uint64_t *)call, (uint64_t *)&reply->first, (uint64_t *)&reply->second,
+        (uint64_t *)&reply->third, chanbook_rest(reply));
+}
+
+/* By the function that takes the call. In this order chanbook_direct_call never passes on. */
+static inline uint64_t chanbook_outcome(struct chanbook_shard *s, const struct chanbook_call *call, struct chanbook_reply *reply)
+{
+    if (s->settings.mode == CHANBOOK_EPAXOS || s->settings.mode == CHANBOOK_SWIFT_PAXOS) {
+        uint64_t number = chanbook_fast_on(s, call, reply);
+        if (number != CHANBOOK_PASSED_ON)
+            return number;
+    }
+    return chanbook_direct_on(s, call, reply);
+}
+
+/* A call as a host makes it, in place in every mode. The reply may be one that an earlier call has filled. Of a message whose kind is
+   CHANBOOK_NO_MESSAGE, and of a commit that is not given, the other numbers say nothing. */
 static inline void chanbook_call(struct chanbook_shard *s, const struct chanbook_call *call, struct chanbook_reply *reply)
 {
-    /* Rows that go over more than one field begin at the struct that they are in. */
-    const uint64_t *setup = (const uint64_t *)s;
-    uint64_t *rest = (uint64_t *)reply + offsetof(struct chanbook_reply, commit) / sizeof(uint64_t);
-    uint64_t number = chanbook_direct_call(
-        setup, s->settings.committers, s->settings.delegates, (uint64_t *)&s->state.rounds.core, (uint64_t *)s->state.table.reads,
-        (uint64_t *)s->state.table.served, (const uint64_t *)call, (uint64_t *)&reply->first, (uint64_t *)&reply->second,
-        (uint64_t *)&reply->third, rest);
-    if (number == CHANBOOK_PASSED_ON) {
-        *reply = chanbook_shard_call(s, *call);
-        return;
-    }
-    reply->outcome = number;
-    if (number != 0) {
+    reply->outcome = chanbook_outcome(s, call, reply);
+    if (reply->outcome != 0) {
         /* Nothing is written, and what an earlier call sent may still stand there. */
         reply->first.kind = CHANBOOK_NO_MESSAGE;
         reply->second.kind = CHANBOOK_NO_MESSAGE;

@@ -1,16 +1,19 @@
-/* A group of three over the exported functions, in Paxos, whose calls are handled in place, and in EPaxos, most of whose calls are passed on: two
-   slots are committed by all, a read is served, refusals leave every byte. Every call is made both ways, and both do the same.
-   Build: cc -I crates/host/include crates/host/test/host_test.c target/staticlib/libhost.a target/staticlib/libdirect.a -o host_test */
+/* A group of three over the exported functions, in Paxos, whose calls go to libdirect.a, and in EPaxos and SwiftPaxos, most of whose calls go to
+   libdirect_fast.a: two slots are committed by all, a read is served, refusals leave every byte. Every call is made both ways, and both do the same.
+   Build: cc -I crates/host/include crates/host/test/host_test.c target/staticlib/libhost.a target/staticlib/libdirect.a \
+     target/staticlib/libdirect_fast.a -o host_test */
 #include <stdio.h>
 #include <stdlib.h>
 #include <string.h>
 
 #include "chanbook_shard.h"
 
-/* The rows of chanbook_direct_call are parts of the structs. */
+/* The rows of chanbook_direct_call and of chanbook_fast_call are parts of the structs. */
 #define IS_A_ROW(bytes, numbers) _Static_assert((bytes) == sizeof(uint64_t[numbers]), "a row of another length")
 IS_A_ROW(offsetof(struct chanbook_shard, settings.committers), 10);
 IS_A_ROW(sizeof(struct chanbook_core), 18);
+IS_A_ROW(offsetof(struct chanbook_fast, fast_proposer_to_v), 5);
+IS_A_ROW(sizeof(struct chanbook_fast), 5 + 3 * 64);
 IS_A_ROW(sizeof(struct chanbook_open_read[128]), 640);
 IS_A_ROW(sizeof(struct chanbook_served_read[128]), 512);
 IS_A_ROW(sizeof(struct chanbook_call), 25);
@@ -181,9 +184,11 @@ static void shards_are_not_made(void)
 
 int main(void)
 {
-    a_group_commits_and_reads(CHANBOOK_EPAXOS);
-    a_group_commits_and_reads(CHANBOOK_PAXOS);
-    messages_are_refused();
+    const uint64_t modes[] = {CHANBOOK_EPAXOS, CHANBOOK_SWIFT_PAXOS, CHANBOOK_PAXOS};
+    for (int mode = 0; mode < 3; mode++) {
+        a_group_commits_and_reads(modes[mode]);
+        messages_are_refused();
+    }
     shards_are_not_made();
     puts("host_test: ok");
     return 0;

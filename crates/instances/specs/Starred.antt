@@ -22,15 +22,17 @@ use Rattle.message.specs.declared.Refusal.the-variants.{AcceptUnlikeHeld}
 use Rattle.message.specs.declared.RoundV.{RoundV}
 use Rattle.message.specs.declared.RoundV.the-variants.{PaxosV}
 use Rattle.message.specs.Refusals.{refusalNumber}
+use Rattle.fast_state.specs.declared.Adoption.{Adoption}
 use Rattle.fast_state.specs.declared.Adoption.the-variants.{Adopt}
+use Rattle.fast_state.specs.declared.FastChange.{FastChange}
 use Rattle.fast_state.specs.declared.FastState.{FastState}
 use Rattle.round_state.specs.declared.HeldPromise.the-variants.{Held}
 use Rattle.round_state.specs.declared.Member.{Member}
 use Rattle.round_state.specs.declared.PaxosState.{PaxosState}
 use Rattle.round_state.specs.declared.PaxosStep.{PaxosStep}
 use Rattle.round_state.specs.Paxos.{withSender, withOwn, heldAfterPromise, receivePromise, paxosProposeV, acceptFits, receiveAccept}
-use Rattle.fast_state.specs.Fast.{noAnswers, preacceptedAfter, recorded, answeredBefore, scoreAfter, epaxosCounted, epaxosAnswered, isUnanswered, epaxosProposeV}
-use Rattle.fast_state.specs.Adopt.{better, bestBelow, epaxosTryAdoptWith, epaxosTryAdopt}
+use Rattle.fast_state.specs.Fast.{answersOf, changed, toVAfter, epaxosScoresAfter, swiftScoresAfter, noAnswers, preacceptedAfter, answeredBefore, scoreAfter, epaxosAnswered, isUnanswered, epaxosProposeV}
+use Rattle.fast_state.specs.Adopt.{better, bestBelow, lowestBest, adopted, valueIn, scoreIn, epaxosTryAdoptWith, epaxosTryAdopt}
 use Rattle.fast_state.specs.RoundState.{newRoundState}
 use Rattle.read_tracker.specs.declared.Inserted.{Inserted}
 use Rattle.read_tracker.specs.Reads.{readId, newTracker, newTable, insert as insertRead, afterResponse, afterCommit}
@@ -118,15 +120,25 @@ abbrev pub otherValueNumber : Row
 otherValueNumber = row (refusalNumber AcceptUnlikeHeld) 9
 
 -- EPaxos, five: 4 proposes 40; 1 answers proposer 0, value 10
+abbrev pub answers : ℕ → ℕ → ℕ → FastState → FastChange
+answers src proposer v f = epaxosAnswered (replica 4) src proposer v (answersOf f) (f .«epaxos_proposer_scores») .change
+
 abbrev pub answered : ℕ → ℕ → ℕ → FastState → FastState
-answered src proposer v f = epaxosAnswered (replica 4) src proposer v f .state
+answered src proposer v f = changed (answers src proposer v f) f
 
 abbrev pub proposed : FastState
-proposed = answered 1 0 10 (epaxosProposeV (replica 4) 40 noAnswers .state)
+proposed =
+    answered 1 0 10
+    (changed (epaxosProposeV (replica 4) 40 (answersOf noAnswers) (noAnswers .«epaxos_proposer_scores») .change) noAnswers)
+
+-- what is adopted when one more answer comes
+abbrev pub adopts : ℕ → ℕ → ℕ → Adoption
+adopts src proposer v =
+    epaxosTryAdopt lowestBest (replica 4) (answers src proposer v proposed) (proposed .«fast_proposer_to_v») (proposed .«epaxos_proposer_scores»)
 
 -- 2 answers proposer 4: adopt 10 (scores 3 and 2)
 abbrev pub adoptsBest : Row
-adoptsBest = row (epaxosTryAdopt (replica 4) (answered 2 4 40 proposed)) (Adopt 10)
+adoptsBest = row (adopts 2 4 40) (Adopt 10)
 
 abbrev pub otherScore : Row
 otherScore = row (lookUp (answered 2 4 40 proposed .«epaxos_proposer_scores») 0) 3
@@ -136,7 +148,7 @@ ownScore = row (lookUp (answered 2 4 40 proposed .«epaxos_proposer_scores») 4)
 
 -- If instead of 2, 3 answers proposer 2 value 20: a tie, adopt 10
 abbrev pub adoptsLowest : Row
-adoptsLowest = row (epaxosTryAdopt (replica 4) (answered 3 2 20 proposed)) (Adopt 10)
+adoptsLowest = row (adopts 3 2 20) (Adopt 10)
 
 -- ---- reads
 
@@ -270,5 +282,5 @@ starred =
     ∷ []
 
 pub every-row-holds : AllHold starred
-unfolding increment roundBefore roundEqual nextLeaderRound contains count size insert lookUp store every countsFit membersFit committersFit modeFits withinLimits withSender withOwn heldAfterPromise receivePromise acceptFits receiveAccept preacceptedAfter recorded answeredBefore scoreAfter epaxosCounted epaxosAnswered isUnanswered epaxosProposeV better bestBelow epaxosTryAdoptWith insertRead afterResponse afterCommit keptByReady servedByReady keptByCommit servedByCommit atFront receiveReady commitSlot newShard callWith unlessSpent dispatch propose proposing proposeClassic mayPropose electing proposePrepare paxosProposeV read startRead receive admit numbersFit processesFit ready otherLastValue valueAwaited msgNumbers valueNumbers processNumbers msgProcesses requesterBelow handle onReadResponse onCommit committed
+unfolding increment roundBefore roundEqual nextLeaderRound contains count size insert lookUp store every countsFit membersFit committersFit modeFits withinLimits withSender withOwn heldAfterPromise receivePromise acceptFits receiveAccept toVAfter epaxosScoresAfter swiftScoresAfter preacceptedAfter answeredBefore scoreAfter epaxosAnswered isUnanswered epaxosProposeV better bestBelow adopted valueIn scoreIn epaxosTryAdoptWith insertRead afterResponse afterCommit keptByReady servedByReady keptByCommit servedByCommit atFront receiveReady commitSlot newShard callWith unlessSpent dispatch propose proposing proposeClassic mayPropose electing proposePrepare paxosProposeV read startRead receive admit numbersFit processesFit ready otherLastValue valueAwaited msgNumbers valueNumbers processNumbers msgProcesses requesterBelow handle onReadResponse onCommit committed
 every-row-holds = (refl, (refl, (refl, (refl, (refl, (refl, (refl, (refl, (refl, (refl, (refl, (refl, (refl, (refl, (refl, (refl, (refl, (refl, (refl, (refl, (refl, (refl, (refl, (refl, (refl, (refl, (refl, tt)))))))))))))))))))))))))))

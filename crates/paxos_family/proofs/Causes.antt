@@ -2,6 +2,7 @@
 -- Assumes nothing.
 use mathlib.Core.Path.{_≡_, refl}
 use mathlib.Core.Bool.{Bool, true, false, cond, not, _&&_, _||_}
+use mathlib.Core.List.{List}
 use Prim.Native.Nat.{ℕ}
 use lib.Dec.{eqb, ltb}
 use Rattle.basics.proofs.Tests.{of-both}
@@ -17,8 +18,6 @@ use Rattle.message.specs.declared.OptionalValue.{OptionalValue}
 use Rattle.message.specs.declared.OptionalValue.the-variants.{NoValue, Value}
 use Rattle.message.specs.declared.Outcome.{Outcome}
 use Rattle.message.specs.declared.Outcome.the-variants.{Done, Refused}
-use Rattle.message.specs.declared.PFMode.{PFMode}
-use Rattle.message.specs.declared.PFMode.the-variants.{Paxos, MultiPaxos, MultiPaxos3P, EPaxos, Pando, SwiftPaxos}
 use Rattle.message.specs.declared.PaxosRound.{PaxosRound}
 use Rattle.message.specs.declared.Refusal.{Refusal}
 use Rattle.message.specs.declared.Refusal.the-variants.{SourceNotLive, ProposalNotAllowed}
@@ -27,11 +26,12 @@ use Rattle.message.specs.declared.RoundV.the-variants.{FastV, PaxosV}
 use Rattle.round_state.specs.Paxos.{getV, isHeld, isPrepared, paxosCanCommit, gotoRound, receivePromise, paxosProposeV, acceptFits, receiveAccept, acceptOwn, selfAccept, holding, adoptFromEpaxos}
 use Rattle.round_state.specs.declared.PaxosState.{PaxosState}
 use Rattle.round_state.specs.declared.PaxosStep.{PaxosStep}
-use Rattle.fast_state.specs.Adopt.{adopted, epaxosTryAdoptWith}
-use Rattle.fast_state.specs.Fast.{answeredBefore, epaxosAnswered, epaxosProposeV, epaxosCanCommit, inQuorum, swiftUncounted, swiftFirst, swiftAnswered, swiftProposeV}
+use Rattle.fast_state.specs.Adopt.{Choice, adopted, epaxosTryAdoptWith, epaxosTryAdopt}
+use Rattle.fast_state.specs.Fast.{answeredBefore, epaxosAnswered, epaxosCanCommit, inQuorum, swiftUncounted, swiftFirst, swiftAnswered}
 use Rattle.fast_state.specs.declared.Adoption.{Adoption}
 use Rattle.fast_state.specs.declared.Adoption.the-variants.{NoAdoption, Adopt, AdoptionRefused}
-use Rattle.fast_state.specs.declared.FastState.{FastState}
+use Rattle.fast_state.specs.declared.FastAnswers.{FastAnswers}
+use Rattle.fast_state.specs.declared.FastChange.{FastChange}
 use Rattle.fast_state.specs.declared.FastStep.{FastStep}
 use Rattle.accept.specs.Accept.{isCommitter, answerAccept, tryCommit, answered, follower, accepted, afterAccepted, accepting}
 use Rattle.paxos_family.specs.Causes.{HandlingCause}
@@ -39,10 +39,11 @@ use Rattle.enter.specs.Enter.{inRound, isOlder, fromLive, enter}
 use Rattle.epaxos_path.specs.EPaxos.{adopting, epaxosAdopt, epaxosDecide, afterEpaxosAnswer, epaxosAnswer, epaxosGather}
 use Rattle.swift_path.specs.Swift.{swiftCommits, afterSwiftAnswer, swiftAnswer, swiftClientPrepare, afterClientAccept, clientAccept, afterLeaderAnswer, leaderAnswer, leaderOutcome, swiftAccept, swiftClientAccept, swiftGather, afterReplicaAnswer, swiftAnsweredAccept}
 use Rattle.prepare.specs.Prepare.{hasAccepted, withPromise, holdFirst, answerPrepare, answersNothing, preparing, afterHeld, prepared, broadcastAccept, afterOwnAccept, acceptPhase, gather}
-use Rattle.paxos_family.specs.Process.{fastGather, ifContinues, inPrepare, onPrepare, onAccept, processClassic, inFastPrepare, entered, onFastPrepare, inFastAccept, enteredAccept, onFastAccept, processFast}
-use Rattle.propose.specs.Propose.{electing, proposalRound, mayPropose, afterPrepare, proposePrepare, afterAccept, afterOwnPromise, proposeAccept, proposeClassic, afterOwnAnswer, proposeEPaxos, proposeSwift, proposeByMode, proposeFast}
-use Rattle.steps.specs.Steps.{noMessages, withPaxos, leftFastPath, continues, refuses, onRounds}
+use Rattle.paxos_family.specs.Process.{fastGather, ifContinues, inPrepare, onPrepare, onAccept, processClassic, inFastPrepare, entered, onFastPrepare, inFastAccept, enteredAccept, onFastAccept, processChange, processFast}
+use Rattle.propose.specs.Propose.{proposalRound, mayPropose, afterPrepare, proposePrepare, afterAccept, afterOwnPromise, proposeAccept, proposeClassic, afterOwnAnswer, ownAnswer, leadsSwift, proposeChange, proposeFast}
+use Rattle.steps.specs.Steps.{noMessages, withPaxos, leftFastPath, continues, refuses, withChange}
 use Rattle.steps.specs.declared.Asked.{Asked}
+use Rattle.steps.specs.declared.ChangeStep.{ChangeStep}
 use Rattle.steps.specs.declared.Core.{Core}
 use Rattle.steps.specs.declared.CoreStep.{CoreStep}
 use Rattle.steps.specs.declared.Heard.{Heard}
@@ -74,6 +75,9 @@ goes-on P (Refuses why) p q = q
 module _ (a : Asked) (h : Heard) where
   abbrev pub Good : CoreStep → Type 0
   Good step = Caused (HandlingCause a h) (step .next)
+
+  abbrev GoodChange : ChangeStep → Type 0
+  GoodChange step = Caused (HandlingCause a h) (step .next)
 
   abbrev pub GoodRounds : RoundsStep → Type 0
   GoodRounds step = Caused (HandlingCause a h) (step .next)
@@ -118,22 +122,22 @@ module _ (a : Asked) (h : Heard) where
   unfolding selfAccept
   self-accept-caused round p = of-both GoodPaxos (isEmpty (p .«accepted_set»)) (accept-own-caused round p (getV (p .«max_rv»))) tt
 
-  answered-before-caused : (src : ℕ) (f : FastState) → GoodFast (answeredBefore (a .member) src f)
+  answered-before-caused : (src : ℕ) (f : FastAnswers) → GoodFast (answeredBefore (a .member) src f)
   unfolding answeredBefore
   answered-before-caused src f = of-both GoodFast (eqb src (a .member .«my_pid»)) tt tt
 
-  epaxos-answered-caused : (src proposer v : ℕ) (f : FastState) → GoodFast (epaxosAnswered (a .member) src proposer v f)
+  epaxos-answered-caused : (src proposer v : ℕ) (f : FastAnswers) (scores : List ℕ) → GoodFast (epaxosAnswered (a .member) src proposer v f scores)
   unfolding epaxosAnswered
-  epaxos-answered-caused src proposer v f = of-both GoodFast (contains (f .«fast_answer_set») src) (answered-before-caused src f) tt
+  epaxos-answered-caused src proposer v f scores = of-both GoodFast (contains (f .«fast_answer_set») src) (answered-before-caused src f) tt
 
-  swift-first-caused : (src proposer v : ℕ) (leader : Bool) (f : FastState) → GoodFast (swiftFirst (a .member) src proposer v (a .quorum) leader f)
+  swift-first-caused : (src proposer v : ℕ) (leader : Bool) (f : FastAnswers) (scores : List ℕ) → GoodFast (swiftFirst (a .member) src proposer v (a .quorum) leader f scores)
   unfolding swiftFirst swiftUncounted
-  swift-first-caused src proposer v leader f = of-both GoodFast (inQuorum (a .quorum) src) tt (of-both GoodFast leader tt tt)
+  swift-first-caused src proposer v leader f scores = of-both GoodFast (inQuorum (a .quorum) src) tt (of-both GoodFast leader tt tt)
 
-  swift-answered-caused : (src proposer v : ℕ) (leader : Bool) (f : FastState) → GoodFast (swiftAnswered (a .member) src proposer v (a .quorum) leader f)
+  swift-answered-caused : (src proposer v : ℕ) (leader : Bool) (f : FastAnswers) (scores : List ℕ) → GoodFast (swiftAnswered (a .member) src proposer v (a .quorum) leader f scores)
   unfolding swiftAnswered
-  swift-answered-caused src proposer v leader f =
-      of-both GoodFast (contains (f .«fast_answer_set») src) (answered-before-caused src f) (swift-first-caused src proposer v leader f)
+  swift-answered-caused src proposer v leader f scores =
+      of-both GoodFast (contains (f .«fast_answer_set») src) (answered-before-caused src f) (swift-first-caused src proposer v leader f scores)
 
   -- ---- Prepare
 
@@ -225,69 +229,71 @@ module _ (a : Asked) (h : Heard) where
       (own-accept-caused round core (adoptFromEpaxos (a .member) round v (core .paxos) .state) (adoptFromEpaxos (a .member) round v (core .paxos) .outcome)
       (self-accept-caused round (holding (PaxosV NoRound v) (core .paxos)))) tt
 
-  module _ (choose : FastState → OptionalProcess) where
+  module _ (choose : Choice) where
     abbrev pub GoodAdoption : Adoption → Type 0
     GoodAdoption NoAdoption = Unit {0}
     GoodAdoption (Adopt v) = Unit {0}
     GoodAdoption (AdoptionRefused why) = HandlingCause a h why
 
-    try-adopt-caused : (f : FastState) → GoodAdoption (epaxosTryAdoptWith choose (a .member) f)
-    unfolding epaxosTryAdoptWith
-    try-adopt-caused f =
+    try-adopt-caused : (f : FastAnswers) (value score : ℕ → ℕ) → GoodAdoption (epaxosTryAdoptWith choose (a .member) f value score)
+    unfolding epaxosTryAdoptWith adopted
+    try-adopt-caused f value score =
         of-both GoodAdoption (contains (f .«fast_proposers») (a .member .«my_pid»))
         (of-both GoodAdoption (ltb (size (f .«fast_answer_set»)) (a .member .quorums .majority)) tt
-        (of-both GoodAdoption (ltb (size (f .«fast_proposers»)) 2) tt (chosen (choose f)))) tt
+        (of-both GoodAdoption (ltb (size (f .«fast_proposers»)) 2) tt (chosen (choose f score)))) tt
       where
-        chosen : (p : OptionalProcess) → GoodAdoption (adopted f p)
+        chosen : (p : OptionalProcess) → GoodAdoption (adopted value p)
         chosen NoProcess = tt
         chosen (Process p) = tt
 
-    decide-caused : (round : PaxosRound) (v : ℕ) (core : Core) (f : FastState) → Good (epaxosDecide choose a h round v core f)
-    unfolding epaxosDecide
-    decide-caused round v core f = of-both Good (epaxosCanCommit (a .member) f) tt (go (epaxosTryAdoptWith choose (a .member) f) (try-adopt-caused f))
-      where
-        go : (x : Adoption) → GoodAdoption x → Good (epaxosAdopt a round core x)
-        go NoAdoption g = tt
-        go (Adopt w) g = adopting-caused round w core
-        go (AdoptionRefused why) g = g
+    module _ (values scores : List ℕ) where
+      decide-caused : (round : PaxosRound) (v : ℕ) (core : Core) (c : FastChange) → Good (epaxosDecide choose a h round v core c values scores)
+      unfolding epaxosDecide
+      decide-caused round v core c =
+          of-both Good (epaxosCanCommit (a .member) (c .answers)) tt (go (epaxosTryAdopt choose (a .member) c values scores) (try-adopt-caused (c .answers) _ _))
+        where
+          go : (x : Adoption) → GoodAdoption x → Good (epaxosAdopt a round core x)
+          go NoAdoption g = tt
+          go (Adopt w) g = adopting-caused round w core
+          go (AdoptionRefused why) g = g
 
-    epaxos-answer-caused : (round : PaxosRound) (rv : RoundV) (core : Core) (f : FastState) → GoodRounds (epaxosAnswer choose a h round rv core f)
-    unfolding epaxosAnswer
-    epaxos-answer-caused round (FastV proposer v) core f =
-        go (epaxosAnswered (a .member) (h .src) proposer v f .outcome) (epaxos-answered-caused (h .src) proposer v f)
-      where
-        f′ : FastState
-        f′ = epaxosAnswered (a .member) (h .src) proposer v f .state
+      epaxos-answer-caused : (round : PaxosRound) (rv : RoundV) (core : Core) (f : FastAnswers) → GoodChange (epaxosAnswer choose a h round rv core f values scores)
+      unfolding epaxosAnswer
+      epaxos-answer-caused round (FastV proposer v) core f =
+          go (epaxosAnswered (a .member) (h .src) proposer v f scores .outcome) (epaxos-answered-caused (h .src) proposer v f scores)
+        where
+          c : FastChange
+          c = epaxosAnswered (a .member) (h .src) proposer v f scores .change
 
-        go : (o : Outcome) → GoodOutcome o → GoodRounds (afterEpaxosAnswer choose a h round v core f′ o)
-        go Done g = decide-caused round v core f′
-        go (Refused why) g = g
-    epaxos-answer-caused round (PaxosV at v) core f = tt
+          go : (o : Outcome) → GoodOutcome o → GoodChange (afterEpaxosAnswer choose a h round v core values scores c o)
+          go Done g = decide-caused round v core c
+          go (Refused why) g = g
+      epaxos-answer-caused round (PaxosV at v) core f = tt
 
-    epaxos-gather-caused : (round : PaxosRound) (rv : RoundV) (core : Core) (f : FastState) → GoodRounds (epaxosGather choose a h round rv core f)
-    unfolding epaxosGather
-    epaxos-gather-caused round rv core f =
-        of-both GoodRounds (hasAccepted (withPromise a h rv core)) (gather-caused round rv core) (epaxos-answer-caused round rv (withPromise a h rv core) f)
+      epaxos-gather-caused : (round : PaxosRound) (rv : RoundV) (core : Core) (f : FastAnswers) → GoodChange (epaxosGather choose a h round rv core f values scores)
+      unfolding epaxosGather
+      epaxos-gather-caused round rv core f =
+          of-both GoodChange (hasAccepted (withPromise a h rv core)) (gather-caused round rv core) (epaxos-answer-caused round rv (withPromise a h rv core) f)
 
   -- ---- SwiftPaxos
 
-  swift-answer-caused : (round : PaxosRound) (rv : RoundV) (core : Core) (f : FastState) → GoodRounds (swiftAnswer a h round rv core f)
+  swift-answer-caused : (round : PaxosRound) (rv : RoundV) (core : Core) (f : FastAnswers) (scores : List ℕ) → GoodChange (swiftAnswer a h round rv core f scores)
   unfolding swiftAnswer
-  swift-answer-caused round (FastV proposer v) core f =
-      of-both GoodRounds (eqb (h .src) (round .leader)) tt
-      (go (swiftAnswered (a .member) (h .src) proposer v (a .quorum) false f .outcome) (swift-answered-caused (h .src) proposer v false f))
+  swift-answer-caused round (FastV proposer v) core f scores =
+      of-both GoodChange (eqb (h .src) (round .leader)) tt
+      (go (swiftAnswered (a .member) (h .src) proposer v (a .quorum) false f scores .outcome) (swift-answered-caused (h .src) proposer v false f scores))
     where
-      f′ : FastState
-      f′ = swiftAnswered (a .member) (h .src) proposer v (a .quorum) false f .state
+      c : FastChange
+      c = swiftAnswered (a .member) (h .src) proposer v (a .quorum) false f scores .change
 
-      go : (o : Outcome) → GoodOutcome o → GoodRounds (onRounds f′ (afterSwiftAnswer a v core f′ o))
-      go Done g = of-both Good (swiftCommits a f′) tt tt
+      go : (o : Outcome) → GoodOutcome o → GoodChange (withChange c (afterSwiftAnswer a v core (c .answers) o))
+      go Done g = of-both Good (swiftCommits a (c .answers)) tt tt
       go (Refused why) g = g
-  swift-answer-caused round (PaxosV at v) core f = tt
+  swift-answer-caused round (PaxosV at v) core f scores = tt
 
-  client-prepare-caused : (round : PaxosRound) (rv : RoundV) (core : Core) (f : FastState) → GoodRounds (swiftClientPrepare a h round rv core f)
+  client-prepare-caused : (round : PaxosRound) (rv : RoundV) (core : Core) (f : FastAnswers) (scores : List ℕ) → GoodChange (swiftClientPrepare a h round rv core f scores)
   unfolding swiftClientPrepare
-  client-prepare-caused round rv core f = of-both GoodRounds (isProcess (h .committer) (a .member .«my_pid»)) (swift-answer-caused round rv core f) tt
+  client-prepare-caused round rv core f scores = of-both GoodChange (isProcess (h .committer) (a .member .«my_pid»)) (swift-answer-caused round rv core f scores) tt
 
   client-accept-caused : (round : PaxosRound) (v : ℕ) (core : Core) → Good (clientAccept a h round v core)
   unfolding clientAccept
@@ -301,74 +307,77 @@ module _ (a : Asked) (h : Heard) where
       go Done g = of-both Good (paxosCanCommit (a .member) p) tt tt
       go (Refused why) g = g
 
-  leader-caused : (v : ℕ) (f : FastState) → GoodOutcome (leaderOutcome a h v f)
-  leader-caused v f = swift-answered-caused (h .src) (a .member .«my_pid») v true f
+  leader-caused : (v : ℕ) (f : FastAnswers) (scores : List ℕ) → GoodOutcome (leaderOutcome a h v f scores)
+  leader-caused v f scores = swift-answered-caused (h .src) (a .member .«my_pid») v true f scores
 
-  client-accepts-caused : (round : PaxosRound) (v : ℕ) (core : Core) (f : FastState) → GoodRounds (swiftClientAccept a h round v core f)
+  client-accepts-caused : (round : PaxosRound) (v : ℕ) (core : Core) (f : FastAnswers) (scores : List ℕ) → GoodChange (swiftClientAccept a h round v core f scores)
   unfolding swiftClientAccept swiftAccept
-  client-accepts-caused round v core f =
-      of-both GoodRounds (isProcess (h .committer) (a .member .«my_pid»))
-      (of-both GoodRounds (eqb (h .src) (round .leader)) (go (leaderOutcome a h v f) (leader-caused v f)) (client-accept-caused round v core)) tt
+  client-accepts-caused round v core f scores =
+      of-both GoodChange (isProcess (h .committer) (a .member .«my_pid»))
+      (of-both GoodChange (eqb (h .src) (round .leader)) (go (leaderOutcome a h v f scores) (leader-caused v f scores)) (client-accept-caused round v core)) tt
     where
-      go : (o : Outcome) → GoodOutcome o → GoodRounds (onRounds (leaderAnswer a h v f) (afterLeaderAnswer a h round v core (leaderAnswer a h v f) o))
-      go Done g = of-both Good (swiftCommits a (leaderAnswer a h v f)) tt (client-accept-caused round v core)
+      go : (o : Outcome) → GoodOutcome o → GoodChange (withChange (leaderAnswer a h v f scores) (afterLeaderAnswer a h round v core (leaderAnswer a h v f scores .answers) o))
+      go Done g = of-both Good (swiftCommits a (leaderAnswer a h v f scores .answers)) tt (client-accept-caused round v core)
       go (Refused why) g = g
 
-  swift-gather-caused : (round : PaxosRound) (rv : RoundV) (core : Core) (f : FastState) → GoodRounds (swiftGather a h round rv core f)
+  swift-gather-caused : (round : PaxosRound) (rv : RoundV) (core : Core) (f : FastAnswers) (scores : List ℕ) → GoodChange (swiftGather a h round rv core f scores)
   unfolding swiftGather
-  swift-gather-caused round rv core f =
-      of-both GoodRounds (eqb (round .leader) (a .member .«my_pid»))
+  swift-gather-caused round rv core f scores =
+      of-both GoodChange (eqb (round .leader) (a .member .«my_pid»))
       (of-both Good (hasAccepted (withPromise a h rv core)) tt (accept-phase-caused round (withPromise a h rv core)))
-      (client-prepare-caused round rv (withPromise a h rv core) f)
+      (client-prepare-caused round rv (withPromise a h rv core) f scores)
 
-  answered-accept-caused : (round : PaxosRound) (v : ℕ) (core : Core) (ms : Messages) (f : FastState) → GoodRounds (swiftAnsweredAccept a h round v core ms f)
+  answered-accept-caused : (round : PaxosRound) (v : ℕ) (core : Core) (ms : Messages) (f : FastAnswers) (scores : List ℕ) → GoodChange (swiftAnsweredAccept a h round v core ms f scores)
   unfolding swiftAnsweredAccept
-  answered-accept-caused round v core ms f = go (leaderOutcome a h v f) (leader-caused v f)
+  answered-accept-caused round v core ms f scores = go (leaderOutcome a h v f scores) (leader-caused v f scores)
     where
-      go : (o : Outcome) → GoodOutcome o → GoodRounds (onRounds (leaderAnswer a h v f) (afterReplicaAnswer a h round v core ms (leaderAnswer a h v f) o))
-      go Done g = of-both Good (swiftCommits a (leaderAnswer a h v f)) tt (try-commit-caused round v core ms)
+      go : (o : Outcome) → GoodOutcome o → GoodChange (withChange (leaderAnswer a h v f scores) (afterReplicaAnswer a h round v core ms (leaderAnswer a h v f scores .answers) o))
+      go Done g = of-both Good (swiftCommits a (leaderAnswer a h v f scores .answers)) tt (try-commit-caused round v core ms)
       go (Refused why) g = g
 
   -- ---- the fast modes
 
-  module _ (choose : FastState → OptionalProcess) where
-    fast-gather-caused : (round : PaxosRound) (rv : RoundV) (core : Core) (f : FastState) (m : PFMode) → GoodRounds (fastGather choose a h round rv core f m)
+  module _ (choose : Choice) (f : FastAnswers) (values epaxos swift : List ℕ) where
+    fast-gather-caused : (round : PaxosRound) (rv : RoundV) (core : Core) → GoodChange (fastGather choose a h round rv core f values epaxos swift)
     unfolding fastGather
-    fast-gather-caused round rv core f Paxos = gather-caused round rv core
-    fast-gather-caused round rv core f MultiPaxos = gather-caused round rv core
-    fast-gather-caused round rv core f MultiPaxos3P = gather-caused round rv core
-    fast-gather-caused round rv core f EPaxos = epaxos-gather-caused choose round rv core f
-    fast-gather-caused round rv core f Pando = gather-caused round rv core
-    fast-gather-caused round rv core f SwiftPaxos = swift-gather-caused round rv core f
+    fast-gather-caused round rv core =
+        of-both GoodChange (isSwiftPaxos (a .mode)) (swift-gather-caused round rv core f swift) (epaxos-gather-caused choose values epaxos round rv core f)
 
-    pub fast-caused : (m : ConsensusMsg) (s : Rounds) → GoodRounds (processFast choose a h m s)
-    unfolding processFast onFastPrepare entered inFastPrepare onFastAccept enteredAccept inFastAccept
-    fast-caused (Prepare slot round rv) s =
-        let e = enter a h slot round (s .core) in
+    change-caused : (m : ConsensusMsg) (core : Core) → GoodChange (processChange choose a h m core f values epaxos swift)
+    unfolding processChange onFastPrepare entered inFastPrepare onFastAccept enteredAccept inFastAccept
+    change-caused (Prepare slot round rv) core =
+        let e = enter a h slot round core in
         let p = prepared a h round rv (e .core) in
-        goes-on GoodRounds (e .next)
-        (of-both GoodRounds (a .member .replica)
-        (goes-on GoodRounds (p .next) (fast-gather-caused round rv (p .core) (s .fast) (a .mode)) (prepared-caused round rv (e .core)))
-        (client-prepare-caused round rv (e .core) (s .fast)))
-        (enter-caused slot round (s .core))
-    fast-caused (Accept slot round v) s =
-        let e = enter a h slot round (s .core) in
+        goes-on GoodChange (e .next)
+        (of-both GoodChange (a .member .replica)
+        (goes-on GoodChange (p .next) (fast-gather-caused round rv (p .core)) (prepared-caused round rv (e .core)))
+        (client-prepare-caused round rv (e .core) f swift))
+        (enter-caused slot round core)
+    change-caused (Accept slot round v) core =
+        let e = enter a h slot round core in
         let c = accepting a h round v (e .core) in
-        goes-on GoodRounds (e .next)
-        (of-both GoodRounds (a .member .replica)
-        (goes-on GoodRounds (c .next) (answered-accept-caused round v (c .core) (c .messages) (s .fast)) (accepting-caused round v (e .core)))
-        (client-accepts-caused round v (e .core) (s .fast)))
-        (enter-caused slot round (s .core))
-    fast-caused (ForwardRequest v) s = tt
-    fast-caused (Commit slot v) s = tt
-    fast-caused (ReadRequest id) s = tt
-    fast-caused (ReadResponse id next) s = tt
+        goes-on GoodChange (e .next)
+        (of-both GoodChange (a .member .replica)
+        (goes-on GoodChange (c .next) (answered-accept-caused round v (c .core) (c .messages) f swift) (accepting-caused round v (e .core)))
+        (client-accepts-caused round v (e .core) f swift))
+        (enter-caused slot round core)
+    change-caused (ForwardRequest v) core = tt
+    change-caused (Commit slot v) core = tt
+    change-caused (ReadRequest id) core = tt
+    change-caused (ReadResponse id next) core = tt
+
+  pub fast-caused : (choose : Choice) (m : ConsensusMsg) (s : Rounds) → GoodRounds (processFast choose a h m s)
+  unfolding processFast
+  fast-caused choose m s = change-caused choose _ _ _ _ m (s .core)
 
 -- ---- proposals: 11 alone
 
 module _ (a : Asked) where
   abbrev pub Allowed : CoreStep → Type 0
   Allowed step = Caused (λ (why : Refusal). why ≡ ProposalNotAllowed) (step .next)
+
+  abbrev AllowedChange : ChangeStep → Type 0
+  AllowedChange step = Caused (λ (why : Refusal). why ≡ ProposalNotAllowed) (step .next)
 
   abbrev pub AllowedRounds : RoundsStep → Type 0
   AllowedRounds step = Caused (λ (why : Refusal). why ≡ ProposalNotAllowed) (step .next)
@@ -402,22 +411,18 @@ module _ (a : Asked) where
       of-both Allowed (mayPropose a core)
       (of-both Allowed (isMultiPaxos (a .mode)) (accept-allowed (proposalRound a core) v core) (prepare-allowed (proposalRound a core) (PaxosV NoRound v) core)) refl
 
-  own-answer-allowed : (round : PaxosRound) (v : ℕ) (core : Core) (f : FastState) (o : Outcome) → AllowedRounds (afterOwnAnswer a round v core f o)
-  own-answer-allowed round v core f Done = prepare-allowed round (FastV (a .member .«my_pid») v) core
-  own-answer-allowed round v core f (Refused why) = refl
+  own-answer-allowed : (round : PaxosRound) (v : ℕ) (core : Core) (c : FastChange) (o : Outcome) → AllowedChange (afterOwnAnswer a round v core c o)
+  own-answer-allowed round v core c Done = prepare-allowed round (FastV (a .member .«my_pid») v) core
+  own-answer-allowed round v core c (Refused why) = refl
 
-  mode-allowed : (v : ℕ) (core : Core) (f : FastState) (m : PFMode) → AllowedRounds (proposeByMode a v core f m)
-  unfolding proposeEPaxos proposeSwift
-  mode-allowed v core f Paxos = propose-classic-allowed v core
-  mode-allowed v core f MultiPaxos = propose-classic-allowed v core
-  mode-allowed v core f MultiPaxos3P = propose-classic-allowed v core
-  mode-allowed v core f EPaxos =
-      own-answer-allowed (proposalRound a core) v core (epaxosProposeV (a .member) v f .state) (epaxosProposeV (a .member) v f .outcome)
-  mode-allowed v core f Pando = propose-classic-allowed v core
-  mode-allowed v core f SwiftPaxos =
-      of-both AllowedRounds (eqb (electing a) (a .member .«my_pid»)) (accept-allowed (proposalRound a core) v core)
-      (own-answer-allowed (proposalRound a core) v core (swiftProposeV (a .member) v (a .quorum) false f .state) (swiftProposeV (a .member) v (a .quorum) false f .outcome))
+  module _ (f : FastAnswers) (epaxos swift : List ℕ) where
+    change-allowed : (v : ℕ) (core : Core) → AllowedChange (proposeChange a v core f epaxos swift)
+    unfolding proposeChange
+    change-allowed v core =
+        of-both AllowedChange (mayPropose a core)
+        (of-both AllowedChange (leadsSwift a) (accept-allowed (proposalRound a core) v core)
+        (own-answer-allowed (proposalRound a core) v core (ownAnswer a v f epaxos swift .change) (ownAnswer a v f epaxos swift .outcome))) refl
 
   pub propose-fast-allowed : (v : ℕ) (s : Rounds) → AllowedRounds (proposeFast a v s)
   unfolding proposeFast
-  propose-fast-allowed v s = of-both AllowedRounds (mayPropose a (s .core)) (mode-allowed v (s .core) (s .fast) (a .mode)) refl
+  propose-fast-allowed v s = change-allowed _ _ _ v (s .core)

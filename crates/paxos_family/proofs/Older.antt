@@ -3,20 +3,22 @@
 use mathlib.Core.Path.{_≡_, refl, ap, _∙_}
 use mathlib.Core.Logic.{_⊎_, inl, inr}
 use mathlib.Core.Bool.{Bool, true, false, cond, _||_}
+use mathlib.Core.List.{List}
 use Prim.Native.Nat.{ℕ}
 use lib.Dec.{ltb}
 use Rattle.basics.proofs.Tests.{or-left, or-right}
 use Rattle.message.specs.Modes.{isSwiftPaxos}
 use Rattle.message.specs.Rounds.{before}
 use Rattle.message.specs.declared.ConsensusMsg.the-variants.{Prepare, Accept}
-use Rattle.message.specs.declared.OptionalProcess.{OptionalProcess}
 use Rattle.message.specs.declared.OptionalRound.the-variants.{Round}
 use Rattle.message.specs.declared.PaxosRound.{PaxosRound}
 use Rattle.message.specs.declared.RoundV.{RoundV}
-use Rattle.fast_state.specs.declared.FastState.{FastState}
+use Rattle.fast_state.specs.Adopt.{Choice}
+use Rattle.fast_state.specs.Fast.{unchanged, toVAfter, epaxosScoresAfter, swiftScoresAfter}
+use Rattle.fast_state.specs.declared.FastAnswers.{FastAnswers}
 use Rattle.enter.specs.Enter.{isOlder, fromLive, enter}
-use Rattle.paxos_family.specs.Process.{processClassic, onPrepare, onAccept, processFast, onFastPrepare, onFastAccept}
-use Rattle.steps.specs.Steps.{noMessages, stays, onRounds}
+use Rattle.paxos_family.specs.Process.{processClassic, onPrepare, onAccept, processChange, processFast, onFastPrepare, onFastAccept}
+use Rattle.steps.specs.Steps.{noMessages, stays, withChange, onRounds, changeRounds}
 use Rattle.steps.specs.declared.Asked.{Asked}
 use Rattle.steps.specs.declared.Core.{Core}
 use Rattle.steps.specs.declared.Heard.{Heard}
@@ -53,12 +55,24 @@ module _ (a : Asked) (h : Heard) (slot : ℕ) (round : PaxosRound) where
   older-accept v core o = let e = older-enter core o in simp e
 
   -- EPaxos and SwiftPaxos
-  pub older-fast-prepare : (choose : FastState → OptionalProcess) (rv : RoundV) (s : Rounds) → Older slot round (s .core)
-      → processFast choose a h (Prepare slot round rv) s ≡ onRounds (s .fast) (stays (s .core) noMessages)
-  unfolding processFast onFastPrepare
-  older-fast-prepare choose rv s o = let e = older-enter (s .core) o in simp e
+  module _ (choose : Choice) where
+    module _ (f : FastAnswers) (values epaxos swift : List ℕ) where
+      pub older-prepare-change : (rv : RoundV) (core : Core) → Older slot round core
+          → processChange choose a h (Prepare slot round rv) core f values epaxos swift ≡ withChange (unchanged f) (stays core noMessages)
+      unfolding processChange onFastPrepare
+      older-prepare-change rv core o = let e = older-enter core o in simp e
 
-  pub older-fast-accept : (choose : FastState → OptionalProcess) (v : ℕ) (s : Rounds) → Older slot round (s .core)
-      → processFast choose a h (Accept slot round v) s ≡ onRounds (s .fast) (stays (s .core) noMessages)
-  unfolding processFast onFastAccept
-  older-fast-accept choose v s o = let e = older-enter (s .core) o in simp e
+      pub older-accept-change : (v : ℕ) (core : Core) → Older slot round core
+          → processChange choose a h (Accept slot round v) core f values epaxos swift ≡ withChange (unchanged f) (stays core noMessages)
+      unfolding processChange onFastAccept
+      older-accept-change v core o = let e = older-enter core o in simp e
+
+    pub older-fast-prepare : (rv : RoundV) (s : Rounds) → Older slot round (s .core)
+        → processFast choose a h (Prepare slot round rv) s ≡ onRounds (s .fast) (stays (s .core) noMessages)
+    unfolding processFast toVAfter epaxosScoresAfter swiftScoresAfter
+    older-fast-prepare rv s o = ap (changeRounds (s .fast)) (older-prepare-change _ _ _ _ rv (s .core) o)
+
+    pub older-fast-accept : (v : ℕ) (s : Rounds) → Older slot round (s .core)
+        → processFast choose a h (Accept slot round v) s ≡ onRounds (s .fast) (stays (s .core) noMessages)
+    unfolding processFast toVAfter epaxosScoresAfter swiftScoresAfter
+    older-fast-accept v s o = ap (changeRounds (s .fast)) (older-accept-change _ _ _ _ v (s .core) o)

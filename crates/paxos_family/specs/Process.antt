@@ -2,22 +2,24 @@
 -- MultiPaxos3P, Pando) change the core alone; EPaxos and SwiftPaxos also the fast half.
 -- Assumes nothing.
 use mathlib.Core.Bool.{cond}
+use mathlib.Core.List.{List}
 use Prim.Native.Nat.{ℕ}
+use Rattle.message.specs.Modes.{isSwiftPaxos}
 use Rattle.message.specs.declared.ConsensusMsg.{ConsensusMsg}
 use Rattle.message.specs.declared.ConsensusMsg.the-variants.{Prepare, Accept, ForwardRequest, Commit, ReadRequest, ReadResponse}
-use Rattle.message.specs.declared.OptionalProcess.{OptionalProcess}
-use Rattle.message.specs.declared.PFMode.{PFMode}
-use Rattle.message.specs.declared.PFMode.the-variants.{Paxos, MultiPaxos, MultiPaxos3P, EPaxos, Pando, SwiftPaxos}
 use Rattle.message.specs.declared.PaxosRound.{PaxosRound}
 use Rattle.message.specs.declared.RoundV.{RoundV}
-use Rattle.fast_state.specs.declared.FastState.{FastState}
+use Rattle.fast_state.specs.Adopt.{Choice}
+use Rattle.fast_state.specs.Fast.{answersOf, unchanged}
+use Rattle.fast_state.specs.declared.FastAnswers.{FastAnswers}
 use Rattle.accept.specs.Accept.{accepting}
 use Rattle.enter.specs.Enter.{enter}
 use Rattle.epaxos_path.specs.EPaxos.{epaxosGather}
 use Rattle.swift_path.specs.Swift.{swiftClientPrepare, swiftClientAccept, swiftGather, swiftAnsweredAccept}
 use Rattle.prepare.specs.Prepare.{prepared, gather}
-use Rattle.steps.specs.Steps.{noMessages, stays, onRounds, goesOn}
+use Rattle.steps.specs.Steps.{noMessages, stays, withChange, changeRounds, goesOn}
 use Rattle.steps.specs.declared.Asked.{Asked}
+use Rattle.steps.specs.declared.ChangeStep.{ChangeStep}
 use Rattle.steps.specs.declared.Core.{Core}
 use Rattle.steps.specs.declared.CoreStep.{CoreStep}
 use Rattle.steps.specs.declared.Heard.{Heard}
@@ -53,48 +55,56 @@ processClassic a h (ReadResponse id next) core = stays core noMessages
 
 -- ---- EPaxos and SwiftPaxos
 
--- the delegate counts a promise as its mode does
-unfoldable pub fastGather : (FastState → OptionalProcess) → Asked → Heard → PaxosRound → RoundV → Core → FastState → PFMode → RoundsStep
-fastGather choose a h round rv core fast Paxos = onRounds fast (gather a h round rv core)
-fastGather choose a h round rv core fast MultiPaxos = onRounds fast (gather a h round rv core)
-fastGather choose a h round rv core fast MultiPaxos3P = onRounds fast (gather a h round rv core)
-fastGather choose a h round rv core fast EPaxos = epaxosGather choose a h round rv core fast
-fastGather choose a h round rv core fast Pando = onRounds fast (gather a h round rv core)
-fastGather choose a h round rv core fast SwiftPaxos = swiftGather a h round rv core fast
+-- With the values of the proposers, the scores of EPaxos and those of SwiftPaxos.
 
-module _ (choose : FastState → OptionalProcess) where
-  unfoldable pub inFastPrepare : Asked → Heard → PaxosRound → RoundV → Core → FastState → RoundsStep
-  inFastPrepare a h round rv core fast =
-      ifContinues (prepared a h round rv core .next) (fastGather choose a h round rv (prepared a h round rv core .core) fast (a .mode))
-      (onRounds fast (prepared a h round rv core))
+-- the delegate counts a promise as its mode does
+unfoldable pub fastGather : Choice → Asked → Heard → PaxosRound → RoundV → Core → FastAnswers → List ℕ → List ℕ → List ℕ → ChangeStep
+fastGather choose a h round rv core answers values epaxos swift =
+    cond (isSwiftPaxos (a .mode)) (swiftGather a h round rv core answers swift) (epaxosGather choose a h round rv core answers values epaxos)
+
+module _ (choose : Choice) where
+  unfoldable pub inFastPrepare : Asked → Heard → PaxosRound → RoundV → Core → FastAnswers → List ℕ → List ℕ → List ℕ → ChangeStep
+  inFastPrepare a h round rv core answers values epaxos swift =
+      ifContinues (prepared a h round rv core .next)
+      (fastGather choose a h round rv (prepared a h round rv core .core) answers values epaxos swift)
+      (withChange (unchanged answers) (prepared a h round rv core))
 
   -- one that is no replica is a SwiftPaxos client here
-  unfoldable pub entered : Asked → Heard → PaxosRound → RoundV → Core → FastState → RoundsStep
-  entered a h round rv core fast =
-      cond (a .member .replica) (inFastPrepare a h round rv core fast) (swiftClientPrepare a h round rv core fast)
+  unfoldable pub entered : Asked → Heard → PaxosRound → RoundV → Core → FastAnswers → List ℕ → List ℕ → List ℕ → ChangeStep
+  entered a h round rv core answers values epaxos swift =
+      cond (a .member .replica) (inFastPrepare a h round rv core answers values epaxos swift) (swiftClientPrepare a h round rv core answers swift)
 
-  unfoldable pub onFastPrepare : Asked → Heard → ℕ → PaxosRound → RoundV → Core → FastState → RoundsStep
-  onFastPrepare a h slot round rv core fast =
-      ifContinues (enter a h slot round core .next) (entered a h round rv (enter a h slot round core .core) fast) (onRounds fast (enter a h slot round core))
+  unfoldable pub onFastPrepare : Asked → Heard → ℕ → PaxosRound → RoundV → Core → FastAnswers → List ℕ → List ℕ → List ℕ → ChangeStep
+  onFastPrepare a h slot round rv core answers values epaxos swift =
+      ifContinues (enter a h slot round core .next) (entered a h round rv (enter a h slot round core .core) answers values epaxos swift)
+      (withChange (unchanged answers) (enter a h slot round core))
 
-unfoldable pub inFastAccept : Asked → Heard → PaxosRound → ℕ → Core → FastState → RoundsStep
-inFastAccept a h round v core fast =
+unfoldable pub inFastAccept : Asked → Heard → PaxosRound → ℕ → Core → FastAnswers → List ℕ → ChangeStep
+inFastAccept a h round v core answers swift =
     ifContinues (accepting a h round v core .next)
-    (swiftAnsweredAccept a h round v (accepting a h round v core .core) (accepting a h round v core .messages) fast)
-    (onRounds fast (accepting a h round v core))
+    (swiftAnsweredAccept a h round v (accepting a h round v core .core) (accepting a h round v core .messages) answers swift)
+    (withChange (unchanged answers) (accepting a h round v core))
 
-unfoldable pub enteredAccept : Asked → Heard → PaxosRound → ℕ → Core → FastState → RoundsStep
-enteredAccept a h round v core fast =
-    cond (a .member .replica) (inFastAccept a h round v core fast) (swiftClientAccept a h round v core fast)
+unfoldable pub enteredAccept : Asked → Heard → PaxosRound → ℕ → Core → FastAnswers → List ℕ → ChangeStep
+enteredAccept a h round v core answers swift =
+    cond (a .member .replica) (inFastAccept a h round v core answers swift) (swiftClientAccept a h round v core answers swift)
 
-unfoldable pub onFastAccept : Asked → Heard → ℕ → PaxosRound → ℕ → Core → FastState → RoundsStep
-onFastAccept a h slot round v core fast =
-    ifContinues (enter a h slot round core .next) (enteredAccept a h round v (enter a h slot round core .core) fast) (onRounds fast (enter a h slot round core))
+unfoldable pub onFastAccept : Asked → Heard → ℕ → PaxosRound → ℕ → Core → FastAnswers → List ℕ → ChangeStep
+onFastAccept a h slot round v core answers swift =
+    ifContinues (enter a h slot round core .next) (enteredAccept a h round v (enter a h slot round core .core) answers swift)
+    (withChange (unchanged answers) (enter a h slot round core))
 
-unfoldable pub processFast : (FastState → OptionalProcess) → Asked → Heard → ConsensusMsg → Rounds → RoundsStep
-processFast choose a h (Prepare slot round rv) s = onFastPrepare choose a h slot round rv (s .core) (s .fast)
-processFast choose a h (Accept slot round v) s = onFastAccept a h slot round v (s .core) (s .fast)
-processFast choose a h (ForwardRequest v) s = onRounds (s .fast) (stays (s .core) noMessages)
-processFast choose a h (Commit slot v) s = onRounds (s .fast) (stays (s .core) noMessages)
-processFast choose a h (ReadRequest id) s = onRounds (s .fast) (stays (s .core) noMessages)
-processFast choose a h (ReadResponse id next) s = onRounds (s .fast) (stays (s .core) noMessages)
+unfoldable pub processChange : Choice → Asked → Heard → ConsensusMsg → Core → FastAnswers → List ℕ → List ℕ → List ℕ → ChangeStep
+processChange choose a h (Prepare slot round rv) core answers values epaxos swift =
+    onFastPrepare choose a h slot round rv core answers values epaxos swift
+processChange choose a h (Accept slot round v) core answers values epaxos swift = onFastAccept a h slot round v core answers swift
+processChange choose a h (ForwardRequest v) core answers values epaxos swift = withChange (unchanged answers) (stays core noMessages)
+processChange choose a h (Commit slot v) core answers values epaxos swift = withChange (unchanged answers) (stays core noMessages)
+processChange choose a h (ReadRequest id) core answers values epaxos swift = withChange (unchanged answers) (stays core noMessages)
+processChange choose a h (ReadResponse id next) core answers values epaxos swift = withChange (unchanged answers) (stays core noMessages)
+
+unfoldable pub processFast : Choice → Asked → Heard → ConsensusMsg → Rounds → RoundsStep
+processFast choose a h msg s =
+    changeRounds (s .fast)
+    (processChange choose a h msg (s .core) (answersOf (s .fast)) (s .fast .«fast_proposer_to_v») (s .fast .«epaxos_proposer_scores»)
+    (s .fast .«swift_proposer_scores»))

@@ -1,17 +1,16 @@
 // The handlers of the paxos family: the Rust's paxos_family.rs. Prepare and Accept by mode, and the commit of a slot.
 ghost use mathlib.Core.Path.{_≡_};
-ghost use Rattle.prepare.specs.Prepare.{gather};
-ghost use Rattle.steps.specs.Steps.{onRounds};
-ghost use Rattle.paxos_family.specs.Process.{fastGather, inPrepare, onPrepare, onAccept, processClassic, inFastPrepare, entered, onFastPrepare, inFastAccept, enteredAccept, onFastAccept, processFast};
+ghost use Rattle.paxos_family.specs.Process.{fastGather, inPrepare, onPrepare, onAccept, processClassic, inFastPrepare, entered, onFastPrepare, inFastAccept, enteredAccept, onFastAccept, processChange, processFast};
 ghost use Rattle.paxos_family.specs.Commit.{commitCore, commitSlot};
 ghost use Rattle.fast_state.specs.Adopt.{lowestBest};
+use fast_state::FastAnswers;
 use fast_state::FastState;
 use message::ConsensusMsg;
 use message::OptionalValue;
-use message::PFMode;
 use message::PaxosRound;
 use message::RoundV;
 use steps::Asked;
+use steps::ChangeStep;
 use steps::Core;
 use steps::CoreStep;
 use steps::Heard;
@@ -105,20 +104,6 @@ pub fn process_classic(asked: Asked, heard: Heard, msg: ConsensusMsg, core: Core
     }
 }
 
-// A promise that counts as in Paxos, with the fast half as it is.
-fn classic_gather(
-    asked: Asked,
-    heard: Heard,
-    round: PaxosRound,
-    rv: RoundV,
-    core: Core,
-    fast: FastState,
-) -> RoundsStep
-    ensures { λ r. ⌜ r ≡ onRounds fast (gather asked heard round rv core) ⌝ }
-{
-    prepare::gather(asked, heard, round, rv, core).on_rounds(fast)
-}
-
 // The delegate counts a promise as its mode does.
 fn fast_gather(
     asked: Asked,
@@ -126,19 +111,18 @@ fn fast_gather(
     round: PaxosRound,
     rv: RoundV,
     core: Core,
-    fast: FastState,
-    mode: PFMode,
-) -> RoundsStep
-    ensures { λ r. ⌜ r ≡ fastGather lowestBest asked heard round rv core fast mode ⌝ }
+    answers: FastAnswers,
+    values: &[u64; 64],
+    epaxos: &[u64; 64],
+    swift: &[u64; 64],
+) -> ChangeStep
+    ensures { λ r. ⌜ r ≡ fastGather lowestBest asked heard round rv core answers (now (values .entry)) (now (epaxos .entry)) (now (swift .entry)) ⌝ }
 {
-    match mode {
-        PFMode::Paxos => classic_gather(asked, heard, round, rv, core, fast),
-        PFMode::MultiPaxos => classic_gather(asked, heard, round, rv, core, fast),
-        PFMode::MultiPaxos3P => classic_gather(asked, heard, round, rv, core, fast),
-        PFMode::EPaxos => epaxos_path::epaxos_gather(asked, heard, round, rv, core, fast),
-        PFMode::Pando => classic_gather(asked, heard, round, rv, core, fast),
-        PFMode::SwiftPaxos => swift_path::swift_gather(asked, heard, round, rv, core, fast),
+    let mode = asked.mode;
+    if mode.is_swift_paxos() {
+        return swift_path::swift_gather(asked, heard, round, rv, core, answers, swift);
     }
+    epaxos_path::epaxos_gather(asked, heard, round, rv, core, answers, values, epaxos)
 }
 
 fn in_fast_prepare(
@@ -147,18 +131,30 @@ fn in_fast_prepare(
     round: PaxosRound,
     rv: RoundV,
     core: Core,
-    fast: FastState,
-) -> RoundsStep
-    ensures { λ r. ⌜ r ≡ inFastPrepare lowestBest asked heard round rv core fast ⌝ }
+    answers: FastAnswers,
+    values: &[u64; 64],
+    epaxos: &[u64; 64],
+    swift: &[u64; 64],
+) -> ChangeStep
+    ensures { λ r. ⌜ r ≡ inFastPrepare lowestBest asked heard round rv core answers (now (values .entry)) (now (epaxos .entry)) (now (swift .entry)) ⌝ }
 {
     let step = prepare::prepared(asked, heard, round, rv, core);
     let next = step.next;
     if next.goes_on() {
         let core = step.core;
-        let mode = asked.mode;
-        return fast_gather(asked, heard, round, rv, core, fast, mode);
+        return fast_gather(
+            asked,
+            heard,
+            round,
+            rv,
+            core,
+            answers,
+            values,
+            epaxos,
+            swift,
+        );
     }
-    step.on_rounds(fast)
+    step.unchanged(answers)
 }
 
 // One that is no replica and comes here is a SwiftPaxos client.
@@ -168,14 +164,27 @@ fn entered(
     round: PaxosRound,
     rv: RoundV,
     core: Core,
-    fast: FastState,
-) -> RoundsStep
-    ensures { λ r. ⌜ r ≡ entered lowestBest asked heard round rv core fast ⌝ }
+    answers: FastAnswers,
+    values: &[u64; 64],
+    epaxos: &[u64; 64],
+    swift: &[u64; 64],
+) -> ChangeStep
+    ensures { λ r. ⌜ r ≡ entered lowestBest asked heard round rv core answers (now (values .entry)) (now (epaxos .entry)) (now (swift .entry)) ⌝ }
 {
     if asked.member.replica {
-        return in_fast_prepare(asked, heard, round, rv, core, fast);
+        return in_fast_prepare(
+            asked,
+            heard,
+            round,
+            rv,
+            core,
+            answers,
+            values,
+            epaxos,
+            swift,
+        );
     }
-    swift_path::swift_client_prepare(asked, heard, round, rv, core, fast)
+    swift_path::swift_client_prepare(asked, heard, round, rv, core, answers, swift)
 }
 
 fn on_fast_prepare(
@@ -185,17 +194,30 @@ fn on_fast_prepare(
     round: PaxosRound,
     rv: RoundV,
     core: Core,
-    fast: FastState,
-) -> RoundsStep
-    ensures { λ r. ⌜ r ≡ onFastPrepare lowestBest asked heard slot round rv core fast ⌝ }
+    answers: FastAnswers,
+    values: &[u64; 64],
+    epaxos: &[u64; 64],
+    swift: &[u64; 64],
+) -> ChangeStep
+    ensures { λ r. ⌜ r ≡ onFastPrepare lowestBest asked heard slot round rv core answers (now (values .entry)) (now (epaxos .entry)) (now (swift .entry)) ⌝ }
 {
     let step = enter::enter(asked, heard, slot, round, core);
     let next = step.next;
     if next.goes_on() {
         let core = step.core;
-        return entered(asked, heard, round, rv, core, fast);
+        return entered(
+            asked,
+            heard,
+            round,
+            rv,
+            core,
+            answers,
+            values,
+            epaxos,
+            swift,
+        );
     }
-    step.on_rounds(fast)
+    step.unchanged(answers)
 }
 
 fn in_fast_accept(
@@ -204,18 +226,28 @@ fn in_fast_accept(
     round: PaxosRound,
     v: u64,
     core: Core,
-    fast: FastState,
-) -> RoundsStep
-    ensures { λ r. ⌜ r ≡ inFastAccept asked heard round v core fast ⌝ }
+    answers: FastAnswers,
+    swift: &[u64; 64],
+) -> ChangeStep
+    ensures { λ r. ⌜ r ≡ inFastAccept asked heard round v core answers (now (swift .entry)) ⌝ }
 {
     let step = accept::accepting(asked, heard, round, v, core);
     let next = step.next;
     if next.goes_on() {
         let core = step.core;
         let messages = step.messages;
-        return swift_path::swift_answered_accept(asked, heard, round, v, core, messages, fast);
+        return swift_path::swift_answered_accept(
+            asked,
+            heard,
+            round,
+            v,
+            core,
+            messages,
+            answers,
+            swift,
+        );
     }
-    step.on_rounds(fast)
+    step.unchanged(answers)
 }
 
 fn entered_accept(
@@ -224,14 +256,15 @@ fn entered_accept(
     round: PaxosRound,
     v: u64,
     core: Core,
-    fast: FastState,
-) -> RoundsStep
-    ensures { λ r. ⌜ r ≡ enteredAccept asked heard round v core fast ⌝ }
+    answers: FastAnswers,
+    swift: &[u64; 64],
+) -> ChangeStep
+    ensures { λ r. ⌜ r ≡ enteredAccept asked heard round v core answers (now (swift .entry)) ⌝ }
 {
     if asked.member.replica {
-        return in_fast_accept(asked, heard, round, v, core, fast);
+        return in_fast_accept(asked, heard, round, v, core, answers, swift);
     }
-    swift_path::swift_client_accept(asked, heard, round, v, core, fast)
+    swift_path::swift_client_accept(asked, heard, round, v, core, answers, swift)
 }
 
 fn on_fast_accept(
@@ -241,46 +274,70 @@ fn on_fast_accept(
     round: PaxosRound,
     v: u64,
     core: Core,
-    fast: FastState,
-) -> RoundsStep
-    ensures { λ r. ⌜ r ≡ onFastAccept asked heard slot round v core fast ⌝ }
+    answers: FastAnswers,
+    swift: &[u64; 64],
+) -> ChangeStep
+    ensures { λ r. ⌜ r ≡ onFastAccept asked heard slot round v core answers (now (swift .entry)) ⌝ }
 {
     let step = enter::enter(asked, heard, slot, round, core);
     let next = step.next;
     if next.goes_on() {
         let core = step.core;
-        return entered_accept(asked, heard, round, v, core, fast);
+        return entered_accept(asked, heard, round, v, core, answers, swift);
     }
-    step.on_rounds(fast)
+    step.unchanged(answers)
 }
 
-// A message in EPaxos and SwiftPaxos.
+// A message in EPaxos and SwiftPaxos, with the values of the proposers and the scores of each mode.
+pub fn process_change(
+    asked: Asked,
+    heard: Heard,
+    msg: ConsensusMsg,
+    core: Core,
+    answers: FastAnswers,
+    values: &[u64; 64],
+    epaxos: &[u64; 64],
+    swift: &[u64; 64],
+) -> ChangeStep
+    ensures { λ r. ⌜ r ≡ processChange lowestBest asked heard msg core answers (now (values .entry)) (now (epaxos .entry)) (now (swift .entry)) ⌝ }
+{
+    match msg {
+        ConsensusMsg::Prepare { slot, round, rv } => on_fast_prepare(
+            asked,
+            heard,
+            slot,
+            round,
+            rv,
+            core,
+            answers,
+            values,
+            epaxos,
+            swift,
+        ),
+        ConsensusMsg::Accept { slot, round, v } => {
+            on_fast_accept(asked, heard, slot, round, v, core, answers, swift)
+        },
+        ConsensusMsg::ForwardRequest { v: _ } => core.stays_unchanged(answers),
+        ConsensusMsg::Commit { slot: _, v: _ } => core.stays_unchanged(answers),
+        ConsensusMsg::ReadRequest { id: _ } => core.stays_unchanged(answers),
+        ConsensusMsg::ReadResponse {
+            id: _,
+            next_readable_slot: _,
+        } => core.stays_unchanged(answers),
+    }
+}
+
+// The same, with the change made.
 pub fn process_fast(asked: Asked, heard: Heard, msg: ConsensusMsg, s: Rounds) -> RoundsStep
     ensures { λ r. ⌜ r ≡ processFast lowestBest asked heard msg s ⌝ }
 {
     let core = s.core;
     let fast = s.fast;
-    match msg {
-        ConsensusMsg::Prepare { slot, round, rv } => {
-            on_fast_prepare(asked, heard, slot, round, rv, core, fast)
-        },
-        ConsensusMsg::Accept { slot, round, v } => on_fast_accept(
-            asked,
-            heard,
-            slot,
-            round,
-            v,
-            core,
-            fast,
-        ),
-        ConsensusMsg::ForwardRequest { v: _ } => core.stays_on_rounds(fast),
-        ConsensusMsg::Commit { slot: _, v: _ } => core.stays_on_rounds(fast),
-        ConsensusMsg::ReadRequest { id: _ } => core.stays_on_rounds(fast),
-        ConsensusMsg::ReadResponse {
-            id: _,
-            next_readable_slot: _,
-        } => core.stays_on_rounds(fast),
-    }
+    let values = fast.fast_proposer_to_v;
+    let epaxos = fast.epaxos_proposer_scores;
+    let swift = fast.swift_proposer_scores;
+    let answers = fast.answers();
+    process_change(asked, heard, msg, core, answers, &values, &epaxos, &swift).change_rounds(fast)
 }
 
 pub fn commit_core(asked: Asked, v: u64, core: Core) -> Core

@@ -1,26 +1,28 @@
 -- propose of the Rust's paxos_family.rs. Every assertion that it meets is refusal 11, decided before any change.
 -- Assumes nothing.
-use mathlib.Core.Bool.{false, cond}
+use mathlib.Core.Bool.{Bool, false, cond, _&&_}
+use mathlib.Core.List.{List}
 use Prim.Native.Nat.{ℕ}
 use lib.Dec.{eqb}
-use Rattle.message.specs.Modes.{isMultiPaxos}
+use Rattle.message.specs.Modes.{isMultiPaxos, isSwiftPaxos}
 use Rattle.message.specs.declared.ConsensusMsg.the-variants.{Prepare, Accept}
 use Rattle.message.specs.declared.OptionalRound.the-variants.{NoRound, Round}
 use Rattle.message.specs.declared.Outcome.{Outcome}
 use Rattle.message.specs.declared.Outcome.the-variants.{Done, Refused}
-use Rattle.message.specs.declared.PFMode.{PFMode}
-use Rattle.message.specs.declared.PFMode.the-variants.{Paxos, MultiPaxos, MultiPaxos3P, EPaxos, Pando, SwiftPaxos}
 use Rattle.message.specs.declared.PaxosRound.{PaxosRound}
 use Rattle.message.specs.declared.RoundV.{RoundV}
 use Rattle.message.specs.declared.RoundV.the-variants.{FastV, PaxosV}
 use Rattle.round_state.specs.Paxos.{gotoRound, paxosProposeV, selfAccept}
 use Rattle.round_state.specs.declared.PaxosState.{PaxosState}
-use Rattle.fast_state.specs.Fast.{epaxosProposeV, swiftProposeV}
-use Rattle.fast_state.specs.declared.FastState.{FastState}
+use Rattle.fast_state.specs.Fast.{answersOf, unchanged, epaxosProposeV, swiftProposeV}
+use Rattle.fast_state.specs.declared.FastAnswers.{FastAnswers}
+use Rattle.fast_state.specs.declared.FastChange.{FastChange}
+use Rattle.fast_state.specs.declared.FastStep.{FastStep}
 pub use Rattle.proposal.specs.Proposal.{notAllowed, proposalRound, leadsIfMulti}
 unfoldable pub use Rattle.proposal.specs.Proposal.{electing, mayPropose}
-use Rattle.steps.specs.Steps.{oneMessage, sends, toAll, withPaxos, stays, onRounds}
+use Rattle.steps.specs.Steps.{oneMessage, sends, toAll, withPaxos, stays, withChange, changeRounds}
 use Rattle.steps.specs.declared.Asked.{Asked}
+use Rattle.steps.specs.declared.ChangeStep.{ChangeStep}
 use Rattle.steps.specs.declared.Core.{Core}
 use Rattle.steps.specs.declared.CoreStep.{CoreStep}
 use Rattle.steps.specs.declared.Rounds.{Rounds}
@@ -58,28 +60,27 @@ proposeClassic a v core =
     (notAllowed core)
 
 -- EPaxos and SwiftPaxos: the fast half answers the own proposal first
-abbrev pub afterOwnAnswer : Asked → PaxosRound → ℕ → Core → FastState → Outcome → RoundsStep
-afterOwnAnswer a round v core fast Done = onRounds fast (proposePrepare a round (FastV (a .member .«my_pid») v) core)
-afterOwnAnswer a round v core fast (Refused why) = onRounds fast (notAllowed core)
+abbrev pub afterOwnAnswer : Asked → PaxosRound → ℕ → Core → FastChange → Outcome → ChangeStep
+afterOwnAnswer a round v core change Done = withChange change (proposePrepare a round (FastV (a .member .«my_pid») v) core)
+afterOwnAnswer a round v core change (Refused why) = withChange change (notAllowed core)
 
-unfoldable pub proposeEPaxos : Asked → ℕ → Core → FastState → RoundsStep
-proposeEPaxos a v core fast =
-    afterOwnAnswer a (proposalRound a core) v core (epaxosProposeV (a .member) v fast .state) (epaxosProposeV (a .member) v fast .outcome)
+-- with the scores of EPaxos and those of SwiftPaxos
+unfoldable pub ownAnswer : Asked → ℕ → FastAnswers → List ℕ → List ℕ → FastStep
+ownAnswer a v answers epaxos swift =
+    cond (isSwiftPaxos (a .mode)) (swiftProposeV (a .member) v (a .quorum) false answers swift) (epaxosProposeV (a .member) v answers epaxos)
 
 -- the SwiftPaxos leader accepts at once; its own answer is no leader's answer otherwise, since the leader is another
-unfoldable pub proposeSwift : Asked → ℕ → Core → FastState → RoundsStep
-proposeSwift a v core fast =
-    cond (eqb (electing a) (a .member .«my_pid»)) (onRounds fast (proposeAccept a (proposalRound a core) v core))
-    (afterOwnAnswer a (proposalRound a core) v core (swiftProposeV (a .member) v (a .quorum) false fast .state)
-    (swiftProposeV (a .member) v (a .quorum) false fast .outcome))
+unfoldable pub leadsSwift : Asked → Bool
+leadsSwift a = isSwiftPaxos (a .mode) && eqb (electing a) (a .member .«my_pid»)
 
-abbrev pub proposeByMode : Asked → ℕ → Core → FastState → PFMode → RoundsStep
-proposeByMode a v core fast Paxos = onRounds fast (proposeClassic a v core)
-proposeByMode a v core fast MultiPaxos = onRounds fast (proposeClassic a v core)
-proposeByMode a v core fast MultiPaxos3P = onRounds fast (proposeClassic a v core)
-proposeByMode a v core fast EPaxos = proposeEPaxos a v core fast
-proposeByMode a v core fast Pando = onRounds fast (proposeClassic a v core)
-proposeByMode a v core fast SwiftPaxos = proposeSwift a v core fast
+unfoldable pub proposeChange : Asked → ℕ → Core → FastAnswers → List ℕ → List ℕ → ChangeStep
+proposeChange a v core answers epaxos swift =
+    cond (mayPropose a core)
+    (cond (leadsSwift a) (withChange (unchanged answers) (proposeAccept a (proposalRound a core) v core))
+    (afterOwnAnswer a (proposalRound a core) v core (ownAnswer a v answers epaxos swift .change) (ownAnswer a v answers epaxos swift .outcome)))
+    (withChange (unchanged answers) (notAllowed core))
 
 unfoldable pub proposeFast : Asked → ℕ → Rounds → RoundsStep
-proposeFast a v s = cond (mayPropose a (s .core)) (proposeByMode a v (s .core) (s .fast) (a .mode)) (onRounds (s .fast) (notAllowed (s .core)))
+proposeFast a v s =
+    changeRounds (s .fast)
+    (proposeChange a v (s .core) (answersOf (s .fast)) (s .fast .«epaxos_proposer_scores») (s .fast .«swift_proposer_scores»))

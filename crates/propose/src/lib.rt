@@ -1,14 +1,13 @@
 // What a proposal does: the first step of the mode, a Prepare, an Accept, or a fast proposal.
 ghost use mathlib.Core.Path.{_≡_};
-ghost use Rattle.steps.specs.Steps.{onRounds};
-ghost use Rattle.propose.specs.Propose.{afterPrepare, proposePrepare, afterAccept, afterOwnPromise, proposeAccept, proposeClassic, afterOwnAnswer, proposeEPaxos, proposeSwift, proposeByMode, proposeFast};
-use fast_state::FastState;
+ghost use Rattle.propose.specs.Propose.{afterPrepare, proposePrepare, afterAccept, afterOwnPromise, proposeAccept, proposeClassic, afterOwnAnswer, ownAnswer, leadsSwift, proposeChange, proposeFast};
+use fast_state::FastAnswers;
+use fast_state::FastChange;
+use fast_state::FastStep;
 use message::ConsensusMsg;
 use message::OptionalRound;
 use message::Outcome;
-use message::PFMode;
 use message::PaxosRound;
-use message::Refusal;
 use message::RoundV;
 use proposal::electing;
 use proposal::may_propose;
@@ -16,6 +15,7 @@ use proposal::not_allowed;
 use proposal::proposal_round;
 use round_state::PaxosState;
 use steps::Asked;
+use steps::ChangeStep;
 use steps::Core;
 use steps::CoreStep;
 use steps::Rounds;
@@ -145,10 +145,10 @@ fn after_own_answer(
     round: PaxosRound,
     v: u64,
     core: Core,
-    fast: FastState,
+    change: FastChange,
     outcome: Outcome,
-) -> RoundsStep
-    ensures { λ r. ⌜ r ≡ afterOwnAnswer asked round v core fast outcome ⌝ }
+) -> ChangeStep
+    ensures { λ r. ⌜ r ≡ afterOwnAnswer asked round v core change outcome ⌝ }
 {
     match outcome {
         Outcome::Done => {
@@ -156,69 +156,73 @@ fn after_own_answer(
                 proposer: asked.member.my_pid,
                 v,
             };
-            propose_prepare(asked, round, rv, core).on_rounds(fast)
+            propose_prepare(asked, round, rv, core).with_change(change)
         }
-        Outcome::Refused(_) => core.refuses_on_rounds(Refusal::ProposalNotAllowed, fast),
+        Outcome::Refused(_) => not_allowed(core).with_change(change),
     }
 }
 
-// The fast half answers the own proposal first.
-fn propose_epaxos(asked: Asked, v: u64, core: Core, fast: FastState) -> RoundsStep
-    ensures { λ r. ⌜ r ≡ proposeEPaxos asked v core fast ⌝ }
+// The fast half answers the own proposal first, by the scores of the mode.
+fn own_answer(
+    asked: Asked,
+    v: u64,
+    answers: FastAnswers,
+    epaxos: &[u64; 64],
+    swift: &[u64; 64],
+) -> FastStep
+    ensures { λ r. ⌜ r ≡ ownAnswer asked v answers (now (epaxos .entry)) (now (swift .entry)) ⌝ }
 {
     let me = asked.member;
-    let round = proposal_round(asked, core);
-    let step = epaxos_state::epaxos_propose_v(fast, me, v);
-    let state = step.state;
-    let outcome = step.outcome;
-    after_own_answer(asked, round, v, core, state, outcome)
-}
-
-// The leader accepts at once, and any other answers its own proposal on the fast path.
-fn propose_swift(asked: Asked, v: u64, core: Core, fast: FastState) -> RoundsStep
-    ensures { λ r. ⌜ r ≡ proposeSwift asked v core fast ⌝ }
-{
-    let me = asked.member;
+    let mode = asked.mode;
     let quorum = asked.quorum;
-    let round = proposal_round(asked, core);
-    if electing(asked) == me.my_pid {
-        return propose_accept(asked, round, v, core).on_rounds(fast);
+    if mode.is_swift_paxos() {
+        return swift_state::swift_propose_v(answers, swift, me, v, quorum, false);
     }
-    let step = swift_state::swift_propose_v(fast, me, v, quorum, false);
-    let state = step.state;
-    let outcome = step.outcome;
-    after_own_answer(asked, round, v, core, state, outcome)
+    epaxos_state::epaxos_propose_v(answers, epaxos, me, v)
 }
 
-// A proposal as in the classic modes, with the fast half as it is.
-fn classic_on_rounds(asked: Asked, v: u64, core: Core, fast: FastState) -> RoundsStep
-    ensures { λ r. ⌜ r ≡ onRounds fast (proposeClassic asked v core) ⌝ }
+// The leader of SwiftPaxos accepts at once.
+fn leads_swift(asked: Asked) -> bool
+    ensures { λ r. ⌜ r ≡ leadsSwift asked ⌝ }
 {
-    propose_classic(asked, v, core).on_rounds(fast)
-}
-
-fn propose_by_mode(asked: Asked, v: u64, core: Core, fast: FastState, mode: PFMode) -> RoundsStep
-    ensures { λ r. ⌜ r ≡ proposeByMode asked v core fast mode ⌝ }
-{
-    match mode {
-        PFMode::Paxos => classic_on_rounds(asked, v, core, fast),
-        PFMode::MultiPaxos => classic_on_rounds(asked, v, core, fast),
-        PFMode::MultiPaxos3P => classic_on_rounds(asked, v, core, fast),
-        PFMode::EPaxos => propose_epaxos(asked, v, core, fast),
-        PFMode::Pando => classic_on_rounds(asked, v, core, fast),
-        PFMode::SwiftPaxos => propose_swift(asked, v, core, fast),
+    let mode = asked.mode;
+    if mode.is_swift_paxos() {
+        return electing(asked) == asked.member.my_pid;
     }
+    false
 }
 
-// A proposal in EPaxos and SwiftPaxos.
+// A proposal in EPaxos and SwiftPaxos, with the scores of each.
+pub fn propose_change(
+    asked: Asked,
+    v: u64,
+    core: Core,
+    answers: FastAnswers,
+    epaxos: &[u64; 64],
+    swift: &[u64; 64],
+) -> ChangeStep
+    ensures { λ r. ⌜ r ≡ proposeChange asked v core answers (now (epaxos .entry)) (now (swift .entry)) ⌝ }
+{
+    if may_propose(asked, core) {
+        let round = proposal_round(asked, core);
+        if leads_swift(asked) {
+            return propose_accept(asked, round, v, core).unchanged(answers);
+        }
+        let step = own_answer(asked, v, answers, epaxos, swift);
+        let change = step.change;
+        let outcome = step.outcome;
+        return after_own_answer(asked, round, v, core, change, outcome);
+    }
+    not_allowed(core).unchanged(answers)
+}
+
+// The same, with the change made.
 pub fn propose_fast(asked: Asked, v: u64, s: Rounds) -> RoundsStep
     ensures { λ r. ⌜ r ≡ proposeFast asked v s ⌝ }
 {
     let core = s.core;
     let fast = s.fast;
-    let mode = asked.mode;
-    if may_propose(asked, core) {
-        return propose_by_mode(asked, v, core, fast, mode);
-    }
-    core.refuses_on_rounds(Refusal::ProposalNotAllowed, fast)
+    let epaxos = fast.epaxos_proposer_scores;
+    let swift = fast.swift_proposer_scores;
+    propose_change(asked, v, core, fast.answers(), &epaxos, &swift).change_rounds(fast)
 }

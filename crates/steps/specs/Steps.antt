@@ -14,8 +14,11 @@ use Rattle.message.specs.declared.RoundV.the-variants.{PaxosV}
 use Rattle.round_state.specs.declared.HeldPromise.{HeldPromise}
 use Rattle.round_state.specs.declared.HeldPromise.the-variants.{NothingHeld, Held}
 use Rattle.round_state.specs.declared.PaxosState.{PaxosState}
+use Rattle.fast_state.specs.Fast.{changed}
+use Rattle.fast_state.specs.declared.FastChange.{FastChange}
 use Rattle.fast_state.specs.declared.FastState.{FastState}
 use Rattle.steps.specs.declared.Asked.{Asked}
+use Rattle.steps.specs.declared.ChangeStep.{ChangeStep}
 use Rattle.steps.specs.declared.Core.{Core}
 use Rattle.steps.specs.declared.CoreStep.{CoreStep}
 use Rattle.steps.specs.declared.Destination.{Destination}
@@ -104,6 +107,15 @@ goesOn Continues = true
 goesOn (Commits v) = false
 goesOn (Refuses why) = false
 
+-- a step of the core, and what changes in the fast half
+abbrev pub withChange : FastChange → CoreStep → ChangeStep
+withChange change step = record { core = step .core; messages = step .messages; next = step .next; change = change }
+
 -- a step of the core, with the fast half as it is
 abbrev pub onRounds : FastState → CoreStep → RoundsStep
 onRounds fast step = record { rounds = record { core = step .core; fast = fast }; messages = step .messages; next = step .next }
+
+-- a step with its change made to the fast half
+abbrev pub changeRounds : FastState → ChangeStep → RoundsStep
+changeRounds fast step =
+    record { rounds = record { core = step .core; fast = changed (step .change) fast }; messages = step .messages; next = step .next }

@@ -2,7 +2,10 @@
 // are chains of. A step hands back the next state, the messages to send, and how the call goes on; a refused step is dropped whole by the
 // shard that made the call, so that nothing has to be undone.
 ghost use mathlib.Core.Path.{_≡_};
-ghost use Rattle.steps.specs.Steps.{noMessages, oneMessage, twoMessages, alsoBehind, also, sends, toAll, firstServed, heldRv, heldV, withPaxos, leftFastPath, stays, continues, commits, refuses, onRounds, goesOn};
+ghost use Rattle.fast_state.specs.Fast.{unchanged};
+ghost use Rattle.steps.specs.Steps.{noMessages, oneMessage, twoMessages, alsoBehind, also, sends, toAll, firstServed, heldRv, heldV, withPaxos, leftFastPath, stays, continues, commits, refuses, withChange, changeRounds, goesOn};
+use fast_state::FastAnswers;
+use fast_state::FastChange;
 use fast_state::FastState;
 use message::ConsensusMessage;
 use message::ConsensusMsg;
@@ -104,6 +107,14 @@ pub struct CoreStep {
     pub core: Core,
     pub messages: Messages,
     pub next: Next,
+}
+
+// A step in EPaxos and SwiftPaxos, which says besides what changes in the fast half.
+pub struct ChangeStep {
+    pub core: Core,
+    pub messages: Messages,
+    pub next: Next,
+    pub change: FastChange,
 }
 
 pub struct RoundsStep {
@@ -278,29 +289,56 @@ impl Core {
         self.commits(v, no_messages())
     }
 
-    pub fn stays_on_rounds(self, fast: FastState) -> RoundsStep
-        ensures { λ r. ⌜ r ≡ onRounds fast (stays self noMessages) ⌝ }
+    pub fn stays_unchanged(self, answers: FastAnswers) -> ChangeStep
+        ensures { λ r. ⌜ r ≡ withChange (unchanged answers) (stays self noMessages) ⌝ }
     {
-        self.stays_silent().on_rounds(fast)
+        self.stays_silent().unchanged(answers)
     }
 
-    pub fn refuses_on_rounds(self, why: Refusal, fast: FastState) -> RoundsStep
-        ensures { λ r. ⌜ r ≡ onRounds fast (refuses why self) ⌝ }
+    pub fn refuses_unchanged(self, why: Refusal, answers: FastAnswers) -> ChangeStep
+        ensures { λ r. ⌜ r ≡ withChange (unchanged answers) (refuses why self) ⌝ }
     {
-        self.refuses(why).on_rounds(fast)
+        self.refuses(why).unchanged(answers)
     }
 }
 
 impl CoreStep {
-    // A step of the core, with the fast half as it is.
-    pub fn on_rounds(self, fast: FastState) -> RoundsStep
-        ensures { λ r. ⌜ r ≡ onRounds fast self ⌝ }
+    pub fn with_change(self, change: FastChange) -> ChangeStep
+        ensures { λ r. ⌜ r ≡ withChange change self ⌝ }
     {
         let core = self.core;
         let messages = self.messages;
         let next = self.next;
+        ChangeStep {
+            core,
+            messages,
+            next,
+            change,
+        }
+    }
+
+    // With the fast half as it is.
+    pub fn unchanged(self, answers: FastAnswers) -> ChangeStep
+        ensures { λ r. ⌜ r ≡ withChange (unchanged answers) self ⌝ }
+    {
+        self.with_change(answers.unchanged())
+    }
+}
+
+impl ChangeStep {
+    // The change made to the fast half.
+    pub fn change_rounds(self, fast: FastState) -> RoundsStep
+        ensures { λ r. ⌜ r ≡ changeRounds fast self ⌝ }
+    {
+        let core = self.core;
+        let messages = self.messages;
+        let next = self.next;
+        let change = self.change;
         RoundsStep {
-            rounds: Rounds { core, fast },
+            rounds: Rounds {
+                core,
+                fast: fast.changed(change),
+            },
             messages,
             next,
         }

@@ -1,6 +1,7 @@
 -- Where SwiftPaxos parts from the other modes (the Rust's process_message and process_answers_at_swift_paxos_client).
 -- Assumes nothing.
 use mathlib.Core.Bool.{Bool, true, false, cond}
+use mathlib.Core.List.{List}
 use Prim.Native.Nat.{ℕ}
 use lib.Dec.{eqb}
 use Rattle.sets.specs.declared.OptionalSet.{OptionalSet}
@@ -14,43 +15,45 @@ use Rattle.message.specs.declared.RoundV.{RoundV}
 use Rattle.message.specs.declared.RoundV.the-variants.{FastV, PaxosV}
 use Rattle.round_state.specs.Paxos.{paxosCanCommit, receiveAccept}
 use Rattle.round_state.specs.declared.PaxosState.{PaxosState}
-use Rattle.fast_state.specs.Fast.{swiftAnswered, swiftCanCommit}
-use Rattle.fast_state.specs.declared.FastState.{FastState}
+use Rattle.fast_state.specs.Fast.{unchanged, swiftAnswered, swiftCanCommit}
+use Rattle.fast_state.specs.declared.FastAnswers.{FastAnswers}
+use Rattle.fast_state.specs.declared.FastChange.{FastChange}
 use Rattle.accept.specs.Accept.{tryCommit}
 use Rattle.prepare.specs.Prepare.{hasAccepted, withPromise, acceptPhase}
-use Rattle.steps.specs.Steps.{noMessages, withPaxos, stays, commits, refuses, onRounds}
+use Rattle.steps.specs.Steps.{noMessages, withPaxos, stays, commits, refuses, withChange}
 use Rattle.steps.specs.declared.Asked.{Asked}
+use Rattle.steps.specs.declared.ChangeStep.{ChangeStep}
 use Rattle.steps.specs.declared.Core.{Core}
 use Rattle.steps.specs.declared.CoreStep.{CoreStep}
 use Rattle.steps.specs.declared.Heard.{Heard}
 use Rattle.steps.specs.declared.Messages.{Messages}
-use Rattle.steps.specs.declared.RoundsStep.{RoundsStep}
 
 abbrev pub isFixed : OptionalSet → Bool
 isFixed NoSet = false
 isFixed (Set s) = true
 
-abbrev pub swiftCommits : Asked → FastState → Bool
-swiftCommits a fast = swiftCanCommit (a .member) (isFixed (a .quorum)) fast
+abbrev pub swiftCommits : Asked → FastAnswers → Bool
+swiftCommits a answers = swiftCanCommit (a .member) (isFixed (a .quorum)) answers
 
 -- process_answers_at_swift_paxos_client, Prepare
 
-abbrev pub afterSwiftAnswer : Asked → ℕ → Core → FastState → Outcome → CoreStep
-afterSwiftAnswer a v core fast Done = cond (swiftCommits a fast) (commits v core noMessages) (stays core noMessages)
-afterSwiftAnswer a v core fast (Refused why) = refuses why core
+abbrev pub afterSwiftAnswer : Asked → ℕ → Core → FastAnswers → Outcome → CoreStep
+afterSwiftAnswer a v core answers Done = cond (swiftCommits a answers) (commits v core noMessages) (stays core noMessages)
+afterSwiftAnswer a v core answers (Refused why) = refuses why core
 
 -- "leaders don't respond with prepare messages"
-unfoldable pub swiftAnswer : Asked → Heard → PaxosRound → RoundV → Core → FastState → RoundsStep
-swiftAnswer a h round (FastV proposer v) core fast =
-    cond (eqb (h .src) (round .leader)) (onRounds fast (refuses Panic core))
-    (onRounds (swiftAnswered (a .member) (h .src) proposer v (a .quorum) false fast .state)
-    (afterSwiftAnswer a v core (swiftAnswered (a .member) (h .src) proposer v (a .quorum) false fast .state)
-    (swiftAnswered (a .member) (h .src) proposer v (a .quorum) false fast .outcome)))
-swiftAnswer a h round (PaxosV at v) core fast = onRounds fast (refuses Panic core)
+unfoldable pub swiftAnswer : Asked → Heard → PaxosRound → RoundV → Core → FastAnswers → List ℕ → ChangeStep
+swiftAnswer a h round (FastV proposer v) core answers scores =
+    cond (eqb (h .src) (round .leader)) (withChange (unchanged answers) (refuses Panic core))
+    (withChange (swiftAnswered (a .member) (h .src) proposer v (a .quorum) false answers scores .change)
+    (afterSwiftAnswer a v core (swiftAnswered (a .member) (h .src) proposer v (a .quorum) false answers scores .change .answers)
+    (swiftAnswered (a .member) (h .src) proposer v (a .quorum) false answers scores .outcome)))
+swiftAnswer a h round (PaxosV at v) core answers scores = withChange (unchanged answers) (refuses Panic core)
 
-unfoldable pub swiftClientPrepare : Asked → Heard → PaxosRound → RoundV → Core → FastState → RoundsStep
-swiftClientPrepare a h round rv core fast =
-    cond (isProcess (h .committer) (a .member .«my_pid»)) (swiftAnswer a h round rv core fast) (onRounds fast (stays core noMessages))
+unfoldable pub swiftClientPrepare : Asked → Heard → PaxosRound → RoundV → Core → FastAnswers → List ℕ → ChangeStep
+swiftClientPrepare a h round rv core answers scores =
+    cond (isProcess (h .committer) (a .member .«my_pid»)) (swiftAnswer a h round rv core answers scores)
+    (withChange (unchanged answers) (stays core noMessages))
 
 -- process_answers_at_swift_paxos_client, Accept
 
@@ -63,40 +66,44 @@ clientAccept a h round v core =
     afterClientAccept a v core (receiveAccept (a .member) (h .src) round v (core .paxos) .state)
     (receiveAccept (a .member) (h .src) round v (core .paxos) .outcome)
 
-abbrev pub afterLeaderAnswer : Asked → Heard → PaxosRound → ℕ → Core → FastState → Outcome → CoreStep
-afterLeaderAnswer a h round v core fast Done = cond (swiftCommits a fast) (commits v core noMessages) (clientAccept a h round v core)
-afterLeaderAnswer a h round v core fast (Refused why) = refuses why core
+abbrev pub afterLeaderAnswer : Asked → Heard → PaxosRound → ℕ → Core → FastAnswers → Outcome → CoreStep
+afterLeaderAnswer a h round v core answers Done = cond (swiftCommits a answers) (commits v core noMessages) (clientAccept a h round v core)
+afterLeaderAnswer a h round v core answers (Refused why) = refuses why core
 
 -- the leader's accept is its answer on the fast path
-abbrev pub leaderAnswer : Asked → Heard → ℕ → FastState → FastState
-leaderAnswer a h v fast = swiftAnswered (a .member) (h .src) (a .member .«my_pid») v (a .quorum) true fast .state
+abbrev pub leaderAnswer : Asked → Heard → ℕ → FastAnswers → List ℕ → FastChange
+leaderAnswer a h v answers scores = swiftAnswered (a .member) (h .src) (a .member .«my_pid») v (a .quorum) true answers scores .change
 
-abbrev pub leaderOutcome : Asked → Heard → ℕ → FastState → Outcome
-leaderOutcome a h v fast = swiftAnswered (a .member) (h .src) (a .member .«my_pid») v (a .quorum) true fast .outcome
+abbrev pub leaderOutcome : Asked → Heard → ℕ → FastAnswers → List ℕ → Outcome
+leaderOutcome a h v answers scores = swiftAnswered (a .member) (h .src) (a .member .«my_pid») v (a .quorum) true answers scores .outcome
 
-unfoldable pub swiftAccept : Asked → Heard → PaxosRound → ℕ → Core → FastState → RoundsStep
-swiftAccept a h round v core fast =
+unfoldable pub swiftAccept : Asked → Heard → PaxosRound → ℕ → Core → FastAnswers → List ℕ → ChangeStep
+swiftAccept a h round v core answers scores =
     cond (eqb (h .src) (round .leader))
-    (onRounds (leaderAnswer a h v fast) (afterLeaderAnswer a h round v core (leaderAnswer a h v fast) (leaderOutcome a h v fast)))
-    (onRounds fast (clientAccept a h round v core))
+    (withChange (leaderAnswer a h v answers scores)
+    (afterLeaderAnswer a h round v core (leaderAnswer a h v answers scores .answers) (leaderOutcome a h v answers scores)))
+    (withChange (unchanged answers) (clientAccept a h round v core))
 
-unfoldable pub swiftClientAccept : Asked → Heard → PaxosRound → ℕ → Core → FastState → RoundsStep
-swiftClientAccept a h round v core fast =
-    cond (isProcess (h .committer) (a .member .«my_pid»)) (swiftAccept a h round v core fast) (onRounds fast (stays core noMessages))
+unfoldable pub swiftClientAccept : Asked → Heard → PaxosRound → ℕ → Core → FastAnswers → List ℕ → ChangeStep
+swiftClientAccept a h round v core answers scores =
+    cond (isProcess (h .committer) (a .member .«my_pid»)) (swiftAccept a h round v core answers scores)
+    (withChange (unchanged answers) (stays core noMessages))
 
 -- the delegate of a Prepare: the leader accepts at once, and a proposer tries to complete the fast path
-unfoldable pub swiftGather : Asked → Heard → PaxosRound → RoundV → Core → FastState → RoundsStep
-swiftGather a h round rv core fast =
+unfoldable pub swiftGather : Asked → Heard → PaxosRound → RoundV → Core → FastAnswers → List ℕ → ChangeStep
+swiftGather a h round rv core answers scores =
     cond (eqb (round .leader) (a .member .«my_pid»))
-    (onRounds fast
+    (withChange (unchanged answers)
     (cond (hasAccepted (withPromise a h rv core)) (stays (withPromise a h rv core) noMessages) (acceptPhase a round (withPromise a h rv core))))
-    (swiftClientPrepare a h round rv (withPromise a h rv core) fast)
+    (swiftClientPrepare a h round rv (withPromise a h rv core) answers scores)
 
 -- a replica that commits goes on from an Accept that it has answered
-abbrev pub afterReplicaAnswer : Asked → Heard → PaxosRound → ℕ → Core → Messages → FastState → Outcome → CoreStep
-afterReplicaAnswer a h round v core messages fast Done = cond (swiftCommits a fast) (commits v core messages) (tryCommit a h round v core messages)
-afterReplicaAnswer a h round v core messages fast (Refused why) = refuses why core
+abbrev pub afterReplicaAnswer : Asked → Heard → PaxosRound → ℕ → Core → Messages → FastAnswers → Outcome → CoreStep
+afterReplicaAnswer a h round v core messages answers Done =
+    cond (swiftCommits a answers) (commits v core messages) (tryCommit a h round v core messages)
+afterReplicaAnswer a h round v core messages answers (Refused why) = refuses why core
 
-unfoldable pub swiftAnsweredAccept : Asked → Heard → PaxosRound → ℕ → Core → Messages → FastState → RoundsStep
-swiftAnsweredAccept a h round v core messages fast =
-    onRounds (leaderAnswer a h v fast) (afterReplicaAnswer a h round v core messages (leaderAnswer a h v fast) (leaderOutcome a h v fast))
+unfoldable pub swiftAnsweredAccept : Asked → Heard → PaxosRound → ℕ → Core → Messages → FastAnswers → List ℕ → ChangeStep
+swiftAnsweredAccept a h round v core messages answers scores =
+    withChange (leaderAnswer a h v answers scores)
+    (afterReplicaAnswer a h round v core messages (leaderAnswer a h v answers scores .answers) (leaderOutcome a h v answers scores))

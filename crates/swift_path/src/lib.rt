@@ -1,7 +1,7 @@
 // The fast path of SwiftPaxos: answers to a fast proposal and the commit that they bring, at a replica and at a client.
 ghost use mathlib.Core.Path.{_≡_};
 ghost use Rattle.swift_path.specs.Swift.{isFixed, swiftCommits, afterSwiftAnswer, swiftAnswer, swiftClientPrepare, afterClientAccept, clientAccept, afterLeaderAnswer, swiftAccept, swiftClientAccept, swiftGather, afterReplicaAnswer, swiftAnsweredAccept};
-use fast_state::FastState;
+use fast_state::FastAnswers;
 use message::Outcome;
 use message::PaxosRound;
 use message::Refusal;
@@ -9,11 +9,11 @@ use message::RoundV;
 use round_state::PaxosState;
 use sets::OptionalSet;
 use steps::Asked;
+use steps::ChangeStep;
 use steps::Core;
 use steps::CoreStep;
 use steps::Heard;
 use steps::Messages;
-use steps::RoundsStep;
 
 fn is_fixed(quorum: OptionalSet) -> bool
     ensures { λ r. ⌜ r ≡ isFixed quorum ⌝ }
@@ -24,26 +24,26 @@ fn is_fixed(quorum: OptionalSet) -> bool
     }
 }
 
-fn swift_commits(asked: Asked, fast: FastState) -> bool
-    ensures { λ r. ⌜ r ≡ swiftCommits asked fast ⌝ }
+fn swift_commits(asked: Asked, answers: FastAnswers) -> bool
+    ensures { λ r. ⌜ r ≡ swiftCommits asked answers ⌝ }
 {
     let me = asked.member;
     let quorum = asked.quorum;
-    swift_state::swift_can_commit(fast, me, is_fixed(quorum))
+    swift_state::swift_can_commit(answers, me, is_fixed(quorum))
 }
 
 fn after_swift_answer(
     asked: Asked,
     v: u64,
     core: Core,
-    fast: FastState,
+    answers: FastAnswers,
     outcome: Outcome,
 ) -> CoreStep
-    ensures { λ r. ⌜ r ≡ afterSwiftAnswer asked v core fast outcome ⌝ }
+    ensures { λ r. ⌜ r ≡ afterSwiftAnswer asked v core answers outcome ⌝ }
 {
     match outcome {
         Outcome::Done => {
-            if swift_commits(asked, fast) {
+            if swift_commits(asked, answers) {
                 return core.commits_silent(v);
             }
             core.stays_silent()
@@ -59,26 +59,37 @@ fn swift_answer(
     round: PaxosRound,
     rv: RoundV,
     core: Core,
-    fast: FastState,
-) -> RoundsStep
-    ensures { λ r. ⌜ r ≡ swiftAnswer asked heard round rv core fast ⌝ }
+    answers: FastAnswers,
+    scores: &[u64; 64],
+) -> ChangeStep
+    ensures { λ r. ⌜ r ≡ swiftAnswer asked heard round rv core answers (now (scores .entry)) ⌝ }
 {
     match rv {
         RoundV::FastV { proposer, v } => {
             if heard.src == round.leader {
-                return core.refuses_on_rounds(Refusal::Panic, fast);
+                return core.refuses_unchanged(Refusal::Panic, answers);
             }
             let me = asked.member;
             let quorum = asked.quorum;
-            let step = swift_state::swift_answered(fast, me, heard.src, proposer, v, quorum, false);
-            let state = step.state;
+            let step = swift_state::swift_answered(
+                answers,
+                scores,
+                me,
+                heard.src,
+                proposer,
+                v,
+                quorum,
+                false,
+            );
+            let change = step.change;
+            let counted = change.answers;
             let outcome = step.outcome;
-            after_swift_answer(asked, v, core, state, outcome).on_rounds(state)
+            after_swift_answer(asked, v, core, counted, outcome).with_change(change)
         }
         RoundV::PaxosV {
             accept_round: _,
             v: _,
-        } => core.refuses_on_rounds(Refusal::Panic, fast),
+        } => core.refuses_unchanged(Refusal::Panic, answers),
     }
 }
 
@@ -88,15 +99,16 @@ pub fn swift_client_prepare(
     round: PaxosRound,
     rv: RoundV,
     core: Core,
-    fast: FastState,
-) -> RoundsStep
-    ensures { λ r. ⌜ r ≡ swiftClientPrepare asked heard round rv core fast ⌝ }
+    answers: FastAnswers,
+    scores: &[u64; 64],
+) -> ChangeStep
+    ensures { λ r. ⌜ r ≡ swiftClientPrepare asked heard round rv core answers (now (scores .entry)) ⌝ }
 {
     let committer = heard.committer;
     if committer.is(asked.member.my_pid) {
-        return swift_answer(asked, heard, round, rv, core, fast);
+        return swift_answer(asked, heard, round, rv, core, answers, scores);
     }
-    core.stays_on_rounds(fast)
+    core.stays_unchanged(answers)
 }
 
 fn after_client_accept(
@@ -139,14 +151,14 @@ fn after_leader_answer(
     round: PaxosRound,
     v: u64,
     core: Core,
-    fast: FastState,
+    answers: FastAnswers,
     outcome: Outcome,
 ) -> CoreStep
-    ensures { λ r. ⌜ r ≡ afterLeaderAnswer asked heard round v core fast outcome ⌝ }
+    ensures { λ r. ⌜ r ≡ afterLeaderAnswer asked heard round v core answers outcome ⌝ }
 {
     match outcome {
         Outcome::Done => {
-            if swift_commits(asked, fast) {
+            if swift_commits(asked, answers) {
                 return core.commits_silent(v);
             }
             client_accept(asked, heard, round, v, core)
@@ -161,19 +173,32 @@ fn swift_accept(
     round: PaxosRound,
     v: u64,
     core: Core,
-    fast: FastState,
-) -> RoundsStep
-    ensures { λ r. ⌜ r ≡ swiftAccept asked heard round v core fast ⌝ }
+    answers: FastAnswers,
+    scores: &[u64; 64],
+) -> ChangeStep
+    ensures { λ r. ⌜ r ≡ swiftAccept asked heard round v core answers (now (scores .entry)) ⌝ }
 {
     if heard.src == round.leader {
         let me = asked.member;
         let quorum = asked.quorum;
-        let step = swift_state::swift_answered(fast, me, heard.src, me.my_pid, v, quorum, true);
-        let state = step.state;
+        let step = swift_state::swift_answered(
+            answers,
+            scores,
+            me,
+            heard.src,
+            me.my_pid,
+            v,
+            quorum,
+            true,
+        );
+        let change = step.change;
+        let counted = change.answers;
         let outcome = step.outcome;
-        return after_leader_answer(asked, heard, round, v, core, state, outcome).on_rounds(state);
+        return after_leader_answer(asked, heard, round, v, core, counted, outcome).with_change(
+            change,
+        );
     }
-    client_accept(asked, heard, round, v, core).on_rounds(fast)
+    client_accept(asked, heard, round, v, core).unchanged(answers)
 }
 
 pub fn swift_client_accept(
@@ -182,15 +207,16 @@ pub fn swift_client_accept(
     round: PaxosRound,
     v: u64,
     core: Core,
-    fast: FastState,
-) -> RoundsStep
-    ensures { λ r. ⌜ r ≡ swiftClientAccept asked heard round v core fast ⌝ }
+    answers: FastAnswers,
+    scores: &[u64; 64],
+) -> ChangeStep
+    ensures { λ r. ⌜ r ≡ swiftClientAccept asked heard round v core answers (now (scores .entry)) ⌝ }
 {
     let committer = heard.committer;
     if committer.is(asked.member.my_pid) {
-        return swift_accept(asked, heard, round, v, core, fast);
+        return swift_accept(asked, heard, round, v, core, answers, scores);
     }
-    core.stays_on_rounds(fast)
+    core.stays_unchanged(answers)
 }
 
 // The leader accepts at once. A proposer, which is the delegate of its value, tries to complete the fast path.
@@ -200,9 +226,10 @@ pub fn swift_gather(
     round: PaxosRound,
     rv: RoundV,
     core: Core,
-    fast: FastState,
-) -> RoundsStep
-    ensures { λ r. ⌜ r ≡ swiftGather asked heard round rv core fast ⌝ }
+    answers: FastAnswers,
+    scores: &[u64; 64],
+) -> ChangeStep
+    ensures { λ r. ⌜ r ≡ swiftGather asked heard round rv core answers (now (scores .entry)) ⌝ }
 {
     let me = asked.member;
     let paxos = core.paxos;
@@ -212,11 +239,11 @@ pub fn swift_gather(
     let counted = core.with_paxos(state);
     if round.leader == me.my_pid {
         if prepare::is_round(held.get_last_accepted_round()) {
-            return counted.stays_on_rounds(fast);
+            return counted.stays_unchanged(answers);
         }
-        return prepare::accept_phase(asked, round, counted).on_rounds(fast);
+        return prepare::accept_phase(asked, round, counted).unchanged(answers);
     }
-    swift_client_prepare(asked, heard, round, rv, counted, fast)
+    swift_client_prepare(asked, heard, round, rv, counted, answers, scores)
 }
 
 fn after_replica_answer(
@@ -226,14 +253,14 @@ fn after_replica_answer(
     v: u64,
     core: Core,
     messages: Messages,
-    fast: FastState,
+    answers: FastAnswers,
     outcome: Outcome,
 ) -> CoreStep
-    ensures { λ r. ⌜ r ≡ afterReplicaAnswer asked heard round v core messages fast outcome ⌝ }
+    ensures { λ r. ⌜ r ≡ afterReplicaAnswer asked heard round v core messages answers outcome ⌝ }
 {
     match outcome {
         Outcome::Done => {
-            if swift_commits(asked, fast) {
+            if swift_commits(asked, answers) {
                 return core.commits(v, messages);
             }
             accept::try_commit(asked, heard, round, v, core, messages)
@@ -250,14 +277,27 @@ pub fn swift_answered_accept(
     v: u64,
     core: Core,
     messages: Messages,
-    fast: FastState,
-) -> RoundsStep
-    ensures { λ r. ⌜ r ≡ swiftAnsweredAccept asked heard round v core messages fast ⌝ }
+    answers: FastAnswers,
+    scores: &[u64; 64],
+) -> ChangeStep
+    ensures { λ r. ⌜ r ≡ swiftAnsweredAccept asked heard round v core messages answers (now (scores .entry)) ⌝ }
 {
     let me = asked.member;
     let quorum = asked.quorum;
-    let step = swift_state::swift_answered(fast, me, heard.src, me.my_pid, v, quorum, true);
-    let state = step.state;
+    let step = swift_state::swift_answered(
+        answers,
+        scores,
+        me,
+        heard.src,
+        me.my_pid,
+        v,
+        quorum,
+        true,
+    );
+    let change = step.change;
+    let counted = change.answers;
     let outcome = step.outcome;
-    after_replica_answer(asked, heard, round, v, core, messages, state, outcome).on_rounds(state)
+    after_replica_answer(asked, heard, round, v, core, messages, counted, outcome).with_change(
+        change,
+    )
 }

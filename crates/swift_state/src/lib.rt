@@ -1,7 +1,9 @@
 // SwiftPaxos on the second half of the round state: the answers of the fast quorum, which may be fixed, the leader's answer, and the commit.
 ghost use mathlib.Core.Path.{_≡_};
-ghost use Rattle.fast_state.specs.Fast.{swiftQuorum, inQuorum, leaderAnswerAfter, swiftCounted, swiftUncounted, swiftFirst, swiftAnswered, swiftOwn, swiftUnanswered, swiftProposeV, swiftCanCommit};
-use fast_state::FastState;
+ghost use Rattle.fast_state.specs.Fast.{swiftQuorum, inQuorum, leaderAnswerAfter, swiftCounted, swiftRecorded, swiftUncounted, swiftFirst, swiftAnswered, swiftOwn, swiftUnanswered, swiftProposeV, swiftCanCommit};
+use fast_state::Entry;
+use fast_state::FastAnswers;
+use fast_state::FastChange;
 use fast_state::FastStep;
 use message::OptionalValue;
 use message::Refusal;
@@ -36,42 +38,65 @@ fn leader_answer_after(leader: bool, v: u64, old: OptionalValue) -> OptionalValu
     old
 }
 
-fn swift_counted(state: FastState, me: Member, proposer: u64, v: u64, leader: bool) -> FastState
-    ensures { λ r. ⌜ r ≡ swiftCounted me proposer v leader state ⌝ }
+fn swift_counted(
+    answers: FastAnswers,
+    scores: &[u64; 64],
+    me: Member,
+    src: u64,
+    proposer: u64,
+    v: u64,
+    leader: bool,
+) -> FastChange
+    ensures { λ r. ⌜ r ≡ swiftCounted me src proposer v leader answers (now (scores .entry)) ⌝ }
 {
-    let to_v = state.fast_proposer_to_v;
-    let epaxos_scores = state.epaxos_proposer_scores;
-    let old = state.swift_proposer_scores;
-    let answer = state.swift_leader_answer;
-    let score = message::increment(tables::look_up(old, proposer));
-    let scores = tables::store(old, proposer, score);
-    let preaccepted = fast_state::preaccepted_after(me, proposer, state.fast_preaccepted);
-    let leader_answer = leader_answer_after(leader, v, answer);
-    FastState {
-        fast_answer_set: state.fast_answer_set,
-        fast_preaccepted: preaccepted,
-        fast_proposers: state.fast_proposers,
-        fast_proposer_to_v: to_v,
-        epaxos_proposer_scores: epaxos_scores,
-        swift_proposer_scores: scores,
-        swift_leader_answer: leader_answer,
+    let answer = answers.swift_leader_answer;
+    let score = tables::read(scores, proposer);
+    let counted = FastAnswers {
+        fast_answer_set: sets::insert(answers.fast_answer_set, src),
+        fast_preaccepted: fast_state::preaccepted_after(me, proposer, answers.fast_preaccepted),
+        fast_proposers: sets::insert(answers.fast_proposers, proposer),
+        swift_leader_answer: leader_answer_after(leader, v, answer),
+    };
+    FastChange {
+        answers: counted,
+        entry: Entry::SwiftScored {
+            proposer,
+            v,
+            score: message::increment(score),
+        },
+    }
+}
+
+fn swift_recorded(answers: FastAnswers, src: u64, proposer: u64, v: u64) -> FastChange
+    ensures { λ r. ⌜ r ≡ swiftRecorded src proposer v answers ⌝ }
+{
+    let answer = answers.swift_leader_answer;
+    let recorded = FastAnswers {
+        fast_answer_set: sets::insert(answers.fast_answer_set, src),
+        fast_preaccepted: answers.fast_preaccepted,
+        fast_proposers: sets::insert(answers.fast_proposers, proposer),
+        swift_leader_answer: answer,
+    };
+    FastChange {
+        answers: recorded,
+        entry: Entry::Recorded { proposer, v },
     }
 }
 
 // An answer from outside the fixed quorum: its proposer is recorded all the same.
-fn swift_uncounted(state: FastState, src: u64, proposer: u64, v: u64, leader: bool) -> FastStep
-    ensures { λ r. ⌜ r ≡ swiftUncounted src proposer v leader state ⌝ }
+fn swift_uncounted(answers: FastAnswers, src: u64, proposer: u64, v: u64, leader: bool) -> FastStep
+    ensures { λ r. ⌜ r ≡ swiftUncounted src proposer v leader answers ⌝ }
 {
     if leader {
-        return state.refused(Refusal::Panic);
+        return answers.refused(Refusal::Panic);
     }
-    let recorded = state.recorded(src, proposer, v);
-    recorded.taken()
+    swift_recorded(answers, src, proposer, v).taken()
 }
 
 // The first answer of a process.
 fn swift_first(
-    state: FastState,
+    answers: FastAnswers,
+    scores: &[u64; 64],
     me: Member,
     src: u64,
     proposer: u64,
@@ -79,18 +104,17 @@ fn swift_first(
     quorum: OptionalSet,
     leader: bool,
 ) -> FastStep
-    ensures { λ r. ⌜ r ≡ swiftFirst me src proposer v quorum leader state ⌝ }
+    ensures { λ r. ⌜ r ≡ swiftFirst me src proposer v quorum leader answers (now (scores .entry)) ⌝ }
 {
     if in_quorum(quorum, src) {
-        let recorded = state.recorded(src, proposer, v);
-        let counted = swift_counted(recorded, me, proposer, v, leader);
-        return counted.taken();
+        return swift_counted(answers, scores, me, src, proposer, v, leader).taken();
     }
-    swift_uncounted(state, src, proposer, v, leader)
+    swift_uncounted(answers, src, proposer, v, leader)
 }
 
 pub fn swift_answered(
-    state: FastState,
+    answers: FastAnswers,
+    scores: &[u64; 64],
     me: Member,
     src: u64,
     proposer: u64,
@@ -98,60 +122,67 @@ pub fn swift_answered(
     quorum: OptionalSet,
     leader: bool,
 ) -> FastStep
-    ensures { λ r. ⌜ r ≡ swiftAnswered me src proposer v quorum leader state ⌝ }
+    ensures { λ r. ⌜ r ≡ swiftAnswered me src proposer v quorum leader answers (now (scores .entry)) ⌝ }
 {
-    if sets::contains(state.fast_answer_set, src) {
-        return state.answered_before(me, src);
+    if sets::contains(answers.fast_answer_set, src) {
+        return answers.answered_before(me, src);
     }
-    swift_first(state, me, src, proposer, v, quorum, leader)
+    swift_first(answers, scores, me, src, proposer, v, quorum, leader)
 }
 
 // A replica answers its own proposal.
-fn swift_own(state: FastState, me: Member, v: u64, quorum: OptionalSet, leader: bool) -> FastStep
-    ensures { λ r. ⌜ r ≡ swiftOwn me v quorum leader state ⌝ }
+fn swift_own(
+    answers: FastAnswers,
+    scores: &[u64; 64],
+    me: Member,
+    v: u64,
+    quorum: OptionalSet,
+    leader: bool,
+) -> FastStep
+    ensures { λ r. ⌜ r ≡ swiftOwn me v quorum leader answers (now (scores .entry)) ⌝ }
 {
     if me.replica {
-        return swift_answered(state, me, me.my_pid, me.my_pid, v, quorum, leader);
+        return swift_answered(answers, scores, me, me.my_pid, me.my_pid, v, quorum, leader);
     }
-    state.taken()
+    answers.unchanged().taken()
 }
 
-fn swift_unanswered(state: FastState, me: Member) -> bool
-    ensures { λ r. ⌜ r ≡ swiftUnanswered me state ⌝ }
+fn swift_unanswered(answers: FastAnswers, scores: &[u64; 64], me: Member) -> bool
+    ensures { λ r. ⌜ r ≡ swiftUnanswered me answers (now (scores .entry)) ⌝ }
 {
-    let answer = state.swift_leader_answer;
-    let scores = state.swift_proposer_scores;
+    let answer = answers.swift_leader_answer;
     if fast_state::has_value(answer) {
         return false;
     }
-    if state.is_unanswered() {
-        return tables::look_up(scores, me.my_pid) == 0;
+    if answers.is_unanswered() {
+        return tables::read(scores, me.my_pid) == 0;
     }
     false
 }
 
 pub fn swift_propose_v(
-    state: FastState,
+    answers: FastAnswers,
+    scores: &[u64; 64],
     me: Member,
     v: u64,
     quorum: OptionalSet,
     leader: bool,
 ) -> FastStep
-    ensures { λ r. ⌜ r ≡ swiftProposeV me v quorum leader state ⌝ }
+    ensures { λ r. ⌜ r ≡ swiftProposeV me v quorum leader answers (now (scores .entry)) ⌝ }
 {
-    if swift_unanswered(state, me) {
-        return swift_own(state, me, v, quorum, leader);
+    if swift_unanswered(answers, scores, me) {
+        return swift_own(answers, scores, me, v, quorum, leader);
     }
-    state.refused(Refusal::Panic)
+    answers.refused(Refusal::Panic)
 }
 
-pub fn swift_can_commit(state: FastState, me: Member, fixed: bool) -> bool
-    ensures { λ r. ⌜ r ≡ swiftCanCommit me fixed state ⌝ }
+pub fn swift_can_commit(answers: FastAnswers, me: Member, fixed: bool) -> bool
+    ensures { λ r. ⌜ r ≡ swiftCanCommit me fixed answers ⌝ }
 {
-    let answer = state.swift_leader_answer;
+    let answer = answers.swift_leader_answer;
     if fast_state::has_value(answer) {
-        if sets::size(state.fast_proposers) == 1 {
-            return state.fast_preaccepted >= swift_quorum(me, fixed);
+        if sets::size(answers.fast_proposers) == 1 {
+            return answers.fast_preaccepted >= swift_quorum(me, fixed);
         }
         return false;
     }

@@ -28,6 +28,27 @@ pub fn store(mut table: [u64; 64], p: u64, n: u64) -> [u64; 64]
     table
 }
 
+// The same of a table that is lent.
+pub fn read(table: &[u64; 64], p: u64) -> u64
+    ensures { λ r. ⌜ r ≡ lookUp (now (table .entry)) p ⌝ }
+{
+    if p < 64 {
+        let at = p as usize;
+        return table[at];
+    }
+    0
+}
+
+// The number n for process p, in a table that is lent.
+pub fn put(table: &mut [u64; 64], p: u64, n: u64)
+    ensures { λ _. ⌜ now (table .exit) ≡ store (now (table .entry)) p n ⌝ }
+{
+    if p < 64 {
+        let place = p as usize;
+        table[place] = n;
+    }
+}
+
 fn at_most_64(n: u64) -> usize
     ensures { λ r. ⌜ r ≡ min n 64 ⌝ }
 {

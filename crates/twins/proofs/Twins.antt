@@ -24,7 +24,7 @@ yes-frozen : (b : Bool) → isYes (frozenBool b) ≡ b
 yes-frozen true = refl
 yes-frozen false = refl
 
-value-frozen : (o : OptionalValue) → thawedValue (frozenValue o) ≡ o
+pub value-frozen : (o : OptionalValue) → thawedValue (frozenValue o) ≡ o
 unfolding thawedValue frozenValue
 value-frozen NoValue = refl
 value-frozen (Value n) = refl

@@ -412,7 +412,7 @@ pub fn freeze_outcome(outcome: Outcome) -> u64
     }
 }
 
-fn freeze_value(value: OptionalValue) -> FlatOption
+pub fn freeze_value(value: OptionalValue) -> FlatOption
     ensures { λ r. ⌜ r ≡ frozenValue value ⌝ }
 {
     match value {

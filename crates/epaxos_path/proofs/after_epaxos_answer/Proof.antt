@@ -10,20 +10,23 @@ enum-told c = search needs
 epaxos-decide-requires : tie.Need-epaxos-decide-requires
 epaxos-decide-requires c κs = search needs
 
-on-rounds-requires : tie.Need-on-rounds-requires
-on-rounds-requires c κs = search needs
+with-change-requires : tie.Need-with-change-requires
+with-change-requires c κs = search needs
 
 enum-known-outcome : tie.Need-enum-known-outcome
 enum-known-outcome c = search needs
 
-refuses-on-rounds-requires : tie.Need-refuses-on-rounds-requires
-refuses-on-rounds-requires c κs = search needs
+refuses-requires : tie.Need-refuses-requires
+refuses-requires c κs = search needs
+
+with-change-requires-2 : tie.Need-with-change-requires-2
+with-change-requires-2 c κs = search needs
 
 returns : tie.Need-returns
-returns c = simp (c .before .before .enum-told .given .1, ← c .before .epaxos-decide .ensures, ← c .on-rounds .ensures)
+returns c = simp (c .before .before .enum-told .given .1, ← c .before .epaxos-decide .ensures, ← c .with-change .ensures)
 
 returns-2 : tie.Need-returns-2
-returns-2 c = simp (c .before .before .outcome .given .1, c .refuses-on-rounds .ensures)
+returns-2 c = simp (c .before .before .before .outcome .given .1, c .before .refuses .ensures, c .with-change2 .ensures)
 
 pub after-epaxos-answer-spec : {M : Type 1} → statement M
 after-epaxos-answer-spec =
@@ -31,8 +34,9 @@ after-epaxos-answer-spec =
     (tie.spec
     enum-told
     epaxos-decide-requires
-    on-rounds-requires
+    with-change-requires
     enum-known-outcome
-    refuses-on-rounds-requires
+    refuses-requires
+    with-change-requires-2
     returns
     returns-2)

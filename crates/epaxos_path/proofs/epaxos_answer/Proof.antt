@@ -17,8 +17,8 @@ after-epaxos-answer-requires c κs = search needs
 enum-told : tie.Need-enum-told
 enum-told c = search needs
 
-refuses-on-rounds-requires : tie.Need-refuses-on-rounds-requires
-refuses-on-rounds-requires c κs = search needs
+refuses-unchanged-requires : tie.Need-refuses-unchanged-requires
+refuses-unchanged-requires c κs = search needs
 
 returns : tie.Need-returns
 unfolding epaxosAnswer
@@ -26,7 +26,7 @@ returns c = simp (c .before .before .before .before .before .rv .given .1, ← c
 
 returns-2 : tie.Need-returns-2
 unfolding epaxosAnswer
-returns-2 c = simp (c .before .enum-told .given .1, c .refuses-on-rounds .ensures)
+returns-2 c = simp (c .before .enum-told .given .1, ← c .refuses-unchanged .ensures)
 
 pub epaxos-answer-spec : {M : Type 1} → statement M
 epaxos-answer-spec =
@@ -36,6 +36,6 @@ epaxos-answer-spec =
     epaxos-answered-requires
     after-epaxos-answer-requires
     enum-told
-    refuses-on-rounds-requires
+    refuses-unchanged-requires
     returns
     returns-2)

@@ -17,12 +17,12 @@ is-round-requires c κs = search needs
 gather-requires : tie.Need-gather-requires
 gather-requires c κs = search needs
 
-on-rounds-requires : tie.Need-on-rounds-requires
-on-rounds-requires c κs = search needs
+unchanged-requires : tie.Need-unchanged-requires
+unchanged-requires c κs = search needs
 
 returns : tie.Need-returns
 unfolding epaxosGather
-returns c = simp (← c .before .before .before .before .before .before .receive-promise .ensures, ← c .before .before .before .before .get-last-accepted-round .ensures, ← c .before .before .before .is-round .ensures, c .before .before .if1 .taken, ← c .before .gather .ensures, ← c .on-rounds .ensures)
+returns c = simp (← c .before .before .before .before .before .before .receive-promise .ensures, ← c .before .before .before .before .get-last-accepted-round .ensures, ← c .before .before .before .is-round .ensures, c .before .before .if1 .taken, ← c .before .gather .ensures, ← c .unchanged .ensures)
 
 with-paxos-requires : tie.Need-with-paxos-requires
 with-paxos-requires c κs = search needs
@@ -42,7 +42,7 @@ epaxos-gather-spec =
     get-last-accepted-round-requires
     is-round-requires
     gather-requires
-    on-rounds-requires
+    unchanged-requires
     returns
     with-paxos-requires
     epaxos-answer-requires

@@ -1,6 +1,7 @@
 -- `epaxos_state::adopted` meets its contract.
 -- Assumes nothing.
 use borrow.Author.Needs.{needs}
+use Rattle.fast_state.specs.Adopt.{adopted}
 use Rattle.epaxos_state.proofs.adopted.Statement.{statement}
 use Rattle.epaxos_state.proofs.adopted.Tie as tie
 
@@ -10,15 +11,17 @@ enum-told c = search needs
 enum-known-proposer : tie.Need-enum-known-proposer
 enum-known-proposer c = search needs
 
-look-up-requires : tie.Need-look-up-requires
-look-up-requires c κs = search needs
+value-in-requires : tie.Need-value-in-requires
+value-in-requires c κs = search needs
 
 returns : tie.Need-returns
+unfolding adopted
 returns c = search needs
 
 returns-2 : tie.Need-returns-2
-returns-2 c = simp (c .before .before .proposer .given .1, ← c .look-up .ensures)
+unfolding adopted
+returns-2 c = simp (c .before .before .proposer .given .1, ← c .value-in .ensures)
 
 pub adopted-spec : {M : Type 1} → statement M
 adopted-spec =
-    tie.close (tie.spec enum-told enum-known-proposer look-up-requires returns returns-2)
+    tie.close (tie.spec enum-told enum-known-proposer value-in-requires returns returns-2)

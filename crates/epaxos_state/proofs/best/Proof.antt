@@ -6,15 +6,15 @@ use Prim.Native.Nat.{_-_, _≤_}
 use native.Mathlib.Numerals.{add-one}
 use native.Mathlib.Omega.{arith}
 use borrow.Author.Needs.{needs}
-use Rattle.fast_state.specs.Adopt.{bestBelow}
+use Rattle.fast_state.specs.Adopt.{bestBelow, scoreIn}
 use Rattle.epaxos_state.proofs.best.Statement.{statement}
 use Rattle.epaxos_state.proofs.best.Tie as tie
 
 abbrev Inv-loop : tie.InvT-loop
-Inv-loop self scores best₀ p₀ best p = (p ≤ 64) × (best ≡ bestBelow self p)
+Inv-loop proposers entry scores best₀ p₀ best p = (p ≤ 64) × (best ≡ bestBelow proposers (scoreIn entry scores) p)
 
 abbrev μ-loop : tie.MeasureT-loop
-μ-loop self scores best₀ p₀ best p = 64 - p
+μ-loop proposers entry scores best₀ p₀ best p = 64 - p
 
 loop-holds : tie.Need-loop-holds Inv-loop μ-loop
 unfolding bestBelow
@@ -23,8 +23,8 @@ loop-holds c = (omega arith, refl)
 contains-requires : tie.Need-contains-requires Inv-loop μ-loop
 contains-requires c κs = search needs
 
-look-up-requires : tie.Need-look-up-requires Inv-loop μ-loop
-look-up-requires c κs = search needs
+score-in-requires : tie.Need-score-in-requires Inv-loop μ-loop
+score-in-requires c κs = search needs
 
 better-requires : tie.Need-better-requires Inv-loop μ-loop
 better-requires c κs = search needs
@@ -38,12 +38,13 @@ loop-less c = omega arith
 loop-again : tie.Need-loop-again Inv-loop μ-loop
 unfolding bestBelow
 loop-again c =
-    (omega arith, rw (add-one, ← c .before .before .before .before .loop .inv .1, ← c .before .before .contains .ensures, ← c .before .look-up .ensures) (c .better .ensures))
+    (omega arith, rw (add-one, ← c .before .before .before .before .loop .inv .1, ← c .before .before .contains .ensures, ← c .before .score-in .ensures) (c .better .ensures))
 
 returns : tie.Need-returns Inv-loop μ-loop
+unfolding bestBelow
 returns c =
     let all : c .before .loop .p ≡ 64 = omega arith in
-    c .before .loop .inv .1 ∙ ap (bestBelow _) all
+    c .before .loop .inv .1 ∙ ap (bestBelow _ _) all
 
 pub best-spec : {M : Type 1} → statement M
 best-spec =
@@ -53,7 +54,7 @@ best-spec =
     μ-loop
     loop-holds
     contains-requires
-    look-up-requires
+    score-in-requires
     better-requires
     add-p
     loop-less

@@ -15,9 +15,6 @@ returns : tie.Need-returns
 unfolding epaxosAnswered
 returns c = simp (← c .before .before .contains .ensures, c .before .if1 .taken, ← c .answered-before .ensures)
 
-recorded-requires : tie.Need-recorded-requires
-recorded-requires c κs = search needs
-
 epaxos-counted-requires : tie.Need-epaxos-counted-requires
 epaxos-counted-requires c κs = search needs
 
@@ -26,7 +23,7 @@ taken-requires c κs = search needs
 
 returns-2 : tie.Need-returns-2
 unfolding epaxosAnswered
-returns-2 c = simp (← c .before .before .before .before .contains .ensures, c .before .before .before .if1 .left, ← c .before .before .recorded .ensures, ← c .before .epaxos-counted .ensures, ← c .taken .ensures)
+returns-2 c = simp (← c .before .before .before .contains .ensures, c .before .before .if1 .left, ← c .before .epaxos-counted .ensures, ← c .taken .ensures)
 
 pub epaxos-answered-spec : {M : Type 1} → statement M
 epaxos-answered-spec =
@@ -35,7 +32,6 @@ epaxos-answered-spec =
     contains-requires
     answered-before-requires
     returns
-    recorded-requires
     epaxos-counted-requires
     taken-requires
     returns-2)

@@ -1,32 +1,34 @@
 -- `epaxos_state::epaxos_counted` meets its contract.
 -- Assumes nothing.
 use borrow.Author.Needs.{needs}
-use Rattle.fast_state.specs.Fast.{epaxosCounted}
 use Rattle.epaxos_state.proofs.epaxos_counted.Statement.{statement}
 use Rattle.epaxos_state.proofs.epaxos_counted.Tie as tie
 
-look-up-requires : tie.Need-look-up-requires
-look-up-requires c κs = search needs
+read-requires : tie.Need-read-requires
+read-requires c κs = search needs
 
-score-after-requires : tie.Need-score-after-requires
-score-after-requires c κs = search needs
-
-store-requires : tie.Need-store-requires
-store-requires c κs = search needs
+insert-requires : tie.Need-insert-requires
+insert-requires c κs = search needs
 
 preaccepted-after-requires : tie.Need-preaccepted-after-requires
 preaccepted-after-requires c κs = search needs
 
+insert-requires-2 : tie.Need-insert-requires-2
+insert-requires-2 c κs = search needs
+
+score-after-requires : tie.Need-score-after-requires
+score-after-requires c κs = search needs
+
 returns : tie.Need-returns
-unfolding epaxosCounted
-returns c = simp (← c .before .before .before .look-up .ensures, ← c .before .before .score-after .ensures, ← c .before .store .ensures, ← c .preaccepted-after .ensures)
+returns c = simp (← c .before .before .before .before .read .ensures, ← c .before .before .before .insert .ensures, ← c .before .before .preaccepted-after .ensures, ← c .before .insert2 .ensures, ← c .score-after .ensures)
 
 pub epaxos-counted-spec : {M : Type 1} → statement M
 epaxos-counted-spec =
     tie.close
     (tie.spec
-    look-up-requires
-    score-after-requires
-    store-requires
+    read-requires
+    insert-requires
     preaccepted-after-requires
+    insert-requires-2
+    score-after-requires
     returns)

@@ -1,6 +1,8 @@
 -- `epaxos_state::epaxos_try_adopt` meets its contract.
 -- Assumes nothing.
-use mathlib.Core.Path.{ap, _∙_}
+use mathlib.Core.Path.{_≡_, ap, _∙_}
+use Prim.Native.Nat.{ℕ}
+use Rattle.fast_state.specs.declared.Adoption.{Adoption}
 use Rattle.fast_state.specs.Adopt.{adopted}
 use Rattle.fast_state.specs.declared.Best.{Best}
 use Rattle.fast_state.specs.Adopt.{epaxosTryAdoptWith}
@@ -32,9 +34,12 @@ best-requires c κs = search needs
 adopted-requires : tie.Need-adopted-requires
 adopted-requires c κs = search needs
 
+of-best : (value : ℕ → ℕ) {a : Adoption} {b best : Best} → a ≡ adopted value (b .proposer) → b ≡ best → a ≡ adopted value (best .proposer)
+of-best value e d = e ∙ ap (λ (x : Best). adopted value (x .proposer)) d
+
 returns-3 : tie.Need-returns-3
 unfolding epaxosTryAdoptWith
-returns-3 c = simp (← c .before .before .before .before .before .before .before .before .contains .ensures, c .before .before .before .before .before .before .before .if1 .taken, ← c .before .before .before .before .before .before .size .ensures, le-ltb _ _ (c .before .before .before .before .if2 .left), ← c .before .before .before .size2 .ensures, le-ltb _ _ (c .before .before .if3 .left)) (c .adopted .ensures ∙ ap (λ (b : Best). adopted (c .before .before .before .before .before .before .before .before .before .args .state) (b .proposer)) (c .before .best .ensures))
+returns-3 c = simp (← c .before .before .before .before .before .before .before .before .contains .ensures, c .before .before .before .before .before .before .before .if1 .taken, ← c .before .before .before .before .before .before .size .ensures, le-ltb _ _ (c .before .before .before .before .if2 .left), ← c .before .before .before .size2 .ensures, le-ltb _ _ (c .before .before .if3 .left)) (of-best _ (c .adopted .ensures) (c .before .best .ensures))
 
 returns-4 : tie.Need-returns-4
 unfolding epaxosTryAdoptWith

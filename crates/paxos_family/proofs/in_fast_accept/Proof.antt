@@ -18,12 +18,20 @@ returns : tie.Need-returns
 unfolding inFastAccept
 returns c = simp (← c .before .before .before .before .before .accepting .ensures, ← c .before .before .before .before .goes-on .ensures, c .before .before .before .if1 .taken, ← c .swift-answered-accept .ensures)
 
-on-rounds-requires : tie.Need-on-rounds-requires
-on-rounds-requires c κs = search needs
+unchanged-requires : tie.Need-unchanged-requires
+unchanged-requires c κs = search needs
 
 returns-2 : tie.Need-returns-2
 unfolding inFastAccept
-returns-2 c = simp (← c .before .before .before .accepting .ensures, ← c .before .before .goes-on .ensures, c .before .if1 .left, c .on-rounds .ensures)
+returns-2 c = simp (← c .before .before .before .accepting .ensures, ← c .before .before .goes-on .ensures, c .before .if1 .left, ← c .unchanged .ensures)
 
 pub in-fast-accept-spec : {M : Type 1} → statement M
-in-fast-accept-spec = tie.close (tie.spec accepting-requires goes-on-requires swift-answered-accept-requires returns on-rounds-requires returns-2)
+in-fast-accept-spec =
+    tie.close
+    (tie.spec
+    accepting-requires
+    goes-on-requires
+    swift-answered-accept-requires
+    returns
+    unchanged-requires
+    returns-2)

@@ -18,12 +18,20 @@ returns : tie.Need-returns
 unfolding inFastPrepare
 returns c = simp (← c .before .before .before .before .prepared .ensures, ← c .before .before .before .goes-on .ensures, c .before .before .if1 .taken, ← c .fast-gather .ensures)
 
-on-rounds-requires : tie.Need-on-rounds-requires
-on-rounds-requires c κs = search needs
+unchanged-requires : tie.Need-unchanged-requires
+unchanged-requires c κs = search needs
 
 returns-2 : tie.Need-returns-2
 unfolding inFastPrepare
-returns-2 c = simp (← c .before .before .before .prepared .ensures, ← c .before .before .goes-on .ensures, c .before .if1 .left, c .on-rounds .ensures)
+returns-2 c = simp (← c .before .before .before .prepared .ensures, ← c .before .before .goes-on .ensures, c .before .if1 .left, ← c .unchanged .ensures)
 
 pub in-fast-prepare-spec : {M : Type 1} → statement M
-in-fast-prepare-spec = tie.close (tie.spec prepared-requires goes-on-requires fast-gather-requires returns on-rounds-requires returns-2)
+in-fast-prepare-spec =
+    tie.close
+    (tie.spec
+    prepared-requires
+    goes-on-requires
+    fast-gather-requires
+    returns
+    unchanged-requires
+    returns-2)

@@ -18,12 +18,20 @@ returns : tie.Need-returns
 unfolding onFastAccept
 returns c = simp (← c .before .before .before .before .enter .ensures, ← c .before .before .before .goes-on .ensures, c .before .before .if1 .taken, ← c .entered-accept .ensures)
 
-on-rounds-requires : tie.Need-on-rounds-requires
-on-rounds-requires c κs = search needs
+unchanged-requires : tie.Need-unchanged-requires
+unchanged-requires c κs = search needs
 
 returns-2 : tie.Need-returns-2
 unfolding onFastAccept
-returns-2 c = simp (← c .before .before .before .enter .ensures, ← c .before .before .goes-on .ensures, c .before .if1 .left, c .on-rounds .ensures)
+returns-2 c = simp (← c .before .before .before .enter .ensures, ← c .before .before .goes-on .ensures, c .before .if1 .left, ← c .unchanged .ensures)
 
 pub on-fast-accept-spec : {M : Type 1} → statement M
-on-fast-accept-spec = tie.close (tie.spec enter-requires goes-on-requires entered-accept-requires returns on-rounds-requires returns-2)
+on-fast-accept-spec =
+    tie.close
+    (tie.spec
+    enter-requires
+    goes-on-requires
+    entered-accept-requires
+    returns
+    unchanged-requires
+    returns-2)

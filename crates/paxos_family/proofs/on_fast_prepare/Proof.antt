@@ -18,12 +18,20 @@ returns : tie.Need-returns
 unfolding onFastPrepare
 returns c = simp (← c .before .before .before .before .enter .ensures, ← c .before .before .before .goes-on .ensures, c .before .before .if1 .taken, ← c .entered .ensures)
 
-on-rounds-requires : tie.Need-on-rounds-requires
-on-rounds-requires c κs = search needs
+unchanged-requires : tie.Need-unchanged-requires
+unchanged-requires c κs = search needs
 
 returns-2 : tie.Need-returns-2
 unfolding onFastPrepare
-returns-2 c = simp (← c .before .before .before .enter .ensures, ← c .before .before .goes-on .ensures, c .before .if1 .left, c .on-rounds .ensures)
+returns-2 c = simp (← c .before .before .before .enter .ensures, ← c .before .before .goes-on .ensures, c .before .if1 .left, ← c .unchanged .ensures)
 
 pub on-fast-prepare-spec : {M : Type 1} → statement M
-on-fast-prepare-spec = tie.close (tie.spec enter-requires goes-on-requires entered-requires returns on-rounds-requires returns-2)
+on-fast-prepare-spec =
+    tie.close
+    (tie.spec
+    enter-requires
+    goes-on-requires
+    entered-requires
+    returns
+    unchanged-requires
+    returns-2)

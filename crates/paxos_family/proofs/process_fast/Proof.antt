@@ -5,85 +5,19 @@ use Rattle.paxos_family.specs.Process.{processFast}
 use Rattle.paxos_family.proofs.process_fast.Statement.{statement}
 use Rattle.paxos_family.proofs.process_fast.Tie as tie
 
-enum-known-msg : tie.Need-enum-known-msg
-enum-known-msg c = search needs
+answers-requires : tie.Need-answers-requires
+answers-requires c κs = search needs
 
-on-fast-prepare-requires : tie.Need-on-fast-prepare-requires
-on-fast-prepare-requires c κs = search needs
+process-change-requires : tie.Need-process-change-requires
+process-change-requires c κs = search needs
 
-enum-known-msg-2 : tie.Need-enum-known-msg-2
-enum-known-msg-2 c = search needs
-
-on-fast-accept-requires : tie.Need-on-fast-accept-requires
-on-fast-accept-requires c κs = search needs
-
-enum-told : tie.Need-enum-told
-enum-told c = search needs
-
-stays-on-rounds-requires : tie.Need-stays-on-rounds-requires
-stays-on-rounds-requires c κs = search needs
-
-enum-told-2 : tie.Need-enum-told-2
-enum-told-2 c = search needs
-
-stays-on-rounds-requires-2 : tie.Need-stays-on-rounds-requires-2
-stays-on-rounds-requires-2 c κs = search needs
-
-enum-told-3 : tie.Need-enum-told-3
-enum-told-3 c = search needs
-
-stays-on-rounds-requires-3 : tie.Need-stays-on-rounds-requires-3
-stays-on-rounds-requires-3 c κs = search needs
-
-enum-told-4 : tie.Need-enum-told-4
-enum-told-4 c = search needs
-
-stays-on-rounds-requires-4 : tie.Need-stays-on-rounds-requires-4
-stays-on-rounds-requires-4 c κs = search needs
+change-rounds-requires : tie.Need-change-rounds-requires
+change-rounds-requires c κs = search needs
 
 returns : tie.Need-returns
 unfolding processFast
-returns c = simp (c .before .before .msg .given .1, ← c .on-fast-prepare .ensures)
-
-returns-2 : tie.Need-returns-2
-unfolding processFast
-returns-2 c = simp (c .before .before .msg2 .given .1, ← c .on-fast-accept .ensures)
-
-returns-3 : tie.Need-returns-3
-unfolding processFast
-returns-3 c = simp (c .before .enum-told .given .1, c .stays-on-rounds .ensures)
-
-returns-4 : tie.Need-returns-4
-unfolding processFast
-returns-4 c = simp (c .before .enum-told2 .given .1, c .stays-on-rounds2 .ensures)
-
-returns-5 : tie.Need-returns-5
-unfolding processFast
-returns-5 c = simp (c .before .enum-told3 .given .1, c .stays-on-rounds3 .ensures)
-
-returns-6 : tie.Need-returns-6
-unfolding processFast
-returns-6 c = simp (c .before .enum-told4 .given .1, c .stays-on-rounds4 .ensures)
+returns c = simp (← c .before .before .before .before .before .answers .ensures, ← c .before .process-change .ensures, ← c .change-rounds .ensures)
 
 pub process-fast-spec : {M : Type 1} → statement M
 process-fast-spec =
-    tie.close
-    (tie.spec
-    enum-known-msg
-    on-fast-prepare-requires
-    enum-known-msg-2
-    on-fast-accept-requires
-    enum-told
-    stays-on-rounds-requires
-    enum-told-2
-    stays-on-rounds-requires-2
-    enum-told-3
-    stays-on-rounds-requires-3
-    enum-told-4
-    stays-on-rounds-requires-4
-    returns
-    returns-2
-    returns-3
-    returns-4
-    returns-5
-    returns-6)
+    tie.close (tie.spec answers-requires process-change-requires change-rounds-requires returns)

@@ -1,6 +1,7 @@
 -- `propose::after_accept` meets its contract.
 -- Assumes nothing.
 use borrow.Author.Needs.{needs}
+use Rattle.propose.specs.Propose.{afterAccept}
 use Rattle.propose.proofs.after_accept.Statement.{statement}
 use Rattle.propose.proofs.after_accept.Tie as tie
 
@@ -29,9 +30,11 @@ not-allowed-requires : tie.Need-not-allowed-requires
 not-allowed-requires c κs = search needs
 
 returns : tie.Need-returns
+unfolding afterAccept
 returns c = simp (c .before .before .before .before .before .enum-told .given .1, ← c .before .before .before .before .to-all .ensures, ← c .before .before .before .sends .ensures, ← c .before .before .with-paxos .ensures, ← c .before .one-message .ensures, ← c .stays .ensures)
 
 returns-2 : tie.Need-returns-2
+unfolding afterAccept
 returns-2 c = simp (c .before .enum-told2 .given .1, ← c .not-allowed .ensures)
 
 pub after-accept-spec : {M : Type 1} → statement M

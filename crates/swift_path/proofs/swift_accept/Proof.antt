@@ -12,22 +12,22 @@ swift-answered-requires c κs = search needs
 after-leader-answer-requires : tie.Need-after-leader-answer-requires
 after-leader-answer-requires c κs = search needs
 
-on-rounds-requires : tie.Need-on-rounds-requires
-on-rounds-requires c κs = search needs
+with-change-requires : tie.Need-with-change-requires
+with-change-requires c κs = search needs
 
 returns : tie.Need-returns
 unfolding swiftAccept
-returns c = simp (eq-eqb _ _ (c .before .before .before .before .before .if1 .taken), c .before .before .before .swift-answered .ensures, c .before .after-leader-answer .ensures, c .on-rounds .ensures)
+returns c = simp (eq-eqb _ _ (c .before .before .before .before .before .before .if1 .taken), c .before .before .before .before .swift-answered .ensures, c .before .after-leader-answer .ensures, c .with-change .ensures)
 
 client-accept-requires : tie.Need-client-accept-requires
 client-accept-requires c κs = search needs
 
-on-rounds-requires-2 : tie.Need-on-rounds-requires-2
-on-rounds-requires-2 c κs = search needs
+unchanged-requires : tie.Need-unchanged-requires
+unchanged-requires c κs = search needs
 
 returns-2 : tie.Need-returns-2
 unfolding swiftAccept
-returns-2 c = simp (ne-eqb _ _ (c .before .before .if1 .left), ← c .before .client-accept .ensures, ← c .on-rounds2 .ensures)
+returns-2 c = simp (ne-eqb _ _ (c .before .before .if1 .left), ← c .before .client-accept .ensures, ← c .unchanged .ensures)
 
 pub swift-accept-spec : {M : Type 1} → statement M
 swift-accept-spec =
@@ -35,8 +35,8 @@ swift-accept-spec =
     (tie.spec
     swift-answered-requires
     after-leader-answer-requires
-    on-rounds-requires
+    with-change-requires
     returns
     client-accept-requires
-    on-rounds-requires-2
+    unchanged-requires
     returns-2)

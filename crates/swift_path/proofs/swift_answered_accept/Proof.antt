@@ -11,14 +11,14 @@ swift-answered-requires c κs = search needs
 after-replica-answer-requires : tie.Need-after-replica-answer-requires
 after-replica-answer-requires c κs = search needs
 
-on-rounds-requires : tie.Need-on-rounds-requires
-on-rounds-requires c κs = search needs
+with-change-requires : tie.Need-with-change-requires
+with-change-requires c κs = search needs
 
 returns : tie.Need-returns
 unfolding swiftAnsweredAccept
-returns c = simp (c .before .before .before .swift-answered .ensures, c .before .after-replica-answer .ensures, c .on-rounds .ensures)
+returns c = simp (c .before .before .before .before .swift-answered .ensures, c .before .after-replica-answer .ensures, c .with-change .ensures)
 
 pub swift-answered-accept-spec : {M : Type 1} → statement M
 swift-answered-accept-spec =
     tie.close
-    (tie.spec swift-answered-requires after-replica-answer-requires on-rounds-requires returns)
+    (tie.spec swift-answered-requires after-replica-answer-requires with-change-requires returns)

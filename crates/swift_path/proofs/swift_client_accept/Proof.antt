@@ -15,19 +15,14 @@ returns : tie.Need-returns
 unfolding swiftClientAccept
 returns c = simp (← c .before .before .is .ensures, c .before .if1 .taken, ← c .swift-accept .ensures)
 
-stays-on-rounds-requires : tie.Need-stays-on-rounds-requires
-stays-on-rounds-requires c κs = search needs
+stays-unchanged-requires : tie.Need-stays-unchanged-requires
+stays-unchanged-requires c κs = search needs
 
 returns-2 : tie.Need-returns-2
 unfolding swiftClientAccept
-returns-2 c = simp (← c .before .before .is .ensures, c .before .if1 .left, c .stays-on-rounds .ensures)
+returns-2 c = simp (← c .before .before .is .ensures, c .before .if1 .left, ← c .stays-unchanged .ensures)
 
 pub swift-client-accept-spec : {M : Type 1} → statement M
 swift-client-accept-spec =
     tie.close
-    (tie.spec
-    is-requires
-    swift-accept-requires
-    returns
-    stays-on-rounds-requires
-    returns-2)
+    (tie.spec is-requires swift-accept-requires returns stays-unchanged-requires returns-2)

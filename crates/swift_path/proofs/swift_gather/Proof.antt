@@ -18,22 +18,22 @@ get-last-accepted-round-requires c κs = search needs
 is-round-requires : tie.Need-is-round-requires
 is-round-requires c κs = search needs
 
-stays-on-rounds-requires : tie.Need-stays-on-rounds-requires
-stays-on-rounds-requires c κs = search needs
+stays-unchanged-requires : tie.Need-stays-unchanged-requires
+stays-unchanged-requires c κs = search needs
 
 returns : tie.Need-returns
 unfolding swiftGather
-returns c = simp (← c .before .before .before .before .before .before .before .before .before .receive-promise .ensures, ← c .before .before .before .before .before .before .before .with-paxos .ensures, eq-eqb _ _ (c .before .before .before .before .if1 .taken), ← c .before .before .before .get-last-accepted-round .ensures, ← c .before .before .is-round .ensures, c .before .if2 .taken, ← c .stays-on-rounds .ensures)
+returns c = simp (← c .before .before .before .before .before .before .before .before .before .receive-promise .ensures, ← c .before .before .before .before .before .before .before .with-paxos .ensures, eq-eqb _ _ (c .before .before .before .before .if1 .taken), ← c .before .before .before .get-last-accepted-round .ensures, ← c .before .before .is-round .ensures, c .before .if2 .taken, ← c .stays-unchanged .ensures)
 
 accept-phase-requires : tie.Need-accept-phase-requires
 accept-phase-requires c κs = search needs
 
-on-rounds-requires : tie.Need-on-rounds-requires
-on-rounds-requires c κs = search needs
+unchanged-requires : tie.Need-unchanged-requires
+unchanged-requires c κs = search needs
 
 returns-2 : tie.Need-returns-2
 unfolding swiftGather
-returns-2 c = simp (← c .before .before .before .before .before .before .before .before .before .before .receive-promise .ensures, ← c .before .before .before .before .before .before .before .before .with-paxos .ensures, eq-eqb _ _ (c .before .before .before .before .before .if1 .taken), ← c .before .before .before .before .get-last-accepted-round .ensures, ← c .before .before .before .is-round .ensures, c .before .before .if2 .left, ← c .before .accept-phase .ensures, ← c .on-rounds .ensures)
+returns-2 c = simp (← c .before .before .before .before .before .before .before .before .before .before .receive-promise .ensures, ← c .before .before .before .before .before .before .before .before .with-paxos .ensures, eq-eqb _ _ (c .before .before .before .before .before .if1 .taken), ← c .before .before .before .before .get-last-accepted-round .ensures, ← c .before .before .before .is-round .ensures, c .before .before .if2 .left, ← c .before .accept-phase .ensures, ← c .unchanged .ensures)
 
 swift-client-prepare-requires : tie.Need-swift-client-prepare-requires
 swift-client-prepare-requires c κs = search needs
@@ -50,10 +50,10 @@ swift-gather-spec =
     with-paxos-requires
     get-last-accepted-round-requires
     is-round-requires
-    stays-on-rounds-requires
+    stays-unchanged-requires
     returns
     accept-phase-requires
-    on-rounds-requires
+    unchanged-requires
     returns-2
     swift-client-prepare-requires
     returns-3)

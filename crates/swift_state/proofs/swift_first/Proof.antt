@@ -8,9 +8,6 @@ use Rattle.swift_state.proofs.swift_first.Tie as tie
 in-quorum-requires : tie.Need-in-quorum-requires
 in-quorum-requires c κs = search needs
 
-recorded-requires : tie.Need-recorded-requires
-recorded-requires c κs = search needs
-
 swift-counted-requires : tie.Need-swift-counted-requires
 swift-counted-requires c κs = search needs
 
@@ -19,7 +16,7 @@ taken-requires c κs = search needs
 
 returns : tie.Need-returns
 unfolding swiftFirst
-returns c = simp (← c .before .before .before .before .in-quorum .ensures, c .before .before .before .if1 .taken, ← c .before .before .recorded .ensures, ← c .before .swift-counted .ensures, ← c .taken .ensures)
+returns c = simp (← c .before .before .before .in-quorum .ensures, c .before .before .if1 .taken, ← c .before .swift-counted .ensures, ← c .taken .ensures)
 
 swift-uncounted-requires : tie.Need-swift-uncounted-requires
 swift-uncounted-requires c κs = search needs
@@ -33,7 +30,6 @@ swift-first-spec =
     tie.close
     (tie.spec
     in-quorum-requires
-    recorded-requires
     swift-counted-requires
     taken-requires
     returns

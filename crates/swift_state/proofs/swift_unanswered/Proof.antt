@@ -15,12 +15,12 @@ returns c = simp (← c .before .has-value .ensures, c .if1 .taken)
 is-unanswered-requires : tie.Need-is-unanswered-requires
 is-unanswered-requires c κs = search needs
 
-look-up-requires : tie.Need-look-up-requires
-look-up-requires c κs = search needs
+read-requires : tie.Need-read-requires
+read-requires c κs = search needs
 
 returns-2 : tie.Need-returns-2
 unfolding swiftUnanswered
-returns-2 c = simp (← c .before .before .before .before .has-value .ensures, c .before .before .before .if1 .left, ← c .before .before .is-unanswered .ensures, c .before .if2 .taken, ← c .look-up .ensures)
+returns-2 c = simp (← c .before .before .before .before .has-value .ensures, c .before .before .before .if1 .left, ← c .before .before .is-unanswered .ensures, c .before .if2 .taken, ← c .read .ensures)
 
 returns-3 : tie.Need-returns-3
 unfolding swiftUnanswered
@@ -29,10 +29,4 @@ returns-3 c = simp (← c .before .before .before .has-value .ensures, c .before
 pub swift-unanswered-spec : {M : Type 1} → statement M
 swift-unanswered-spec =
     tie.close
-    (tie.spec
-    has-value-requires
-    returns
-    is-unanswered-requires
-    look-up-requires
-    returns-2
-    returns-3)
+    (tie.spec has-value-requires returns is-unanswered-requires read-requires returns-2 returns-3)

@@ -1,0 +1,14 @@
+-- `fast_arrays::put_answers` meets its contract.
+-- Assumes nothing.
+use borrow.Author.Needs.{needs}
+use Rattle.fast_arrays.proofs.put_answers.Statement.{statement}
+use Rattle.fast_arrays.proofs.put_answers.Tie as tie
+
+freeze-value-requires : tie.Need-freeze-value-requires
+freeze-value-requires c κs = search needs
+
+returns : tie.Need-returns
+returns c = simp (← c .before .freeze-value .ensures)
+
+pub put-answers-spec : {M : Type 1} → statement M
+put-answers-spec = tie.close (tie.spec freeze-value-requires returns)
