@@ -24,6 +24,7 @@ use Rattle.steps.specs.declared.Heard.{Heard}
 use Rattle.steps.specs.declared.Messages.{Messages}
 use Rattle.steps.specs.declared.Next.{Next}
 use Rattle.steps.specs.declared.Next.the-variants.{Stays, Continues, Commits, Refuses}
+use Rattle.steps.specs.declared.Outgoing.{Outgoing}
 use Rattle.delivery.specs.declared.Delivery.{Delivery}
 use Rattle.calls.specs.declared.Call.{Call}
 use Rattle.calls.specs.declared.Call.the-variants.{Propose, StartRead, Receive}
@@ -82,13 +83,14 @@ coreOnCommit a slot v core =
 abbrev pub nextReadable : Core → ℕ
 nextReadable core = cond (isHeld (core .paxos .«max_rv»)) (increment (core .slot)) (core .slot)
 
--- answered at any member; the Rust's sink asserts that nothing is sent to oneself. A ReadResponse carries no last value.
+-- a ReadResponse carries no last value
+abbrev pub readAnswer : ℕ → ℕ → ReadId → Core → Outgoing
+readAnswer own src id core =
+    record { destination = One src; message = record { msg = ReadResponse id (nextReadable core); src = own; «last_v» = NoValue } }
+
+-- answered at any member; the Rust's sink asserts that nothing is sent to oneself
 unfoldable pub coreOnReadRequest : ℕ → ℕ → ReadId → Core → CoreAnswer
-coreOnReadRequest own src id core =
-    cond (eqb src own) (refusesIn core Panic)
-    (sendsFrom core
-    (oneMessage
-    (record { destination = One src; message = record { msg = ReadResponse id (nextReadable core); src = own; «last_v» = NoValue } })))
+coreOnReadRequest own src id core = cond (eqb src own) (refusesIn core Panic) (sendsFrom core (oneMessage (readAnswer own src id core)))
 
 unfoldable pub coreOnReadResponse : Core → CoreAnswer
 coreOnReadResponse core = cond (eqb (core .tracker .«open_count») 0) (sendsFrom core noMessages) (needsMore core)

@@ -2,7 +2,7 @@
 // and for reads their table. So a shard that is lent can be changed part by part.
 ghost use mathlib.Core.Path.{_≡_};
 ghost use Rattle.core_calls.specs.Replies.{refusedReply, sentReply, isFast, committedReply};
-ghost use Rattle.core_calls.specs.CoreCall.{sendsFrom, refusesIn, needsMore, coreCommitted, coreFinishAt, coreFinish, coreProposed, coreProcessed, coreOnCommit, nextReadable, coreOnReadRequest, coreOnReadResponse, coreHandle, coreTaken, coreCall};
+ghost use Rattle.core_calls.specs.CoreCall.{sendsFrom, refusesIn, needsMore, coreCommitted, coreFinishAt, coreFinish, coreProposed, coreProcessed, coreOnCommit, nextReadable, readAnswer, coreOnReadRequest, coreOnReadResponse, coreHandle, coreTaken, coreCall};
 use calls::Call;
 use calls::Decision;
 use calls::OptionalCommit;
@@ -215,6 +215,23 @@ fn next_readable(core: Core) -> u64
     core.slot
 }
 
+pub fn read_answer(own: u64, src: u64, id: ReadId, core: Core) -> Outgoing
+    ensures { λ r. ⌜ r ≡ readAnswer own src id core ⌝ }
+{
+    let response = ConsensusMsg::ReadResponse {
+        id,
+        next_readable_slot: next_readable(core),
+    };
+    Outgoing {
+        destination: Destination::One(src),
+        message: ConsensusMessage {
+            msg: response,
+            src: own,
+            last_v: OptionalValue::NoValue,
+        },
+    }
+}
+
 // Answered at any member. The Rust's sink asserts that nothing is sent to oneself.
 pub fn core_on_read_request(own: u64, src: u64, id: ReadId, core: Core) -> CoreAnswer
     ensures { λ r. ⌜ r ≡ coreOnReadRequest own src id core ⌝ }
@@ -222,19 +239,7 @@ pub fn core_on_read_request(own: u64, src: u64, id: ReadId, core: Core) -> CoreA
     if src == own {
         return refuses_in(core, Refusal::Panic);
     }
-    let response = ConsensusMsg::ReadResponse {
-        id,
-        next_readable_slot: next_readable(core),
-    };
-    let message = Outgoing {
-        destination: Destination::One(src),
-        message: ConsensusMessage {
-            msg: response,
-            src: own,
-            last_v: OptionalValue::NoValue,
-        },
-    };
-    sends_from(core, one_message(message))
+    sends_from(core, one_message(read_answer(own, src, id, core)))
 }
 
 // Where no read is open their table is left alone.

@@ -9,8 +9,11 @@ use lib.ListN.{set}
 use Rattle.arrays.specs.Arrays.{coreOf, coreNumbers}
 use Rattle.arrays.specs.declared.Setup.{Setup}
 use Rattle.core_calls.specs.Replies.{sentReply}
-use Rattle.direct_core.specs.Handled.{Written, putReply, putServed, Lent, putAnswer, askedHere, coreAnswer}
+use Rattle.counting.specs.Counting.{counts, withCounted}
+use Rattle.direct_core.specs.Handled.{Written, putReply, putServed, Lent, askedHere, Proposed, putStep, handledBy, Answered, answerRequest}
+use Rattle.message.specs.Modes.{hasFastPath}
 use Rattle.message.specs.declared.ConsensusMsg.the-variants.{ReadRequest}
+use Rattle.propose.specs.Propose.{proposeClassic}
 use Rattle.quorum.specs.Quorum.{rowOf}
 use Rattle.quorum.specs.declared.QuorumRow.{QuorumRow}
 use Rattle.read_tracker.specs.Reads.{readId}
@@ -25,10 +28,11 @@ use Rattle.steps.specs.declared.Core.{Core}
 use Rattle.steps.specs.declared.Destination.{Destination}
 use Rattle.steps.specs.declared.Outgoing.{Outgoing}
 use Rattle.twins.specs.Freeze.{frozenBool}
-use Rattle.twins.specs.Thaw.{isYes, thawedCore}
+use Rattle.twin_calls.specs.Refusals.{refusalOf}
+use Rattle.twins.specs.Thaw.{isYes, thawedCore, thawedMode}
 use Rattle.twins.specs.declared.FlatCall.{FlatCall}
 use Rattle.twins.specs.declared.FlatCore.{FlatCore}
-use Rattle.direct.specs.Direct.{trackerOf, withTracker, majorityOf, Opening, opening, opened, openRead, Direct, direct, counted, countResponse, response, Serving, servings, servedBy, serveReady, withServing, served, isResponse, passesOn, isOlder, handled, taken, refusalOf, fromOpening, directCall}
+use Rattle.direct.specs.Direct.{trackerOf, withTracker, majorityOf, Opening, opening, opened, openRead, Direct, direct, counted, countResponse, response, Serving, servings, servedBy, serveReady, withServing, served, isResponse, forSlots, isOlder, handled, fromProposed, forSlot, fromAnswered, taken, fromOpening, directCall}
 
 -- ---- a new read
 
@@ -126,50 +130,76 @@ module _ (s : Setup) (core : List ℕ) (table : ReadTable) where
 -- ---- calls
 
 module _ (s : Setup) (committers delegates core : List ℕ) (table : ReadTable) (f : FlatCall) (w : Written) where
-  pub older : {w′ : Written} → isOlder (coreOf core) f ≡ true → w′ ≡ putServed 0 w → direct 0 core table w′ ≡ handled s committers delegates core table f w
+  pub older : {w′ : Written} → isOlder (coreOf core) (f .message) ≡ true → w′ ≡ putServed 0 w → direct 0 core table w′ ≡ handled s committers delegates core table f w
   unfolding handled
   older p e = ap (direct 0 core table) e ∙ simp (p)
 
   abbrev answer : Lent
-  answer = putAnswer (coreAnswer s committers delegates (thawedCore (coreOf core)) f) core w
+  answer = handledBy s committers delegates core f w
 
-  pub served-too : (l : Lent) {v : Serving} → isOlder (coreOf core) f ≡ false → l ≡ answer → l .handled .deeper ≡ true → v ≡ serveReady s (l .core) table (l .reply .rest)
+  pub only-counted : {c next : FlatCore} {core′ : List ℕ} {w′ : Written} → c ≡ coreOf core → isOlder (coreOf core) (f .message) ≡ false → counts s delegates (coreOf core) (f .message) ≡ true
+      → next ≡ withCounted s c (f .message)
+      → core′ ≡ coreNumbers next
+      → w′ ≡ putServed 0 w
+      → direct 0 core′ table w′ ≡ handled s committers delegates core table f w
+  unfolding handled
+  only-counted ec p q en ep e =
+      ap₂ (λ (x : List ℕ) (y : Written). direct 0 x table y) (ep ∙ ap coreNumbers en ∙ ap (λ (x : FlatCore). coreNumbers (withCounted s x (f .message))) ec) e ∙ simp (p, q)
+
+  pub served-too : (l : Lent) {v : Serving} → isOlder (coreOf core) (f .message) ≡ false → counts s delegates (coreOf core) (f .message) ≡ false → l ≡ answer → l .handled .deeper ≡ true
+      → v ≡ serveReady s (l .core) table (l .reply .rest)
       → withServing (l .reply) v ≡ handled s committers delegates core table f w
   unfolding handled served
-  served-too l p e q v = ap (withServing (l .reply)) v ∙ by-served q ∙ ap (served s table) e ∙ simp (p)
+  served-too l p o e q v = ap (withServing (l .reply)) v ∙ by-served q ∙ ap (served s table) e ∙ simp (p, o)
     where
       by-served : l .handled .deeper ≡ true → withServing (l .reply) (serveReady s (l .core) table (l .reply .rest)) ≡ served s table l
       by-served q = simp (q)
 
-  pub not-served : (l : Lent) → isOlder (coreOf core) f ≡ false → l ≡ answer → l .handled .deeper ≡ false → direct (l .handled .number) (l .core) table (l .reply) ≡ handled s committers delegates core table f w
+  pub not-served : (l : Lent) → isOlder (coreOf core) (f .message) ≡ false → counts s delegates (coreOf core) (f .message) ≡ false → l ≡ answer → l .handled .deeper ≡ false
+      → direct (l .handled .number) (l .core) table (l .reply) ≡ handled s committers delegates core table f w
   unfolding handled served
-  not-served l p e q = by-served q ∙ ap (served s table) e ∙ simp (p)
+  not-served l p o e q = by-served q ∙ ap (served s table) e ∙ simp (p, o)
     where
       by-served : l .handled .deeper ≡ false → direct (l .handled .number) (l .core) table (l .reply) ≡ served s table l
       by-served q = simp (q)
+
+  pub passed-on : hasFastPath (thawedMode (s .mode)) ≡ true → direct 255 core table w ≡ forSlot s committers delegates core table f w
+  unfolding forSlot
+  passed-on p = simp (p)
+
+  pub proposal-taken : {p : Proposed} → hasFastPath (thawedMode (s .mode)) ≡ false → eqb (f .kind) 0 ≡ true
+      → p ≡ putStep (proposeClassic (askedHere s) (f .v) (thawedCore (coreOf core))) core w
+      → fromProposed table p ≡ forSlot s committers delegates core table f w
+  unfolding forSlot
+  proposal-taken h k e = ap (fromProposed table) e ∙ simp (h, k)
+
+  pub in-classic : {d : Direct} → hasFastPath (thawedMode (s .mode)) ≡ false → eqb (f .kind) 0 ≡ false → d ≡ handled s committers delegates core table f w
+      → d ≡ forSlot s committers delegates core table f w
+  unfolding forSlot
+  in-classic h k e = e ∙ simp (h, k)
 
   pub response-taken : {d : Direct} → isResponse f ≡ true → d ≡ response s core table f w → d ≡ taken s committers delegates core table f w
   unfolding taken
   response-taken p e = e ∙ simp (p)
 
-  pub passed-on : isResponse f ≡ false → passesOn s f ≡ true → direct 255 core table w ≡ taken s committers delegates core table f w
+  pub slot-taken : {d : Direct} → isResponse f ≡ false → forSlots f ≡ true → d ≡ forSlot s committers delegates core table f w → d ≡ taken s committers delegates core table f w
   unfolding taken
-  passed-on p q = simp (p, q)
+  slot-taken p q e = e ∙ simp (p, q)
 
-  pub handled-taken : {d : Direct} → isResponse f ≡ false → passesOn s f ≡ false → d ≡ handled s committers delegates core table f w → d ≡ taken s committers delegates core table f w
+  pub request-taken : {a : Answered} → isResponse f ≡ false → forSlots f ≡ false → a ≡ answerRequest s core (f .message) w → fromAnswered core table a ≡ taken s committers delegates core table f w
   unfolding taken
-  handled-taken p q e = e ∙ simp (p, q)
+  request-taken p q e = ap (fromAnswered core table) e ∙ simp (p, q)
 
-  pub refused : {n : ℕ} → n ≡ refusalOf s core f → eqb n 0 ≡ false → direct n core table w ≡ directCall s committers delegates core table f w
+  pub refused : {n : ℕ} → n ≡ refusalOf s (coreOf core) f → eqb n 0 ≡ false → direct n core table w ≡ directCall s committers delegates core table f w
   unfolding directCall
   refused {n} e p = ap (λ (x : ℕ). direct x core table w) e ∙ simp (ap (λ (x : ℕ). eqb x 0) (sym e) ∙ p)
 
-  pub read-opened : {n : ℕ} {o : Opening} → n ≡ refusalOf s core f → eqb n 0 ≡ true → eqb (f .kind) 1 ≡ true → o ≡ openRead s core (table .reads) f w
+  pub read-opened : {n : ℕ} {o : Opening} → n ≡ refusalOf s (coreOf core) f → eqb n 0 ≡ true → eqb (f .kind) 1 ≡ true → o ≡ openRead s core (table .reads) f w
       → fromOpening table o ≡ directCall s committers delegates core table f w
   unfolding directCall
   read-opened e p q o = ap (fromOpening table) o ∙ simp (ap (λ (x : ℕ). eqb x 0) (sym e) ∙ p, q)
 
-  pub call-taken : {n : ℕ} {d : Direct} → n ≡ refusalOf s core f → eqb n 0 ≡ true → eqb (f .kind) 1 ≡ false → d ≡ taken s committers delegates core table f w
+  pub call-taken : {n : ℕ} {d : Direct} → n ≡ refusalOf s (coreOf core) f → eqb n 0 ≡ true → eqb (f .kind) 1 ≡ false → d ≡ taken s committers delegates core table f w
       → d ≡ directCall s committers delegates core table f w
   unfolding directCall
   call-taken e p q d = d ∙ simp (ap (λ (x : ℕ). eqb x 0) (sym e) ∙ p, q)
@@ -177,3 +207,6 @@ module _ (s : Setup) (committers delegates core : List ℕ) (table : ReadTable) 
 pub read-in : (committers delegates core : List ℕ) (table : ReadTable) (w : Written) {s s′ : Setup} {f f′ : FlatCall} {d : Direct} → s ≡ s′ → f ≡ f′
     → d ≡ directCall s committers delegates core table f w → d ≡ directCall s′ committers delegates core table f′ w
 read-in committers delegates core table w es ef e = e ∙ ap₂ (λ (x : Setup) (y : FlatCall). directCall x committers delegates core table y w) es ef
+
+pub read-back : (core : FlatCore) {n : ℕ} {s s′ : Setup} {f f′ : FlatCall} → s ≡ s′ → f ≡ f′ → n ≡ refusalOf s′ core f′ → n ≡ refusalOf s core f
+read-back core es ef e = e ∙ sym (ap₂ (λ (x : Setup) (y : FlatCall). refusalOf x core y) es ef)

@@ -1,7 +1,7 @@
 -- What a call leaves in the arrays that are lent, and the number that it hands back: 0 where it is taken, a refusal's number, or 255 where the call is
 -- passed on to the fast half. The open and the served reads are what the numbers of their arrays stand for (`tableOf`).
 -- Assumes nothing.
-use mathlib.Core.Bool.{Bool, true, cond, not, _&&_}
+use mathlib.Core.Bool.{Bool, true, cond, not, _&&_, _||_}
 use mathlib.Core.List.{List}
 use mathlib.Core.Path.{_≡_}
 use Prim.Native.Nat.{ℕ, _+_}
@@ -9,11 +9,14 @@ use lib.Dec.{eqb, leb, ltb}
 use lib.ListN.{set}
 use Rattle.arrays.specs.Arrays.{coreOf, coreNumbers}
 use Rattle.arrays.specs.declared.Setup.{Setup}
-use Rattle.calls.specs.Decision.{ifMade}
 use Rattle.core_calls.specs.Replies.{sentReply}
-use Rattle.direct_core.specs.Handled.{Written, putReply, putServed, Lent, putAnswer, askedHere, coreAnswer}
+use Rattle.counting.specs.Counting.{roundIn, counts, withCounted}
+use Rattle.direct_core.specs.Handled.{Written, putReply, putServed, Lent, askedHere, Proposed, putStep, handledBy, Answered, answerRequest}
 use Rattle.message.specs.Modes.{hasFastPath}
+use Rattle.message.specs.Rounds.{before}
 use Rattle.message.specs.declared.ConsensusMsg.the-variants.{ReadRequest}
+use Rattle.message.specs.declared.OptionalRound.the-variants.{Round}
+use Rattle.propose.specs.Propose.{proposeClassic}
 use Rattle.quorum.specs.Quorum.{rowOf}
 use Rattle.read_tracker.specs.Reads.{newRead, readId}
 use Rattle.read_tracker.specs.declared.OpenRead.{OpenRead}
@@ -22,10 +25,11 @@ use Rattle.read_tracker.specs.declared.ReadTracker.{ReadTracker}
 use Rattle.serving.specs.Serving.{receiveReady, commitSlot}
 use Rattle.serving.specs.declared.Tracked.{Tracked}
 use Rattle.steps.specs.Steps.{oneMessage, sends, toAll}
-use Rattle.twins.specs.Freeze.{frozenOutcome}
-use Rattle.twins.specs.Thaw.{isYes, thawedCall, thawedCore, thawedMade, thawedMode}
+use Rattle.twin_calls.specs.Refusals.{refusalOf}
+use Rattle.twins.specs.Thaw.{isYes, thawedCore, thawedMode, thawedRound}
 use Rattle.twins.specs.declared.FlatCall.{FlatCall}
 use Rattle.twins.specs.declared.FlatCore.{FlatCore}
+use Rattle.twins.specs.declared.FlatMessage.{FlatMessage}
 
 -- ---- the reads of a core
 
@@ -123,43 +127,55 @@ served s table l =
 unfoldable pub isResponse : FlatCall → Bool
 isResponse f = not (eqb (f .kind) 0) && eqb (f .message .kind) 6
 
--- EPaxos and SwiftPaxos: proposals, Prepare, Accept, ForwardRequest and Commit
-unfoldable pub passesOn : Setup → FlatCall → Bool
-passesOn s f = hasFastPath (thawedMode (s .mode)) && cond (eqb (f .kind) 0) true (leb 1 (f .message .kind) && leb (f .message .kind) 4)
+-- a proposal, a Prepare, an Accept, a ForwardRequest or a Commit
+unfoldable pub forSlots : FlatCall → Bool
+forSlots f = cond (eqb (f .kind) 0) true (leb 1 (f .message .kind) && leb (f .message .kind) 4)
 
 -- a Prepare, an Accept or a Commit
 unfoldable pub namesSlot : ℕ → Bool
 namesSlot kind = cond (eqb kind 1) true (cond (eqb kind 2) true (eqb kind 4))
 
--- of an older slot
-unfoldable pub isOlder : FlatCore → FlatCall → Bool
-isOlder c f = not (eqb (f .kind) 0) && (namesSlot (f .message .kind) && ltb (f .message .slot) (c .slot))
+-- a Commit has no round
+unfoldable pub ofOlderRound : FlatCore → FlatMessage → Bool
+ofOlderRound c m = not (eqb (m .kind) 4) && before (Round (roundIn m)) (thawedRound (c .round))
 
+-- of an older slot or round
+unfoldable pub isOlder : FlatCore → FlatMessage → Bool
+isOlder c m = namesSlot (m .kind) && (ltb (m .slot) (c .slot) || ofOlderRound c m)
+
+-- a message in the classic modes
 unfoldable pub handled : Setup → List ℕ → List ℕ → List ℕ → ReadTable → FlatCall → Written → Direct
 handled s committers delegates core table f w =
-    cond (isOlder (coreOf core) f) (direct 0 core table (putServed 0 w))
-    (served s table (putAnswer (coreAnswer s committers delegates (thawedCore (coreOf core)) f) core w))
+    cond (isOlder (coreOf core) (f .message)) (direct 0 core table (putServed 0 w))
+    (cond (counts s delegates (coreOf core) (f .message)) (direct 0 (coreNumbers (withCounted s (coreOf core) (f .message))) table (putServed 0 w))
+    (served s table (handledBy s committers delegates core f w)))
+
+abbrev pub fromProposed : ReadTable → Proposed → Direct
+fromProposed table p = direct (p .number) (p .core) table (p .reply)
+
+-- EPaxos and SwiftPaxos are passed on
+unfoldable pub forSlot : Setup → List ℕ → List ℕ → List ℕ → ReadTable → FlatCall → Written → Direct
+forSlot s committers delegates core table f w =
+    cond (hasFastPath (thawedMode (s .mode))) (direct 255 core table w)
+    (cond (eqb (f .kind) 0) (fromProposed table (putStep (proposeClassic (askedHere s) (f .v) (thawedCore (coreOf core))) core w))
+    (handled s committers delegates core table f w))
+
+abbrev pub fromAnswered : List ℕ → ReadTable → Answered → Direct
+fromAnswered core table a = direct (a .number) core table (a .reply)
 
 unfoldable pub taken : Setup → List ℕ → List ℕ → List ℕ → ReadTable → FlatCall → Written → Direct
 taken s committers delegates core table f w =
     cond (isResponse f) (response s core table f w)
-    (cond (passesOn s f) (direct 255 core table w) (handled s committers delegates core table f w))
-
--- the number with which a call is refused before it is handled, or 0
-abbrev pub refusalOf : Setup → List ℕ → FlatCall → ℕ
-refusalOf s core f =
-    frozenOutcome
-    (ifMade (thawedMade (s .made) (s .mode)) (s .«process_count») (s .«my_pid») (thawedCore (coreOf core))
-    (thawedCall (s .«process_count») (s .«my_pid») f))
+    (cond (forSlots f) (forSlot s committers delegates core table f w) (fromAnswered core table (answerRequest s core (f .message) w)))
 
 abbrev pub fromOpening : ReadTable → Opening → Direct
 fromOpening table o = direct (o .number) (o .core) (record { reads = o .reads; served = table .served }) (o .reply)
 
 unfoldable pub directCall : Setup → List ℕ → List ℕ → List ℕ → ReadTable → FlatCall → Written → Direct
 directCall s committers delegates core table f w =
-    cond (eqb (refusalOf s core f) 0)
+    cond (eqb (refusalOf s (coreOf core) f) 0)
     (cond (eqb (f .kind) 1) (fromOpening table (openRead s core (table .reads) f w)) (taken s committers delegates core table f w))
-    (direct (refusalOf s core f) core table w)
+    (direct (refusalOf s (coreOf core) f) core table w)
 
 -- what is not taken leaves the arrays of the reads as they were, number for number; the equation says that of the others
 abbrev pub LeftUnlessTaken : ℕ → List ℕ → List ℕ → Type 0

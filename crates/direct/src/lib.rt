@@ -4,14 +4,16 @@ ghost use mathlib.Core.Path.{_≡_};
 ghost use Rattle.array_reads.specs.Rows.{openRows, tableOf};
 ghost use Rattle.arrays.specs.Arrays.{setupOf, coreOf, callOf};
 ghost use Rattle.direct_core.specs.Handled.{written};
-ghost use Rattle.direct.specs.Direct.{trackerOf, withTracker, opening, openRead, direct, countResponse, response, servings, serveReady, isResponse, passesOn, namesSlot, isOlder, handled, taken, directCall, LeftUnlessTaken};
+ghost use Rattle.direct.specs.Direct.{trackerOf, withTracker, opening, openRead, direct, countResponse, response, servings, serveReady, isResponse, forSlots, namesSlot, ofOlderRound, isOlder, handled, forSlot, taken, directCall, LeftUnlessTaken};
 use arrays::Setup;
 use message::ConsensusMsg;
+use message::OptionalRound;
 use message::ReadId;
 use read_tracker::OpenRead;
 use read_tracker::ReadTracker;
 use twins::FlatCall;
 use twins::FlatCore;
+use twins::FlatMessage;
 
 // A new read, which everyone is asked for. The own answer counts at once where nothing is held.
 fn open_read(
@@ -86,7 +88,7 @@ fn count_response(
     ensures { λ _. ⌜ direct 0 (now (core .exit)) (tableOf (now (reads .exit)) (now (served .exit))) (written (now (first .exit)) (now (second .exit)) (now (third .exit)) (now (rest .exit))) ≡ countResponse setup (now (core .entry)) (tableOf (now (reads .entry)) (now (served .entry))) f (written (now (first .entry)) (now (second .entry)) (now (third .entry)) (now (rest .entry))) ⌝ }
 {
     let c = arrays::core_in(core);
-    let row = quorum::row(setup.replica_count);
+    let row = quorum::ruled(setup.replica_count);
     let id = ReadId(f.message.id);
     let fast = twins::is_yes(f.fast);
     let counted = array_reads::receive_ready(
@@ -136,7 +138,7 @@ pub fn serve_ready(
     ensures { λ _. ⌜ servings (now (core .exit)) (tableOf (now (reads .exit)) (now (served .exit))) (now (rest .exit)) ≡ serveReady setup (now (core .entry)) (tableOf (now (reads .entry)) (now (served .entry))) (now (rest .entry)) ⌝ }
 {
     let c = arrays::core_in(core);
-    let row = quorum::row(setup.replica_count);
+    let row = quorum::ruled(setup.replica_count);
     let ready = array_reads::commit_slot(reads, served, tracker_of(c), row.majority, c.slot);
     let tracker = ready.tracker;
     arrays::put_core(core, with_tracker(c, tracker));
@@ -152,19 +154,15 @@ fn is_response(f: FlatCall) -> bool
     f.message.kind == 6
 }
 
-// Whether the fast half has to act, in EPaxos and SwiftPaxos.
-pub fn passes_on(setup: Setup, f: FlatCall) -> bool
-    ensures { λ r. ⌜ r ≡ passesOn setup f ⌝ }
+// A proposal, a Prepare, an Accept, a ForwardRequest or a Commit.
+pub fn for_slots(f: FlatCall) -> bool
+    ensures { λ r. ⌜ r ≡ forSlots f ⌝ }
 {
-    let mode = twins::thaw_mode(setup.mode);
-    if mode.has_fast_path() {
-        if f.kind == 0 {
-            return true;
-        }
-        if f.message.kind >= 1 {
-            return f.message.kind <= 4;
-        }
-        return false;
+    if f.kind == 0 {
+        return true;
+    }
+    if f.message.kind >= 1 {
+        return f.message.kind <= 4;
     }
     false
 }
@@ -181,20 +179,39 @@ fn names_slot(kind: u64) -> bool
     kind == 4
 }
 
-// Whether the message is a Prepare, an Accept or a Commit of an older slot, which does nothing.
-pub fn is_older(c: FlatCore, f: FlatCall) -> bool
-    ensures { λ r. ⌜ r ≡ isOlder c f ⌝ }
+// Whether a Prepare or an Accept is of an older round.
+fn of_older_round(c: FlatCore, m: FlatMessage) -> bool
+    ensures { λ r. ⌜ r ≡ ofOlderRound c m ⌝ }
 {
-    if f.kind == 0 {
+    let at = c.round;
+    if m.kind == 4 {
         return false;
     }
-    if names_slot(f.message.kind) {
-        return f.message.slot < c.slot;
+    OptionalRound::Round(counting::round_in(m)).before(twins::thaw_round(at))
+}
+
+// Whether the message is a Prepare or an Accept of an older slot or round, or a Commit of an older slot, which does nothing.
+pub fn is_older(c: FlatCore, m: FlatMessage) -> bool
+    ensures { λ r. ⌜ r ≡ isOlder c m ⌝ }
+{
+    if names_slot(m.kind) {
+        if m.slot < c.slot {
+            return true;
+        }
+        return of_older_round(c, m);
     }
     false
 }
 
-// What the core handles; where it commits, the open reads that became ready are served.
+// Reads of the core what is asked, and not all of it.
+fn is_older_in(core: &[u64; 18], m: FlatMessage) -> bool
+    ensures { λ r. ⌜ r ≡ isOlder (coreOf (now (core .entry))) m ⌝ }
+{
+    is_older(arrays::core_in(core), m)
+}
+
+// A message in the classic modes: what is old does nothing, and an answer that is only counted changes a set. The core handles the rest; where it commits,
+// the open reads that became ready are served.
 fn handled(
     setup: Setup,
     committers: &[u64; 64],
@@ -210,7 +227,14 @@ fn handled(
 ) -> u64
     ensures { λ r. ⌜ (direct r (now (core .exit)) (tableOf (now (reads .exit)) (now (served .exit))) (written (now (first .exit)) (now (second .exit)) (now (third .exit)) (now (rest .exit))) ≡ handled setup (now (committers .entry)) (now (delegates .entry)) (now (core .entry)) (tableOf (now (reads .entry)) (now (served .entry))) f (written (now (first .entry)) (now (second .entry)) (now (third .entry)) (now (rest .entry)))) × (LeftUnlessTaken r (now (reads .entry)) (now (reads .exit)) × LeftUnlessTaken r (now (served .entry)) (now (served .exit))) ⌝ }
 {
-    if is_older(arrays::core_in(core), f) {
+    let message = f.message;
+    if is_older_in(core, message) {
+        direct_core::put_served(first, second, third, rest, 0);
+        return 0;
+    }
+    let c = arrays::core_in(core);
+    if counting::counts(setup, delegates, c, message) {
+        arrays::put_core(core, counting::with_counted(setup, c, message));
         direct_core::put_served(first, second, third, rest, 0);
         return 0;
     }
@@ -230,6 +254,44 @@ fn handled(
         return 0;
     }
     h.number
+}
+
+// In EPaxos and SwiftPaxos the fast half has to act.
+fn for_slot(
+    setup: Setup,
+    committers: &[u64; 64],
+    delegates: &[u64; 64],
+    core: &mut [u64; 18],
+    reads: &mut [u64; 640],
+    served: &mut [u64; 512],
+    f: FlatCall,
+    first: &mut [u64; 20],
+    second: &mut [u64; 20],
+    third: &mut [u64; 20],
+    rest: &mut [u64; 5],
+) -> u64
+    ensures { λ r. ⌜ (direct r (now (core .exit)) (tableOf (now (reads .exit)) (now (served .exit))) (written (now (first .exit)) (now (second .exit)) (now (third .exit)) (now (rest .exit))) ≡ forSlot setup (now (committers .entry)) (now (delegates .entry)) (now (core .entry)) (tableOf (now (reads .entry)) (now (served .entry))) f (written (now (first .entry)) (now (second .entry)) (now (third .entry)) (now (rest .entry)))) × (LeftUnlessTaken r (now (reads .entry)) (now (reads .exit)) × LeftUnlessTaken r (now (served .entry)) (now (served .exit))) ⌝ }
+{
+    let mode = twins::thaw_mode(setup.mode);
+    if mode.has_fast_path() {
+        return 255;
+    }
+    if f.kind == 0 {
+        return direct_core::propose(setup, core, f.v, first, second, third, rest);
+    }
+    handled(
+        setup,
+        committers,
+        delegates,
+        core,
+        reads,
+        served,
+        f,
+        first,
+        second,
+        third,
+        rest,
+    )
 }
 
 // A call that was not refused, other than a new read.
@@ -252,22 +314,23 @@ fn taken(
         response(setup, core, reads, served, f, first, second, third, rest);
         return 0;
     }
-    if passes_on(setup, f) {
-        return 255;
+    if for_slots(f) {
+        return for_slot(
+            setup,
+            committers,
+            delegates,
+            core,
+            reads,
+            served,
+            f,
+            first,
+            second,
+            third,
+            rest,
+        );
     }
-    handled(
-        setup,
-        committers,
-        delegates,
-        core,
-        reads,
-        served,
-        f,
-        first,
-        second,
-        third,
-        rest,
-    )
+    let message = f.message;
+    direct_core::answer_request(setup, core, message, first, second, third, rest)
 }
 
 // A call on the parts of a shard. 0: it was taken, and core, reads and reply are written. 1 to 12: it is refused with this number. 255: it has to go to
@@ -288,12 +351,12 @@ pub extern "C" fn chanbook_direct_call(
 ) -> u64
     ensures { λ r. ⌜ (direct r (now (core .exit)) (tableOf (now (reads .exit)) (now (served .exit))) (written (now (first .exit)) (now (second .exit)) (now (third .exit)) (now (rest .exit))) ≡ directCall (setupOf (now (setup .entry))) (now (committers .entry)) (now (delegates .entry)) (now (core .entry)) (tableOf (now (reads .entry)) (now (served .entry))) (callOf (now (call .entry))) (written (now (first .entry)) (now (second .entry)) (now (third .entry)) (now (rest .entry)))) × (LeftUnlessTaken r (now (reads .entry)) (now (reads .exit)) × LeftUnlessTaken r (now (served .entry)) (now (served .exit))) ⌝ }
 {
-    let s = arrays::setup_in(setup);
-    let f = arrays::call_in(call);
-    let number = twin_calls::refusal(s, arrays::core_in(core), f);
+    let number = twin_calls::refusal(setup, core, call);
     if number != 0 {
         return number;
     }
+    let s = arrays::setup_in(setup);
+    let f = arrays::call_in(call);
     if f.kind == 1 {
         return open_read(s, core, reads, f, first, second, third, rest);
     }

@@ -8,8 +8,8 @@ use Prim.Native.Nat.{ℕ, _≤_}
 use native.Mathlib.Omega.{arith}
 use borrow.Author.Tests.{eqb-true, eqb-false, leb-true}
 use lib.Dec.{eqb, leb, ltb}
-use Rattle.basics.proofs.Tests.{either, not-both, and-left, and-right}
-use Rattle.arrays.specs.Arrays.{settingsOf, coreOf}
+use Rattle.basics.proofs.Tests.{either, not-both, and-left, and-right, or-cases}
+use Rattle.arrays.specs.Arrays.{settingsOf, coreOf, coreNumbers}
 use Rattle.arrays.specs.declared.Setup.{Setup}
 use Rattle.calls.specs.Asked.{askedOf, heardOf, heardIn}
 use Rattle.calls.specs.Decision.{ifMade, decisionFor, decisionOf}
@@ -25,11 +25,14 @@ use Rattle.consensus.specs.ByParts.{fromState}
 use Rattle.consensus.specs.Call.{callOf}
 use Rattle.consensus.specs.declared.Answer.{Answer}
 use Rattle.consensus.specs.declared.Shard.{Shard}
-use Rattle.core_calls.specs.CoreCall.{sendsFrom, refusesIn, needsMore, nextReadable, coreFinish, coreProcessed, coreOnCommit, coreOnReadRequest, coreOnReadResponse, coreCall, coreTaken, coreHandle}
+use Rattle.core_calls.specs.CoreCall.{sendsFrom, refusesIn, needsMore, readAnswer, coreFinishAt, coreFinish, coreProposed, coreProcessed, coreOnCommit, coreOnReadRequest, coreOnReadResponse, coreCall, coreTaken, coreHandle}
+use Rattle.core_calls.specs.Replies.{sentReply}
 use Rattle.core_calls.specs.declared.CoreAnswer.{CoreAnswer}
+use Rattle.counting.specs.Counting.{roundIn, countsAccept, countsPromise, counts, withCounted}
 use Rattle.delivery.specs.declared.Delivery.{Delivery}
-use Rattle.direct.specs.Direct.{Direct, direct, majorityOf, opening, opened, openRead, fromOpening, countResponse, response, served, isResponse, passesOn, namesSlot, isOlder, handled, taken, refusalOf, directCall}
-use Rattle.direct_core.specs.Handled.{Written, putServed, putAnswer, forRounds, messageAnswer, coreAnswer}
+use Rattle.direct.specs.Direct.{Direct, direct, majorityOf, opening, opened, openRead, fromOpening, countResponse, response, served, isResponse, forSlots, namesSlot, ofOlderRound, isOlder, handled, fromProposed, forSlot, fromAnswered, taken, directCall}
+use Rattle.direct_core.specs.Handled.{Written, putReply, putServed, putAnswer, askedHere, putStep, putProcessed, handledBy, answerRequest}
+use Rattle.enter.specs.Enter.{isOlder as enterOlder}
 use Rattle.direct_fast.specs.DirectFast.{fastHalfActs}
 use Rattle.fast_state.specs.declared.FastState.{FastState}
 use Rattle.message.specs.Modes.{hasFastPath}
@@ -37,7 +40,8 @@ use Rattle.message.specs.Refusals.{refusalNumber}
 use Rattle.message.specs.declared.Outcome.{Outcome}
 use Rattle.message.specs.declared.Outcome.the-variants.{Done, Refused}
 use Rattle.message.specs.declared.Refusal.{Refusal}
-use Rattle.message.specs.declared.Refusal.the-variants.{SettingsOutsideLimits, NumberTooLarge, NoSuchProcess, OtherLastValue, SlotAhead, ValueNotHeld, SourceNotLive, Panic, AcceptUnlikeHeld, SecondFastAnswer, ProposalNotAllowed, NoRoomForRead}
+use Rattle.message.specs.declared.Refusal.the-variants.{Panic}
+use Rattle.propose.specs.Propose.{proposeClassic}
 use Rattle.read_tracker.specs.Reads.{insert, inserted, refused as refusedRead}
 use Rattle.read_tracker.specs.declared.Inserted.{Inserted}
 use Rattle.read_tracker.specs.declared.ReadTable.{ReadTable}
@@ -49,45 +53,25 @@ use Rattle.settings.specs.declared.Settings.{Settings}
 use Rattle.state_calls.specs.StateCall.{stateCall, stateAfter, statePassed, withReads, readsHandle, readsTaken, serveReady, withTable, afterInsert, countResponse as statesCount, openRead as stateOpenRead}
 use Rattle.state_calls.specs.declared.State.{State}
 use Rattle.state_calls.specs.declared.StateAnswer.{StateAnswer}
-use Rattle.paxos_family.proofs.Older.{older-prepare, older-accept}
-use Rattle.message.specs.declared.ConsensusMsg.the-variants.{ReadResponse}
-use Rattle.message.specs.declared.OptionalValue.the-variants.{NoValue}
+use Rattle.paxos_family.specs.Process.{processClassic}
+use Rattle.paxos_family.proofs.Older.{Older, older-prepare, older-accept}
 use Rattle.message.specs.declared.PaxosRound.{PaxosRound}
-use Rattle.message.specs.declared.ReadId.{ReadId}
 use Rattle.steps.specs.Steps.{noMessages, oneMessage, stays}
 use Rattle.steps.specs.declared.CoreStep.{CoreStep}
-use Rattle.steps.specs.declared.Destination.the-variants.{One}
 use Rattle.steps.specs.declared.Core.{Core}
+use Rattle.steps.specs.declared.Messages.{Messages}
+use Rattle.steps.specs.declared.Next.{Next}
+use Rattle.steps.specs.declared.Next.the-variants.{Stays, Continues, Commits, Refuses}
 use Rattle.twins.specs.Freeze.{frozenOutcome}
+use Rattle.twin_calls.specs.Refusals.{refusalOf}
 use Rattle.twins.specs.Thaw.{isYes, thawedCall, thawedCore, thawedDelivery, thawedHeld, thawedMade, thawedMode, thawedMsg, thawedPromise, thawedSettings, thawedSource}
 use Rattle.twins.specs.declared.FlatCall.{FlatCall}
 use Rattle.twins.specs.declared.FlatHeld.{FlatHeld}
 use Rattle.direct_calls.specs.Stands.{shardOf, Stands, Claim, DirectIsCall}
-use Rattle.direct_calls.proofs.Deeper.{answer-deeper}
+use Rattle.direct_calls.proofs.Counted.{accept-leaves, promise-leaves}
+use Rattle.direct_calls.proofs.Deeper.{DeeperDone, by-test, finish-step, committed, processed-is}
+use Rattle.direct_calls.proofs.Proposed.{numbered, Uncommitted, proposal-uncommitted, step-written}
 use Rattle.direct_calls.proofs.Taken.{Parts, onState, answered}
-
--- no refusal has the number 0
-pub numbered : (why : Refusal) → eqb (refusalNumber why) 0 ≡ false
-numbered SettingsOutsideLimits = refl
-numbered NumberTooLarge = refl
-numbered NoSuchProcess = refl
-numbered OtherLastValue = refl
-numbered SlotAhead = refl
-numbered ValueNotHeld = refl
-numbered SourceNotLive = refl
-numbered Panic = refl
-numbered AcceptUnlikeHeld = refl
-numbered SecondFastAnswer = refl
-numbered ProposalNotAllowed = refl
-numbered NoRoomForRead = refl
-
-request-not-deeper : (own src : ℕ) (id : ReadId) (core : Core) → coreOnReadRequest own src id core .deeper ≡ false
-unfolding coreOnReadRequest
-request-not-deeper own src id core = go (eqb src own)
-  where
-    go : (t : Bool) → cond t (refusesIn core Panic) (sendsFrom core (oneMessage (record { destination = One src; message = record { msg = ReadResponse id (nextReadable core); src = own; «last_v» = NoValue } }))) .deeper ≡ false
-    go true = refl
-    go false = refl
 
 module _ (s : Setup) (committers delegates core : List ℕ) (fast : FastState) (table : ReadTable) (f : FlatCall) (w : Written) where
   abbrev thawed : Core
@@ -114,7 +98,26 @@ module _ (s : Setup) (committers delegates core : List ℕ) (fast : FastState) (
   abbrev Passed : Direct → Type 0
   Passed d = (fastHalfActs s f ≡ true) × (d ≡ direct 255 core table w)
 
-  -- ---- a call whose answer the core gives
+  -- ---- a message whose answer the core gives
+
+  abbrev onCommit : CoreAnswer
+  onCommit = coreOnCommit (askedOf settings) (f .message .slot) (f .message .v) thawed
+
+  abbrev processing : CoreStep
+  processing = processClassic (askedOf settings) (heardOf settings (thawedDelivery (s .«process_count») (s .«my_pid») f)) (thawedMsg (f .message)) thawed
+
+  abbrev coreAnswer : CoreAnswer
+  coreAnswer = cond (eqb (f .message .kind) 4) onCommit (coreFinish (askedOf settings) (isYes (f .«value_held»)) thawed processing)
+
+  -- what is written is the answer
+  handled-by : handledBy s committers delegates core f w ≡ putAnswer coreAnswer core w
+  unfolding handledBy
+  handled-by = go (eqb (f .message .kind) 4)
+    where
+      go : (t : Bool) → cond t (putAnswer onCommit core w) (putProcessed (askedOf settings) (isYes (f .«value_held»)) processing core w)
+          ≡ putAnswer (cond t onCommit (coreFinish (askedOf settings) (isYes (f .«value_held»)) thawed processing)) core w
+      go true = refl
+      go false = processed-is (askedOf settings) (isYes (f .«value_held»)) core w thawed processing
 
   after-by : (c : Call) (k : Core) (reply : Reply) (t : Bool) → hasFastPath (settings .mode) ≡ false
       → readsTaken (askedOf settings) table (withFast fast (record { core = k; reply = reply; deeper = t })) c
@@ -129,34 +132,73 @@ module _ (s : Setup) (committers delegates core : List ℕ) (fast : FastState) (
       a = record { core = k; reply = reply; deeper = true }
   after-by c k reply false p r = refl
 
+  answer-deeper : DeeperDone coreAnswer
+  answer-deeper =
+      by-test (eqb (f .message .kind) 4) onCommit (coreFinish (askedOf settings) (isYes (f .«value_held»)) thawed processing)
+      (committed (askedOf settings) (f .message .slot) (f .message .v) thawed)
+      (finish-step (askedOf settings) (isYes (f .«value_held»)) thawed processing)
+
   classic : (c : Call) → hasFastPath (settings .mode) ≡ false
-      → coreCall thawed (Handle (takenAs c)) ≡ coreAnswer s committers delegates thawed f
-      → readsTaken (askedOf settings) table (withFast fast (coreAnswer s committers delegates thawed f)) c
-      ≡ serveReady (majorityOf s) table (withFast fast (coreAnswer s committers delegates thawed f))
-      → StandsFor (stateCall (shard .state) (Handle (takenAs c))) (served s table (putAnswer (coreAnswer s committers delegates thawed f) core w))
+      → coreCall thawed (Handle (takenAs c)) ≡ coreAnswer
+      → readsTaken (askedOf settings) table (withFast fast (coreAnswer)) c
+      ≡ serveReady (majorityOf s) table (withFast fast (coreAnswer))
+      → StandsFor (stateCall (shard .state) (Handle (takenAs c))) (served s table (putAnswer (coreAnswer) core w))
   classic c p e r =
       subst (λ (x : StateAnswer). StandsFor x (served s table (putAnswer a core w)))
       (sym (ap (stateAfter (shard .state) (Handle (takenAs c))) e ∙ after-by c (a .core) (a .reply) (a .deeper) p r))
-      (answered s core fast table w a (answer-deeper s committers delegates thawed f))
+      (answered s core fast table w a answer-deeper)
     where
       a : CoreAnswer
-      a = coreAnswer s committers delegates thawed f
+      a = coreAnswer
 
-  -- ---- a call that does nothing
+  -- ---- a call that sends from the core, and opens and serves no read
+
+  leaves : (c : Call) (next : Core) (core′ : List ℕ) (ms : Messages) {d : Direct} → coreCall thawed (Handle (takenAs c)) ≡ sendsFrom next ms → thawedCore (coreOf core′) ≡ next
+      → d ≡ direct 0 core′ table (putReply (sentReply ms) w)
+      → StandsFor (stateCall (shard .state) (Handle (takenAs c))) d
+  unfolding stateAfter
+  leaves c next core′ ms {d} e n p =
+      subst (λ (x : StateAnswer). StandsFor x d) (sym (ap (stateAfter (shard .state) (Handle (takenAs c))) e))
+      (subst (λ (x : Direct). StandsFor (withTable table (withFast fast (sendsFrom next ms))) x) (sym p) (refl, n, refl, refl, refl))
 
   nothing : (c : Call) {d : Direct} → coreCall thawed (Handle (takenAs c)) ≡ sendsFrom thawed noMessages → d ≡ direct 0 core table (putServed 0 w)
       → StandsFor (stateCall (shard .state) (Handle (takenAs c))) d
-  unfolding stateAfter
-  nothing c {d} e p =
-      subst (λ (x : StateAnswer). StandsFor x d) (sym (ap (stateAfter (shard .state) (Handle (takenAs c))) e))
-      (subst (λ (x : Direct). StandsFor (withTable table (withFast fast (sendsFrom thawed noMessages))) x) (sym p) (refl, refl, refl, refl, refl))
+  nothing c e p = leaves c thawed core noMessages e refl p
 
   -- ---- proposals
 
-  proposed : eqb (f .kind) 0 ≡ true → hasFastPath (settings .mode) ≡ false
-      → StandsFor (stateCall (shard .state) (Handle (takenAs (Propose (f .v))))) (served s table (putAnswer (coreAnswer s committers delegates thawed f) core w))
-  unfolding coreCall coreTaken coreAnswer readsTaken
-  proposed k p = classic (Propose (f .v)) p (simp (k)) refl
+  abbrev proposing : CoreStep
+  proposing = proposeClassic (askedOf settings) (f .v) thawed
+
+  abbrev finished : CoreAnswer
+  finished = coreFinish (askedOf settings) true thawed proposing
+
+  -- a proposal that goes no deeper is what the core makes of it
+  shallow : (k : Core) (reply : Reply) (t : Bool) → t ≡ false
+      → stateAfter (shard .state) (Handle (takenAs (Propose (f .v)))) (record { core = k; reply = reply; deeper = t })
+      ≡ withTable table (withFast fast (record { core = k; reply = reply; deeper = t }))
+  unfolding stateAfter
+  shallow k reply true e = absurd (not-both refl e)
+  shallow k reply false e = refl
+
+  not-deeper : (step : CoreStep) → Uncommitted (step .next) → coreFinish (askedOf settings) true thawed step .deeper ≡ false
+  not-deeper step u = go (step .next) u
+    where
+      go : (next : Next) → Uncommitted next → coreFinishAt (askedOf settings) true thawed (step .core) (step .messages) next .deeper ≡ false
+      go Stays u = refl
+      go Continues u = refl
+      go (Commits v) u = absurd u
+      go (Refuses why) u = refl
+
+  proposed : hasFastPath (settings .mode) ≡ false
+      → StandsFor (stateCall (shard .state) (Handle (takenAs (Propose (f .v))))) (fromProposed table (putStep (proposeClassic (askedHere s) (f .v) thawed) core w))
+  unfolding coreCall coreTaken coreProposed
+  proposed p =
+      let u : Uncommitted (proposing .next) = proposal-uncommitted (askedOf settings) (f .v) thawed in
+      let e : coreCall thawed (Handle (takenAs (Propose (f .v)))) ≡ finished = simp (p) in
+      subst (λ (x : StateAnswer). StandsFor x (fromProposed table (putStep proposing core w)))
+      (sym (ap (stateAfter (shard .state) (Handle (takenAs (Propose (f .v))))) e ∙ shallow (finished .core) (finished .reply) (finished .deeper) (not-deeper proposing u)))
+      (step-written (askedOf settings) core fast table w thawed proposing u)
 
   -- ---- messages
 
@@ -168,80 +210,127 @@ module _ (s : Setup) (committers delegates core : List ℕ) (fast : FastState) (
 
   abbrev StandsHandled : Type 0
   StandsHandled =
-      StandsFor (stateCall (shard .state) (Handle (takenAs (Receive delivered)))) (served s table (putAnswer (coreAnswer s committers delegates thawed f) core w))
+      StandsFor (stateCall (shard .state) (Handle (takenAs (Receive delivered)))) (served s table (putAnswer (coreAnswer) core w))
 
-  prepare-handled : hasFastPath (settings .mode) ≡ false → eqb (f .kind) 0 ≡ false → eqb kind 1 ≡ true → eqb kind 4 ≡ false → StandsHandled
-  unfolding coreCall coreTaken coreHandle coreAnswer messageAnswer forRounds thawedMsg readsTaken readsHandle
-  prepare-handled p k k1 k4 = classic (Receive delivered) p (simp (k, k1, k4)) (simp (k1))
+  prepare-handled : hasFastPath (settings .mode) ≡ false → eqb kind 1 ≡ true → eqb kind 4 ≡ false → StandsHandled
+  unfolding coreCall coreTaken coreHandle coreProcessed thawedMsg readsTaken readsHandle
+  prepare-handled p k1 k4 = classic (Receive delivered) p (simp (k1, k4, p)) (simp (k1))
 
-  accept-handled : hasFastPath (settings .mode) ≡ false → eqb (f .kind) 0 ≡ false → eqb kind 1 ≡ false → eqb kind 2 ≡ true → eqb kind 4 ≡ false → StandsHandled
-  unfolding coreCall coreTaken coreHandle coreAnswer messageAnswer forRounds thawedMsg readsTaken readsHandle
-  accept-handled p k k1 k2 k4 = classic (Receive delivered) p (simp (k, k1, k2, k4)) (simp (k1, k2))
+  accept-handled : hasFastPath (settings .mode) ≡ false → eqb kind 1 ≡ false → eqb kind 2 ≡ true → eqb kind 4 ≡ false → StandsHandled
+  unfolding coreCall coreTaken coreHandle coreProcessed thawedMsg readsTaken readsHandle
+  accept-handled p k1 k2 k4 = classic (Receive delivered) p (simp (k1, k2, k4, p)) (simp (k1, k2))
 
-  forward-handled : hasFastPath (settings .mode) ≡ false → eqb (f .kind) 0 ≡ false → eqb kind 1 ≡ false → eqb kind 2 ≡ false → eqb kind 3 ≡ true → eqb kind 4 ≡ false → StandsHandled
-  unfolding coreCall coreTaken coreHandle coreAnswer messageAnswer forRounds thawedMsg readsTaken readsHandle
-  forward-handled p k k1 k2 k3 k4 = classic (Receive delivered) p (simp (k, k1, k2, k3, k4)) (simp (k1, k2, k3))
+  forward-handled : hasFastPath (settings .mode) ≡ false → eqb kind 1 ≡ false → eqb kind 2 ≡ false → eqb kind 3 ≡ true → eqb kind 4 ≡ false → StandsHandled
+  unfolding coreCall coreTaken coreHandle coreProcessed thawedMsg readsTaken readsHandle
+  forward-handled p k1 k2 k3 k4 = classic (Receive delivered) p (simp (k1, k2, k3, k4, p)) (simp (k1, k2, k3))
 
-  commit-handled : hasFastPath (settings .mode) ≡ false → eqb (f .kind) 0 ≡ false → eqb kind 1 ≡ false → eqb kind 2 ≡ false → eqb kind 3 ≡ false → eqb kind 4 ≡ true → StandsHandled
-  unfolding coreCall coreTaken coreHandle coreAnswer thawedMsg readsTaken readsHandle
-  commit-handled p k k1 k2 k3 k4 = classic (Receive delivered) p (simp (k, k1, k2, k3, k4)) (simp (k1, k2, k3, k4))
+  commit-handled : hasFastPath (settings .mode) ≡ false → eqb kind 1 ≡ false → eqb kind 2 ≡ false → eqb kind 3 ≡ false → eqb kind 4 ≡ true → StandsHandled
+  unfolding coreCall coreTaken coreHandle coreProcessed thawedMsg readsTaken readsHandle
+  commit-handled p k1 k2 k3 k4 = classic (Receive delivered) p (simp (k1, k2, k3, k4)) (simp (k1, k2, k3, k4))
 
   -- a ReadRequest, in every mode
-  shallow : (c : Call) (k : Core) (reply : Reply) (t : Bool) → t ≡ false
-      → stateAfter (shard .state) (Handle (takenAs c)) (record { core = k; reply = reply; deeper = t })
-      ≡ onState s core fast table w t (record { core = k; reply = reply; deeper = t })
-  unfolding stateAfter
-  shallow c k reply true e = absurd (not-both refl e)
-  shallow c k reply false e = refl
+  abbrev source : ℕ
+  source = thawedSource (s .«process_count») (s .«my_pid») (f .message)
 
-  request-handled : eqb (f .kind) 0 ≡ false → eqb kind 1 ≡ false → eqb kind 2 ≡ false → eqb kind 3 ≡ false → eqb kind 4 ≡ false → eqb kind 6 ≡ false → StandsHandled
-  unfolding coreCall coreTaken coreHandle coreAnswer messageAnswer forRounds thawedMsg
-  request-handled k k1 k2 k3 k4 k6 =
-      subst (λ (x : StateAnswer). StandsFor x (served s table (putAnswer a core w)))
-      (sym (ap (stateAfter (shard .state) (Handle (takenAs (Receive delivered)))) e ∙ shallow (Receive delivered) (a .core) (a .reply) (a .deeper) not-deeper))
-      (answered s core fast table w a (answer-deeper s committers delegates thawed f))
+  abbrev StandsRequested : Type 0
+  StandsRequested = StandsFor (stateCall (shard .state) (Handle (takenAs (Receive delivered)))) (fromAnswered core table (answerRequest s core (f .message) w))
+
+  request-handled : eqb kind 1 ≡ false → eqb kind 2 ≡ false → eqb kind 3 ≡ false → eqb kind 4 ≡ false → eqb kind 6 ≡ false → StandsRequested
+  unfolding coreCall coreTaken coreHandle coreOnReadRequest thawedMsg answerRequest stateAfter
+  request-handled k1 k2 k3 k4 k6 = go (either (eqb source (s .«my_pid»)))
     where
-      a : CoreAnswer
-      a = coreAnswer s committers delegates thawed f
+      go : (eqb source (s .«my_pid») ≡ true) ⊎ (eqb source (s .«my_pid») ≡ false) → StandsRequested
+      go (inl own) =
+          let e : coreCall thawed (Handle (takenAs (Receive delivered))) ≡ refusesIn thawed Panic = simp (k1, k2, k3, k4, k6, own) in
+          let d : fromAnswered core table (answerRequest s core (f .message) w) ≡ direct 8 core table w = simp (own) in
+          subst (λ (x : StateAnswer). StandsFor x (fromAnswered core table (answerRequest s core (f .message) w)))
+          (sym (ap (stateAfter (shard .state) (Handle (takenAs (Receive delivered)))) e))
+          d
+      go (inr other) = leaves (Receive delivered) thawed core (oneMessage (readAnswer (s .«my_pid») source (record { 0 = f .message .id }) thawed)) (simp (k1, k2, k3, k4, k6, other)) refl (simp (other))
 
-      e : coreCall thawed (Handle (takenAs (Receive delivered))) ≡ a
-      e = simp (k, k1, k2, k3, k4, k6)
+  -- ---- messages of an older slot or round
 
-      is : a ≡ coreOnReadRequest (s .«my_pid») (thawedSource (s .«process_count») (s .«my_pid») (f .message)) (record { 0 = f .message .id }) thawed
-      is = simp (k, k1, k2, k3, k4)
-
-      not-deeper : a .deeper ≡ false
-      not-deeper = ap (λ (x : CoreAnswer). x .deeper) is ∙ request-not-deeper (s .«my_pid») (thawedSource (s .«process_count») (s .«my_pid») (f .message)) (record { 0 = f .message .id }) thawed
-
-  -- ---- messages of an older slot
+  abbrev round : PaxosRound
+  round = roundIn (f .message)
 
   abbrev isBefore : Type 0
-  isBefore = ltb (f .message .slot) (thawed .slot) ≡ true
+  isBefore = (ltb (f .message .slot) (thawed .slot) ≡ true) ⊎ (ofOlderRound (coreOf core) (f .message) ≡ true)
 
   nothing-handled : {step : CoreStep} → step ≡ stays thawed noMessages → coreFinish (askedOf settings) (isYes (f .«value_held»)) thawed step ≡ sendsFrom thawed noMessages
   nothing-handled e = ap (coreFinish (askedOf settings) (isYes (f .«value_held»)) thawed) e
+
+  by-round : isBefore → Older (f .message .slot) round thawed
+  unfolding ofOlderRound
+  by-round (inl o) = inl o
+  by-round (inr o) = inr (and-right (not (eqb kind 4)) _ o)
+
+  no-commit : eqb kind 4 ≡ true → ofOlderRound (coreOf core) (f .message) ≡ true → ⊥
+  unfolding ofOlderRound
+  no-commit k4 o = not-both (and-left (not (eqb kind 4)) _ o) (ap not k4)
 
   older-answer : isBefore → hasFastPath (settings .mode) ≡ false → namesSlot kind ≡ true → coreCall thawed (Handle (takenAs (Receive delivered))) ≡ sendsFrom thawed noMessages
   unfolding coreCall coreTaken coreHandle coreProcessed coreOnCommit thawedMsg namesSlot
   older-answer o p n = go (either (eqb kind 1)) (either (eqb kind 2))
     where
-      round : PaxosRound
-      round = record { «round_group» = f .message .«round_group»; leader = f .message .leader }
+      commit : eqb kind 1 ≡ false → eqb kind 2 ≡ false → eqb kind 4 ≡ true → isBefore → coreCall thawed (Handle (takenAs (Receive delivered))) ≡ sendsFrom thawed noMessages
+      commit k1 k2 k4 (inl o) = let k3 : eqb kind 3 ≡ false = ap (λ (x : ℕ). eqb x 3) (eqb-true kind 4 k4) in simp (k1, k2, k3, k4, o)
+      commit k1 k2 k4 (inr o) = absurd (no-commit k4 o)
 
       go : (eqb kind 1 ≡ true) ⊎ (eqb kind 1 ≡ false) → (eqb kind 2 ≡ true) ⊎ (eqb kind 2 ≡ false) → coreCall thawed (Handle (takenAs (Receive delivered))) ≡ sendsFrom thawed noMessages
-      go (inl k1) k2 = (simp (k1, p)) ∙ nothing-handled (older-prepare (askedOf settings) (heardOf settings delivered) (f .message .slot) round (thawedPromise (f .message .rv)) thawed (inl o))
-      go (inr k1) (inl k2) = (simp (k1, k2, p)) ∙ nothing-handled (older-accept (askedOf settings) (heardOf settings delivered) (f .message .slot) round (f .message .v) thawed (inl o))
-      go (inr k1) (inr k2) =
-          let k4 : eqb kind 4 ≡ true = sym (simp (k1, k2)) ∙ n in
-          let k3 : eqb kind 3 ≡ false = ap (λ (x : ℕ). eqb x 3) (eqb-true kind 4 k4) in
-          simp (k1, k2, k3, k4, o)
+      go (inl k1) k2 = (simp (k1, p)) ∙ nothing-handled (older-prepare (askedOf settings) (heardOf settings delivered) (f .message .slot) round (thawedPromise (f .message .rv)) thawed (by-round o))
+      go (inr k1) (inl k2) = (simp (k1, k2, p)) ∙ nothing-handled (older-accept (askedOf settings) (heardOf settings delivered) (f .message .slot) round (f .message .v) thawed (by-round o))
+      go (inr k1) (inr k2) = commit k1 k2 (sym (simp (k1, k2)) ∙ n) o
 
-  older-stands : isOlder (coreOf core) f ≡ true → hasFastPath (settings .mode) ≡ false
+  older-stands : isOlder (coreOf core) (f .message) ≡ true → hasFastPath (settings .mode) ≡ false
       → StandsFor (stateCall (shard .state) (Handle (takenAs (Receive delivered)))) (direct 0 core table (putServed 0 w))
   unfolding isOlder
   older-stands o p =
-      let rest : (namesSlot kind && ltb (f .message .slot) (thawed .slot)) ≡ true = and-right (not (eqb (f .kind) 0)) _ o in
-      nothing (Receive delivered) (older-answer (and-right (namesSlot kind) _ rest) p (and-left (namesSlot kind) _ rest)) refl
+      nothing (Receive delivered)
+      (older-answer (or-cases (ltb (f .message .slot) (thawed .slot)) _ (and-right (namesSlot kind) _ o)) p (and-left (namesSlot kind) _ o))
+      refl
+
+  -- ---- messages that are only counted
+
+  -- what is not old is not old to the handlers
+  not-older : namesSlot kind ≡ true → eqb kind 4 ≡ false → isOlder (coreOf core) (f .message) ≡ false → enterOlder (f .message .slot) round thawed ≡ false
+  unfolding isOlder ofOlderRound enterOlder
+  not-older n k4 o = sym (simp (n, k4)) ∙ o
+
+  counted-answer : hasFastPath (settings .mode) ≡ false → isOlder (coreOf core) (f .message) ≡ false → counts s delegates (coreOf core) (f .message) ≡ true
+      → coreCall thawed (Handle (takenAs (Receive delivered))) ≡ sendsFrom (thawedCore (withCounted s (coreOf core) (f .message))) noMessages
+  unfolding coreCall coreTaken coreHandle coreProcessed thawedMsg namesSlot counts withCounted
+  counted-answer p o n = go (either (eqb kind 2))
+    where
+      accept : eqb kind 2 ≡ true → eqb kind 1 ≡ false → eqb kind 4 ≡ false
+          → coreCall thawed (Handle (takenAs (Receive delivered))) ≡ sendsFrom (thawedCore (withCounted s (coreOf core) (f .message))) noMessages
+      accept k2 k1 k4 =
+          let e : countsAccept s (coreOf core) (f .message) ≡ true = sym (simp (k2)) ∙ n in
+          let names : namesSlot kind ≡ true = simp (k1, k2) in
+          (simp (k1, k2, p))
+          ∙ ap (coreFinish (askedOf settings) (isYes (f .«value_held»)) thawed) (accept-leaves s committers delegates (coreOf core) f p (not-older names k4 o) k2 e)
+          ∙ simp (k2)
+
+      promise : eqb kind 1 ≡ true → eqb kind 2 ≡ false → eqb kind 4 ≡ false → countsPromise s delegates (coreOf core) (f .message) ≡ true
+          → coreCall thawed (Handle (takenAs (Receive delivered))) ≡ sendsFrom (thawedCore (withCounted s (coreOf core) (f .message))) noMessages
+      promise k1 k2 k4 e =
+          let names : namesSlot kind ≡ true = simp (k1) in
+          (simp (k1, p))
+          ∙ ap (coreFinish (askedOf settings) (isYes (f .«value_held»)) thawed) (promise-leaves s committers delegates (coreOf core) f (not-older names k4 o) k1 e)
+          ∙ simp (k2)
+
+      go : (eqb kind 2 ≡ true) ⊎ (eqb kind 2 ≡ false) → coreCall thawed (Handle (takenAs (Receive delivered))) ≡ sendsFrom (thawedCore (withCounted s (coreOf core) (f .message))) noMessages
+      go (inl k2) = accept k2 (ap (λ (x : ℕ). eqb x 1) (eqb-true kind 2 k2)) (ap (λ (x : ℕ). eqb x 4) (eqb-true kind 2 k2))
+      go (inr k2) =
+          let both : (eqb kind 1 && countsPromise s delegates (coreOf core) (f .message)) ≡ true = sym (simp (k2)) ∙ n in
+          let k1 : eqb kind 1 ≡ true = and-left (eqb kind 1) _ both in
+          promise k1 k2 (ap (λ (x : ℕ). eqb x 4) (eqb-true kind 1 k1)) (and-right (eqb kind 1) _ both)
+
+  abbrev countedCore : List ℕ
+  countedCore = coreNumbers (withCounted s (coreOf core) (f .message))
+
+  counted-stands : hasFastPath (settings .mode) ≡ false → isOlder (coreOf core) (f .message) ≡ false → counts s delegates (coreOf core) (f .message) ≡ true
+      → StandsFor (stateCall (shard .state) (Handle (takenAs (Receive delivered)))) (direct 0 countedCore table (putServed 0 w))
+  counted-stands p o n = leaves (Receive delivered) (thawedCore (withCounted s (coreOf core) (f .message))) countedCore noMessages (counted-answer p o n) refl refl
 
   -- ---- responses
 
@@ -334,7 +423,7 @@ module _ (s : Setup) (committers delegates core : List ℕ) (fast : FastState) (
       inr (subst (λ (x : Call). StandsFor (stateCall (shard .state) (Handle (takenAs x))) result) (sym p)
       (subst (StandsFor (stateCall (shard .state) (Handle (takenAs c)))) (sym e) h))
 
-  module _ (z : refusalOf s core f ≡ 0) where
+  module _ (z : refusalOf s (coreOf core) f ≡ 0) where
     read-is : eqb (f .kind) 1 ≡ true → result ≡ fromOpening table (openRead s core (table .reads) f w)
     unfolding directCall
     read-is k = simp (z, k)
@@ -350,26 +439,44 @@ module _ (s : Setup) (committers delegates core : List ℕ) (fast : FastState) (
       unfolding directCall
       taken-is = simp (z, k)
 
-      passed : isResponse f ≡ false → passesOn s f ≡ true → Done?
-      unfolding taken fastHalfActs
-      passed r p = inl (simp (k, p), taken-is ∙ simp (r, p))
+      module _ (r : isResponse f ≡ false) (p : forSlots f ≡ true) where
+        passed : hasFastPath (thawedMode (s .mode)) ≡ true → Done?
+        unfolding taken forSlot fastHalfActs
+        passed h = inl (simp (k, h, p), taken-is ∙ simp (r, p, h))
 
-      served-is : isResponse f ≡ false → passesOn s f ≡ false → isOlder (coreOf core) f ≡ false
-          → result ≡ served s table (putAnswer (coreAnswer s committers delegates thawed f) core w)
-      unfolding taken handled
-      served-is r p o = taken-is ∙ simp (r, p, o)
+        proposal-is : hasFastPath (thawedMode (s .mode)) ≡ false → eqb (f .kind) 0 ≡ true
+            → result ≡ fromProposed table (putStep (proposeClassic (askedHere s) (f .v) thawed) core w)
+        unfolding taken forSlot
+        proposal-is h k0 = taken-is ∙ simp (r, p, h, k0)
 
-      older-is : isResponse f ≡ false → passesOn s f ≡ false → isOlder (coreOf core) f ≡ true → result ≡ direct 0 core table (putServed 0 w)
-      unfolding taken handled
-      older-is r p o = taken-is ∙ simp (r, p, o)
+        module _ (h : hasFastPath (thawedMode (s .mode)) ≡ false) (k0 : eqb (f .kind) 0 ≡ false) where
+          older-is : isOlder (coreOf core) (f .message) ≡ true → result ≡ direct 0 core table (putServed 0 w)
+          unfolding taken forSlot handled
+          older-is o = taken-is ∙ simp (r, p, h, k0, o)
+
+          counted-is : isOlder (coreOf core) (f .message) ≡ false → counts s delegates (coreOf core) (f .message) ≡ true → result ≡ direct 0 countedCore table (putServed 0 w)
+          unfolding taken forSlot handled
+          counted-is o n = taken-is ∙ simp (r, p, h, k0, o, n)
+
+          served-is : isOlder (coreOf core) (f .message) ≡ false → counts s delegates (coreOf core) (f .message) ≡ false
+              → result ≡ served s table (putAnswer (coreAnswer) core w)
+          unfolding taken forSlot handled
+          served-is o n = taken-is ∙ by-tests ∙ ap (served s table) handled-by
+            where
+              by-tests : taken s committers delegates core table f w ≡ served s table (handledBy s committers delegates core f w)
+              by-tests = simp (r, p, h, k0, o, n)
+
+      request-is : isResponse f ≡ false → forSlots f ≡ false → result ≡ fromAnswered core table (answerRequest s core (f .message) w)
+      unfolding taken
+      request-is r p = taken-is ∙ simp (r, p)
 
       proposal : eqb (f .kind) 0 ≡ true → Done?
-      unfolding isResponse passesOn isOlder thawedCall
+      unfolding isResponse forSlots thawedCall
       proposal k0 = go (either (hasFastPath (thawedMode (s .mode))))
         where
           go : (hasFastPath (thawedMode (s .mode)) ≡ true) ⊎ (hasFastPath (thawedMode (s .mode)) ≡ false) → Done?
-          go (inl h) = passed (simp (k0)) (simp (h, k0))
-          go (inr h) = stands-as (Propose (f .v)) _ (simp (k0)) (served-is (simp (k0)) (simp (h)) (simp (k0))) (proposed k0 h)
+          go (inl h) = passed (simp (k0)) (simp (k0)) h
+          go (inr h) = stands-as (Propose (f .v)) _ (simp (k0)) (proposal-is (simp (k0)) (simp (k0)) h k0) (proposed h)
 
       module _ (k0 : eqb (f .kind) 0 ≡ false) where
         received : called ≡ Receive delivered
@@ -388,46 +495,44 @@ module _ (s : Setup) (committers delegates core : List ℕ) (fast : FastState) (
         abbrev Handled? : Type 0
         Handled? = hasFastPath (settings .mode) ≡ false → StandsHandled
 
-        -- in the classic modes an older slot does nothing
-        in-classic : eqb kind 6 ≡ false → hasFastPath (thawedMode (s .mode)) ≡ false → Handled? → Done?
-        unfolding passesOn
-        in-classic k6 h handles = go (either (isOlder (coreOf core) f))
+        -- in the classic modes what is old does nothing, and what is only counted changes a set
+        in-classic : isResponse f ≡ false → forSlots f ≡ true → hasFastPath (thawedMode (s .mode)) ≡ false → Handled? → Done?
+        in-classic r p h handles = go (either (isOlder (coreOf core) (f .message))) (either (counts s delegates (coreOf core) (f .message)))
           where
-            go : (isOlder (coreOf core) f ≡ true) ⊎ (isOlder (coreOf core) f ≡ false) → Done?
-            go (inl o) = stands-as (Receive delivered) _ received (older-is (no-response k6) (simp (h)) o) (older-stands o h)
-            go (inr o) = stands-as (Receive delivered) _ received (served-is (no-response k6) (simp (h)) o) (handles h)
+            go : (isOlder (coreOf core) (f .message) ≡ true) ⊎ (isOlder (coreOf core) (f .message) ≡ false) → (counts s delegates (coreOf core) (f .message) ≡ true) ⊎ (counts s delegates (coreOf core) (f .message) ≡ false) → Done?
+            go (inl o) n = stands-as (Receive delivered) _ received (older-is r p h k0 o) (older-stands o h)
+            go (inr o) (inl n) = stands-as (Receive delivered) _ received (counted-is r p h k0 o n) (counted-stands h o n)
+            go (inr o) (inr n) = stands-as (Receive delivered) _ received (served-is r p h k0 o n) (handles h)
 
-        in-any-mode : leb 1 kind ≡ true → leb kind 4 ≡ true → eqb kind 6 ≡ false → Handled? → Done?
-        unfolding passesOn
-        in-any-mode l m k6 handles = go (either (hasFastPath (thawedMode (s .mode))))
+        in-any-mode : isResponse f ≡ false → forSlots f ≡ true → Handled? → Done?
+        in-any-mode r p handles = go (either (hasFastPath (thawedMode (s .mode))))
           where
             go : (hasFastPath (thawedMode (s .mode)) ≡ true) ⊎ (hasFastPath (thawedMode (s .mode)) ≡ false) → Done?
-            go (inl h) = passed (no-response k6) (simp (h, k0, l, m))
-            go (inr h) = in-classic k6 h handles
+            go (inl h) = passed r p h
+            go (inr h) = in-classic r p h handles
+
+        for-slots : leb 1 kind ≡ true → leb kind 4 ≡ true → forSlots f ≡ true
+        unfolding forSlots
+        for-slots l m = simp (k0, l, m)
 
         -- a kind n from 1 to 4 has the other tests decided
         named : (n : ℕ) → eqb kind n ≡ true → leb 1 n ≡ true → leb n 4 ≡ true → eqb n 6 ≡ false → Handled? → Done?
         named n e l m six handles =
             let same : kind ≡ n = eqb-true kind n e in
-            in-any-mode (ap (leb 1) same ∙ l) (ap (λ (x : ℕ). leb x 4) same ∙ m) (ap (λ (x : ℕ). eqb x 6) same ∙ six) handles
+            in-any-mode (no-response (ap (λ (x : ℕ). eqb x 6) same ∙ six)) (for-slots (ap (leb 1) same ∙ l) (ap (λ (x : ℕ). leb x 4) same ∙ m)) handles
 
         other : eqb kind 1 ≡ false → eqb kind 2 ≡ false → eqb kind 3 ≡ false → eqb kind 4 ≡ false → eqb kind 6 ≡ false → Done?
-        unfolding passesOn isOlder namesSlot
+        unfolding forSlots
         other k1 k2 k3 k4 k6 =
-            stands-as (Receive delivered) _ received (served-is (no-response k6) (go (either (leb 1 kind)) (either (leb kind 4))) (simp (k1, k2, k4) (either-way (not (eqb (f .kind) 0))))) (request-handled k0 k1 k2 k3 k4 k6)
+            stands-as (Receive delivered) _ received (request-is (no-response k6) (go (either (leb 1 kind)) (either (leb kind 4)))) (request-handled k1 k2 k3 k4 k6)
           where
-            either-way : (t : Bool) → (t && false) ≡ false
-            either-way true = refl
-            either-way false = refl
-
             outside : 1 ≤ kind → kind ≤ 4 → ⊥
             outside a b = omega (arith, a, b, eqb-false kind 1 k1, eqb-false kind 2 k2, eqb-false kind 3 k3, eqb-false kind 4 k4)
 
-            go : (leb 1 kind ≡ true) ⊎ (leb 1 kind ≡ false) → (leb kind 4 ≡ true) ⊎ (leb kind 4 ≡ false)
-                → (hasFastPath (thawedMode (s .mode)) && cond (eqb (f .kind) 0) true (leb 1 kind && leb kind 4)) ≡ false
+            go : (leb 1 kind ≡ true) ⊎ (leb 1 kind ≡ false) → (leb kind 4 ≡ true) ⊎ (leb kind 4 ≡ false) → cond (eqb (f .kind) 0) true (leb 1 kind && leb kind 4) ≡ false
             go (inl a) (inl b) = absurd (outside (leb-true 1 kind a) (leb-true kind 4 b))
-            go (inl a) (inr b) = simp (k0, a, b) (either-way (hasFastPath (thawedMode (s .mode))))
-            go (inr a) b = simp (k0, a) (either-way (hasFastPath (thawedMode (s .mode))))
+            go (inl a) (inr b) = simp (k0, a, b)
+            go (inr a) b = simp (k0, a)
 
         message : Done?
         message = one (either (eqb kind 1))
@@ -437,19 +542,19 @@ module _ (s : Setup) (committers delegates core : List ℕ) (fast : FastState) (
             six k1 k2 k3 k4 (inr k6) = other k1 k2 k3 k4 k6
 
             four : eqb kind 1 ≡ false → eqb kind 2 ≡ false → eqb kind 3 ≡ false → (eqb kind 4 ≡ true) ⊎ (eqb kind 4 ≡ false) → Done?
-            four k1 k2 k3 (inl k4) = named 4 k4 refl refl refl (λ h. commit-handled h k0 k1 k2 k3 k4)
+            four k1 k2 k3 (inl k4) = named 4 k4 refl refl refl (λ h. commit-handled h k1 k2 k3 k4)
             four k1 k2 k3 (inr k4) = six k1 k2 k3 k4 (either (eqb kind 6))
 
             three : eqb kind 1 ≡ false → eqb kind 2 ≡ false → (eqb kind 3 ≡ true) ⊎ (eqb kind 3 ≡ false) → Done?
-            three k1 k2 (inl k3) = named 3 k3 refl refl refl (λ h. forward-handled h k0 k1 k2 k3 (ap (λ (x : ℕ). eqb x 4) (eqb-true kind 3 k3)))
+            three k1 k2 (inl k3) = named 3 k3 refl refl refl (λ h. forward-handled h k1 k2 k3 (ap (λ (x : ℕ). eqb x 4) (eqb-true kind 3 k3)))
             three k1 k2 (inr k3) = four k1 k2 k3 (either (eqb kind 4))
 
             two : eqb kind 1 ≡ false → (eqb kind 2 ≡ true) ⊎ (eqb kind 2 ≡ false) → Done?
-            two k1 (inl k2) = named 2 k2 refl refl refl (λ h. accept-handled h k0 k1 k2 (ap (λ (x : ℕ). eqb x 4) (eqb-true kind 2 k2)))
+            two k1 (inl k2) = named 2 k2 refl refl refl (λ h. accept-handled h k1 k2 (ap (λ (x : ℕ). eqb x 4) (eqb-true kind 2 k2)))
             two k1 (inr k2) = three k1 k2 (either (eqb kind 3))
 
             one : (eqb kind 1 ≡ true) ⊎ (eqb kind 1 ≡ false) → Done?
-            one (inl k1) = named 1 k1 refl refl refl (λ h. prepare-handled h k0 k1 (ap (λ (x : ℕ). eqb x 4) (eqb-true kind 1 k1)))
+            one (inl k1) = named 1 k1 refl refl refl (λ h. prepare-handled h k1 (ap (λ (x : ℕ). eqb x 4) (eqb-true kind 1 k1)))
             one (inr k1) = two k1 (either (eqb kind 2))
 
     taken-call : Done?
@@ -470,7 +575,7 @@ module _ (s : Setup) (committers delegates core : List ℕ) (fast : FastState) (
   unfolding directCall frozenOutcome
   refused-is why e = simp (e, numbered why)
 
-  number-is : outcome ≡ Done → refusalOf s core f ≡ 0
+  number-is : outcome ≡ Done → refusalOf s (coreOf core) f ≡ 0
   unfolding frozenOutcome
   number-is e = simp (e)
 

@@ -1,34 +1,28 @@
--- What the core passes on or commits is no refusal.
+-- What the core passes on or commits is no refusal, and what is written of a step is its answer.
 -- Assumes nothing.
 use mathlib.Core.Bool.{Bool, true, false, cond}
 use mathlib.Core.List.{List}
 use mathlib.Core.Path.{_≡_, refl}
 use Prim.Native.Nat.{ℕ}
-use lib.Dec.{eqb, ltb}
-use Rattle.arrays.specs.declared.Setup.{Setup}
+use lib.Dec.{ltb}
 use Rattle.basics.proofs.Tests.{not-both}
-use Rattle.core_calls.specs.CoreCall.{coreCommitted, coreFinishAt, coreFinish, coreProposed, coreProcessed, coreOnCommit, coreOnReadRequest}
+use Rattle.core_calls.specs.CoreCall.{coreCommitted, coreFinishAt, coreFinish, coreOnCommit}
 use Rattle.core_calls.specs.declared.CoreAnswer.{CoreAnswer}
-use Rattle.direct_core.specs.Handled.{forRounds, messageAnswer, coreAnswer}
+use Rattle.direct_core.specs.Handled.{Written, putOutcome, putAnswer, refusedBy, isCommit, decidedValue, putProcessed}
 use Rattle.message.specs.Modes.{hasFastPath}
-use Rattle.message.specs.declared.ConsensusMsg.{ConsensusMsg}
 use Rattle.message.specs.declared.Outcome.the-variants.{Done}
-use Rattle.message.specs.declared.ReadId.{ReadId}
 use Rattle.steps.specs.declared.Asked.{Asked}
-use Rattle.paxos_family.specs.Process.{processClassic}
-use Rattle.propose.specs.Propose.{proposeClassic}
 use Rattle.steps.specs.declared.Core.{Core}
 use Rattle.steps.specs.declared.CoreStep.{CoreStep}
-use Rattle.steps.specs.declared.Heard.{Heard}
 use Rattle.steps.specs.declared.Messages.{Messages}
 use Rattle.steps.specs.declared.Next.{Next}
 use Rattle.steps.specs.declared.Next.the-variants.{Stays, Continues, Commits, Refuses}
-use Rattle.twins.specs.declared.FlatCall.{FlatCall}
+use Rattle.direct_calls.proofs.Proposed.{numbered}
 
 abbrev pub DeeperDone : CoreAnswer → Type 0
 DeeperDone a = a .deeper ≡ true → a .reply .outcome ≡ Done
 
-by-test : (t : Bool) (x y : CoreAnswer) → DeeperDone x → DeeperDone y → DeeperDone (cond t x y)
+pub by-test : (t : Bool) (x y : CoreAnswer) → DeeperDone x → DeeperDone y → DeeperDone (cond t x y)
 by-test true x y p q = p
 by-test false x y p q = q
 
@@ -40,28 +34,23 @@ finish a true old s ms (Commits v) = λ h. refl
 finish a false old s ms (Commits v) = λ h. absurd (not-both h refl)
 finish a held old s ms (Refuses why) = λ h. absurd (not-both h refl)
 
-finish-step : (a : Asked) (held : Bool) (old : Core) (step : CoreStep) → DeeperDone (coreFinish a held old step)
+pub finish-step : (a : Asked) (held : Bool) (old : Core) (step : CoreStep) → DeeperDone (coreFinish a held old step)
 finish-step a held old step = finish a held old (step .core) (step .messages) (step .next)
 
-proposed : (a : Asked) (v : ℕ) (core : Core) → DeeperDone (coreProposed a v core)
-unfolding coreProposed
-proposed a v core = by-test (hasFastPath (a .mode)) _ _ (λ h. refl) (finish-step a true core (proposeClassic a v core))
-
-processed : (a : Asked) (h : Heard) (held : Bool) (msg : ConsensusMsg) (core : Core) → DeeperDone (coreProcessed a h held msg core)
-unfolding coreProcessed
-processed a h held msg core = by-test (hasFastPath (a .mode)) _ _ (λ q. refl) (finish-step a held core (processClassic a h msg core))
-
-committed : (a : Asked) (slot v : ℕ) (core : Core) → DeeperDone (coreOnCommit a slot v core)
+pub committed : (a : Asked) (slot v : ℕ) (core : Core) → DeeperDone (coreOnCommit a slot v core)
 unfolding coreOnCommit coreCommitted
 committed a slot v core = by-test (ltb slot (core .slot)) _ _ (λ h. refl) (by-test (hasFastPath (a .mode)) _ _ (λ h. refl) (λ h. refl))
 
-requested : (own src : ℕ) (id : ReadId) (core : Core) → DeeperDone (coreOnReadRequest own src id core)
-unfolding coreOnReadRequest
-requested own src id core = by-test (eqb src own) _ _ (λ h. absurd (not-both h refl)) (λ h. refl)
+-- what is written of the step of a message is its answer, whatever the core was
+module _ (a : Asked) (held : Bool) (core : List ℕ) (w : Written) (old : Core) where
+  by-next : (s : Core) (ms : Messages) (next : Next) (t : Bool) → held ≡ t
+      → putProcessed a held (record { core = s; messages = ms; next = next }) core w ≡ putAnswer (coreFinishAt a held old s ms next) core w
+  unfolding putProcessed refusedBy isCommit decidedValue putOutcome
+  by-next s ms Stays t e = refl
+  by-next s ms Continues t e = refl
+  by-next s ms (Commits v) true e = simp (e)
+  by-next s ms (Commits v) false e = simp (e)
+  by-next s ms (Refuses why) t e = simp (numbered why)
 
-pub answer-deeper : (s : Setup) (committers delegates : List ℕ) (core : Core) (f : FlatCall) → DeeperDone (coreAnswer s committers delegates core f)
-unfolding coreAnswer messageAnswer
-answer-deeper s committers delegates core f =
-    by-test (eqb (f .kind) 0) _ _ (proposed _ (f .v) core)
-    (by-test (eqb (f .message .kind) 4) _ _ (committed _ (f .message .slot) (f .message .v) core)
-    (by-test (forRounds (f .message .kind)) _ _ (processed _ _ _ _ core) (requested _ _ _ core)))
+  pub processed-is : (step : CoreStep) → putProcessed a held step core w ≡ putAnswer (coreFinish a held old step) core w
+  processed-is step = by-next (step .core) (step .messages) (step .next) held refl

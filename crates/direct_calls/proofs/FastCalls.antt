@@ -1,6 +1,6 @@
 -- A call in EPaxos or SwiftPaxos is the call on the shard that the arrays stand for; and by one of the two functions every call is.
 -- Assumes nothing.
-use mathlib.Core.Bool.{Bool, true, false, cond, _&&_}
+use mathlib.Core.Bool.{Bool, true, false, cond, _&&_, _||_}
 use mathlib.Core.List.{List}
 use mathlib.Core.Logic.{_⊎_, inl, inr}
 use mathlib.Core.Path.{_≡_, refl, sym, ap, ap₂, subst, _∙_}
@@ -27,9 +27,9 @@ use Rattle.consensus.specs.declared.Shard.{Shard}
 use Rattle.core_calls.specs.CoreCall.{sendsFrom, needsMore, coreCommitted, coreFinishAt, coreProposed, coreProcessed, coreOnCommit, coreCall, coreTaken, coreHandle}
 use Rattle.core_calls.specs.declared.CoreAnswer.{CoreAnswer}
 use Rattle.delivery.specs.declared.Delivery.{Delivery}
-use Rattle.direct.specs.Direct.{Direct, direct, majorityOf, passesOn, namesSlot, isOlder, refusalOf}
+use Rattle.direct.specs.Direct.{Direct, majorityOf, forSlots, namesSlot, ofOlderRound, isOlder}
 use Rattle.direct_core.specs.Handled.{Written, putServed, putOutcome}
-use Rattle.direct_fast.specs.DirectFast.{fastStep, holdsValue, fastAnswer, putFast, FastDirect, fastDirect, servedToo, fastHandled, fastHalfActs, fastCall}
+use Rattle.direct_fast.specs.DirectFast.{fastStep, holdsValue, fastAnswer, putFast, FastDirect, fastDirect, servedToo, isOld, fastHandled, fastHalfActs, fastCall}
 use Rattle.fast_arrays.specs.FastArrays.{FastArrays, answersIn, fastOf, putAfter}
 use Rattle.fast_calls.specs.FastCall.{afterNext, fastFinish}
 use Rattle.fast_calls.specs.declared.After.{After}
@@ -41,13 +41,15 @@ use Rattle.fast_state.specs.declared.FastChange.{FastChange}
 use Rattle.fast_state.specs.declared.FastState.{FastState}
 use Rattle.message.specs.Modes.{hasFastPath}
 use Rattle.message.specs.Refusals.{refusalNumber}
+use Rattle.message.specs.Rounds.{before}
 use Rattle.message.specs.declared.ConsensusMsg.{ConsensusMsg}
 use Rattle.message.specs.declared.ConsensusMsg.the-variants.{Prepare, Accept, ForwardRequest, Commit, ReadRequest, ReadResponse}
+use Rattle.message.specs.declared.OptionalRound.the-variants.{Round}
 use Rattle.message.specs.declared.Outcome.{Outcome}
 use Rattle.message.specs.declared.Outcome.the-variants.{Done, Refused}
 use Rattle.message.specs.declared.PaxosRound.{PaxosRound}
 use Rattle.message.specs.declared.Refusal.{Refusal}
-use Rattle.paxos_family.proofs.Older.{older-fast-prepare, older-fast-accept}
+use Rattle.paxos_family.proofs.Older.{Older, older-fast-prepare, older-fast-accept}
 use Rattle.paxos_family.specs.Commit.{commitSlot}
 use Rattle.paxos_family.specs.Process.{processChange, processFast}
 use Rattle.propose.specs.Propose.{proposeChange, proposeFast}
@@ -66,15 +68,21 @@ use Rattle.steps.specs.declared.Messages.{Messages}
 use Rattle.steps.specs.declared.Next.{Next}
 use Rattle.steps.specs.declared.Next.the-variants.{Stays, Continues, Commits, Refuses}
 use Rattle.steps.specs.declared.Rounds.{Rounds}
+use Rattle.twin_calls.specs.Refusals.{refusalOf}
 use Rattle.twins.proofs.Twins.{value-frozen}
 use Rattle.twins.specs.Freeze.{frozenOutcome}
 use Rattle.twins.specs.Thaw.{isYes, thawedCall, thawedCore, thawedDelivery, thawedMade, thawedMsg, thawedPromise, thawedSettings, thawedValue}
 use Rattle.twins.specs.declared.FlatCall.{FlatCall}
 use Rattle.direct_calls.specs.FastStands.{FastStands, FastDoes, Declined, DirectDoes, OneOfBoth}
 use Rattle.direct_calls.specs.Stands.{shardOf, Claim}
-use Rattle.direct_calls.proofs.Calls.{numbered, direct-is-call}
+use Rattle.direct_calls.proofs.Calls.{direct-is-call}
 use Rattle.direct_calls.proofs.Deeper.{finish}
+use Rattle.direct_calls.proofs.Proposed.{numbered}
 use Rattle.direct_calls.proofs.Taken.{Parts, isDone, onState, answered}
+
+or-false : (t : Bool) → (t || false) ≡ t
+or-false true = refl
+or-false false = refl
 
 module _ (s : Setup) (committers delegates core : List ℕ) (fast : FastArrays) (table : ReadTable) (f : FlatCall) (w : Written) where
   abbrev thawed : Core
@@ -325,11 +333,11 @@ module _ (s : Setup) (committers delegates core : List ℕ) (fast : FastArrays) 
 
     -- ---- by the kind of the message
 
-    abbrev round : PaxosRound
-    round = record { «round_group» = f .message .«round_group»; leader = f .message .leader }
-
     abbrev isBefore : Bool
     isBefore = ltb (f .message .slot) (thawed .slot)
+
+    abbrev round : PaxosRound
+    round = record { «round_group» = f .message .«round_group»; leader = f .message .leader }
 
     abbrev handledAs : Bool → FastDirect
     handledAs older = cond older (fastDirect 0 core fast table (putServed 0 w)) (servedToo s table (putFast answer core fast w))
@@ -351,46 +359,60 @@ module _ (s : Setup) (committers delegates core : List ℕ) (fast : FastArrays) 
       unfolding thawedMsg
       is-commit k1 k2 k3 k4 = simp (k1, k2, k3, k4)
 
-      -- of a kind that names a slot
-      by-slot : (names : isOlder (coreOf core) f ≡ isBefore)
-          → (isBefore ≡ true → StandsFor (stateOf receives) (fastDirect 0 core fast table (putServed 0 w)))
-          → (isBefore ≡ false → StandsFor (stateOf receives) (servedToo s table (putFast answer core fast w)))
-          → StandsFor (stateOf receives) (handledAs (isOlder (coreOf core) f))
-      by-slot names older own = subst (λ (t : Bool). StandsFor (stateOf receives) (handledAs t)) (sym names) (go (either isBefore))
+      abbrev Stood : Type 0
+      Stood = StandsFor (stateOf receives) (handledAs (isOld (coreOf core) f))
+
+      by-age : {old : Bool} → isOld (coreOf core) f ≡ old
+          → (old ≡ true → StandsFor (stateOf receives) (fastDirect 0 core fast table (putServed 0 w)))
+          → (old ≡ false → StandsFor (stateOf receives) (servedToo s table (putFast answer core fast w)))
+          → Stood
+      by-age {old} e older own = subst (λ (t : Bool). StandsFor (stateOf receives) (handledAs t)) (sym e) (go (either old))
         where
-          go : (isBefore ≡ true) ⊎ (isBefore ≡ false) → StandsFor (stateOf receives) (handledAs isBefore)
+          go : (old ≡ true) ⊎ (old ≡ false) → StandsFor (stateOf receives) (handledAs old)
           go (inl o) = subst (λ (t : Bool). StandsFor (stateOf receives) (handledAs t)) (sym o) (older o)
           go (inr o) = subst (λ (t : Bool). StandsFor (stateOf receives) (handledAs t)) (sym o) (own o)
 
-      as-prepare : eqb kind 1 ≡ true → StandsFor (stateOf receives) (handledAs (isOlder (coreOf core) f))
-      unfolding isOlder namesSlot
+      abbrev beforeRound : Bool
+      beforeRound = before (Round round) (thawed .paxos .round)
+
+      -- of an older slot, or of an older round
+      too-old : (isBefore || beforeRound) ≡ true → Older (f .message .slot) round thawed
+      too-old e = go (either isBefore)
+        where
+          go : (isBefore ≡ true) ⊎ (isBefore ≡ false) → Older (f .message .slot) round thawed
+          go (inl o) = inl o
+          go (inr o) = inr (sym (simp (o)) ∙ e)
+
+      as-prepare : eqb kind 1 ≡ true → Stood
+      unfolding isOld isOlder ofOlderRound namesSlot
       as-prepare k1 =
           let e = is-prepare k1 in
-          by-slot (simp (k, k1)) (λ o. idle _ e tt (older-fast-prepare (askedOf settings) heard (f .message .slot) round lowestBest _ rounds (inl o)))
-          (λ o. processed k (ap (λ (x : ℕ). eqb x 4) (eqb-true kind 1 k1)) (subst ForRounds (sym e) tt))
+          let k4 : eqb kind 4 ≡ false = ap (λ (x : ℕ). eqb x 4) (eqb-true kind 1 k1) in
+          by-age (simp (k, k1, k4)) (λ o. idle _ e tt (older-fast-prepare (askedOf settings) heard (f .message .slot) round lowestBest _ rounds (too-old o)))
+          (λ o. processed k k4 (subst ForRounds (sym e) tt))
 
-      as-accept : eqb kind 1 ≡ false → eqb kind 2 ≡ true → StandsFor (stateOf receives) (handledAs (isOlder (coreOf core) f))
-      unfolding isOlder namesSlot
+      as-accept : eqb kind 1 ≡ false → eqb kind 2 ≡ true → Stood
+      unfolding isOld isOlder ofOlderRound namesSlot
       as-accept k1 k2 =
           let e = is-accept k1 k2 in
-          by-slot (simp (k, k1, k2)) (λ o. idle _ e tt (older-fast-accept (askedOf settings) heard (f .message .slot) round lowestBest _ rounds (inl o)))
-          (λ o. processed k (ap (λ (x : ℕ). eqb x 4) (eqb-true kind 2 k2)) (subst ForRounds (sym e) tt))
+          let k4 : eqb kind 4 ≡ false = ap (λ (x : ℕ). eqb x 4) (eqb-true kind 2 k2) in
+          by-age (simp (k, k1, k2, k4)) (λ o. idle _ e tt (older-fast-accept (askedOf settings) heard (f .message .slot) round lowestBest _ rounds (too-old o)))
+          (λ o. processed k k4 (subst ForRounds (sym e) tt))
 
-      as-forward : eqb kind 1 ≡ false → eqb kind 2 ≡ false → eqb kind 3 ≡ true → StandsFor (stateOf receives) (handledAs (isOlder (coreOf core) f))
-      unfolding isOlder namesSlot
+      as-forward : eqb kind 1 ≡ false → eqb kind 2 ≡ false → eqb kind 3 ≡ true → Stood
+      unfolding isOld isOlder namesSlot
       as-forward k1 k2 k3 =
           let k4 : eqb kind 4 ≡ false = ap (λ (x : ℕ). eqb x 4) (eqb-true kind 3 k3) in
-          let names : isOlder (coreOf core) f ≡ false = simp (k, k1, k2, k4) in
-          subst (λ (t : Bool). StandsFor (stateOf receives) (handledAs t)) (sym names)
-          (processed k k4 (subst ForRounds (sym (is-forward k1 k2 k3)) tt))
+          let new : isOld (coreOf core) f ≡ false = simp (k, k1, k2, k4) in
+          subst (λ (t : Bool). StandsFor (stateOf receives) (handledAs t)) (sym new) (processed k k4 (subst ForRounds (sym (is-forward k1 k2 k3)) tt))
 
-      as-commit : eqb kind 1 ≡ false → eqb kind 2 ≡ false → eqb kind 3 ≡ false → eqb kind 4 ≡ true → StandsFor (stateOf receives) (handledAs (isOlder (coreOf core) f))
-      unfolding isOlder namesSlot
+      as-commit : eqb kind 1 ≡ false → eqb kind 2 ≡ false → eqb kind 3 ≡ false → eqb kind 4 ≡ true → Stood
+      unfolding isOld isOlder ofOlderRound namesSlot
       as-commit k1 k2 k3 k4 =
           let e = is-commit k1 k2 k3 k4 in
-          by-slot (simp (k, k1, k2, k4)) (idle-commit e) (commits k k4 e)
+          by-age (simp (k, k1, k2, k4) (or-false isBefore)) (idle-commit e) (commits k k4 e)
 
-      by-kind : leb 1 kind ≡ true → leb kind 4 ≡ true → StandsFor (stateOf receives) (handledAs (isOlder (coreOf core) f))
+      by-kind : leb 1 kind ≡ true → leb kind 4 ≡ true → Stood
       by-kind l m = one (either (eqb kind 1))
         where
           none : eqb kind 1 ≡ false → eqb kind 2 ≡ false → eqb kind 3 ≡ false → eqb kind 4 ≡ false → ⊥
@@ -398,19 +420,19 @@ module _ (s : Setup) (committers delegates core : List ℕ) (fast : FastArrays) 
               omega (arith, leb-true 1 kind l, leb-true kind 4 m, eqb-false kind 1 k1, eqb-false kind 2 k2, eqb-false kind 3 k3, eqb-false kind 4 k4)
 
           four : eqb kind 1 ≡ false → eqb kind 2 ≡ false → eqb kind 3 ≡ false → (eqb kind 4 ≡ true) ⊎ (eqb kind 4 ≡ false)
-              → StandsFor (stateOf receives) (handledAs (isOlder (coreOf core) f))
+              → Stood
           four k1 k2 k3 (inl k4) = as-commit k1 k2 k3 k4
           four k1 k2 k3 (inr k4) = absurd (none k1 k2 k3 k4)
 
-          three : eqb kind 1 ≡ false → eqb kind 2 ≡ false → (eqb kind 3 ≡ true) ⊎ (eqb kind 3 ≡ false) → StandsFor (stateOf receives) (handledAs (isOlder (coreOf core) f))
+          three : eqb kind 1 ≡ false → eqb kind 2 ≡ false → (eqb kind 3 ≡ true) ⊎ (eqb kind 3 ≡ false) → Stood
           three k1 k2 (inl k3) = as-forward k1 k2 k3
           three k1 k2 (inr k3) = four k1 k2 k3 (either (eqb kind 4))
 
-          two : eqb kind 1 ≡ false → (eqb kind 2 ≡ true) ⊎ (eqb kind 2 ≡ false) → StandsFor (stateOf receives) (handledAs (isOlder (coreOf core) f))
+          two : eqb kind 1 ≡ false → (eqb kind 2 ≡ true) ⊎ (eqb kind 2 ≡ false) → Stood
           two k1 (inl k2) = as-accept k1 k2
           two k1 (inr k2) = three k1 k2 (either (eqb kind 3))
 
-          one : (eqb kind 1 ≡ true) ⊎ (eqb kind 1 ≡ false) → StandsFor (stateOf receives) (handledAs (isOlder (coreOf core) f))
+          one : (eqb kind 1 ≡ true) ⊎ (eqb kind 1 ≡ false) → Stood
           one (inl k1) = as-prepare k1
           one (inr k1) = two k1 (either (eqb kind 2))
 
@@ -428,30 +450,29 @@ module _ (s : Setup) (committers delegates core : List ℕ) (fast : FastArrays) 
         go (inl k) = absurd (not-both a (simp (k)))
         go (inr k) = k
 
-    acts : passesOn s f ≡ true
+    acts : (hasFastPath (settings .mode) && forSlots f) ≡ true
     unfolding fastHalfActs
     acts = sym (simp (no-read)) ∙ a
 
     fast-mode : hasFastPath (settings .mode) ≡ true
-    unfolding passesOn
-    fast-mode = and-left (hasFastPath (settings .mode)) _ acts
+    fast-mode = and-left (hasFastPath (settings .mode)) (forSlots f) acts
 
-    module _ (z : refusalOf s core f ≡ 0) where
-      handled-is : result ≡ handledAs fast-mode (isOlder (coreOf core) f)
+    module _ (z : refusalOf s (coreOf core) f ≡ 0) where
+      handled-is : result ≡ handledAs fast-mode (isOld (coreOf core) f)
       unfolding fastCall fastHandled
       handled-is = simp (a, z)
 
       proposal-stands : eqb (f .kind) 0 ≡ true → StandsFor (stateOf called) result
-      unfolding thawedCall isOlder
+      unfolding thawedCall isOld
       proposal-stands k =
           let own : result ≡ servedToo s table (putFast answer core fast w) = handled-is ∙ simp (k) in
           let call : called ≡ Propose (f .v) = simp (k) in
           subst (λ (c : Call). StandsFor (stateOf c) result) (sym call) (subst (StandsFor (stateOf (Propose (f .v)))) (sym own) (proposed fast-mode k))
 
       message-stands : eqb (f .kind) 0 ≡ false → StandsFor (stateOf called) result
-      unfolding thawedCall passesOn
+      unfolding thawedCall forSlots
       message-stands k =
-          let inside : (leb 1 (f .message .kind) && leb (f .message .kind) 4) ≡ true = sym (simp (fast-mode, k)) ∙ acts in
+          let inside : (leb 1 (f .message .kind) && leb (f .message .kind) 4) ≡ true = sym (simp (k)) ∙ and-right (hasFastPath (settings .mode)) (forSlots f) acts in
           let call : called ≡ receives fast-mode = simp (k, no-read) in
           subst (λ (c : Call). StandsFor (stateOf c) result) (sym call)
           (subst (StandsFor (stateOf (receives fast-mode))) (sym handled-is)
@@ -471,7 +492,7 @@ module _ (s : Setup) (committers delegates core : List ℕ) (fast : FastArrays) 
     unfolding fastCall frozenOutcome
     refused-is why e = simp (a, e, numbered why)
 
-    number-is : outcome ≡ Done → refusalOf s core f ≡ 0
+    number-is : outcome ≡ Done → refusalOf s (coreOf core) f ≡ 0
     unfolding frozenOutcome
     number-is e = simp (e)
 

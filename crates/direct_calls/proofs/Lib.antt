@@ -1,4 +1,6 @@
 mod Taken
 mod Deeper
+mod Counted
+mod Proposed
 pub mod Calls
 pub mod FastCalls

@@ -1,59 +1,143 @@
--- The answer to what the rounds handle, from what is asked and heard, and to a ReadRequest.
+-- The answer to what the rounds handle, from what is asked and heard, to a proposal, and to a ReadRequest.
 -- Assumes nothing.
-use mathlib.Core.Bool.{Bool, true, false, cond}
+use mathlib.Core.Bool.{Bool, true, false}
 use mathlib.Core.List.{List}
-use mathlib.Core.Path.{_≡_, sym, ap, _∙_}
+use mathlib.Core.Path.{_≡_, sym, ap, ap₂, _∙_}
 use Prim.Native.Nat.{ℕ}
-use Rattle.arrays.specs.Arrays.{settingsOf}
+use lib.Dec.{eqb}
+use Rattle.arrays.specs.Arrays.{coreOf, coreNumbers, putMessage, restNumbers}
 use Rattle.arrays.specs.declared.Setup.{Setup}
-use Rattle.calls.specs.Asked.{heardOf}
-use Rattle.core_calls.specs.CoreCall.{coreOnReadRequest, coreProcessed}
+use Rattle.calls.specs.declared.OptionalCommit.the-variants.{NoCommit}
+use Rattle.core_calls.specs.CoreCall.{coreCommitted, readAnswer}
+use Rattle.core_calls.specs.Replies.{sentReply}
 use Rattle.core_calls.specs.declared.CoreAnswer.{CoreAnswer}
 use Rattle.message.specs.declared.ConsensusMsg.{ConsensusMsg}
+use Rattle.paxos_family.specs.Process.{processClassic}
+use Rattle.propose.specs.Propose.{proposeClassic}
+use Rattle.steps.specs.Steps.{oneMessage}
 use Rattle.steps.specs.declared.Asked.{Asked}
 use Rattle.steps.specs.declared.Core.{Core}
+use Rattle.steps.specs.declared.CoreStep.{CoreStep}
 use Rattle.steps.specs.declared.Heard.{Heard}
-use Rattle.twins.specs.Thaw.{isYes, thawedDelivery, thawedMsg, thawedSettings, thawedSource}
+use Rattle.steps.specs.declared.Messages.{Messages}
+use Rattle.steps.specs.declared.Outgoing.{Outgoing}
+use Rattle.twins.specs.Freeze.{frozenCore}
+use Rattle.twins.specs.Thaw.{isYes, thawedCore, thawedMsg, thawedSource}
 use Rattle.twins.specs.declared.FlatCall.{FlatCall}
-use Rattle.direct_core.specs.Handled.{forRounds, askedHere, messageAnswer}
+use Rattle.twins.specs.declared.FlatMessage.{FlatMessage}
+use Rattle.direct_core.specs.Handled.{Written, written, putReply, Lent, lent, putAnswer, askedHere, refusedBy, proposed, putStep, isCommit, decidedValue, refusedWith, putProcessed, heardHere, handledBy, answered, requestedBy, answerRequest}
 
-module _ (s : Setup) (committers delegates : List ℕ) (f : FlatCall) where
-  abbrev heardHere : Heard
-  heardHere = heardOf (thawedSettings (settingsOf s committers delegates)) (thawedDelivery (s .«process_count») (s .«my_pid») f)
-
-  abbrev whole : Bool → Core → CoreAnswer
-  whole t core =
-      cond t (coreProcessed (askedHere s) heardHere (isYes (f .«value_held»)) (thawedMsg (f .message)) core)
-      (coreOnReadRequest (s .«my_pid») (thawedSource (s .«process_count») (s .«my_pid») (f .message)) (record { 0 = f .message .id }) core)
-
-  pub requested : {src : ℕ} {thawed core : Core} {a : CoreAnswer}
-      → forRounds (f .message .kind) ≡ false
-      → src ≡ thawedSource (s .«process_count») (s .«my_pid») (f .message)
-      → thawed ≡ core
-      → a ≡ coreOnReadRequest (s .«my_pid») src (record { 0 = f .message .id }) thawed
-      → a ≡ messageAnswer s committers delegates core f
-  unfolding messageAnswer
-  requested {src} {thawed} {core} {a} p es ec e =
-      e
-      ∙ ap (λ (x : ℕ). coreOnReadRequest (s .«my_pid») x (record { 0 = f .message .id }) thawed) es
-      ∙ ap (λ (x : Core). coreOnReadRequest (s .«my_pid») (thawedSource (s .«process_count») (s .«my_pid») (f .message)) (record { 0 = f .message .id }) x) ec
-      ∙ sym (ap (λ (t : Bool). whole t core) p)
-
-  pub processed : {asked : Asked} {heard : Heard} {held : Bool} {msg : ConsensusMsg} {thawed core : Core} {a : CoreAnswer}
-      → forRounds (f .message .kind) ≡ true
+module _ (s : Setup) (committers delegates core : List ℕ) (f : FlatCall) (w : Written) where
+  pub processed : {asked : Asked} {heard : Heard} {held : Bool} {msg : ConsensusMsg} {thawed : Core} {step : CoreStep} {l : Lent}
+      → eqb (f .message .kind) 4 ≡ false
       → asked ≡ askedHere s
-      → heard ≡ heardHere
+      → heard ≡ heardHere s committers delegates f
       → held ≡ isYes (f .«value_held»)
       → msg ≡ thawedMsg (f .message)
-      → thawed ≡ core
-      → a ≡ coreProcessed asked heard held msg thawed
-      → a ≡ messageAnswer s committers delegates core f
-  unfolding messageAnswer
-  processed {asked} {heard} {held} {msg} {thawed} {core} {a} p ea eh ev em ec e =
+      → thawed ≡ thawedCore (coreOf core)
+      → step ≡ processClassic asked heard msg thawed
+      → l ≡ putProcessed asked held step core w
+      → l ≡ handledBy s committers delegates core f w
+  unfolding handledBy
+  processed {asked} {heard} {held} {msg} {thawed} {step} q ea eh ev em ec es e =
       e
-      ∙ ap (λ (x : Asked). coreProcessed x heard held msg thawed) ea
-      ∙ ap (λ (x : Heard). coreProcessed (askedHere s) x held msg thawed) eh
-      ∙ ap (λ (x : Bool). coreProcessed (askedHere s) heardHere x msg thawed) ev
-      ∙ ap (λ (x : ConsensusMsg). coreProcessed (askedHere s) heardHere (isYes (f .«value_held»)) x thawed) em
-      ∙ ap (λ (x : Core). coreProcessed (askedHere s) heardHere (isYes (f .«value_held»)) (thawedMsg (f .message)) x) ec
-      ∙ sym (ap (λ (t : Bool). whole t core) p)
+      ∙ ap₂ (λ (x : Asked) (y : Bool). putProcessed x y step core w) ea ev
+      ∙ ap (λ (x : CoreStep). putProcessed (askedHere s) (isYes (f .«value_held»)) x core w)
+      (es
+      ∙ ap₂ (λ (x : Asked) (y : Heard). processClassic x y msg thawed) ea eh
+      ∙ ap₂ (λ (x : ConsensusMsg) (y : Core). processClassic (askedHere s) (heardHere s committers delegates f) x y) em ec)
+      ∙ simp (q)
+
+-- the step of a message, by what is asked of it
+module _ (a : Asked) (held : Bool) (s : CoreStep) (core : List ℕ) (w : Written) {n : ℕ} (en : n ≡ refusedBy (s .next)) where
+  tested : {t : Bool} → eqb n 0 ≡ t → eqb (refusedBy (s .next)) 0 ≡ t
+  tested p = ap (λ (x : ℕ). eqb x 0) (sym en) ∙ p
+
+  pub step-refused : eqb n 0 ≡ false → refusedWith n core w ≡ putProcessed a held s core w
+  unfolding putProcessed
+  step-refused p = ap (λ (x : ℕ). refusedWith x core w) en ∙ by-test (tested p)
+    where
+      by-test : eqb (refusedBy (s .next)) 0 ≡ false → refusedWith (refusedBy (s .next)) core w ≡ putProcessed a held s core w
+      by-test q = simp (q)
+
+  pub step-decided : {v : ℕ} {x : CoreAnswer} {l : Lent} → eqb n 0 ≡ true → isCommit (s .next) ≡ true → held ≡ true → v ≡ decidedValue (s .next)
+      → x ≡ coreCommitted a v (s .core) (s .messages)
+      → l ≡ putAnswer x core w
+      → l ≡ putProcessed a held s core w
+  unfolding putProcessed
+  step-decided p c h ev ex el =
+      el
+      ∙ ap (λ (y : CoreAnswer). putAnswer y core w) (ex ∙ ap (λ (y : ℕ). coreCommitted a y (s .core) (s .messages)) ev)
+      ∙ by-test (tested p) c h
+    where
+      by-test : eqb (refusedBy (s .next)) 0 ≡ true → isCommit (s .next) ≡ true → held ≡ true
+          → putAnswer (coreCommitted a (decidedValue (s .next)) (s .core) (s .messages)) core w ≡ putProcessed a held s core w
+      by-test q c h = simp (q, c, h)
+
+  pub step-awaits : eqb n 0 ≡ true → isCommit (s .next) ≡ true → held ≡ false → refusedWith 6 core w ≡ putProcessed a held s core w
+  unfolding putProcessed
+  step-awaits p c h = by-test (tested p) c h
+    where
+      by-test : eqb (refusedBy (s .next)) 0 ≡ true → isCommit (s .next) ≡ true → held ≡ false → refusedWith 6 core w ≡ putProcessed a held s core w
+      by-test q c h = simp (q, c, h)
+
+  pub step-written : {core′ : List ℕ} {w′ : Written} → eqb n 0 ≡ true → isCommit (s .next) ≡ false → core′ ≡ coreNumbers (frozenCore (s .core))
+      → w′ ≡ putReply (sentReply (s .messages)) w
+      → lent (record { number = 0; deeper = false }) core′ w′ ≡ putProcessed a held s core w
+  unfolding putProcessed
+  step-written p c ec ew = ap₂ (lent (record { number = 0; deeper = false })) ec ew ∙ by-test (tested p) c
+    where
+      by-test : eqb (refusedBy (s .next)) 0 ≡ true → isCommit (s .next) ≡ false
+          → lent (record { number = 0; deeper = false }) (coreNumbers (frozenCore (s .core))) (putReply (sentReply (s .messages)) w) ≡ putProcessed a held s core w
+      by-test q c = simp (q, c)
+
+module _ (s : Setup) (core : List ℕ) (m : FlatMessage) (w : Written) {src : ℕ} (e : src ≡ thawedSource (s .«process_count») (s .«my_pid») m) where
+  pub own-request : eqb src (s .«my_pid») ≡ true → answered 8 w ≡ answerRequest s core m w
+  unfolding answerRequest
+  own-request p = by-test p ∙ ap (λ (x : ℕ). requestedBy s core m x w) e
+    where
+      by-test : eqb src (s .«my_pid») ≡ true → answered 8 w ≡ requestedBy s core m src w
+      by-test q = simp (q)
+
+  pub other-request : {thawed : Core} {sent : Outgoing} {w′ : Written} → eqb src (s .«my_pid») ≡ false → thawed ≡ thawedCore (coreOf core)
+      → sent ≡ readAnswer (s .«my_pid») src (record { 0 = m .id }) thawed
+      → w′ ≡ putReply (sentReply (oneMessage sent)) w
+      → answered 0 w′ ≡ answerRequest s core m w
+  unfolding answerRequest
+  other-request p et es ew =
+      ap (answered 0) (ew ∙ ap (λ (x : Outgoing). putReply (sentReply (oneMessage x)) w) (es ∙ ap (readAnswer (s .«my_pid») src (record { 0 = m .id })) et))
+      ∙ by-test p
+      ∙ ap (λ (x : ℕ). requestedBy s core m x w) e
+    where
+      by-test : eqb src (s .«my_pid») ≡ false
+          → answered 0 (putReply (sentReply (oneMessage (readAnswer (s .«my_pid») src (record { 0 = m .id }) (thawedCore (coreOf core))))) w) ≡ requestedBy s core m src w
+      by-test q = simp (q)
+
+module _ (s : Setup) (v : ℕ) (core : List ℕ) (w : Written) {asked : Asked} {thawed : Core} {step : CoreStep} (ea : asked ≡ askedHere s) (et : thawed ≡ thawedCore (coreOf core)) (e : step ≡ proposeClassic asked v thawed) where
+  step-is : step ≡ proposeClassic (askedHere s) v (thawedCore (coreOf core))
+  step-is = e ∙ ap₂ (λ (x : Asked) (y : Core). proposeClassic x v y) ea et
+
+  pub refused-step : {n : ℕ} → n ≡ refusedBy (step .next) → eqb n 0 ≡ false
+      → proposed n core w ≡ putStep (proposeClassic (askedHere s) v (thawedCore (coreOf core))) core w
+  unfolding putStep
+  refused-step {n} en p = ap (λ (x : ℕ). proposed x core w) en ∙ by-test (ap (λ (x : ℕ). eqb x 0) (sym en) ∙ p) ∙ ap (λ (x : CoreStep). putStep x core w) step-is
+    where
+      by-test : eqb (refusedBy (step .next)) 0 ≡ false → proposed (refusedBy (step .next)) core w ≡ putStep step core w
+      by-test q = simp (q)
+
+  pub taken-step : {n : ℕ} {core′ : List ℕ} {w′ : Written} → n ≡ refusedBy (step .next) → eqb n 0 ≡ true → core′ ≡ coreNumbers (frozenCore (step .core))
+      → w′ ≡ putReply (sentReply (step .messages)) w
+      → proposed 0 core′ w′ ≡ putStep (proposeClassic (askedHere s) v (thawedCore (coreOf core))) core w
+  unfolding putStep
+  taken-step en p ec ew = ap₂ (proposed 0) ec ew ∙ by-test (ap (λ (x : ℕ). eqb x 0) (sym en) ∙ p) ∙ ap (λ (x : CoreStep). putStep x core w) step-is
+    where
+      by-test : eqb (refusedBy (step .next)) 0 ≡ true → proposed 0 (coreNumbers (frozenCore (step .core))) (putReply (sentReply (step .messages)) w) ≡ putStep step core w
+      by-test q = simp (q)
+
+-- what the messages of a step leave in the arrays
+pub replied : (ms : Messages) (w : Written) {f g h r : List ℕ} → f ≡ putMessage (ms .first) (w .first) → g ≡ putMessage (ms .second) (w .second)
+    → h ≡ putMessage (ms .third) (w .third)
+    → r ≡ restNumbers NoCommit 0
+    → written f g h r ≡ putReply (sentReply ms) w
+unfolding putReply
+replied ms w p q s t = cc

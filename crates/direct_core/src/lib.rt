@@ -1,8 +1,10 @@
 // Proposals, Commits, Prepares and Accepts in the classic modes on arrays that are lent: the core is taken out, handled by value, and written back with
-// the reply. A refusal writes nothing. Each function that is large has one caller, so that it is compiled into it and its values stay in registers.
+// the reply. A ReadRequest writes the reply alone, and a refusal nothing. Each function that is large has one caller, so that it is compiled into it and
+// its values stay in registers. Proposals, and steps that commit nothing, have a way of their own for the same reason.
 ghost use mathlib.Core.Path.{_≡_};
 ghost use Rattle.arrays.specs.Arrays.{coreOf};
-ghost use Rattle.direct_core.specs.Handled.{written, putReply, putServed, lent, putOutcome, putAnswer, forRounds, messageAnswer, coreAnswer};
+ghost use Rattle.direct_core.specs.Handled.{written, putReply, putServed, lent, putOutcome, putAnswer, answered, answerRequest, refusedBy, proposed, putStep, askedHere, isCommit, decidedValue, putProcessed, handledBy};
+ghost use Rattle.propose.specs.Propose.{proposeClassic};
 ghost use Rattle.core_calls.specs.Replies.{sentReply};
 ghost use Rattle.steps.specs.Steps.{oneMessage};
 ghost use Rattle.twins.specs.Thaw.{thawedCore};
@@ -12,9 +14,13 @@ use calls::Reply;
 use core_calls::CoreAnswer;
 use message::Outcome;
 use message::ReadId;
+use steps::Asked;
+use steps::CoreStep;
+use steps::Next;
 use steps::OptionalMessage;
 use steps::Outgoing;
 use twins::FlatCall;
+use twins::FlatMessage;
 
 // The number of the refusal, or 0, and whether reads may have become ready.
 pub struct Handled {
@@ -104,19 +110,145 @@ pub fn put_answer(
     }
 }
 
-fn for_rounds(kind: u64) -> bool
-    ensures { λ r. ⌜ r ≡ forRounds kind ⌝ }
+// The answer to a ReadRequest, which leaves the core as it is. 8 where it is one's own: nothing is sent to oneself.
+pub fn answer_request(
+    setup: Setup,
+    core: &[u64; 18],
+    message: FlatMessage,
+    first: &mut [u64; 20],
+    second: &mut [u64; 20],
+    third: &mut [u64; 20],
+    rest: &mut [u64; 5],
+) -> u64
+    ensures { λ r. ⌜ answered r (written (now (first .exit)) (now (second .exit)) (now (third .exit)) (now (rest .exit))) ≡ answerRequest setup (now (core .entry)) message (written (now (first .entry)) (now (second .entry)) (now (third .entry)) (now (rest .entry))) ⌝ }
 {
-    if kind == 1 {
-        return true;
+    let own = setup.my_pid;
+    let src = twins::thaw_source(setup.process_count, own, message);
+    if src == own {
+        return 8;
     }
-    if kind == 2 {
-        return true;
-    }
-    kind == 3
+    let thawed = twins::thaw_core(arrays::core_in(core));
+    let sent = core_calls::read_answer(own, src, ReadId(message.id), thawed);
+    put_sent(first, second, third, rest, sent);
+    0
 }
 
-// A proposal, a Commit, or another message than a ReadResponse.
+// The number of the refusal, or 0.
+fn refused_by(next: Next) -> u64
+    ensures { λ r. ⌜ r ≡ refusedBy next ⌝ }
+{
+    match next {
+        Next::Stays => 0,
+        Next::Continues => 0,
+        Next::Commits(_) => 0,
+        Next::Refuses(why) => why.number(),
+    }
+}
+
+// A proposal. It commits nothing, so that nothing but the core and the messages is to be written.
+pub fn propose(
+    setup: Setup,
+    core: &mut [u64; 18],
+    v: u64,
+    first: &mut [u64; 20],
+    second: &mut [u64; 20],
+    third: &mut [u64; 20],
+    rest: &mut [u64; 5],
+) -> u64
+    ensures { λ r. ⌜ proposed r (now (core .exit)) (written (now (first .exit)) (now (second .exit)) (now (third .exit)) (now (rest .exit))) ≡ putStep (proposeClassic (askedHere setup) v (thawedCore (coreOf (now (core .entry))))) (now (core .entry)) (written (now (first .entry)) (now (second .entry)) (now (third .entry)) (now (rest .entry))) ⌝ }
+{
+    let asked = twin_calls::asked_of(setup);
+    let thawed = twins::thaw_core(arrays::core_in(core));
+    let step = propose::propose_classic(asked, v, thawed);
+    let next = step.next;
+    let after = step.core;
+    let messages = step.messages;
+    let one = messages.first;
+    let two = messages.second;
+    let three = messages.third;
+    let number = refused_by(next);
+    if number != 0 {
+        return number;
+    }
+    arrays::put_core(core, twins::freeze_core(after));
+    arrays::put_message(first, one);
+    arrays::put_message(second, two);
+    arrays::put_message(third, three);
+    arrays::put_rest(rest, OptionalCommit::NoCommit, 0);
+    0
+}
+
+fn is_commit(next: Next) -> bool
+    ensures { λ r. ⌜ r ≡ isCommit next ⌝ }
+{
+    match next {
+        Next::Stays => false,
+        Next::Continues => false,
+        Next::Commits(_) => true,
+        Next::Refuses(_) => false,
+    }
+}
+
+fn decided_value(next: Next) -> u64
+    ensures { λ r. ⌜ r ≡ decidedValue next ⌝ }
+{
+    match next {
+        Next::Stays => 0,
+        Next::Continues => 0,
+        Next::Commits(v) => v,
+        Next::Refuses(_) => 0,
+    }
+}
+
+// The step of a message. Most commit nothing, so that nothing but the core and the messages is to be written. A commit needs its value.
+fn put_processed(
+    asked: Asked,
+    held: bool,
+    core: &mut [u64; 18],
+    first: &mut [u64; 20],
+    second: &mut [u64; 20],
+    third: &mut [u64; 20],
+    rest: &mut [u64; 5],
+    step: CoreStep,
+) -> Handled
+    ensures { λ r. ⌜ lent r (now (core .exit)) (written (now (first .exit)) (now (second .exit)) (now (third .exit)) (now (rest .exit))) ≡ putProcessed asked held step (now (core .entry)) (written (now (first .entry)) (now (second .entry)) (now (third .entry)) (now (rest .entry))) ⌝ }
+{
+    let next = step.next;
+    let after = step.core;
+    let messages = step.messages;
+    let one = messages.first;
+    let two = messages.second;
+    let three = messages.third;
+    let number = refused_by(next);
+    if number != 0 {
+        return Handled {
+            number,
+            deeper: false,
+        };
+    }
+    if is_commit(next) {
+        if held {
+            let v = decided_value(next);
+            let decided = core_calls::core_committed(asked, v, after, messages);
+            return put_answer(core, first, second, third, rest, decided);
+        }
+        return Handled {
+            number: 6,
+            deeper: false,
+        };
+    }
+    arrays::put_core(core, twins::freeze_core(after));
+    arrays::put_message(first, one);
+    arrays::put_message(second, two);
+    arrays::put_message(third, three);
+    arrays::put_rest(rest, OptionalCommit::NoCommit, 0);
+    Handled {
+        number: 0,
+        deeper: false,
+    }
+}
+
+// A Commit, or what the rounds handle.
 pub fn handle(
     setup: Setup,
     committers: &[u64; 64],
@@ -128,27 +260,18 @@ pub fn handle(
     third: &mut [u64; 20],
     rest: &mut [u64; 5],
 ) -> Handled
-    ensures { λ r. ⌜ lent r (now (core .exit)) (written (now (first .exit)) (now (second .exit)) (now (third .exit)) (now (rest .exit))) ≡ putAnswer (coreAnswer setup (now (committers .entry)) (now (delegates .entry)) (thawedCore (coreOf (now (core .entry)))) f) (now (core .entry)) (written (now (first .entry)) (now (second .entry)) (now (third .entry)) (now (rest .entry))) ⌝ }
+    ensures { λ r. ⌜ lent r (now (core .exit)) (written (now (first .exit)) (now (second .exit)) (now (third .exit)) (now (rest .exit))) ≡ handledBy setup (now (committers .entry)) (now (delegates .entry)) (now (core .entry)) f (written (now (first .entry)) (now (second .entry)) (now (third .entry)) (now (rest .entry))) ⌝ }
 {
     let asked = twin_calls::asked_of(setup);
     let thawed = twins::thaw_core(arrays::core_in(core));
     let message = f.message;
-    if f.kind == 0 {
-        let proposed = core_calls::core_proposed(asked, f.v, thawed);
-        return put_answer(core, first, second, third, rest, proposed);
-    }
     if message.kind == 4 {
         let committed = core_calls::core_on_commit(asked, message.slot, message.v, thawed);
         return put_answer(core, first, second, third, rest, committed);
     }
-    if for_rounds(message.kind) {
-        let heard = twin_calls::heard_of(setup, committers, delegates, f);
-        let held = twins::is_yes(f.value_held);
-        let msg = twins::thaw_msg(message);
-        let processed = core_calls::core_processed(asked, heard, held, msg, thawed);
-        return put_answer(core, first, second, third, rest, processed);
-    }
-    let src = twins::thaw_source(setup.process_count, setup.my_pid, message);
-    let answered = core_calls::core_on_read_request(setup.my_pid, src, ReadId(message.id), thawed);
-    put_answer(core, first, second, third, rest, answered)
+    let heard = twin_calls::heard_of(setup, committers, delegates, f);
+    let held = twins::is_yes(f.value_held);
+    let msg = twins::thaw_msg(message);
+    let step = paxos_family::process_classic(asked, heard, msg, thawed);
+    put_processed(asked, held, core, first, second, third, rest, step)
 }

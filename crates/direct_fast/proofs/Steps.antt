@@ -7,17 +7,18 @@ use Prim.Native.Nat.{ℕ}
 use lib.Dec.{eqb}
 use Rattle.arrays.specs.Arrays.{coreOf}
 use Rattle.arrays.specs.declared.Setup.{Setup}
-use Rattle.direct.specs.Direct.{direct, Serving, withServing, serveReady, served, isOlder, refusalOf}
+use Rattle.direct.specs.Direct.{direct, Serving, withServing, serveReady, served}
 use Rattle.direct_core.specs.Handled.{Written, putServed, Lent, putAnswer}
 use Rattle.fast_arrays.specs.FastArrays.{FastArrays, answersIn, putAfter}
 use Rattle.fast_calls.specs.declared.FastAnswer.{FastAnswer}
 use Rattle.fast_state.specs.declared.FastAnswers.{FastAnswers}
 use Rattle.read_tracker.specs.declared.ReadTable.{ReadTable}
 use Rattle.steps.specs.declared.Core.{Core}
+use Rattle.twin_calls.specs.Refusals.{refusalOf}
 use Rattle.twins.specs.Thaw.{thawedCore}
 use Rattle.twins.specs.declared.FlatCall.{FlatCall}
 use Rattle.twins.specs.declared.FlatCore.{FlatCore}
-use Rattle.direct_fast.specs.DirectFast.{fastAnswer, FastLent, putFast, FastDirect, fastDirect, servedToo, fastHandled, fastHalfActs, fastCall}
+use Rattle.direct_fast.specs.DirectFast.{fastAnswer, FastLent, putFast, FastDirect, fastDirect, servedToo, isOld, fastHandled, fastHalfActs, fastCall}
 
 -- ---- what is written
 
@@ -55,24 +56,24 @@ module _ (s : Setup) (committers delegates core : List ℕ) (fast : FastArrays) 
       el ∙ ap (λ (y : FastAnswer). putFast y core fast w) (ex ∙ ap₂ (λ (y : Core) (z : FastAnswers). answerOf y z) (ek ∙ ap thawedCore ec) eb)
 
   module _ (table : ReadTable) where
-    pub older : {c : FlatCore} {w′ : Written} → c ≡ coreOf core → isOlder c f ≡ true → w′ ≡ putServed 0 w
+    pub older : {c : FlatCore} {w′ : Written} → c ≡ coreOf core → isOld c f ≡ true → w′ ≡ putServed 0 w
         → fastDirect 0 core fast table w′ ≡ fastHandled s committers delegates core fast table f w
     unfolding fastHandled
-    older ec p e = ap (fastDirect 0 core fast table) e ∙ simp (sym (ap (λ (x : FlatCore). isOlder x f) ec) ∙ p)
+    older ec p e = ap (fastDirect 0 core fast table) e ∙ simp (sym (ap (λ (x : FlatCore). isOld x f) ec) ∙ p)
 
-    handled : {c : FlatCore} (l : FastLent) {d : FastDirect} → c ≡ coreOf core → isOlder c f ≡ false → l ≡ wholeAnswer → d ≡ servedToo s table l
+    handled : {c : FlatCore} (l : FastLent) {d : FastDirect} → c ≡ coreOf core → isOld c f ≡ false → l ≡ wholeAnswer → d ≡ servedToo s table l
         → d ≡ fastHandled s committers delegates core fast table f w
     unfolding fastHandled
-    handled l ec p e d = d ∙ ap (servedToo s table) e ∙ simp (sym (ap (λ (x : FlatCore). isOlder x f) ec) ∙ p)
+    handled l ec p e d = d ∙ ap (servedToo s table) e ∙ simp (sym (ap (λ (x : FlatCore). isOld x f) ec) ∙ p)
 
-    pub reads-served : {c : FlatCore} (l : FastLent) {v : Serving} → c ≡ coreOf core → isOlder c f ≡ false → l ≡ wholeAnswer → l .lent .handled .deeper ≡ true
+    pub reads-served : {c : FlatCore} (l : FastLent) {v : Serving} → c ≡ coreOf core → isOld c f ≡ false → l ≡ wholeAnswer → l .lent .handled .deeper ≡ true
         → v ≡ serveReady s (l .lent .core) table (l .lent .reply .rest)
         → record { direct = withServing (l .lent .reply) v; fast = l .fast } ≡ fastHandled s committers delegates core fast table f w
     unfolding served
     reads-served l ec p e q v =
         handled l ec p e (ap (λ (x : Serving). record { direct = withServing (l .lent .reply) x; fast = l .fast }) v ∙ simp (q))
 
-    pub no-reads-served : {c : FlatCore} (l : FastLent) → c ≡ coreOf core → isOlder c f ≡ false → l ≡ wholeAnswer → l .lent .handled .deeper ≡ false
+    pub no-reads-served : {c : FlatCore} (l : FastLent) → c ≡ coreOf core → isOld c f ≡ false → l ≡ wholeAnswer → l .lent .handled .deeper ≡ false
         → fastDirect (l .lent .handled .number) (l .lent .core) (l .fast) table (l .lent .reply) ≡ fastHandled s committers delegates core fast table f w
     unfolding served
     no-reads-served l ec p e q = handled l ec p e (simp (q))
@@ -81,7 +82,7 @@ module _ (s : Setup) (committers delegates core : List ℕ) (fast : FastArrays) 
     unfolding fastCall
     not-fast p = simp (p)
 
-    module _ {n : ℕ} (a : fastHalfActs s f ≡ true) (e : n ≡ refusalOf s core f) where
+    module _ {n : ℕ} (a : fastHalfActs s f ≡ true) (e : n ≡ refusalOf s (coreOf core) f) where
       pub refused : eqb n 0 ≡ false → fastDirect n core fast table w ≡ fastCall s committers delegates core fast table f w
       unfolding fastCall
       refused p = ap (λ (x : ℕ). fastDirect x core fast table w) e ∙ simp (a, ap (λ (x : ℕ). eqb x 0) (sym e) ∙ p)

@@ -1,14 +1,14 @@
 -- What a call in EPaxos or SwiftPaxos leaves in the arrays that are lent, and the number that it hands back: 0 where it is taken, a refusal's number,
 -- or 255 where the fast half has no part in it.
 -- Assumes nothing.
-use mathlib.Core.Bool.{Bool, true, false, cond}
+use mathlib.Core.Bool.{Bool, true, false, cond, _&&_}
 use mathlib.Core.List.{List}
 use Prim.Native.Nat.{ℕ}
 use lib.Dec.{eqb}
 use Rattle.arrays.specs.Arrays.{settingsOf, coreOf}
 use Rattle.arrays.specs.declared.Setup.{Setup}
 use Rattle.calls.specs.Asked.{heardOf}
-use Rattle.direct.specs.Direct.{direct, Direct, served, isOlder, passesOn, refusalOf}
+use Rattle.direct.specs.Direct.{direct, Direct, served, forSlots, isOlder}
 use Rattle.direct_core.specs.Handled.{Written, putServed, Lent, putAnswer, askedHere}
 use Rattle.direct_core.specs.declared.Handled.{Handled}
 use Rattle.fast_arrays.specs.FastArrays.{FastArrays, answersIn, putAfter}
@@ -17,6 +17,7 @@ use Rattle.fast_calls.specs.declared.FastAnswer.{FastAnswer}
 use Rattle.fast_state.specs.Adopt.{lowestBest}
 use Rattle.fast_state.specs.Fast.{unchanged}
 use Rattle.fast_state.specs.declared.FastAnswers.{FastAnswers}
+use Rattle.message.specs.Modes.{hasFastPath}
 use Rattle.paxos_family.specs.Process.{processChange}
 use Rattle.propose.specs.Propose.{proposeChange}
 use Rattle.read_tracker.specs.declared.ReadTable.{ReadTable}
@@ -24,8 +25,10 @@ use Rattle.steps.specs.Steps.{noMessages, commits, withChange}
 use Rattle.steps.specs.declared.Asked.{Asked}
 use Rattle.steps.specs.declared.ChangeStep.{ChangeStep}
 use Rattle.steps.specs.declared.Core.{Core}
-use Rattle.twins.specs.Thaw.{isYes, thawedCore, thawedDelivery, thawedMsg, thawedSettings}
+use Rattle.twin_calls.specs.Refusals.{refusalOf}
+use Rattle.twins.specs.Thaw.{isYes, thawedCore, thawedDelivery, thawedMode, thawedMsg, thawedSettings}
 use Rattle.twins.specs.declared.FlatCall.{FlatCall}
+use Rattle.twins.specs.declared.FlatCore.{FlatCore}
 
 -- ---- a proposal, a Commit, and what the rounds handle
 
@@ -81,10 +84,13 @@ fastDirect number core fast table reply = record { direct = direct number core t
 abbrev pub servedToo : Setup → ReadTable → FastLent → FastDirect
 servedToo s table l = record { direct = served s table (l .lent); fast = l .fast }
 
--- a message of an older slot does nothing
+-- a message that is too old does nothing
+unfoldable pub isOld : FlatCore → FlatCall → Bool
+isOld c f = cond (eqb (f .kind) 0) false (isOlder c (f .message))
+
 unfoldable pub fastHandled : Setup → List ℕ → List ℕ → List ℕ → FastArrays → ReadTable → FlatCall → Written → FastDirect
 fastHandled s committers delegates core fast table f w =
-    cond (isOlder (coreOf core) f) (fastDirect 0 core fast table (putServed 0 w))
+    cond (isOld (coreOf core) f) (fastDirect 0 core fast table (putServed 0 w))
     (servedToo s table
     (putFast
     (fastAnswer s committers delegates (thawedCore (coreOf core)) (answersIn (fast .answers)) (fast .values) (fast .epaxos) (fast .swift) f)
@@ -92,12 +98,12 @@ fastHandled s committers delegates core fast table f w =
     fast
     w))
 
--- no new read, and a call that `directCall` passes on
+-- in EPaxos and SwiftPaxos, in what concerns slots and is no new read
 unfoldable pub fastHalfActs : Setup → FlatCall → Bool
-fastHalfActs s f = cond (eqb (f .kind) 1) false (passesOn s f)
+fastHalfActs s f = cond (eqb (f .kind) 1) false (hasFastPath (thawedMode (s .mode)) && forSlots f)
 
 unfoldable pub fastCall : Setup → List ℕ → List ℕ → List ℕ → FastArrays → ReadTable → FlatCall → Written → FastDirect
 fastCall s committers delegates core fast table f w =
     cond (fastHalfActs s f)
-    (cond (eqb (refusalOf s core f) 0) (fastHandled s committers delegates core fast table f w) (fastDirect (refusalOf s core f) core fast table w))
+    (cond (eqb (refusalOf s (coreOf core) f) 0) (fastHandled s committers delegates core fast table f w) (fastDirect (refusalOf s (coreOf core) f) core fast table w))
     (fastDirect 255 core fast table w)

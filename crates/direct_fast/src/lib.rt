@@ -7,7 +7,7 @@ ghost use Rattle.direct.specs.Direct.{LeftUnlessTaken};
 ghost use Rattle.direct_core.specs.Handled.{written};
 ghost use Rattle.fast_arrays.specs.FastArrays.{fastArrays, answersIn};
 ghost use Rattle.twins.specs.Thaw.{thawedCore};
-ghost use Rattle.direct_fast.specs.DirectFast.{fastStep, holdsValue, fastAnswer, fastLent, putFast, fastDirect, fastHandled, fastHalfActs, fastCall};
+ghost use Rattle.direct_fast.specs.DirectFast.{fastStep, holdsValue, fastAnswer, fastLent, putFast, fastDirect, fastHandled, isOld, fastHalfActs, fastCall};
 use arrays::Setup;
 use direct_core::Handled;
 use fast_calls::FastAnswer;
@@ -16,15 +16,30 @@ use steps::Asked;
 use steps::ChangeStep;
 use steps::Core;
 use twins::FlatCall;
+use twins::FlatCore;
 
-// Whether the call is one of those that the fast half has a part in: no new read, and one that is passed on.
+// Whether the fast half has a part in the call: in EPaxos and SwiftPaxos, in what concerns slots and is no new read.
 fn fast_half_acts(setup: Setup, f: FlatCall) -> bool
     ensures { λ r. ⌜ r ≡ fastHalfActs setup f ⌝ }
 {
+    let mode = twins::thaw_mode(setup.mode);
     if f.kind == 1 {
         return false;
     }
-    direct::passes_on(setup, f)
+    if mode.has_fast_path() {
+        return direct::for_slots(f);
+    }
+    false
+}
+
+// Whether the call is a message that is too old to do anything.
+fn is_old(c: FlatCore, f: FlatCall) -> bool
+    ensures { λ r. ⌜ r ≡ isOld c f ⌝ }
+{
+    if f.kind == 0 {
+        return false;
+    }
+    direct::is_older(c, f.message)
 }
 
 // The step of a proposal, of a Commit of the own slot, or of what the rounds handle.
@@ -165,7 +180,7 @@ fn fast_handle(
     )
 }
 
-// A message of an older slot does nothing. Where a value is committed, the open reads that became ready are served.
+// What is old does nothing. Where a value is committed, the open reads that became ready are served.
 fn fast_handled(
     setup: Setup,
     committers: &[u64; 64],
@@ -185,7 +200,7 @@ fn fast_handled(
 ) -> u64
     ensures { λ r. ⌜ (fastDirect r (now (core .exit)) (fastArrays (now (answers .exit)) (now (values .exit)) (now (epaxos .exit)) (now (swift .exit))) (tableOf (now (reads .exit)) (now (served .exit))) (written (now (first .exit)) (now (second .exit)) (now (third .exit)) (now (rest .exit))) ≡ fastHandled setup (now (committers .entry)) (now (delegates .entry)) (now (core .entry)) (fastArrays (now (answers .entry)) (now (values .entry)) (now (epaxos .entry)) (now (swift .entry))) (tableOf (now (reads .entry)) (now (served .entry))) f (written (now (first .entry)) (now (second .entry)) (now (third .entry)) (now (rest .entry)))) × (LeftUnlessTaken r (now (reads .entry)) (now (reads .exit)) × LeftUnlessTaken r (now (served .entry)) (now (served .exit))) ⌝ }
 {
-    if direct::is_older(arrays::core_in(core), f) {
+    if is_old(arrays::core_in(core), f) {
         direct_core::put_served(first, second, third, rest, 0);
         return 0;
     }
@@ -238,7 +253,7 @@ pub extern "C" fn chanbook_fast_call(
     if !fast_half_acts(s, f) {
         return 255;
     }
-    let number = twin_calls::refusal(s, arrays::core_in(core), f);
+    let number = twin_calls::refusal(setup, core, call);
     if number != 0 {
         return number;
     }

@@ -19,7 +19,7 @@ use Rattle.fast_state.specs.declared.Adoption.the-variants.{NoAdoption, Adopt, 
 use Rattle.fast_state.specs.declared.FastAnswers.{FastAnswers}
 use Rattle.fast_state.specs.declared.FastChange.{FastChange}
 use Rattle.accept.specs.Accept.{commitMessage}
-use Rattle.prepare.specs.Prepare.{hasAccepted, withPromise, afterOwnAccept, gather}
+use Rattle.prepare.specs.Prepare.{afterOwnAccept}
 use Rattle.steps.specs.Steps.{noMessages, oneMessage, heldV, stays, commits, refuses, withChange}
 use Rattle.steps.specs.declared.Asked.{Asked}
 use Rattle.steps.specs.declared.ChangeStep.{ChangeStep}
@@ -64,8 +64,3 @@ module _ (choose : Choice) where
       afterEpaxosAnswer a h round v core values scores (epaxosAnswered (a .member) (h .src) proposer v answers scores .change)
       (epaxosAnswered (a .member) (h .src) proposer v answers scores .outcome)
   epaxosAnswer a h round (PaxosV at v) core answers values scores = withChange (unchanged answers) (refuses Panic core)
-
-  unfoldable pub epaxosGather : Asked → Heard → PaxosRound → RoundV → Core → FastAnswers → List ℕ → List ℕ → ChangeStep
-  epaxosGather a h round rv core answers values scores =
-      cond (hasAccepted (withPromise a h rv core)) (withChange (unchanged answers) (gather a h round rv core))
-      (epaxosAnswer a h round rv (withPromise a h rv core) answers values scores)

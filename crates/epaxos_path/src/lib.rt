@@ -1,6 +1,6 @@
 // The fast path of EPaxos: answers to a fast proposal, the commit that they bring, and the value that is adopted from them.
 ghost use mathlib.Core.Path.{_≡_};
-ghost use Rattle.epaxos_path.specs.EPaxos.{requesterOf, epaxosCommit, adopting, epaxosAdopt, epaxosDecide, afterEpaxosAnswer, epaxosAnswer, epaxosGather};
+ghost use Rattle.epaxos_path.specs.EPaxos.{requesterOf, epaxosCommit, adopting, epaxosAdopt, epaxosDecide, afterEpaxosAnswer, epaxosAnswer};
 ghost use Rattle.fast_state.specs.Adopt.{lowestBest};
 use fast_state::Adoption;
 use fast_state::FastAnswers;
@@ -113,7 +113,7 @@ fn after_epaxos_answer(
 }
 
 // A fast answer. A promise without a proposer is none.
-fn epaxos_answer(
+pub fn epaxos_answer(
     asked: Asked,
     heard: Heard,
     round: PaxosRound,
@@ -148,37 +148,4 @@ fn epaxos_answer(
             v: _,
         } => core.refuses_unchanged(Refusal::Panic, answers),
     }
-}
-
-// Once a value is accepted the promises count as in Paxos.
-pub fn epaxos_gather(
-    asked: Asked,
-    heard: Heard,
-    round: PaxosRound,
-    rv: RoundV,
-    core: Core,
-    answers: FastAnswers,
-    values: &[u64; 64],
-    scores: &[u64; 64],
-) -> ChangeStep
-    ensures { λ r. ⌜ r ≡ epaxosGather lowestBest asked heard round rv core answers (now (values .entry)) (now (scores .entry)) ⌝ }
-{
-    let me = asked.member;
-    let paxos = core.paxos;
-    let promised = promise_accept::receive_promise(paxos, me, heard.src, rv);
-    let state = promised.state;
-    let held = state.max_rv;
-    if prepare::is_round(held.get_last_accepted_round()) {
-        return prepare::gather(asked, heard, round, rv, core).unchanged(answers);
-    }
-    epaxos_answer(
-        asked,
-        heard,
-        round,
-        rv,
-        core.with_paxos(state),
-        answers,
-        values,
-        scores,
-    )
 }

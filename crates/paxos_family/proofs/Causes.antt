@@ -36,10 +36,10 @@ use Rattle.fast_state.specs.declared.FastStep.{FastStep}
 use Rattle.accept.specs.Accept.{isCommitter, answerAccept, tryCommit, answered, follower, accepted, afterAccepted, accepting}
 use Rattle.paxos_family.specs.Causes.{HandlingCause}
 use Rattle.enter.specs.Enter.{inRound, isOlder, fromLive, enter}
-use Rattle.epaxos_path.specs.EPaxos.{adopting, epaxosAdopt, epaxosDecide, afterEpaxosAnswer, epaxosAnswer, epaxosGather}
-use Rattle.swift_path.specs.Swift.{swiftCommits, afterSwiftAnswer, swiftAnswer, swiftClientPrepare, afterClientAccept, clientAccept, afterLeaderAnswer, leaderAnswer, leaderOutcome, swiftAccept, swiftClientAccept, swiftGather, afterReplicaAnswer, swiftAnsweredAccept}
-use Rattle.prepare.specs.Prepare.{hasAccepted, withPromise, holdFirst, answerPrepare, answersNothing, preparing, afterHeld, prepared, broadcastAccept, afterOwnAccept, acceptPhase, gather}
-use Rattle.paxos_family.specs.Process.{fastGather, ifContinues, inPrepare, onPrepare, onAccept, processClassic, inFastPrepare, entered, onFastPrepare, inFastAccept, enteredAccept, onFastAccept, processChange, processFast}
+use Rattle.epaxos_path.specs.EPaxos.{adopting, epaxosAdopt, epaxosDecide, afterEpaxosAnswer, epaxosAnswer}
+use Rattle.swift_path.specs.Swift.{swiftCommits, afterSwiftAnswer, swiftAnswer, swiftClientPrepare, afterClientAccept, clientAccept, leaderAnswer, leaderOutcome, fromLeader, acceptAnswer, afterAcceptAnswer, swiftAccept, swiftClientAccept, afterReplicaAnswer, swiftAnsweredAccept}
+use Rattle.prepare.specs.Prepare.{holdFirst, answerPrepare, answersNothing, preparing, afterHeld, prepared, broadcastAccept, afterOwnAccept, acceptPhase, gather}
+use Rattle.paxos_family.specs.Process.{ifContinues, inPrepare, onPrepare, onAccept, processClassic, fastPrepared, fastPromised, startsAccept, waits, fastAnswered, fastGather, inFastPrepare, onFastPrepare, inFastAccept, enteredAccept, onFastAccept, processChange, processFast}
 use Rattle.propose.specs.Propose.{proposalRound, mayPropose, afterPrepare, proposePrepare, afterAccept, afterOwnPromise, proposeAccept, proposeClassic, afterOwnAnswer, ownAnswer, leadsSwift, proposeChange, proposeFast}
 use Rattle.steps.specs.Steps.{noMessages, withPaxos, leftFastPath, continues, refuses, withChange}
 use Rattle.steps.specs.declared.Asked.{Asked}
@@ -270,11 +270,6 @@ module _ (a : Asked) (h : Heard) where
           go (Refused why) g = g
       epaxos-answer-caused round (PaxosV at v) core f = tt
 
-      epaxos-gather-caused : (round : PaxosRound) (rv : RoundV) (core : Core) (f : FastAnswers) → GoodChange (epaxosGather choose a h round rv core f values scores)
-      unfolding epaxosGather
-      epaxos-gather-caused round rv core f =
-          of-both GoodChange (hasAccepted (withPromise a h rv core)) (gather-caused round rv core) (epaxos-answer-caused round rv (withPromise a h rv core) f)
-
   -- ---- SwiftPaxos
 
   swift-answer-caused : (round : PaxosRound) (rv : RoundV) (core : Core) (f : FastAnswers) (scores : List ℕ) → GoodChange (swiftAnswer a h round rv core f scores)
@@ -307,29 +302,26 @@ module _ (a : Asked) (h : Heard) where
       go Done g = of-both Good (paxosCanCommit (a .member) p) tt tt
       go (Refused why) g = g
 
-  leader-caused : (v : ℕ) (f : FastAnswers) (scores : List ℕ) → GoodOutcome (leaderOutcome a h v f scores)
-  leader-caused v f scores = swift-answered-caused (h .src) (a .member .«my_pid») v true f scores
+  accept-answer-caused : (round : PaxosRound) (v : ℕ) (f : FastAnswers) (scores : List ℕ) → GoodFast (acceptAnswer a h round v f scores)
+  unfolding acceptAnswer
+  accept-answer-caused round v f scores = of-both GoodFast (fromLeader h round) (swift-answered-caused (h .src) (a .member .«my_pid») v true f scores) tt
 
   client-accepts-caused : (round : PaxosRound) (v : ℕ) (core : Core) (f : FastAnswers) (scores : List ℕ) → GoodChange (swiftClientAccept a h round v core f scores)
   unfolding swiftClientAccept swiftAccept
   client-accepts-caused round v core f scores =
-      of-both GoodChange (isProcess (h .committer) (a .member .«my_pid»))
-      (of-both GoodChange (eqb (h .src) (round .leader)) (go (leaderOutcome a h v f scores) (leader-caused v f scores)) (client-accept-caused round v core)) tt
+      of-both GoodChange (isProcess (h .committer) (a .member .«my_pid»)) (go (acceptAnswer a h round v f scores .outcome) (accept-answer-caused round v f scores)) tt
     where
-      go : (o : Outcome) → GoodOutcome o → GoodChange (withChange (leaderAnswer a h v f scores) (afterLeaderAnswer a h round v core (leaderAnswer a h v f scores .answers) o))
-      go Done g = of-both Good (swiftCommits a (leaderAnswer a h v f scores .answers)) tt (client-accept-caused round v core)
-      go (Refused why) g = g
+      c : FastChange
+      c = acceptAnswer a h round v f scores .change
 
-  swift-gather-caused : (round : PaxosRound) (rv : RoundV) (core : Core) (f : FastAnswers) (scores : List ℕ) → GoodChange (swiftGather a h round rv core f scores)
-  unfolding swiftGather
-  swift-gather-caused round rv core f scores =
-      of-both GoodChange (eqb (round .leader) (a .member .«my_pid»))
-      (of-both Good (hasAccepted (withPromise a h rv core)) tt (accept-phase-caused round (withPromise a h rv core)))
-      (client-prepare-caused round rv (withPromise a h rv core) f scores)
+      go : (o : Outcome) → GoodOutcome o → GoodChange (withChange c (afterAcceptAnswer a h round v core (c .answers) o))
+      go Done g = of-both Good (fromLeader h round && swiftCommits a (c .answers)) tt (client-accept-caused round v core)
+      go (Refused why) g = g
 
   answered-accept-caused : (round : PaxosRound) (v : ℕ) (core : Core) (ms : Messages) (f : FastAnswers) (scores : List ℕ) → GoodChange (swiftAnsweredAccept a h round v core ms f scores)
   unfolding swiftAnsweredAccept
-  answered-accept-caused round v core ms f scores = go (leaderOutcome a h v f scores) (leader-caused v f scores)
+  answered-accept-caused round v core ms f scores =
+      go (leaderOutcome a h v f scores) (swift-answered-caused (h .src) (a .member .«my_pid») v true f scores)
     where
       go : (o : Outcome) → GoodOutcome o → GoodChange (withChange (leaderAnswer a h v f scores) (afterReplicaAnswer a h round v core ms (leaderAnswer a h v f scores .answers) o))
       go Done g = of-both Good (swiftCommits a (leaderAnswer a h v f scores .answers)) tt (try-commit-caused round v core ms)
@@ -338,20 +330,29 @@ module _ (a : Asked) (h : Heard) where
   -- ---- the fast modes
 
   module _ (choose : Choice) (f : FastAnswers) (values epaxos swift : List ℕ) where
+    fast-prepared-caused : (round : PaxosRound) (rv : RoundV) (core : Core) → Good (fastPrepared a h round rv core)
+    unfolding fastPrepared
+    fast-prepared-caused round rv core = of-both Good (a .member .replica) (prepared-caused round rv core) tt
+
+    fast-answered-caused : (round : PaxosRound) (rv : RoundV) (core : Core) → GoodChange (fastAnswered choose a h round rv core f values epaxos swift)
+    unfolding fastAnswered
+    fast-answered-caused round rv core =
+        of-both GoodChange (isSwiftPaxos (a .mode)) (client-prepare-caused round rv core f swift) (epaxos-answer-caused choose values epaxos round rv core f)
+
     fast-gather-caused : (round : PaxosRound) (rv : RoundV) (core : Core) → GoodChange (fastGather choose a h round rv core f values epaxos swift)
     unfolding fastGather
     fast-gather-caused round rv core =
-        of-both GoodChange (isSwiftPaxos (a .mode)) (swift-gather-caused round rv core f swift) (epaxos-gather-caused choose values epaxos round rv core f)
+        let promised = fastPromised a h rv core in
+        of-both GoodChange (startsAccept a round core promised) (accept-phase-caused round promised)
+        (of-both GoodChange (waits a round promised) tt (fast-answered-caused round rv promised))
 
     change-caused : (m : ConsensusMsg) (core : Core) → GoodChange (processChange choose a h m core f values epaxos swift)
-    unfolding processChange onFastPrepare entered inFastPrepare onFastAccept enteredAccept inFastAccept
+    unfolding processChange onFastPrepare inFastPrepare onFastAccept enteredAccept inFastAccept
     change-caused (Prepare slot round rv) core =
         let e = enter a h slot round core in
-        let p = prepared a h round rv (e .core) in
+        let p = fastPrepared a h round rv (e .core) in
         goes-on GoodChange (e .next)
-        (of-both GoodChange (a .member .replica)
-        (goes-on GoodChange (p .next) (fast-gather-caused round rv (p .core)) (prepared-caused round rv (e .core)))
-        (client-prepare-caused round rv (e .core) f swift))
+        (goes-on GoodChange (p .next) (fast-gather-caused round rv (p .core)) (fast-prepared-caused round rv (e .core)))
         (enter-caused slot round core)
     change-caused (Accept slot round v) core =
         let e = enter a h slot round core in

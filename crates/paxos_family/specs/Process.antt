@@ -1,9 +1,10 @@
 -- process_message of the Rust's paxos_family.rs: a Prepare or an Accept at a member of the group. The classic modes (Paxos, MultiPaxos,
 -- MultiPaxos3P, Pando) change the core alone; EPaxos and SwiftPaxos also the fast half.
 -- Assumes nothing.
-use mathlib.Core.Bool.{cond}
+use mathlib.Core.Bool.{Bool, cond, not, _&&_}
 use mathlib.Core.List.{List}
 use Prim.Native.Nat.{ℕ}
+use lib.Dec.{eqb}
 use Rattle.message.specs.Modes.{isSwiftPaxos}
 use Rattle.message.specs.declared.ConsensusMsg.{ConsensusMsg}
 use Rattle.message.specs.declared.ConsensusMsg.the-variants.{Prepare, Accept, ForwardRequest, Commit, ReadRequest, ReadResponse}
@@ -14,10 +15,11 @@ use Rattle.fast_state.specs.Fast.{answersOf, unchanged}
 use Rattle.fast_state.specs.declared.FastAnswers.{FastAnswers}
 use Rattle.accept.specs.Accept.{accepting}
 use Rattle.enter.specs.Enter.{enter}
-use Rattle.epaxos_path.specs.EPaxos.{epaxosGather}
-use Rattle.swift_path.specs.Swift.{swiftClientPrepare, swiftClientAccept, swiftGather, swiftAnsweredAccept}
-use Rattle.prepare.specs.Prepare.{prepared, gather}
-use Rattle.steps.specs.Steps.{noMessages, stays, withChange, changeRounds, goesOn}
+use Rattle.epaxos_path.specs.EPaxos.{epaxosAnswer}
+use Rattle.swift_path.specs.Swift.{swiftClientPrepare, swiftClientAccept, swiftAnsweredAccept}
+use Rattle.prepare.specs.Prepare.{hasAccepted, withPromise, prepared, acceptPhase, gather}
+use Rattle.round_state.specs.Paxos.{isPrepared}
+use Rattle.steps.specs.Steps.{noMessages, stays, continues, withChange, changeRounds, goesOn}
 use Rattle.steps.specs.declared.Asked.{Asked}
 use Rattle.steps.specs.declared.ChangeStep.{ChangeStep}
 use Rattle.steps.specs.declared.Core.{Core}
@@ -57,26 +59,50 @@ processClassic a h (ReadResponse id next) core = stays core noMessages
 
 -- With the values of the proposers, the scores of EPaxos and those of SwiftPaxos.
 
--- the delegate counts a promise as its mode does
-unfoldable pub fastGather : Choice → Asked → Heard → PaxosRound → RoundV → Core → FastAnswers → List ℕ → List ℕ → List ℕ → ChangeStep
-fastGather choose a h round rv core answers values epaxos swift =
-    cond (isSwiftPaxos (a .mode)) (swiftGather a h round rv core answers swift) (epaxosGather choose a h round rv core answers values epaxos)
+-- a client holds nothing and answers nobody: what it hears is an answer to its own proposal
+unfoldable pub fastPrepared : Asked → Heard → PaxosRound → RoundV → Core → CoreStep
+fastPrepared a h round rv core = cond (a .member .replica) (prepared a h round rv core) (continues core noMessages)
+
+-- it counts no promise either
+unfoldable pub fastPromised : Asked → Heard → RoundV → Core → Core
+fastPromised a h rv core = cond (a .member .replica) (withPromise a h rv core) core
+
+-- a replica that leads the round of a SwiftPaxos Prepare
+unfoldable pub swiftLeads : Asked → PaxosRound → Bool
+swiftLeads a round = a .member .replica && eqb (round .leader) (a .member .«my_pid»)
+
+-- the SwiftPaxos leader accepts at once, where nothing is accepted yet; in EPaxos, once a value is accepted, the promises count as in Paxos
+unfoldable pub startsAccept : Asked → PaxosRound → Core → Core → Bool
+startsAccept a round core promised =
+    cond (isSwiftPaxos (a .mode)) (swiftLeads a round && not (hasAccepted promised))
+    (hasAccepted promised && (not (isPrepared (a .member) (core .paxos)) && isPrepared (a .member) (promised .paxos)))
+
+-- what remains of those two cases waits
+unfoldable pub waits : Asked → PaxosRound → Core → Bool
+waits a round promised = cond (isSwiftPaxos (a .mode)) (swiftLeads a round) (hasAccepted promised)
 
 module _ (choose : Choice) where
+  -- any other promise is an answer on the fast path
+  unfoldable pub fastAnswered : Asked → Heard → PaxosRound → RoundV → Core → FastAnswers → List ℕ → List ℕ → List ℕ → ChangeStep
+  fastAnswered a h round rv promised answers values epaxos swift =
+      cond (isSwiftPaxos (a .mode)) (swiftClientPrepare a h round rv promised answers swift)
+      (epaxosAnswer choose a h round rv promised answers values epaxos)
+
+  -- the delegate counts a promise as its mode does
+  unfoldable pub fastGather : Asked → Heard → PaxosRound → RoundV → Core → FastAnswers → List ℕ → List ℕ → List ℕ → ChangeStep
+  fastGather a h round rv core answers values epaxos swift =
+      cond (startsAccept a round core (fastPromised a h rv core)) (withChange (unchanged answers) (acceptPhase a round (fastPromised a h rv core)))
+      (cond (waits a round (fastPromised a h rv core)) (withChange (unchanged answers) (stays (fastPromised a h rv core) noMessages))
+      (fastAnswered a h round rv (fastPromised a h rv core) answers values epaxos swift))
+
   unfoldable pub inFastPrepare : Asked → Heard → PaxosRound → RoundV → Core → FastAnswers → List ℕ → List ℕ → List ℕ → ChangeStep
   inFastPrepare a h round rv core answers values epaxos swift =
-      ifContinues (prepared a h round rv core .next)
-      (fastGather choose a h round rv (prepared a h round rv core .core) answers values epaxos swift)
-      (withChange (unchanged answers) (prepared a h round rv core))
-
-  -- one that is no replica is a SwiftPaxos client here
-  unfoldable pub entered : Asked → Heard → PaxosRound → RoundV → Core → FastAnswers → List ℕ → List ℕ → List ℕ → ChangeStep
-  entered a h round rv core answers values epaxos swift =
-      cond (a .member .replica) (inFastPrepare a h round rv core answers values epaxos swift) (swiftClientPrepare a h round rv core answers swift)
+      ifContinues (fastPrepared a h round rv core .next) (fastGather a h round rv (fastPrepared a h round rv core .core) answers values epaxos swift)
+      (withChange (unchanged answers) (fastPrepared a h round rv core))
 
   unfoldable pub onFastPrepare : Asked → Heard → ℕ → PaxosRound → RoundV → Core → FastAnswers → List ℕ → List ℕ → List ℕ → ChangeStep
   onFastPrepare a h slot round rv core answers values epaxos swift =
-      ifContinues (enter a h slot round core .next) (entered a h round rv (enter a h slot round core .core) answers values epaxos swift)
+      ifContinues (enter a h slot round core .next) (inFastPrepare a h round rv (enter a h slot round core .core) answers values epaxos swift)
       (withChange (unchanged answers) (enter a h slot round core))
 
 unfoldable pub inFastAccept : Asked → Heard → PaxosRound → ℕ → Core → FastAnswers → List ℕ → ChangeStep

@@ -1,6 +1,9 @@
 // The handlers of the paxos family: the Rust's paxos_family.rs. Prepare and Accept by mode, and the commit of a slot.
 ghost use mathlib.Core.Path.{_≡_};
-ghost use Rattle.paxos_family.specs.Process.{fastGather, inPrepare, onPrepare, onAccept, processClassic, inFastPrepare, entered, onFastPrepare, inFastAccept, enteredAccept, onFastAccept, processChange, processFast};
+ghost use mathlib.Core.Bool.{not, _&&_};
+ghost use Rattle.paxos_family.specs.Process.{inPrepare, onPrepare, onAccept, processClassic, fastPrepared, fastPromised, swiftLeads, startsAccept, waits, fastAnswered, fastGather, inFastPrepare, onFastPrepare, inFastAccept, enteredAccept, onFastAccept, processChange, processFast};
+ghost use Rattle.prepare.specs.Prepare.{hasAccepted};
+ghost use Rattle.round_state.specs.Paxos.{isPrepared};
 ghost use Rattle.paxos_family.specs.Commit.{commitCore, commitSlot};
 ghost use Rattle.fast_state.specs.Adopt.{lowestBest};
 use fast_state::FastAnswers;
@@ -104,6 +107,108 @@ pub fn process_classic(asked: Asked, heard: Heard, msg: ConsensusMsg, core: Core
     }
 }
 
+// A SwiftPaxos client, which is no replica, holds nothing and answers nobody: what it hears is an answer to its own proposal.
+fn fast_prepared(asked: Asked, heard: Heard, round: PaxosRound, rv: RoundV, core: Core) -> CoreStep
+    ensures { λ r. ⌜ r ≡ fastPrepared asked heard round rv core ⌝ }
+{
+    if asked.member.replica {
+        return prepare::prepared(asked, heard, round, rv, core);
+    }
+    core.continues(steps::no_messages())
+}
+
+fn fast_promised(asked: Asked, heard: Heard, rv: RoundV, core: Core) -> Core
+    ensures { λ r. ⌜ r ≡ fastPromised asked heard rv core ⌝ }
+{
+    let me = asked.member;
+    if me.replica {
+        let paxos = core.paxos;
+        let promised = promise_accept::receive_promise(paxos, me, heard.src, rv);
+        let state = promised.state;
+        return core.with_paxos(state);
+    }
+    core
+}
+
+fn has_accepted(core: Core) -> bool
+    ensures { λ r. ⌜ r ≡ hasAccepted core ⌝ }
+{
+    let paxos = core.paxos;
+    let held = paxos.max_rv;
+    prepare::is_round(held.get_last_accepted_round())
+}
+
+fn swift_leads(asked: Asked, round: PaxosRound) -> bool
+    ensures { λ r. ⌜ r ≡ swiftLeads asked round ⌝ }
+{
+    let me = asked.member;
+    if me.replica {
+        return round.leader == me.my_pid;
+    }
+    false
+}
+
+// A promise that completes the majority.
+fn becomes_prepared(asked: Asked, core: Core, promised: Core) -> bool
+    ensures { λ r. ⌜ r ≡ (not (isPrepared (asked .member) (core .paxos)) && isPrepared (asked .member) (promised .paxos)) ⌝ }
+{
+    let me = asked.member;
+    let old = core.paxos;
+    let new = promised.paxos;
+    if old.is_prepared(me) {
+        return false;
+    }
+    new.is_prepared(me)
+}
+
+// The leader of SwiftPaxos accepts at once, where nothing is accepted yet. In EPaxos, once a value is accepted, the promises count as in Paxos.
+fn starts_accept(asked: Asked, round: PaxosRound, core: Core, promised: Core) -> bool
+    ensures { λ r. ⌜ r ≡ startsAccept asked round core promised ⌝ }
+{
+    let mode = asked.mode;
+    if mode.is_swift_paxos() {
+        if swift_leads(asked, round) {
+            return !has_accepted(promised);
+        }
+        return false;
+    }
+    if has_accepted(promised) {
+        return becomes_prepared(asked, core, promised);
+    }
+    false
+}
+
+fn waits(asked: Asked, round: PaxosRound, promised: Core) -> bool
+    ensures { λ r. ⌜ r ≡ waits asked round promised ⌝ }
+{
+    let mode = asked.mode;
+    if mode.is_swift_paxos() {
+        return swift_leads(asked, round);
+    }
+    has_accepted(promised)
+}
+
+// Any other promise is an answer on the fast path.
+fn fast_answered(
+    asked: Asked,
+    heard: Heard,
+    round: PaxosRound,
+    rv: RoundV,
+    promised: Core,
+    answers: FastAnswers,
+    values: &[u64; 64],
+    epaxos: &[u64; 64],
+    swift: &[u64; 64],
+) -> ChangeStep
+    ensures { λ r. ⌜ r ≡ fastAnswered lowestBest asked heard round rv promised answers (now (values .entry)) (now (epaxos .entry)) (now (swift .entry)) ⌝ }
+{
+    let mode = asked.mode;
+    if mode.is_swift_paxos() {
+        return swift_path::swift_client_prepare(asked, heard, round, rv, promised, answers, swift);
+    }
+    epaxos_path::epaxos_answer(asked, heard, round, rv, promised, answers, values, epaxos)
+}
+
 // The delegate counts a promise as its mode does.
 fn fast_gather(
     asked: Asked,
@@ -118,11 +223,24 @@ fn fast_gather(
 ) -> ChangeStep
     ensures { λ r. ⌜ r ≡ fastGather lowestBest asked heard round rv core answers (now (values .entry)) (now (epaxos .entry)) (now (swift .entry)) ⌝ }
 {
-    let mode = asked.mode;
-    if mode.is_swift_paxos() {
-        return swift_path::swift_gather(asked, heard, round, rv, core, answers, swift);
+    let promised = fast_promised(asked, heard, rv, core);
+    if starts_accept(asked, round, core, promised) {
+        return prepare::accept_phase(asked, round, promised).unchanged(answers);
     }
-    epaxos_path::epaxos_gather(asked, heard, round, rv, core, answers, values, epaxos)
+    if waits(asked, round, promised) {
+        return promised.stays_unchanged(answers);
+    }
+    fast_answered(
+        asked,
+        heard,
+        round,
+        rv,
+        promised,
+        answers,
+        values,
+        epaxos,
+        swift,
+    )
 }
 
 fn in_fast_prepare(
@@ -138,7 +256,7 @@ fn in_fast_prepare(
 ) -> ChangeStep
     ensures { λ r. ⌜ r ≡ inFastPrepare lowestBest asked heard round rv core answers (now (values .entry)) (now (epaxos .entry)) (now (swift .entry)) ⌝ }
 {
-    let step = prepare::prepared(asked, heard, round, rv, core);
+    let step = fast_prepared(asked, heard, round, rv, core);
     let next = step.next;
     if next.goes_on() {
         let core = step.core;
@@ -155,36 +273,6 @@ fn in_fast_prepare(
         );
     }
     step.unchanged(answers)
-}
-
-// One that is no replica and comes here is a SwiftPaxos client.
-fn entered(
-    asked: Asked,
-    heard: Heard,
-    round: PaxosRound,
-    rv: RoundV,
-    core: Core,
-    answers: FastAnswers,
-    values: &[u64; 64],
-    epaxos: &[u64; 64],
-    swift: &[u64; 64],
-) -> ChangeStep
-    ensures { λ r. ⌜ r ≡ entered lowestBest asked heard round rv core answers (now (values .entry)) (now (epaxos .entry)) (now (swift .entry)) ⌝ }
-{
-    if asked.member.replica {
-        return in_fast_prepare(
-            asked,
-            heard,
-            round,
-            rv,
-            core,
-            answers,
-            values,
-            epaxos,
-            swift,
-        );
-    }
-    swift_path::swift_client_prepare(asked, heard, round, rv, core, answers, swift)
 }
 
 fn on_fast_prepare(
@@ -205,7 +293,7 @@ fn on_fast_prepare(
     let next = step.next;
     if next.goes_on() {
         let core = step.core;
-        return entered(
+        return in_fast_prepare(
             asked,
             heard,
             round,

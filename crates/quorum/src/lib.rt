@@ -1,6 +1,6 @@
-// The quorums for a number of replicas, as a constant table of 64 rows in three columns.
+// The quorums for a number of replicas, as a constant table of 64 rows in three columns, and by the rule of its rows.
 ghost use mathlib.Core.Path.{_≡_};
-ghost use Prim.Native.Nat.{_-_, min};
+ghost use Prim.Native.Nat.{_-_, max, min};
 ghost use Rattle.quorum.specs.Quorum.{majorityOf, epaxosOf, fastOf, Column, rowOf};
 
 // The quorums for one number of replicas: a majority, EPaxos's, and the fast one.
@@ -262,5 +262,28 @@ pub fn row(n: u64) -> QuorumRow
         majority: wide(majorities[i]),
         epaxos: wide(epaxos_quorums[i]),
         fast: wide(fast_quorums[i]),
+    }
+}
+
+fn larger(a: u64, b: u64) -> u64
+    ensures { λ r. ⌜ r ≡ max a b ⌝ }
+{
+    if a < b {
+        return b;
+    }
+    a
+}
+
+// The same row by its rule: a call that asks for one quorum takes less time than the table.
+pub fn ruled(n: u64) -> QuorumRow
+    ensures { λ r. ⌜ r ≡ rowOf n ⌝ }
+{
+    let before = place(n) as u64;
+    let majority = (before + 1) / 2 + 1;
+    let most = (3 * before + 2) / 4;
+    QuorumRow {
+        majority,
+        epaxos: larger(most, majority),
+        fast: larger(most + 1, majority),
     }
 }

@@ -1,6 +1,6 @@
 -- Where SwiftPaxos parts from the other modes (the Rust's process_message and process_answers_at_swift_paxos_client).
 -- Assumes nothing.
-use mathlib.Core.Bool.{Bool, true, false, cond}
+use mathlib.Core.Bool.{Bool, true, false, cond, _&&_}
 use mathlib.Core.List.{List}
 use Prim.Native.Nat.{ℕ}
 use lib.Dec.{eqb}
@@ -15,11 +15,11 @@ use Rattle.message.specs.declared.RoundV.{RoundV}
 use Rattle.message.specs.declared.RoundV.the-variants.{FastV, PaxosV}
 use Rattle.round_state.specs.Paxos.{paxosCanCommit, receiveAccept}
 use Rattle.round_state.specs.declared.PaxosState.{PaxosState}
-use Rattle.fast_state.specs.Fast.{unchanged, swiftAnswered, swiftCanCommit}
+use Rattle.fast_state.specs.Fast.{unchanged, taken, swiftAnswered, swiftCanCommit}
 use Rattle.fast_state.specs.declared.FastAnswers.{FastAnswers}
 use Rattle.fast_state.specs.declared.FastChange.{FastChange}
+use Rattle.fast_state.specs.declared.FastStep.{FastStep}
 use Rattle.accept.specs.Accept.{tryCommit}
-use Rattle.prepare.specs.Prepare.{hasAccepted, withPromise, acceptPhase}
 use Rattle.steps.specs.Steps.{noMessages, withPaxos, stays, commits, refuses, withChange}
 use Rattle.steps.specs.declared.Asked.{Asked}
 use Rattle.steps.specs.declared.ChangeStep.{ChangeStep}
@@ -66,10 +66,6 @@ clientAccept a h round v core =
     afterClientAccept a v core (receiveAccept (a .member) (h .src) round v (core .paxos) .state)
     (receiveAccept (a .member) (h .src) round v (core .paxos) .outcome)
 
-abbrev pub afterLeaderAnswer : Asked → Heard → PaxosRound → ℕ → Core → FastAnswers → Outcome → CoreStep
-afterLeaderAnswer a h round v core answers Done = cond (swiftCommits a answers) (commits v core noMessages) (clientAccept a h round v core)
-afterLeaderAnswer a h round v core answers (Refused why) = refuses why core
-
 -- the leader's accept is its answer on the fast path
 abbrev pub leaderAnswer : Asked → Heard → ℕ → FastAnswers → List ℕ → FastChange
 leaderAnswer a h v answers scores = swiftAnswered (a .member) (h .src) (a .member .«my_pid») v (a .quorum) true answers scores .change
@@ -77,25 +73,29 @@ leaderAnswer a h v answers scores = swiftAnswered (a .member) (h .src) (a .membe
 abbrev pub leaderOutcome : Asked → Heard → ℕ → FastAnswers → List ℕ → Outcome
 leaderOutcome a h v answers scores = swiftAnswered (a .member) (h .src) (a .member .«my_pid») v (a .quorum) true answers scores .outcome
 
+abbrev pub fromLeader : Heard → PaxosRound → Bool
+fromLeader h round = eqb (h .src) (round .leader)
+
+-- an Accept of another is no answer
+unfoldable pub acceptAnswer : Asked → Heard → PaxosRound → ℕ → FastAnswers → List ℕ → FastStep
+acceptAnswer a h round v answers scores =
+    cond (fromLeader h round) (swiftAnswered (a .member) (h .src) (a .member .«my_pid») v (a .quorum) true answers scores) (taken (unchanged answers))
+
+-- the leader's commits on the fast path where it can; if not, and of another, it counts as an accept
+abbrev pub afterAcceptAnswer : Asked → Heard → PaxosRound → ℕ → Core → FastAnswers → Outcome → CoreStep
+afterAcceptAnswer a h round v core answers Done =
+    cond (fromLeader h round && swiftCommits a answers) (commits v core noMessages) (clientAccept a h round v core)
+afterAcceptAnswer a h round v core answers (Refused why) = refuses why core
+
 unfoldable pub swiftAccept : Asked → Heard → PaxosRound → ℕ → Core → FastAnswers → List ℕ → ChangeStep
 swiftAccept a h round v core answers scores =
-    cond (eqb (h .src) (round .leader))
-    (withChange (leaderAnswer a h v answers scores)
-    (afterLeaderAnswer a h round v core (leaderAnswer a h v answers scores .answers) (leaderOutcome a h v answers scores)))
-    (withChange (unchanged answers) (clientAccept a h round v core))
+    withChange (acceptAnswer a h round v answers scores .change)
+    (afterAcceptAnswer a h round v core (acceptAnswer a h round v answers scores .change .answers) (acceptAnswer a h round v answers scores .outcome))
 
 unfoldable pub swiftClientAccept : Asked → Heard → PaxosRound → ℕ → Core → FastAnswers → List ℕ → ChangeStep
 swiftClientAccept a h round v core answers scores =
     cond (isProcess (h .committer) (a .member .«my_pid»)) (swiftAccept a h round v core answers scores)
     (withChange (unchanged answers) (stays core noMessages))
-
--- the delegate of a Prepare: the leader accepts at once, and a proposer tries to complete the fast path
-unfoldable pub swiftGather : Asked → Heard → PaxosRound → RoundV → Core → FastAnswers → List ℕ → ChangeStep
-swiftGather a h round rv core answers scores =
-    cond (eqb (round .leader) (a .member .«my_pid»))
-    (withChange (unchanged answers)
-    (cond (hasAccepted (withPromise a h rv core)) (stays (withPromise a h rv core) noMessages) (acceptPhase a round (withPromise a h rv core))))
-    (swiftClientPrepare a h round rv (withPromise a h rv core) answers scores)
 
 -- a replica that commits goes on from an Accept that it has answered
 abbrev pub afterReplicaAnswer : Asked → Heard → PaxosRound → ℕ → Core → Messages → FastAnswers → Outcome → CoreStep

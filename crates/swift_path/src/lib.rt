@@ -1,7 +1,9 @@
 // The fast path of SwiftPaxos: answers to a fast proposal and the commit that they bring, at a replica and at a client.
 ghost use mathlib.Core.Path.{_≡_};
-ghost use Rattle.swift_path.specs.Swift.{isFixed, swiftCommits, afterSwiftAnswer, swiftAnswer, swiftClientPrepare, afterClientAccept, clientAccept, afterLeaderAnswer, swiftAccept, swiftClientAccept, swiftGather, afterReplicaAnswer, swiftAnsweredAccept};
+ghost use mathlib.Core.Bool.{_&&_};
+ghost use Rattle.swift_path.specs.Swift.{isFixed, swiftCommits, afterSwiftAnswer, swiftAnswer, swiftClientPrepare, afterClientAccept, clientAccept, fromLeader, acceptAnswer, afterAcceptAnswer, swiftAccept, swiftClientAccept, afterReplicaAnswer, swiftAnsweredAccept};
 use fast_state::FastAnswers;
+use fast_state::FastStep;
 use message::Outcome;
 use message::PaxosRound;
 use message::Refusal;
@@ -144,8 +146,52 @@ fn client_accept(asked: Asked, heard: Heard, round: PaxosRound, v: u64, core: Co
     after_client_accept(asked, v, core, state, outcome)
 }
 
-// The leader's accept is its answer on the fast path, and commits there if it can; if not, it counts as an accept.
-fn after_leader_answer(
+fn from_leader(heard: Heard, round: PaxosRound) -> bool
+    ensures { λ r. ⌜ r ≡ fromLeader heard round ⌝ }
+{
+    heard.src == round.leader
+}
+
+// The leader's accept is its answer on the fast path. An Accept of another is no answer.
+fn accept_answer(
+    asked: Asked,
+    heard: Heard,
+    round: PaxosRound,
+    v: u64,
+    answers: FastAnswers,
+    scores: &[u64; 64],
+) -> FastStep
+    ensures { λ r. ⌜ r ≡ acceptAnswer asked heard round v answers (now (scores .entry)) ⌝ }
+{
+    let me = asked.member;
+    let quorum = asked.quorum;
+    if from_leader(heard, round) {
+        return swift_state::swift_answered(
+            answers,
+            scores,
+            me,
+            heard.src,
+            me.my_pid,
+            v,
+            quorum,
+            true,
+        );
+    }
+    answers.unchanged().taken()
+}
+
+// Whether the leader's answer completes the fast path.
+fn leader_commits(asked: Asked, heard: Heard, round: PaxosRound, answers: FastAnswers) -> bool
+    ensures { λ r. ⌜ r ≡ (fromLeader heard round && swiftCommits asked answers) ⌝ }
+{
+    if from_leader(heard, round) {
+        return swift_commits(asked, answers);
+    }
+    false
+}
+
+// What does not commit on the fast path counts as an accept.
+fn after_accept_answer(
     asked: Asked,
     heard: Heard,
     round: PaxosRound,
@@ -154,11 +200,11 @@ fn after_leader_answer(
     answers: FastAnswers,
     outcome: Outcome,
 ) -> CoreStep
-    ensures { λ r. ⌜ r ≡ afterLeaderAnswer asked heard round v core answers outcome ⌝ }
+    ensures { λ r. ⌜ r ≡ afterAcceptAnswer asked heard round v core answers outcome ⌝ }
 {
     match outcome {
         Outcome::Done => {
-            if swift_commits(asked, answers) {
+            if leader_commits(asked, heard, round, answers) {
                 return core.commits_silent(v);
             }
             client_accept(asked, heard, round, v, core)
@@ -178,27 +224,11 @@ fn swift_accept(
 ) -> ChangeStep
     ensures { λ r. ⌜ r ≡ swiftAccept asked heard round v core answers (now (scores .entry)) ⌝ }
 {
-    if heard.src == round.leader {
-        let me = asked.member;
-        let quorum = asked.quorum;
-        let step = swift_state::swift_answered(
-            answers,
-            scores,
-            me,
-            heard.src,
-            me.my_pid,
-            v,
-            quorum,
-            true,
-        );
-        let change = step.change;
-        let counted = change.answers;
-        let outcome = step.outcome;
-        return after_leader_answer(asked, heard, round, v, core, counted, outcome).with_change(
-            change,
-        );
-    }
-    client_accept(asked, heard, round, v, core).unchanged(answers)
+    let step = accept_answer(asked, heard, round, v, answers, scores);
+    let change = step.change;
+    let counted = change.answers;
+    let outcome = step.outcome;
+    after_accept_answer(asked, heard, round, v, core, counted, outcome).with_change(change)
 }
 
 pub fn swift_client_accept(
@@ -217,33 +247,6 @@ pub fn swift_client_accept(
         return swift_accept(asked, heard, round, v, core, answers, scores);
     }
     core.stays_unchanged(answers)
-}
-
-// The leader accepts at once. A proposer, which is the delegate of its value, tries to complete the fast path.
-pub fn swift_gather(
-    asked: Asked,
-    heard: Heard,
-    round: PaxosRound,
-    rv: RoundV,
-    core: Core,
-    answers: FastAnswers,
-    scores: &[u64; 64],
-) -> ChangeStep
-    ensures { λ r. ⌜ r ≡ swiftGather asked heard round rv core answers (now (scores .entry)) ⌝ }
-{
-    let me = asked.member;
-    let paxos = core.paxos;
-    let promised = promise_accept::receive_promise(paxos, me, heard.src, rv);
-    let state = promised.state;
-    let held = state.max_rv;
-    let counted = core.with_paxos(state);
-    if round.leader == me.my_pid {
-        if prepare::is_round(held.get_last_accepted_round()) {
-            return counted.stays_unchanged(answers);
-        }
-        return prepare::accept_phase(asked, round, counted).unchanged(answers);
-    }
-    swift_client_prepare(asked, heard, round, rv, counted, answers, scores)
 }
 
 fn after_replica_answer(

@@ -1,1 +1,3 @@
-mod Tables
+pub mod Tables
+mod Plain
+mod Refusals

@@ -2,18 +2,21 @@
 // numbers that it needs, so that no table and no message is copied for a call that is refused or ignored.
 ghost use mathlib.Core.Path.{_≡_};
 ghost use mathlib.Core.List.{[]};
-ghost use Rattle.arrays.specs.Arrays.{settingsOf};
+ghost use Rattle.arrays.specs.Arrays.{settingsOf, setupOf, coreOf, callOf};
 ghost use Rattle.calls.specs.Asked.{askedOf, heardOf, proposerGathers, gathererOf};
-ghost use Rattle.calls.specs.Decision.{ifMade, unlessSpent, admissionOf};
-ghost use Rattle.delivery.specs.Admit.{admit, ready};
+ghost use Rattle.calls.specs.Decision.{admissionOf};
+ghost use Rattle.delivery.specs.Admit.{needsValue, admit, ready};
 ghost use Rattle.delivery.specs.Limits.{numbersFit, processesFit};
+ghost use Rattle.message.specs.Messages.{msgSlot};
 ghost use Rattle.settings.specs.Questions.{delegateOf, committerIn, committerOf};
 ghost use Rattle.tables.specs.Tables.{lookUp};
 ghost use Rattle.twins.specs.Freeze.{frozenOutcome};
-ghost use Rattle.twins.specs.Thaw.{thawedCall, thawedCore, thawedDelivery, thawedMade, thawedMode, thawedSettings};
+ghost use Rattle.twins.specs.Thaw.{thawedCall, thawedCore, thawedDelivery, thawedMode, thawedMsg, thawedSettings};
+ghost use Rattle.twin_calls.specs.Refusals.{isSmall, isBelow, isPlain, unfit, refusalOf};
 use arrays::Setup;
 use message::ConsensusMsg;
 use message::OptionalProcess;
+use message::OptionalSlot;
 use message::PFMode;
 use message::PaxosRound;
 use message::RoundV;
@@ -22,6 +25,7 @@ use steps::Asked;
 use steps::Heard;
 use twins::FlatCall;
 use twins::FlatCore;
+use twins::FlatMessage;
 
 // Refusal 2: whether no number is too large.
 fn numbers_fit(process_count: u64, own: u64, f: FlatCall) -> bool
@@ -65,14 +69,154 @@ fn processes_fit(process_count: u64, own: u64, f: FlatCall) -> bool
     false
 }
 
+// Whether a message has no large number at all, whatever its kind: neither its own nor what the host adds to it. Nearly all have none, and this is
+// one test of all bits together.
+fn is_small(f: FlatCall) -> bool
+    ensures { λ r. ⌜ r ≡ isSmall f ⌝ }
+{
+    let m = f.message;
+    let rv = m.rv;
+    let at = rv.accept_round;
+    let last_v = m.last_v;
+    let requester = f.requester;
+    let held = f.held_requester;
+    let round = m.round_group | m.leader;
+    let promise = rv.proposer | at.round_group | at.leader | rv.v;
+    let own = m.v | m.id | m.next_readable_slot | m.src;
+    let added = last_v.n | requester.n | held.n;
+    if round | promise | own | added <= 9223372036854775807 {
+        return m.slot <= 9223372036854775806;
+    }
+    false
+}
+
+// Whether every number that can be a process is below the count, whatever the kind.
+fn is_below(n: u64, f: FlatCall) -> bool
+    ensures { λ r. ⌜ r ≡ isBelow n f ⌝ }
+{
+    let m = f.message;
+    let rv = m.rv;
+    let at = rv.accept_round;
+    let requester = f.requester;
+    let held = f.held_requester;
+    if m.src < n {
+        if m.leader < n {
+            if rv.proposer < n {
+                if at.leader < n {
+                    if requester.n < n {
+                        return held.n < n;
+                    }
+                    return false;
+                }
+                return false;
+            }
+            return false;
+        }
+        return false;
+    }
+    false
+}
+
+// A message of a kind that there is, whose numbers and processes fit at sight.
+fn is_plain(n: u64, f: FlatCall) -> bool
+    ensures { λ r. ⌜ r ≡ isPlain n f ⌝ }
+{
+    if f.message.kind >= 1 {
+        if f.message.kind <= 6 {
+            if is_small(f) {
+                return is_below(n, f);
+            }
+            return false;
+        }
+        return false;
+    }
+    false
+}
+
+// Each question reads the call for itself, so that what it does not ask is not read.
+fn is_plain_in(n: u64, call: &[u64; 25]) -> bool
+    ensures { λ r. ⌜ r ≡ isPlain n (callOf (now (call .entry))) ⌝ }
+{
+    is_plain(n, arrays::call_in(call))
+}
+
+fn numbers_fit_in(process_count: u64, own: u64, call: &[u64; 25]) -> bool
+    ensures { λ r. ⌜ r ≡ numbersFit (thawedDelivery «process_count» own (callOf (now (call .entry)))) ⌝ }
+{
+    numbers_fit(process_count, own, arrays::call_in(call))
+}
+
+fn processes_fit_in(process_count: u64, own: u64, call: &[u64; 25]) -> bool
+    ensures { λ r. ⌜ r ≡ processesFit «process_count» (thawedDelivery «process_count» own (callOf (now (call .entry)))) ⌝ }
+{
+    processes_fit(process_count, own, arrays::call_in(call))
+}
+
+// Refusals 2 and 3, or 0.
+fn unfit(process_count: u64, own: u64, call: &[u64; 25]) -> u64
+    ensures { λ r. ⌜ r ≡ unfit (numbersFit (thawedDelivery «process_count» own (callOf (now (call .entry))))) (processesFit «process_count» (thawedDelivery «process_count» own (callOf (now (call .entry))))) ⌝ }
+{
+    if is_plain_in(process_count, call) {
+        return 0;
+    }
+    if numbers_fit_in(process_count, own, call) {
+        if processes_fit_in(process_count, own, call) {
+            return 0;
+        }
+        return 3;
+    }
+    2
+}
+
+fn slot_in(m: FlatMessage) -> OptionalSlot
+    ensures { λ r. ⌜ r ≡ msgSlot (thawedMsg m) ⌝ }
+{
+    if m.kind == 1 {
+        return OptionalSlot::Slot(m.slot);
+    }
+    if m.kind == 2 {
+        return OptionalSlot::Slot(m.slot);
+    }
+    if m.kind == 3 {
+        return OptionalSlot::NoSlot;
+    }
+    if m.kind == 4 {
+        return OptionalSlot::Slot(m.slot);
+    }
+    if m.kind == 6 {
+        return OptionalSlot::Slot(m.next_readable_slot);
+    }
+    OptionalSlot::NoSlot
+}
+
+fn needs_value(own: u64, m: FlatMessage) -> bool
+    ensures { λ r. ⌜ r ≡ needsValue own (thawedMsg m) ⌝ }
+{
+    if m.kind == 1 {
+        return m.leader == own;
+    }
+    if m.kind == 2 {
+        return m.leader == own;
+    }
+    if m.kind == 3 {
+        return false;
+    }
+    if m.kind == 4 {
+        return true;
+    }
+    if m.kind == 6 {
+        return false;
+    }
+    false
+}
+
 // Refusals 5, and 4 before 6. Of another slot than the own one neither 4 nor 6 is asked.
 fn ready(process_count: u64, own: u64, core: FlatCore, f: FlatCall) -> u64
     ensures { λ r. ⌜ r ≡ frozenOutcome (ready own (thawedCore core) (thawedDelivery «process_count» own f)) ⌝ }
 {
     let message = f.message;
     let last_v = message.last_v;
-    let msg = twins::thaw_msg(message);
-    let slot = msg.get_slot();
+    let slot = slot_in(message);
     let at = twins::thaw_core(core);
     if delivery::is_ahead(at, slot) {
         return 5;
@@ -81,7 +225,7 @@ fn ready(process_count: u64, own: u64, core: FlatCore, f: FlatCall) -> u64
         if delivery::is_other_last(at, twins::thaw_value(last_v)) {
             return 4;
         }
-        if delivery::needs_value(own, msg) {
+        if needs_value(own, message) {
             if f.value_held == 0 {
                 return 6;
             }
@@ -92,23 +236,33 @@ fn ready(process_count: u64, own: u64, core: FlatCore, f: FlatCall) -> u64
     0
 }
 
-// A message: 2, 3, then 5, or 4 before 6.
-fn message_refusal(process_count: u64, own: u64, core: FlatCore, f: FlatCall) -> u64
-    ensures { λ r. ⌜ r ≡ frozenOutcome (admit «process_count» own (thawedCore core) (thawedDelivery «process_count» own f)) ⌝ }
+fn ready_in(process_count: u64, own: u64, core: &[u64; 18], call: &[u64; 25]) -> u64
+    ensures { λ r. ⌜ r ≡ frozenOutcome (ready own (thawedCore (coreOf (now (core .entry)))) (thawedDelivery «process_count» own (callOf (now (call .entry))))) ⌝ }
 {
-    if !numbers_fit(process_count, own, f) {
-        return 2;
+    ready(
+        process_count,
+        own,
+        arrays::core_in(core),
+        arrays::call_in(call),
+    )
+}
+
+// A message: 2, 3, then 5, or 4 before 6.
+fn message_refusal(process_count: u64, own: u64, core: &[u64; 18], call: &[u64; 25]) -> u64
+    ensures { λ r. ⌜ r ≡ frozenOutcome (admit «process_count» own (thawedCore (coreOf (now (core .entry)))) (thawedDelivery «process_count» own (callOf (now (call .entry))))) ⌝ }
+{
+    let number = unfit(process_count, own, call);
+    if number != 0 {
+        return number;
     }
-    if !processes_fit(process_count, own, f) {
-        return 3;
-    }
-    ready(process_count, own, core, f)
+    ready_in(process_count, own, core, call)
 }
 
 // A proposal and a new read are refused for their numbers.
-fn call_refusal(process_count: u64, own: u64, core: FlatCore, f: FlatCall) -> u64
-    ensures { λ r. ⌜ r ≡ frozenOutcome (admissionOf «process_count» own (thawedCore core) (thawedCall «process_count» own f)) ⌝ }
+fn call_refusal(process_count: u64, own: u64, core: &[u64; 18], call: &[u64; 25]) -> u64
+    ensures { λ r. ⌜ r ≡ frozenOutcome (admissionOf «process_count» own (thawedCore (coreOf (now (core .entry)))) (thawedCall «process_count» own (callOf (now (call .entry))))) ⌝ }
 {
+    let f = arrays::call_in(call);
     if f.kind == 0 {
         if limits::is_number(f.v) {
             return 0;
@@ -124,20 +278,22 @@ fn call_refusal(process_count: u64, own: u64, core: FlatCore, f: FlatCall) -> u6
         }
         return 2;
     }
-    message_refusal(process_count, own, core, f)
+    message_refusal(process_count, own, core, call)
 }
 
 // The number with which a call is refused before it is handled, or 0: 1 of a shard that is not made, 2 of one whose slots are spent, and then that of
 // the call.
-pub fn refusal(setup: Setup, core: FlatCore, f: FlatCall) -> u64
-    ensures { λ r. ⌜ r ≡ frozenOutcome (ifMade (thawedMade (setup .made) (setup .mode)) (setup .«process_count») (setup .«my_pid») (thawedCore core) (thawedCall (setup .«process_count») (setup .«my_pid») f)) ⌝ }
+pub fn refusal(setup: &[u64; 10], core: &[u64; 18], call: &[u64; 25]) -> u64
+    ensures { λ r. ⌜ r ≡ refusalOf (setupOf (now (setup .entry))) (coreOf (now (core .entry))) (callOf (now (call .entry))) ⌝ }
 {
-    if setup.mode <= 5 {
-        if setup.made == 0 {
-            if core.slot >= 9223372036854775807 {
+    let s = arrays::setup_in(setup);
+    let c = arrays::core_in(core);
+    if s.mode <= 5 {
+        if s.made == 0 {
+            if c.slot >= 9223372036854775807 {
                 return 2;
             }
-            return call_refusal(setup.process_count, setup.my_pid, core, f);
+            return call_refusal(s.process_count, s.my_pid, core, call);
         }
         return 1;
     }
@@ -153,7 +309,7 @@ pub fn asked_of(setup: Setup) -> Asked
     let member = Member {
         my_pid: setup.my_pid,
         replica: sets::contains(setup.alive_replicas, setup.my_pid),
-        quorums: quorum::row(setup.replica_count),
+        quorums: quorum::ruled(setup.replica_count),
     };
     Asked {
         member,
@@ -175,7 +331,7 @@ fn look_up(table: &[u64; 64], p: u64) -> u64
 }
 
 // The process that gathers the promises of a leader's round: in Pando the leader's delegate, and else the leader.
-fn delegate(delegates: &[u64; 64], setup: Setup, leader: u64) -> u64
+pub fn delegate(delegates: &[u64; 64], setup: Setup, leader: u64) -> u64
     ensures { λ r. ⌜ r ≡ delegateOf (thawedSettings (settingsOf setup [] (now (delegates .entry)))) (thawedMode (setup .mode)) leader ⌝ }
 {
     let mode = twins::thaw_mode(setup.mode);

@@ -224,7 +224,7 @@ pub fn thaw_set(f: FlatOption) -> OptionalSet
     OptionalSet::Set(f.n)
 }
 
-fn thaw_round(f: FlatRound) -> OptionalRound
+pub fn thaw_round(f: FlatRound) -> OptionalRound
     ensures { λ r. ⌜ r ≡ thawedRound f ⌝ }
 {
     if f.given == 0 {
@@ -236,7 +236,7 @@ fn thaw_round(f: FlatRound) -> OptionalRound
     })
 }
 
-fn thaw_promise(f: FlatPromise) -> RoundV
+pub fn thaw_promise(f: FlatPromise) -> RoundV
     ensures { λ r. ⌜ r ≡ thawedPromise f ⌝ }
 {
     let round = f.accept_round;
@@ -252,7 +252,7 @@ fn thaw_promise(f: FlatPromise) -> RoundV
     }
 }
 
-fn thaw_held(f: FlatHeld) -> HeldPromise
+pub fn thaw_held(f: FlatHeld) -> HeldPromise
     ensures { λ r. ⌜ r ≡ thawedHeld f ⌝ }
 {
     let promise = f.promise;

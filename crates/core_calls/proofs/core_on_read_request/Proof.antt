@@ -13,8 +13,8 @@ returns : tie.Need-returns
 unfolding coreOnReadRequest
 returns c = simp (eq-eqb _ _ (c .before .if1 .taken), ← c .refuses-in .ensures)
 
-next-readable-requires : tie.Need-next-readable-requires
-next-readable-requires c κs = search needs
+read-answer-requires : tie.Need-read-answer-requires
+read-answer-requires c κs = search needs
 
 one-message-requires : tie.Need-one-message-requires
 one-message-requires c κs = search needs
@@ -24,7 +24,7 @@ sends-from-requires c κs = search needs
 
 returns-2 : tie.Need-returns-2
 unfolding coreOnReadRequest
-returns-2 c = simp (ne-eqb _ _ (c .before .before .before .if1 .left), ← c .before .before .next-readable .ensures, ← c .before .one-message .ensures, ← c .sends-from .ensures)
+returns-2 c = simp (ne-eqb _ _ (c .before .before .before .if1 .left), ← c .before .before .read-answer .ensures, ← c .before .one-message .ensures, ← c .sends-from .ensures)
 
 pub core-on-read-request-spec : {M : Type 1} → statement M
 core-on-read-request-spec =
@@ -32,7 +32,7 @@ core-on-read-request-spec =
     (tie.spec
     refuses-in-requires
     returns
-    next-readable-requires
+    read-answer-requires
     one-message-requires
     sends-from-requires
     returns-2)

@@ -11,12 +11,12 @@ enter-requires c κs = search needs
 goes-on-requires : tie.Need-goes-on-requires
 goes-on-requires c κs = search needs
 
-entered-requires : tie.Need-entered-requires
-entered-requires c κs = search needs
+in-fast-prepare-requires : tie.Need-in-fast-prepare-requires
+in-fast-prepare-requires c κs = search needs
 
 returns : tie.Need-returns
 unfolding onFastPrepare
-returns c = simp (← c .before .before .before .before .enter .ensures, ← c .before .before .before .goes-on .ensures, c .before .before .if1 .taken, ← c .entered .ensures)
+returns c = simp (← c .before .before .before .before .enter .ensures, ← c .before .before .before .goes-on .ensures, c .before .before .if1 .taken, ← c .in-fast-prepare .ensures)
 
 unchanged-requires : tie.Need-unchanged-requires
 unchanged-requires c κs = search needs
@@ -31,7 +31,7 @@ on-fast-prepare-spec =
     (tie.spec
     enter-requires
     goes-on-requires
-    entered-requires
+    in-fast-prepare-requires
     returns
     unchanged-requires
     returns-2)

@@ -1,24 +1,12 @@
 -- `quorum::row` meets its contract: each column has the rule's quorum at each place, and the place is that of the count.
 -- Assumes nothing.
-use mathlib.Core.Path.{_≡_, ap, _∙_}
-use Prim.Native.Nat.{ℕ, zero, suc, _+_, _-_, _<_}
+use mathlib.Core.Path.{_∙_}
+use Prim.Native.Nat.{_<_}
 use native.Mathlib.Omega.{arith}
 use borrow.Author.Needs.{needs}
-use Rattle.quorum.specs.Quorum.{ruleOf}
-use Rattle.quorum.specs.declared.QuorumRow.{QuorumRow}
+use Rattle.quorum.proofs.Rules.{equal, same-rule}
 use Rattle.quorum.proofs.row.Statement.{statement}
 use Rattle.quorum.proofs.row.Tie as tie
-
-abbrev quorums : ℕ → ℕ → ℕ → QuorumRow
-quorums m e f = record { majority = m; epaxos = e; fast = f }
-
-equal : {m m′ e e′ f f′ : ℕ} → m ≡ m′ → e ≡ e′ → f ≡ f′ → quorums m e f ≡ quorums m′ e′ f′
-equal p q r = cc
-
--- the row at place m - 1 is that of m replicas: at 0, where the difference stops, the rule at 1 agrees with the rule at 0
-same-rule : (m k : ℕ) → k ≡ m - 1 → ruleOf (k + 1) ≡ ruleOf m
-same-rule zero k e = ap (λ (j : ℕ). ruleOf (j + 1)) e
-same-rule (suc m) k e = let h : k + 1 ≡ suc m = omega arith in ap ruleOf h
 
 majority-column-requires : tie.Need-majority-column-requires
 majority-column-requires c κs = search needs

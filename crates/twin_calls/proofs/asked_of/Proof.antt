@@ -10,8 +10,8 @@ thaw-mode-requires c κs = search needs
 contains-requires : tie.Need-contains-requires
 contains-requires c κs = search needs
 
-row-requires : tie.Need-row-requires
-row-requires c κs = search needs
+ruled-requires : tie.Need-ruled-requires
+ruled-requires c κs = search needs
 
 starting-requires : tie.Need-starting-requires
 starting-requires c κs = search needs
@@ -20,7 +20,7 @@ thaw-set-requires : tie.Need-thaw-set-requires
 thaw-set-requires c κs = search needs
 
 returns : tie.Need-returns
-returns c = simp (← c .before .before .before .before .thaw-mode .ensures, ← c .before .before .before .contains .ensures, ← c .before .before .row .ensures, ← c .before .starting .ensures, ← c .thaw-set .ensures)
+returns c = simp (← c .before .before .before .before .thaw-mode .ensures, ← c .before .before .before .contains .ensures, ← c .before .before .ruled .ensures, ← c .before .starting .ensures, ← c .thaw-set .ensures)
 
 pub asked-of-spec : {M : Type 1} → statement M
 asked-of-spec =
@@ -28,7 +28,7 @@ asked-of-spec =
     (tie.spec
     thaw-mode-requires
     contains-requires
-    row-requires
+    ruled-requires
     starting-requires
     thaw-set-requires
     returns)

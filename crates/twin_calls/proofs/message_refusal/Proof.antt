@@ -1,40 +1,25 @@
 -- `twin_calls::message_refusal` meets its contract.
 -- Assumes nothing.
 use borrow.Author.Needs.{needs}
-use borrow.Author.Tests.{not-true, not-false}
-use Rattle.delivery.specs.Admit.{admit}
-use Rattle.twins.specs.Freeze.{frozenOutcome}
+use borrow.Author.Tests.{eq-eqb, ne-eqb}
+use denote.Ref.{now}
+use Rattle.arrays.specs.Arrays.{coreOf, callOf}
+use Rattle.twins.specs.Thaw.{thawedCore, thawedDelivery}
+use Rattle.twin_calls.proofs.Refusals.{message-refused, message-ready}
 use Rattle.twin_calls.proofs.message_refusal.Statement.{statement}
 use Rattle.twin_calls.proofs.message_refusal.Tie as tie
 
-numbers-fit-requires : tie.Need-numbers-fit-requires
-numbers-fit-requires c κs = search needs
+unfit-requires : tie.Need-unfit-requires
+unfit-requires c κs = search needs
 
 returns : tie.Need-returns
-unfolding admit frozenOutcome
-returns c = simp (← c .before .numbers-fit .ensures, not-true (c .before .numbers-fit .result) (c .if1 .taken))
+returns c = message-refused (c .before .before .args .process-count) (c .before .before .args .own) (thawedCore (coreOf (now (c .before .before .args .core)))) (thawedDelivery (c .before .before .args .process-count) (c .before .before .args .own) (callOf (now (c .before .before .args .call)))) (c .before .unfit .ensures) (ne-eqb _ _ (c .if1 .taken))
 
-processes-fit-requires : tie.Need-processes-fit-requires
-processes-fit-requires c κs = search needs
+ready-in-requires : tie.Need-ready-in-requires
+ready-in-requires c κs = search needs
 
 returns-2 : tie.Need-returns-2
-unfolding admit frozenOutcome
-returns-2 c = simp (← c .before .before .before .numbers-fit .ensures, not-false (c .before .before .before .numbers-fit .result) (c .before .before .if1 .left), ← c .before .processes-fit .ensures, not-true (c .before .processes-fit .result) (c .if2 .taken))
-
-ready-requires : tie.Need-ready-requires
-ready-requires c κs = search needs
-
-returns-3 : tie.Need-returns-3
-unfolding admit frozenOutcome
-returns-3 c = simp (← c .before .before .before .before .numbers-fit .ensures, not-false (c .before .before .before .before .numbers-fit .result) (c .before .before .before .if1 .left), ← c .before .before .processes-fit .ensures, not-false (c .before .before .processes-fit .result) (c .before .if2 .left), ← c .ready .ensures)
+returns-2 c = message-ready (c .before .before .before .args .process-count) (c .before .before .before .args .own) (thawedCore (coreOf (now (c .before .before .before .args .core)))) (thawedDelivery (c .before .before .before .args .process-count) (c .before .before .before .args .own) (callOf (now (c .before .before .before .args .call)))) (c .before .before .unfit .ensures) (eq-eqb _ _ (c .before .if1 .left)) (c .ready-in .ensures)
 
 pub message-refusal-spec : {M : Type 1} → statement M
-message-refusal-spec =
-    tie.close
-    (tie.spec
-    numbers-fit-requires
-    returns
-    processes-fit-requires
-    returns-2
-    ready-requires
-    returns-3)
+message-refusal-spec = tie.close (tie.spec unfit-requires returns ready-in-requires returns-2)

@@ -1,17 +1,14 @@
 -- `twin_calls::ready` meets its contract.
 -- Assumes nothing.
 use borrow.Author.Needs.{needs}
-use borrow.Author.Tests.{eq-eqb, ne-eqb}
 use Rattle.delivery.specs.Admit.{ready, otherLastValue, valueAwaited}
 use Rattle.twins.specs.Freeze.{frozenOutcome}
+use borrow.Author.Tests.{eq-eqb, ne-eqb}
 use Rattle.twin_calls.proofs.ready.Statement.{statement}
 use Rattle.twin_calls.proofs.ready.Tie as tie
 
-thaw-msg-requires : tie.Need-thaw-msg-requires
-thaw-msg-requires c κs = search needs
-
-get-slot-requires : tie.Need-get-slot-requires
-get-slot-requires c κs = search needs
+slot-in-requires : tie.Need-slot-in-requires
+slot-in-requires c κs = search needs
 
 thaw-core-requires : tie.Need-thaw-core-requires
 thaw-core-requires c κs = search needs
@@ -21,7 +18,7 @@ is-ahead-requires c κs = search needs
 
 returns : tie.Need-returns
 unfolding ready otherLastValue valueAwaited frozenOutcome
-returns c = simp (← c .before .before .before .before .thaw-msg .ensures, ← c .before .before .before .get-slot .ensures, ← c .before .before .thaw-core .ensures, ← c .before .is-ahead .ensures, c .if1 .taken)
+returns c = simp (← c .before .before .before .slot-in .ensures, ← c .before .before .thaw-core .ensures, ← c .before .is-ahead .ensures, c .if1 .taken)
 
 is-own-slot-requires : tie.Need-is-own-slot-requires
 is-own-slot-requires c κs = search needs
@@ -34,33 +31,32 @@ is-other-last-requires c κs = search needs
 
 returns-2 : tie.Need-returns-2
 unfolding ready otherLastValue valueAwaited frozenOutcome
-returns-2 c = simp (← c .before .before .before .before .before .before .before .before .before .thaw-msg .ensures, ← c .before .before .before .before .before .before .before .before .get-slot .ensures, ← c .before .before .before .before .before .before .before .thaw-core .ensures, ← c .before .before .before .before .before .before .is-ahead .ensures, c .before .before .before .before .before .if1 .left, ← c .before .before .before .before .is-own-slot .ensures, c .before .before .before .if2 .taken, ← c .before .before .thaw-value .ensures, ← c .before .is-other-last .ensures, c .if3 .taken)
+returns-2 c = simp (← c .before .before .before .before .before .before .before .before .slot-in .ensures, ← c .before .before .before .before .before .before .before .thaw-core .ensures, ← c .before .before .before .before .before .before .is-ahead .ensures, c .before .before .before .before .before .if1 .left, ← c .before .before .before .before .is-own-slot .ensures, c .before .before .before .if2 .taken, ← c .before .before .thaw-value .ensures, ← c .before .is-other-last .ensures, c .if3 .taken)
 
 needs-value-requires : tie.Need-needs-value-requires
 needs-value-requires c κs = search needs
 
 returns-3 : tie.Need-returns-3
 unfolding ready otherLastValue valueAwaited frozenOutcome
-returns-3 c = simp (← c .before .before .before .before .before .before .before .before .before .before .before .before .before .thaw-msg .ensures, ← c .before .before .before .before .before .before .before .before .before .before .before .before .get-slot .ensures, ← c .before .before .before .before .before .before .before .before .before .before .before .thaw-core .ensures, ← c .before .before .before .before .before .before .before .before .before .before .is-ahead .ensures, c .before .before .before .before .before .before .before .before .before .if1 .left, ← c .before .before .before .before .before .before .before .before .is-own-slot .ensures, c .before .before .before .before .before .before .before .if2 .taken, ← c .before .before .before .before .before .before .thaw-value .ensures, ← c .before .before .before .before .before .is-other-last .ensures, c .before .before .before .before .if3 .left, ← c .before .before .before .needs-value .ensures, c .before .before .if4 .taken, eq-eqb _ _ (c .if5 .taken))
+returns-3 c = simp (← c .before .before .before .before .before .before .before .before .before .before .before .before .slot-in .ensures, ← c .before .before .before .before .before .before .before .before .before .before .before .thaw-core .ensures, ← c .before .before .before .before .before .before .before .before .before .before .is-ahead .ensures, c .before .before .before .before .before .before .before .before .before .if1 .left, ← c .before .before .before .before .before .before .before .before .is-own-slot .ensures, c .before .before .before .before .before .before .before .if2 .taken, ← c .before .before .before .before .before .before .thaw-value .ensures, ← c .before .before .before .before .before .is-other-last .ensures, c .before .before .before .before .if3 .left, ← c .before .before .before .needs-value .ensures, c .before .before .if4 .taken, eq-eqb _ _ (c .if5 .taken))
 
 returns-4 : tie.Need-returns-4
 unfolding ready otherLastValue valueAwaited frozenOutcome
-returns-4 c = simp (← c .before .before .before .before .before .before .before .before .before .before .before .before .before .thaw-msg .ensures, ← c .before .before .before .before .before .before .before .before .before .before .before .before .get-slot .ensures, ← c .before .before .before .before .before .before .before .before .before .before .before .thaw-core .ensures, ← c .before .before .before .before .before .before .before .before .before .before .is-ahead .ensures, c .before .before .before .before .before .before .before .before .before .if1 .left, ← c .before .before .before .before .before .before .before .before .is-own-slot .ensures, c .before .before .before .before .before .before .before .if2 .taken, ← c .before .before .before .before .before .before .thaw-value .ensures, ← c .before .before .before .before .before .is-other-last .ensures, c .before .before .before .before .if3 .left, ← c .before .before .before .needs-value .ensures, c .before .before .if4 .taken, ne-eqb _ _ (c .if5 .left))
+returns-4 c = simp (← c .before .before .before .before .before .before .before .before .before .before .before .before .slot-in .ensures, ← c .before .before .before .before .before .before .before .before .before .before .before .thaw-core .ensures, ← c .before .before .before .before .before .before .before .before .before .before .is-ahead .ensures, c .before .before .before .before .before .before .before .before .before .if1 .left, ← c .before .before .before .before .before .before .before .before .is-own-slot .ensures, c .before .before .before .before .before .before .before .if2 .taken, ← c .before .before .before .before .before .before .thaw-value .ensures, ← c .before .before .before .before .before .is-other-last .ensures, c .before .before .before .before .if3 .left, ← c .before .before .before .needs-value .ensures, c .before .before .if4 .taken, ne-eqb _ _ (c .if5 .left))
 
 returns-5 : tie.Need-returns-5
 unfolding ready otherLastValue valueAwaited frozenOutcome
-returns-5 c = simp (← c .before .before .before .before .before .before .before .before .before .before .before .thaw-msg .ensures, ← c .before .before .before .before .before .before .before .before .before .before .get-slot .ensures, ← c .before .before .before .before .before .before .before .before .before .thaw-core .ensures, ← c .before .before .before .before .before .before .before .before .is-ahead .ensures, c .before .before .before .before .before .before .before .if1 .left, ← c .before .before .before .before .before .before .is-own-slot .ensures, c .before .before .before .before .before .if2 .taken, ← c .before .before .before .before .thaw-value .ensures, ← c .before .before .before .is-other-last .ensures, c .before .before .if3 .left, ← c .before .needs-value .ensures, c .if4 .left)
+returns-5 c = simp (← c .before .before .before .before .before .before .before .before .before .before .slot-in .ensures, ← c .before .before .before .before .before .before .before .before .before .thaw-core .ensures, ← c .before .before .before .before .before .before .before .before .is-ahead .ensures, c .before .before .before .before .before .before .before .if1 .left, ← c .before .before .before .before .before .before .is-own-slot .ensures, c .before .before .before .before .before .if2 .taken, ← c .before .before .before .before .thaw-value .ensures, ← c .before .before .before .is-other-last .ensures, c .before .before .if3 .left, ← c .before .needs-value .ensures, c .if4 .left)
 
 returns-6 : tie.Need-returns-6
 unfolding ready otherLastValue valueAwaited frozenOutcome
-returns-6 c = simp (← c .before .before .before .before .before .before .thaw-msg .ensures, ← c .before .before .before .before .before .get-slot .ensures, ← c .before .before .before .before .thaw-core .ensures, ← c .before .before .before .is-ahead .ensures, c .before .before .if1 .left, ← c .before .is-own-slot .ensures, c .if2 .left)
+returns-6 c = simp (← c .before .before .before .before .before .slot-in .ensures, ← c .before .before .before .before .thaw-core .ensures, ← c .before .before .before .is-ahead .ensures, c .before .before .if1 .left, ← c .before .is-own-slot .ensures, c .if2 .left)
 
 pub ready-spec : {M : Type 1} → statement M
 ready-spec =
     tie.close
     (tie.spec
-    thaw-msg-requires
-    get-slot-requires
+    slot-in-requires
     thaw-core-requires
     is-ahead-requires
     returns
