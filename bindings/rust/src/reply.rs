@@ -188,7 +188,7 @@ impl Reply {
     }
 }
 
-pub(crate) fn outcome(number: u64) -> Result<(), Refusal> {
+fn outcome(number: u64) -> Result<(), Refusal> {
     Refusal::from_number(number).map_or(Ok(()), Err)
 }
 

@@ -1,7 +1,7 @@
 //! A shard, owned.
 use crate::call::{Call, Delivery};
 use crate::message::{PaxosRound, RoundV, option, promise, round};
-use crate::reply::{OpenRead, Refusal, Reply, open_read, outcome, reply};
+use crate::reply::{OpenRead, Refusal, Reply, open_read, reply};
 use crate::settings::Settings;
 use crate::sys::{self, FlatReply, FlatShard};
 
@@ -32,9 +32,12 @@ impl Shard {
         Shard { twin }
     }
 
-    /// Whether the shard is made.
+    /// Whether the shard is made, as its calls ask it: a twin with a mode that there is not is outside the limits too.
     pub fn made(&self) -> Result<(), Refusal> {
-        outcome(self.twin.made)
+        if self.twin.made == 0 && self.twin.settings.mode <= 5 {
+            return Ok(());
+        }
+        Err(Refusal::SettingsOutsideLimits)
     }
 
     /// A call. The reply is all that the host has to act on.

@@ -4,7 +4,7 @@ mod numbers;
 mod support;
 
 use chanbook_shard::sys::{self, FlatCall, FlatReply, FlatShard};
-use chanbook_shard::{Call, PFModeSetting, Settings, Shard};
+use chanbook_shard::{Call, PFModeSetting, Refusal, Settings, Shard};
 use numbers::{AT_LIMITS, any_number};
 use std::collections::BTreeSet;
 use support::{Group, Random, all_modes, five};
@@ -115,8 +115,10 @@ fn the_readers_take_a_shard_of_any_numbers() {
         let twin = FlatShard::from_numbers(std::array::from_fn(|_| any_number(&mut random)));
         let mut shard = Shard::from_twin(Box::new(twin));
         assert!(shard.open_reads().count() <= 128);
-        let _ = (shard.made(), shard.slot(), shard.last_v(), shard.round(), shard.max_rv());
-        let _ = shard.propose(any_number(&mut random));
+        let _ = (shard.slot(), shard.last_v(), shard.round(), shard.max_rv());
+        let made = shard.made();
+        let outcome = shard.propose(any_number(&mut random)).outcome;
+        assert_eq!(made.is_err(), outcome == Err(Refusal::SettingsOutsideLimits));
     }
 }
 
@@ -128,5 +130,6 @@ fn a_mode_that_there_is_not_is_outside_the_limits() {
         settings.mode = mode;
         assert_eq!(sys::chanbook_shard_new(&mut shard, settings), 1);
         assert_eq!(checked(&shard, Call::Propose(1).into()), 1);
+        assert_eq!(Shard::from_twin(Box::new(shard)).made(), Err(Refusal::SettingsOutsideLimits));
     }
 }
