@@ -9,7 +9,7 @@ use std::time::Instant;
 /// Shards in one state, each of which gets the same call between two readings of the clock, and is then put back.
 pub struct Prepared {
     shards: Vec<Shard>,
-    twins: Vec<FlatShard>,
+    flat_shards: Vec<FlatShard>,
     before: FlatState,
     /// Whether calls of this kind write to the table of the reads, which has to be put back then.
     writes_table: bool,
@@ -22,12 +22,12 @@ impl Prepared {
         for call in before {
             assert_eq!(shard.call(*call).outcome, Ok(()));
         }
-        let before = shard.twin().state;
-        let twins = vec![*shard.twin(); count];
+        let before = shard.flat().state;
+        let flat_shards = vec![*shard.flat(); count];
         let mut after = shard.clone();
         after.call(*call);
-        let writes_table = after.twin().state.table != before.table;
-        Prepared { shards: vec![shard; count], twins, before, writes_table, call: *call }
+        let writes_table = after.flat().state.table != before.table;
+        Prepared { shards: vec![shard; count], flat_shards, before, writes_table, call: *call }
     }
 
     /// What one call does: how far the slot goes, how many reads are open after it, whether it sends; and its refusal's number or 0.
@@ -51,15 +51,15 @@ impl Prepared {
 
     /// All calls fill the same reply.
     fn timed(&mut self, call_on: impl Fn(&mut FlatShard, &FlatCall, &mut FlatReply)) -> u128 {
-        let calls: Vec<FlatCall> = vec![self.call.into(); self.twins.len()];
+        let calls: Vec<FlatCall> = vec![self.call.into(); self.flat_shards.len()];
         let mut reply = FlatReply::default();
         let begin = Instant::now();
-        for (shard, call) in self.twins.iter_mut().zip(&calls) {
+        for (shard, call) in self.flat_shards.iter_mut().zip(&calls) {
             call_on(shard, call, &mut reply);
             black_box(&reply);
         }
         let time = begin.elapsed().as_nanos();
-        for shard in &mut self.twins {
+        for shard in &mut self.flat_shards {
             shard.state.rounds = self.before.rounds;
             if self.writes_table {
                 shard.state.table = self.before.table;
@@ -77,16 +77,17 @@ impl Prepared {
         }
         let time = begin.elapsed().as_nanos();
         for shard in &mut self.shards {
-            let mut twin = *shard.twin();
-            twin.state = self.before;
-            *shard = Shard::from_twin(Box::new(twin));
+            let mut flat = *shard.flat();
+            flat.state = self.before;
+            *shard = Shard::from_flat(Box::new(flat form));
         }
         time
     }
 }
 
 fn by_value(shard: &mut FlatShard, call: &FlatCall, reply: &mut FlatReply) {
-    *reply = sys::chanbook_shard_call_by_value(shard, *call);
+    let answer = sys::chanbook_shard_call(*shard, *call);
+    (*shard, *reply) = (answer.shard, answer.reply);
 }
 
 /// A group of five, whose member 0 proposes slot after slot; every message is delivered, in the order of sending.
@@ -130,7 +131,7 @@ impl Cycle {
     }
 
     fn run_by(&mut self, call_on: impl Fn(&mut FlatShard, &FlatCall, &mut FlatReply), slots: u64) -> (u128, u64) {
-        let mut group: Vec<FlatShard> = self.members().iter().map(|shard| *shard.twin()).collect();
+        let mut group: Vec<FlatShard> = self.members().iter().map(|shard| *shard.flat()).collect();
         let mut reply = FlatReply::default();
         let (mut calls, mut commits) = (0, 0);
         let begin = Instant::now();

@@ -1,6 +1,6 @@
 //! `oracle swift`: a legal run in which the Rust's SwiftPaxos commits two values in one slot (docs/DIFFERENCES.md cites it).
-//! `swift_answered(src, my_pid, v, ..)` books the leader's Accept under the own number, whatever its value, and `swift_can_commit` never
-//! compares `swift_leader_answer` with the value.
+//! `process_answers_at_swift_paxos_client` hands the own number to `swift_answered` as the proposer of the leader's Accept, whatever its value,
+//! and `swift_can_commit` does not compare `swift_leader_answer` with the value that is committed.
 use crate::calls::{Call, Commit, Frame, Line, Message, Mode, Outgoing, Settings, Words};
 use crate::printer::push_line;
 use crate::recording::Recorder;
@@ -12,9 +12,11 @@ struct Run {
     commits: Vec<(usize, Commit)>,
 }
 
-/// 12 was asked for at member 2, and 13 at member 0.
+const PROCESS_COUNT: usize = 3;
+
+/// What the Rust's own `get_requester` answers: 2 for the value 10, and 0 for the value 6.
 fn requester(v: Option<usize>) -> Option<usize> {
-    v.map(|v| if v == 12 { 2 } else { 0 })
+    v.filter(|v| v % 2 == 0).map(|v| (v >> 1) % PROCESS_COUNT)
 }
 
 impl Run {
@@ -47,7 +49,7 @@ impl Run {
 /// Whether both values were committed in slot 0.
 pub fn run() -> bool {
     let settings = |my_pid| Settings {
-        process_count: 3,
+        process_count: PROCESS_COUNT,
         replica_count: 2,
         my_pid,
         alive_replicas: 0b011,
@@ -55,20 +57,20 @@ pub fn run() -> bool {
         mode: Mode::SwiftPaxos,
         quorum: None,
         has_committers: true,
-        committers: vec![2, 2, 2],
+        committers: vec![2; PROCESS_COUNT],
         delegates: vec![],
     };
-    let members = (0..3).map(|my_pid| Recorder::new(&settings(my_pid))).collect();
-    let mut run = Run { members, sent: vec![vec![]; 3], commits: vec![] };
+    let members = (0..PROCESS_COUNT).map(|my_pid| Recorder::new(&settings(my_pid))).collect();
+    let mut run = Run { members, sent: vec![vec![]; PROCESS_COUNT], commits: vec![] };
     let is_prepare = |message: &Message| matches!(message, Message::Prepare { .. });
     let is_accept = |message: &Message| matches!(message, Message::Accept { .. });
-    run.call(2, &Call::Propose(12));
-    run.call(0, &Call::Propose(13));
+    run.call(2, &Call::Propose(10));
+    run.call(0, &Call::Propose(6));
     run.deliver(0, 2, is_accept);
     run.deliver(2, 1, is_prepare);
     run.deliver(1, 2, is_prepare);
     run.deliver(0, 1, is_accept);
     run.deliver(1, 0, is_accept);
     let committed = |member, v| run.commits.iter().any(|(who, commit)| *who == member && commit.slot == 0 && commit.v == v);
-    committed(2, 12) && committed(0, 13)
+    committed(2, 10) && committed(0, 6)
 }

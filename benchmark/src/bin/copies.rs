@@ -53,11 +53,11 @@ fn main() {
         for call in &case.before {
             shard.call(*call);
         }
-        let mut twin = *shard.twin();
+        let mut flat = *shard.flat();
         let call = FlatCall::from(case.call);
         (COPIES.store(0, Ordering::Relaxed), BYTES.store(0, Ordering::Relaxed));
         COUNTS.store(true, Ordering::Relaxed);
-        sys::chanbook_call(&mut twin, &call, &mut reply);
+        sys::chanbook_call(&mut flat, &call, &mut reply);
         COUNTS.store(false, Ordering::Relaxed);
         assert_eq!(reply.outcome != 0, case.refused, "{}", case.name);
         println!("| {} | {} | {} |", case.name, COPIES.load(Ordering::Relaxed), BYTES.load(Ordering::Relaxed));

@@ -13,7 +13,7 @@ pub struct Said {
     pub fast: bool,
 }
 
-/// A message that comes in, with the host's words.
+/// A message that comes in, with what the host adds.
 #[derive(Clone, Copy, Debug, PartialEq, Eq, Hash)]
 pub struct Delivery {
     /// The message.

@@ -1,5 +1,5 @@
 //! Chanbook's shard engine for a host in Rust. The engine is written in Rattle and proved; this crate links it and turns its numbers into Rust's
-//! enums. Nothing is decided here.
+//! enums. Nothing is decided here but which of two proved functions takes a call ([`sys::chanbook_call`]).
 //!
 //! A host makes a [`Shard`] from [`Settings`], hands it calls ([`Call`]) and acts on each [`Reply`]: it sends the messages, applies the
 //! commit and answers the reads. Sockets, command bytes, forwarding and the numbers that stand for values are the host's.
@@ -13,10 +13,15 @@
 //!   within a process the compiler sees to it; a host that keeps shards elsewhere never brings back an older one.
 //! - A message is handed in only where it was sent: as an earlier call gave it, unchanged, on a member that it was sent to. It may be handed in any
 //!   number of times, late, in any order, or never.
-//! - A member that stops gets no more calls, unless its shard is as its last call left it.
+//! - A member that stops gets no more calls, unless its shard is as its last call left it. A host that keeps shards over a restart stores the shard
+//!   before it sends what the call handed back: else the group has heard what the stored shard does not know.
 //!
 //! What the host says beside a message ([`Said`]) may be anything. Agreement holds of Paxos, MultiPaxos, MultiPaxos3P and Pando.
-//! Nothing is claimed about progress: a host hands a lost message in again, and proposes again what was not committed.
+//!
+//! Nothing is claimed about progress. A member proposes once in a slot, and where another's proposal was heard it gets 11; in MultiPaxos nobody stands in
+//! for the first leader. A host that kept a lost message hands it in again, and proposes in a later slot what was not committed.
+//!
+//! A read is served once a majority has answered, and each response counts one, as in the original: a host hands a `ReadResponse` in once.
 //!
 //! # Example
 //!

@@ -34,7 +34,8 @@ pub enum Refusal {
     AcceptUnlikeHeld = 9,
     /// A process answered a second time on the fast path.
     SecondFastAnswer = 10,
-    /// The shard may not propose now. The host proposes again in a later slot.
+    /// The shard may not propose now, and in MultiPaxos another than the leader never may. The host forwards the command, or proposes again in a
+    /// later slot.
     ProposalNotAllowed = 11,
     /// 128 reads are open, or the read numbers are spent.
     NoRoomForRead = 12,
@@ -78,7 +79,7 @@ impl fmt::Display for Refusal {
             Refusal::SlotAhead => "the slot is ahead",
             Refusal::ValueNotHeld => "the value is not held",
             Refusal::SourceNotLive => "the source is not a live replica",
-            Refusal::Panic => "a message that the handler cannot meet here",
+            Refusal::Panic => "the Rust original panics on this message",
             Refusal::AcceptUnlikeHeld => "an accept unlike the held one",
             Refusal::SecondFastAnswer => "a second fast answer from one process",
             Refusal::ProposalNotAllowed => "no proposal is allowed now",
@@ -164,7 +165,7 @@ pub struct ServedRead {
     pub tag: u64,
     /// The slot less the arrival slot, or 0.
     pub waited_for: u64,
-    /// The host's fast mark.
+    /// The host's fast mark of the response that served it; no where a commit did.
     pub fast: bool,
 }
 
@@ -189,7 +190,10 @@ impl Reply {
 }
 
 fn outcome(number: u64) -> Result<(), Refusal> {
-    Refusal::from_number(number).map_or(Ok(()), Err)
+    match number {
+        0 => Ok(()),
+        n => Err(Refusal::from_number(n).unwrap_or_else(|| unreachable!("the engine refuses with 1 to 12, not with {n}"))),
+    }
 }
 
 fn outgoing(f: &FlatOutgoing) -> Option<Outgoing> {

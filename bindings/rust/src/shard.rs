@@ -21,20 +21,18 @@ use crate::sys::{self, FlatReply, FlatShard};
 /// ```
 #[derive(Clone, Debug, PartialEq, Eq)]
 pub struct Shard {
-    twin: Box<FlatShard>,
+    flat: Box<FlatShard>,
 }
 
 impl Shard {
     /// A new shard, at slot 0 and with no read open. Where the settings are outside the limits it is not made, and refuses every call with 1.
     pub fn new(settings: &Settings) -> Shard {
-        let mut twin = Box::new(FlatShard::from_numbers([0; FlatShard::NUMBERS]));
-        sys::chanbook_shard_new(&mut twin, settings.into());
-        Shard { twin }
+        Shard { flat: Box::new(sys::chanbook_shard_new(settings.into())) }
     }
 
-    /// Whether the shard is made, as its calls ask it: a twin with a mode that there is not is outside the limits too.
+    /// Whether the shard is made, as its calls ask it. A shard read back with an unknown mode is not made either.
     pub fn made(&self) -> Result<(), Refusal> {
-        if self.twin.made == 0 && self.twin.settings.mode <= 5 {
+        if self.flat.made == 0 && self.flat.settings.mode <= 5 {
             return Ok(());
         }
         Err(Refusal::SettingsOutsideLimits)
@@ -43,8 +41,8 @@ impl Shard {
     /// A call. The reply is all that the host has to act on.
     pub fn call(&mut self, call: Call) -> Reply {
         let mut flat = FlatReply::default();
-        sys::chanbook_call(&mut self.twin, &call.into(), &mut flat);
-        reply(&flat, &self.twin.state.table.served)
+        sys::chanbook_call(&mut self.flat, &call.into(), &mut flat);
+        reply(&flat, &self.flat.state.table.served)
     }
 
     /// Proposes a value in the shard's slot.
@@ -64,34 +62,34 @@ impl Shard {
 
     /// The slot that is being agreed on. Those before it are committed.
     pub fn slot(&self) -> u64 {
-        self.twin.state.rounds.core.slot
+        self.flat.state.rounds.core.slot
     }
 
     /// The value committed last, if there is one.
     pub fn last_v(&self) -> Option<u64> {
-        option(self.twin.state.rounds.core.last_v)
+        option(self.flat.state.rounds.core.last_v)
     }
 
     /// The round, if there is one.
     pub fn round(&self) -> Option<PaxosRound> {
-        round(self.twin.state.rounds.core.round)
+        round(self.flat.state.rounds.core.round)
     }
 
     /// The held promise, if there is one.
     pub fn max_rv(&self) -> Option<RoundV> {
-        let held = self.twin.state.rounds.core.max_rv;
+        let held = self.flat.state.rounds.core.max_rv;
         (held.given != 0).then(|| promise(held.promise))
     }
 
     /// The open reads, by number.
     pub fn open_reads(&self) -> impl Iterator<Item = OpenRead> {
-        let count = self.twin.state.rounds.core.open_count.min(128) as usize;
-        self.twin.state.table.reads[..count].iter().map(open_read)
+        let count = self.flat.state.rounds.core.open_count.min(128) as usize;
+        self.flat.state.table.reads[..count].iter().map(open_read)
     }
 
     /// The numbers of the shard, for a host that puts it aside.
-    pub fn twin(&self) -> &FlatShard {
-        &self.twin
+    pub fn flat(&self) -> &FlatShard {
+        &self.flat
     }
 
     /// A shard that was put aside. Whatever numbers it has, its calls end and are taken or refused; agreement is proved of a shard that goes
@@ -101,10 +99,10 @@ impl Shard {
     /// use chanbook_shard::{PFModeSetting, Settings, Shard};
     /// let mut shard = Shard::new(&Settings::all_live(3, 0, PFModeSetting::Paxos));
     /// shard.propose(10);
-    /// let aside = *shard.twin();
-    /// assert_eq!(Shard::from_twin(Box::new(aside)), shard);
+    /// let aside = *shard.flat();
+    /// assert_eq!(Shard::from_flat(Box::new(aside)), shard);
     /// ```
-    pub fn from_twin(twin: Box<FlatShard>) -> Shard {
-        Shard { twin }
+    pub fn from_flat(flat: Box<FlatShard>) -> Shard {
+        Shard { flat }
     }
 }

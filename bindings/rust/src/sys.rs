@@ -1,5 +1,5 @@
-//! The twins that cross `extern "C"`, as crates/twins and crates/flat declare them, and the functions that crates/host, crates/direct and
-//! crates/direct_fast export. A twin has numbers only: 0 is no and any other number yes. Every twin stands for some shard or call, whatever numbers
+//! The flat forms that cross `extern "C"`, as crates/flat and crates/host declare them, and the functions that crates/host, crates/direct and
+//! crates/direct_fast export. A flat form has numbers only: 0 is no and any other number yes. Every flat form stands for some shard or call, whatever numbers
 //! are in it, and so a call on one is safe.
 //!
 //! [`Shard`](crate::Shard) is the interface for a host; these are for whoever keeps shards in memory of their own.
@@ -131,7 +131,7 @@ pub struct FlatState {
     pub table: FlatTable,
 }
 
-/// `made` is 0, or the number with which an unmade shard refuses every call.
+/// `made` is 0 for a shard that is made. With any other number it refuses every call with 1; the engine writes 1.
 #[repr(C)]
 #[derive(Clone, Copy, Debug, PartialEq, Eq)]
 pub struct FlatShard {
@@ -202,15 +202,21 @@ pub struct FlatReply {
     pub served_count: u64,
 }
 
+/// A shard after a call, and the call's reply.
+#[repr(C)]
+#[derive(Clone, Copy, Debug, PartialEq, Eq)]
+pub struct FlatAnswer {
+    pub shard: FlatShard,
+    pub reply: FlatReply,
+}
+
 unsafe extern "C" {
-    /// Begins a shard in place, whatever stood there. Gives 0, or 1 where the settings are outside the limits.
-    pub safe fn chanbook_shard_new(shard: &mut FlatShard, settings: FlatSettings) -> u64;
+    /// A shard as it begins. Its `made` is 0, or 1 where the settings are outside the limits.
+    pub safe fn chanbook_shard_new(settings: FlatSettings) -> FlatShard;
 
-    /// A call on a shard over whole twins: slower than [`chanbook_call`], for comparison. Where it is refused, the shard stays as it was.
-    pub safe fn chanbook_shard_call(shard: &mut FlatShard, call: FlatCall) -> FlatReply;
-
-    /// The same call by value, with a copy of the whole shard: slower still.
-    pub safe fn chanbook_shard_call_by_value(shard: &mut FlatShard, call: FlatCall) -> FlatReply;
+    /// A call by value: the shard afterwards and the reply. It copies the shard; a host takes [`chanbook_call`], and the tests compare the two. Where it
+    /// is refused, the shard is as it was.
+    pub safe fn chanbook_shard_call(shard: FlatShard, call: FlatCall) -> FlatAnswer;
 
     /// A call in place, on parts of a shard, of a call and of a reply as rows of numbers: `setup` has the numbers of a shard up to
     /// `has_committers`, and `rest` a reply's commit and `served_count`. Gives 0 where the call is taken; of a message that is not sent only the
@@ -259,6 +265,10 @@ unsafe extern "C" {
     ) -> u64;
 }
 
+/// The modes with a fast path, as numbers.
+const EPAXOS: u64 = 3;
+const SWIFT_PAXOS: u64 = 5;
+
 /// [`chanbook_direct_call`] or [`chanbook_fast_call`] does not take the call: it has to go to the other.
 pub const PASSED_ON: u64 = 255;
 
@@ -280,7 +290,7 @@ pub fn chanbook_call(shard: &mut FlatShard, call: &FlatCall, reply: &mut FlatRep
 /// By the function that takes the call. In this order [`chanbook_direct_call`] never passes on.
 #[inline]
 fn outcome(shard: &mut FlatShard, call: &FlatCall, reply: &mut FlatReply) -> u64 {
-    if matches!(shard.settings.mode, 3 | 5) {
+    if matches!(shard.settings.mode, EPAXOS | SWIFT_PAXOS) {
         let number = fast_call(shard, call, reply);
         if number != PASSED_ON {
             return number;
@@ -341,20 +351,20 @@ fn direct_call(shard: &mut FlatShard, call: &FlatCall, reply: &mut FlatReply) ->
     }
 }
 
-/// The numbers of a twin, or of a list of twins, as a row.
+/// The numbers of a flat form, or of a list of flat forms, as a row.
 fn row<T, const LENGTH: usize>(part: *mut T) -> *mut [u64; LENGTH] {
     const { assert!(size_of::<T>() == LENGTH * size_of::<u64>()) };
     part.cast()
 }
 
 macro_rules! numbers {
-    ($twin:ty) => {
-        impl $twin {
+    ($flat:ty) => {
+        impl $flat {
             /// How many numbers it has.
-            pub const NUMBERS: usize = size_of::<$twin>() / size_of::<u64>();
+            pub const NUMBERS: usize = size_of::<$flat>() / size_of::<u64>();
 
-            /// The twin that has these numbers, in the order of its fields.
-            pub fn from_numbers(numbers: [u64; Self::NUMBERS]) -> $twin {
+            /// The flat form that has these numbers, in the order of its fields.
+            pub fn from_numbers(numbers: [u64; Self::NUMBERS]) -> $flat {
                 // Sound: both types have the same size and alignment, and every bit pattern is a value of both.
                 unsafe { std::mem::transmute(numbers) }
             }

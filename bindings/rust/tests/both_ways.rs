@@ -1,4 +1,4 @@
-//! Every call both ways: as a host makes it, which is by `chanbook_fast_call` or by `chanbook_direct_call`, and by `chanbook_shard_call` on a copy.
+//! Every call both ways: as a host makes it, which is by `chanbook_fast_call` or by `chanbook_direct_call`, and by value, by `chanbook_shard_call`.
 //! Outcome, sent messages, commit, served reads and the shard afterwards mean the same. The numbers need not be the same: any number but 0 is yes,
 //! and what stands under a `given` of 0 does not count. A call that is refused leaves every number of the shard, and of the reply all but those that
 //! say that there is nothing in it.
@@ -6,8 +6,8 @@ mod numbers;
 mod support;
 
 use chanbook_shard::sys::{
-    self, FlatCall, FlatCommit, FlatCore, FlatFast, FlatHeld, FlatMessage, FlatOption, FlatOutgoing, FlatPromise, FlatReply, FlatRound,
-    FlatServedRead, FlatShard,
+    self, FlatAnswer, FlatCall, FlatCommit, FlatCore, FlatFast, FlatHeld, FlatMessage, FlatOption, FlatOutgoing, FlatPromise, FlatReply,
+    FlatRound, FlatServedRead, FlatShard,
 };
 use chanbook_shard::{
     Call, ConsensusMessage, ConsensusMsg, Delivery, Destination, Outgoing, PFModeSetting, PaxosRound, ReadId, Refusal, Reply, RoundV, Said,
@@ -171,16 +171,17 @@ struct Met {
 
 impl BothWays {
     /// The reply is as if an earlier call had sent, committed and served.
-    fn new(twin: FlatShard) -> BothWays {
+    fn new(flat: FlatShard) -> BothWays {
         let sent = FlatOutgoing { kind: 1, to: 7, ..FlatOutgoing::default() };
         let commit = FlatCommit { given: 1, slot: 7, v: 7, fast: 1 };
         let reply = FlatReply { outcome: 7, first: sent, second: sent, third: sent, commit, served_count: 7 };
-        BothWays { copied: twin, in_crate: Shard::from_twin(Box::new(twin)), lent: twin, reply }
+        BothWays { copied: flat, in_crate: Shard::from_flat(Box::new(flat)), lent: flat, reply }
     }
 
     fn call(&mut self, call: FlatCall, met: &mut Met) {
         let (before, reply_before) = (self.lent, self.reply);
-        let expected = sys::chanbook_shard_call(&mut self.copied, call);
+        let FlatAnswer { shard, reply: expected } = sys::chanbook_shard_call(self.copied, call);
+        self.copied = shard;
         sys::chanbook_call(&mut self.lent, &call, &mut self.reply);
         assert_eq!(reply(&self.reply), expected, "{call:?}");
         assert_eq!(differences(&self.lent, &self.copied), [], "{call:?}");
@@ -204,7 +205,7 @@ impl BothWays {
         assert_eq!(flat_reply(&reply), *expected, "{call:?}");
         let served = &self.copied.state.table.served[..expected.served_count as usize];
         assert!(served.iter().map(served_read).eq(reply.served_reads), "{call:?}");
-        assert_eq!(differences(self.in_crate.twin(), &self.copied), [], "{call:?}");
+        assert_eq!(differences(self.in_crate.flat(), &self.copied), [], "{call:?}");
     }
 }
 
@@ -240,9 +241,9 @@ fn place_in_fast(random: &mut Random) -> usize {
 }
 
 /// A few numbers are others: of the setup, the core and the fast half, which decide most, or anywhere.
-fn damaged_shard(twin: &FlatShard, random: &mut Random) -> FlatShard {
+fn damaged_shard(flat: &FlatShard, random: &mut Random) -> FlatShard {
     let core = place(offset_of!(FlatShard, state.rounds.core));
-    let mut numbers = twin.numbers();
+    let mut numbers = flat.numbers();
     for _ in 0..=random.below(4) {
         let at = match random.below(6) {
             0 => random.below(place(offset_of!(FlatShard, settings.committers))),
@@ -276,15 +277,15 @@ fn any_settings(mode: PFModeSetting, random: &mut Random) -> Settings {
 }
 
 /// A call that a member of such a group may get: its slot, rounds and processes are near the shard's own.
-fn likely_call(twin: &FlatShard, random: &mut Random) -> FlatCall {
-    let core = &twin.state.rounds.core;
-    let process = |random: &mut Random| random.next() % twin.settings.process_count;
+fn likely_call(flat: &FlatShard, random: &mut Random) -> FlatCall {
+    let core = &flat.state.rounds.core;
+    let process = |random: &mut Random| random.next() % flat.settings.process_count;
     let near = |n: u64, random: &mut Random| if random.below(6) == 0 { n.wrapping_add(random.next() % 3).wrapping_sub(1) } else { n };
     let slot = near(core.slot, random);
     let v = random.next() % 4;
     let round = match random.below(4) {
         0 => PaxosRound { round_group: random.next() % 3, leader: process(random) },
-        1 => PaxosRound { round_group: random.next() % 3, leader: twin.settings.my_pid },
+        1 => PaxosRound { round_group: random.next() % 3, leader: flat.settings.my_pid },
         _ => PaxosRound { round_group: core.round.round_group, leader: core.round.leader },
     };
     let accept_round = (random.below(2) == 0).then_some(PaxosRound { round_group: 0, leader: process(random) });
@@ -358,7 +359,7 @@ fn fast_paths_in_groups_of_all_sizes() {
         let (mut met, mut committed) = (Met::default(), 0);
         for (count, my_pid) in SIZES.into_iter().flat_map(|count| [0, count / 2, count - 1].map(|my_pid| (count, my_pid))) {
             let settings = Settings::all_live(count, my_pid, fast_modes(count)[mode].clone());
-            let mut member = BothWays::new(*Shard::new(&settings).twin());
+            let mut member = BothWays::new(*Shard::new(&settings).flat());
             committed += (0..6).filter(|_| fast_slot(&mut member, proposers, &mut random, &mut met)).count();
         }
         let figures = (committed, met.fast_commits, met.fast_changes);
@@ -372,7 +373,7 @@ fn calls_of_a_group_and_damaged_ones_beside_them() {
     for mode in all_modes() {
         let mut met = Met::default();
         let mut group = Group::new(&five(mode.clone()), 21);
-        let mut members: Vec<BothWays> = group.shards.iter().map(|shard| BothWays::new(*shard.twin())).collect();
+        let mut members: Vec<BothWays> = group.shards.iter().map(|shard| BothWays::new(*shard.flat())).collect();
         let mut random = Random(22);
         for _ in 0..4000 {
             let (member, call) = group.next_call();
@@ -405,7 +406,7 @@ fn likely_calls_in_groups_of_all_sizes() {
         let settings = any_settings(mode, &mut random);
         let shard = Shard::new(&settings);
         assert_eq!(shard.made(), Ok(()), "{settings:?}");
-        let mut member = BothWays::new(*shard.twin());
+        let mut member = BothWays::new(*shard.flat());
         for _ in 0..300 {
             let call = likely_call(&member.lent, &mut random);
             member.call(call, &mut met);
@@ -419,7 +420,7 @@ fn full_tables_of_reads() {
     for mode in all_modes() {
         let mut met = Met::default();
         let mut random = Random(24);
-        let mut member = BothWays::new(*Shard::new(&five(mode)).twin());
+        let mut member = BothWays::new(*Shard::new(&five(mode)).flat());
         for step in 0..1500 {
             let core = member.lent.state.rounds.core;
             let oldest = member.lent.state.table.reads[0].id;
@@ -445,15 +446,15 @@ fn any_numbers() {
     let mut met = Met::default();
     let mut random = Random(25);
     for mode in all_modes() {
-        let made = *Shard::new(&five(mode)).twin();
+        let made = *Shard::new(&five(mode)).flat();
         for _ in 0..1000 {
-            let mut twin = FlatShard::from_numbers(std::array::from_fn(|_| any_number(&mut random)));
+            let mut flat = FlatShard::from_numbers(std::array::from_fn(|_| any_number(&mut random)));
             let any = FlatCall::from_numbers(std::array::from_fn(|_| any_number(&mut random)));
-            BothWays::new(twin).call(any, &mut met);
-            (twin.made, twin.settings) = (made.made, made.settings);
-            let likely = likely_call(&twin, &mut random);
+            BothWays::new(flat).call(any, &mut met);
+            (flat.made, flat.settings) = (made.made, made.settings);
+            let likely = likely_call(&flat, &mut random);
             for call in [any, likely, damaged_call(likely, &mut random)] {
-                BothWays::new(twin).call(call, &mut met);
+                BothWays::new(flat).call(call, &mut met);
             }
         }
     }

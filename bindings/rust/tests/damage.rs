@@ -3,7 +3,7 @@
 mod numbers;
 mod support;
 
-use chanbook_shard::sys::{self, FlatCall, FlatReply, FlatShard};
+use chanbook_shard::sys::{self, FlatAnswer, FlatCall, FlatReply, FlatSettings, FlatShard};
 use chanbook_shard::{Call, PFModeSetting, Refusal, Settings, Shard};
 use numbers::{AT_LIMITS, any_number};
 use std::collections::BTreeSet;
@@ -11,8 +11,7 @@ use support::{Group, Random, all_modes, five};
 
 /// The outcome of the call, once what must hold of every call was checked.
 fn checked(shard: &FlatShard, call: FlatCall) -> u64 {
-    let mut after = *shard;
-    let reply = sys::chanbook_shard_call(&mut after, call);
+    let FlatAnswer { shard: after, reply } = sys::chanbook_shard_call(*shard, call);
     assert!(reply.outcome <= 12, "{} on {call:?}", reply.outcome);
     if reply.outcome != 0 {
         assert_eq!(after.numbers(), shard.numbers(), "{call:?}");
@@ -56,7 +55,7 @@ fn each_number_of_a_frame_may_be_damaged() {
         let mut group = Group::new(&five(mode), 5);
         for _ in 0..120 {
             let (member, call) = group.next_call();
-            let shard = *group.shards[member].twin();
+            let shard = *group.shards[member].flat();
             outcomes.append(&mut damage_each_number(&shard, call.into(), &mut group.random));
             let _ = group.make(member, call);
             if group.random.below(10) == 0 {
@@ -78,7 +77,7 @@ fn a_frame_of_any_numbers() {
         for _ in 0..5000 {
             let member = group.random.below(5);
             let call = FlatCall::from_numbers(std::array::from_fn(|_| any_number(&mut random)));
-            checked(group.shards[member].twin(), call);
+            checked(group.shards[member].flat(), call);
         }
     }
 }
@@ -97,7 +96,7 @@ fn a_shard_of_any_numbers() {
 fn a_made_shard_with_a_state_of_any_numbers() {
     let mut random = Random(13);
     for mode in all_modes() {
-        let settings = *Shard::new(&five(mode)).twin();
+        let settings = *Shard::new(&five(mode)).flat();
         for _ in 0..2000 {
             let mut shard = FlatShard::from_numbers(std::array::from_fn(|_| any_number(&mut random)));
             shard.made = settings.made;
@@ -112,8 +111,8 @@ fn a_made_shard_with_a_state_of_any_numbers() {
 fn the_readers_take_a_shard_of_any_numbers() {
     let mut random = Random(14);
     for _ in 0..1000 {
-        let twin = FlatShard::from_numbers(std::array::from_fn(|_| any_number(&mut random)));
-        let mut shard = Shard::from_twin(Box::new(twin));
+        let flat = FlatShard::from_numbers(std::array::from_fn(|_| any_number(&mut random)));
+        let mut shard = Shard::from_flat(Box::new(flat));
         assert!(shard.open_reads().count() <= 128);
         let _ = (shard.slot(), shard.last_v(), shard.round(), shard.max_rv());
         let made = shard.made();
@@ -124,12 +123,11 @@ fn the_readers_take_a_shard_of_any_numbers() {
 
 #[test]
 fn a_mode_that_there_is_not_is_outside_the_limits() {
-    let mut shard = *Shard::new(&Settings::all_live(5, 0, PFModeSetting::Paxos)).twin();
+    let known = Shard::new(&Settings::all_live(5, 0, PFModeSetting::Paxos)).flat().settings;
     for mode in 6..9 {
-        let mut settings = shard.settings;
-        settings.mode = mode;
-        assert_eq!(sys::chanbook_shard_new(&mut shard, settings), 1);
+        let shard = sys::chanbook_shard_new(FlatSettings { mode, ..known });
+        assert_eq!(shard.made, 1);
         assert_eq!(checked(&shard, Call::Propose(1).into()), 1);
-        assert_eq!(Shard::from_twin(Box::new(shard)).made(), Err(Refusal::SettingsOutsideLimits));
+        assert_eq!(Shard::from_flat(Box::new(shard)).made(), Err(Refusal::SettingsOutsideLimits));
     }
 }

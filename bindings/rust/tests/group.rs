@@ -1,8 +1,8 @@
 //! A group of five commits a thousand slots while messages are lost, repeated and reordered; every log is equal.
 mod support;
 
-use chanbook_shard::{PFModeSetting, sys};
-use support::{Group, agreeing_modes, all_modes, five};
+use chanbook_shard::PFModeSetting;
+use support::{Group, agreeing_modes, five};
 
 const SLOTS: usize = 1000;
 
@@ -41,23 +41,4 @@ fn a_run_with_the_same_seed_is_the_same_run() {
     };
     assert_eq!(run(7), run(7));
     assert_ne!(run(7), run(8));
-}
-
-#[test]
-fn the_call_by_value_does_the_same() {
-    for mode in all_modes() {
-        let mut group = Group::new(&five(mode), 9);
-        for _ in 0..5000 {
-            let (member, call) = group.next_call();
-            let before = *group.shards[member].twin();
-            let answer = |call_in: fn(&mut sys::FlatShard, sys::FlatCall) -> sys::FlatReply| {
-                let mut shard = before;
-                let reply = call_in(&mut shard, call.into());
-                (reply, shard)
-            };
-            let expected = answer(|s, c| sys::chanbook_shard_call(s, c));
-            assert_eq!(answer(|s, c| sys::chanbook_shard_call_by_value(s, c)), expected);
-            let _ = group.make(member, call);
-        }
-    }
 }

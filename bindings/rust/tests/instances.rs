@@ -106,7 +106,7 @@ fn an_accept_heard_twice_counts_once_and_another_value_is_refused_with_9() {
         let delivery = Delivery::of(ConsensusMessage { msg, src: 1, last_v: None });
         let said = Said { requester: Some(3), ..delivery.said };
         let reply = shard.receive(Delivery { said, held_requester: Some(3), ..delivery });
-        let accepted = shard.twin().state.rounds.core.accepted_set;
+        let accepted = shard.flat().state.rounds.core.accepted_set;
         (reply.outcome, accepted.count_ones())
     };
     assert_eq!(hear(9), (Ok(()), 2));

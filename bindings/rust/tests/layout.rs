@@ -1,18 +1,18 @@
-//! The twins of this crate have the fields of crates/twins, of crates/flat and of the C header, in the same order and of the same types. All are numbers and
+//! The flat forms of this crate have the fields of crates/flat, of crates/host and of the C header, in the same order and of the same types. All are numbers and
 //! `#[repr(C)]`, and so equal fields are equal sizes and offsets. The two calls in place have the rows of the source and of the header, in the same
 //! order.
 
 use std::collections::BTreeMap;
 
 const MIRROR: &str = include_str!("../src/sys.rs");
-const TWINS: &str = include_str!("../../../crates/twins/src/lib.rt");
 const FLAT: &str = include_str!("../../../crates/flat/src/lib.rt");
+const HOST: &str = include_str!("../../../crates/host/src/lib.rt");
 const DIRECT: &str = include_str!("../../../crates/direct/src/lib.rt");
 const DIRECT_FAST: &str = include_str!("../../../crates/direct_fast/src/lib.rt");
 const HEADER: &str = include_str!("../../../crates/host/include/chanbook_shard.h");
 
 /// `FlatOpenRead` for `chanbook_open_read`.
-fn twin_of(c_name: &str) -> String {
+fn flat_of(c_name: &str) -> String {
     let words = c_name.trim_start_matches("chanbook_").split('_');
     let capital = |word: &str| word[..1].to_uppercase() + &word[1..];
     format!("Flat{}", words.map(capital).collect::<String>())
@@ -43,11 +43,11 @@ fn field_in_c(name: &str, line: &str) -> String {
     let (of, field) = declared.split_once(' ').expect("a type and a field");
     let of = match of {
         "uint64_t" => "u64".to_string(),
-        other => twin_of(other),
+        other => flat_of(other),
     };
     match field.trim_end_matches(']').split_once('[') {
-        None => format!("{}.{field}: {of}", twin_of(name)),
-        Some((field, length)) => format!("{}.{field}: [{of}; {length}]", twin_of(name)),
+        None => format!("{}.{field}: {of}", flat_of(name)),
+        Some((field, length)) => format!("{}.{field}: [{of}; {length}]", flat_of(name)),
     }
 }
 
@@ -101,14 +101,14 @@ fn by_struct(fields: Vec<String>) -> BTreeMap<String, Vec<String>> {
 }
 
 #[test]
-fn the_twins_are_those_of_the_source() {
-    let mut source = fields_in_rust(TWINS);
-    source.extend(fields_in_rust(FLAT));
+fn the_flat_forms_are_those_of_the_source() {
+    let mut source = fields_in_rust(FLAT);
+    source.extend(fields_in_rust(HOST));
     assert!(source.contains(&"FlatReply.served_count: u64".to_string()), "read to the last one");
     assert_eq!(by_struct(fields_in_rust(MIRROR)), by_struct(source));
 }
 
 #[test]
-fn the_twins_are_those_of_the_header() {
+fn the_flat_forms_are_those_of_the_header() {
     assert_eq!(fields_in_c(HEADER), fields_in_rust(MIRROR));
 }

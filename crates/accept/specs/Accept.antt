@@ -16,6 +16,7 @@ use Rattle.message.specs.declared.PaxosRound.{PaxosRound}
 use Rattle.message.specs.declared.Refusal.the-variants.{Panic}
 use Rattle.round_state.specs.Paxos.{paxosCanCommit, receiveAccept}
 use Rattle.round_state.specs.declared.PaxosState.{PaxosState}
+use Rattle.prepare.specs.Prepare.{offFastPath}
 use Rattle.steps.specs.Steps.{noMessages, oneMessage, twoMessages, also, sends, firstServed, heldV, withPaxos, leftFastPath, stays, continues, commits, refuses}
 use Rattle.steps.specs.declared.Asked.{Asked}
 use Rattle.steps.specs.declared.Core.{Core}
@@ -44,14 +45,14 @@ abbrev pub acceptTo : Asked → Core → PaxosRound → ℕ → Outgoing
 acceptTo a core round p = sends a core (One p) (Accept (core .slot) round (heldV (core .paxos .«max_rv»)))
 
 -- the committer hears it where it is neither the leader nor oneself
-unfoldable pub tellsThird : Asked → PaxosRound → ℕ → Bool
-tellsThird a round p = tellsCommitter (a .mode) && (not (eqb p (round .leader)) && not (eqb p (a .member .«my_pid»)))
+unfoldable pub committerHears : Asked → PaxosRound → ℕ → Bool
+committerHears a round p = tellsCommitter (a .mode) && (not (eqb p (round .leader)) && not (eqb p (a .member .«my_pid»)))
 
--- "Order of sending": to the committer, then to the leader
+-- answer_accept: to the committer, then to the leader
 unfoldable pub answerAccept : Asked → PaxosRound → Core → OptionalProcess → Messages
 answerAccept a round core NoProcess = oneMessage (acceptTo a core round (round .leader))
 answerAccept a round core (Process p) =
-    cond (tellsThird a round p) (twoMessages (acceptTo a core round p) (acceptTo a core round (round .leader)))
+    cond (committerHears a round p) (twoMessages (acceptTo a core round p) (acceptTo a core round (round .leader)))
     (oneMessage (acceptTo a core round (round .leader)))
 
 -- ---- the commit
@@ -64,10 +65,11 @@ commitMessage a core requester = sends a core (All (firstServed a requester)) (C
 unfoldable pub tellsCommit : Asked → Heard → PaxosRound → Bool
 tellsCommit a h round = cond (eqb (round .leader) (a .member .«my_pid»)) true (not (isProcess (h .requester) (a .member .«my_pid»)))
 
+-- with the Commit behind what was sent before, where it is told
 unfoldable pub commitMessages : Asked → Heard → PaxosRound → Core → Messages → Messages
 commitMessages a h round core messages = cond (tellsCommit a h round) (also messages (commitMessage a core (h .requester))) messages
 
--- a majority of accepts commits the value
+-- a majority of accepts commits the value: `if self.round_state.paxos_can_commit()`; from here the slot is off the fast path in every mode
 unfoldable pub tryCommit : Asked → Heard → PaxosRound → ℕ → Core → Messages → CoreStep
 tryCommit a h round v core messages =
     cond (paxosCanCommit (a .member) (core .paxos)) (commits v (leftFastPath core) (commitMessages a h round core messages)) (stays core messages)
@@ -88,6 +90,7 @@ follower a h round v core =
     cond (eqb (h .src) (h .delegate)) (answered a h round v core)
     (cond (isCommitter a h) (tryCommit a h round v core noMessages) (refuses Panic core))
 
+-- `if self.my_pid != round.leader`
 unfoldable pub accepted : Asked → Heard → PaxosRound → ℕ → Core → CoreStep
 accepted a h round v core =
     cond (eqb (a .member .«my_pid») (round .leader)) (tryCommit a h round v core noMessages) (follower a h round v core)
@@ -109,8 +112,9 @@ continuesFast a h round =
 unfoldable pub countsAccepts : Asked → Heard → PaxosRound → Bool
 countsAccepts a h round = eqb (a .member .«my_pid») (round .leader) || isCommitter a h
 
+-- receive_accept was taken: the accept phase is off the fast path, but for SwiftPaxos
 abbrev pub afterAccepted : Asked → Heard → PaxosRound → ℕ → Core → PaxosState → Outcome → CoreStep
-afterAccepted a h round v core p Done = accepted a h round v (cond (isSwiftPaxos (a .mode)) (withPaxos p core) (leftFastPath (withPaxos p core)))
+afterAccepted a h round v core p Done = accepted a h round v (offFastPath a (withPaxos p core))
 afterAccepted a h round v core p (Refused why) = refuses why core
 
 -- an Accept in the round of the state

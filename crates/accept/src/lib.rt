@@ -1,6 +1,6 @@
 // What an Accept does: who is told of an accepted value, who counts, and the commit that the last of the accepts brings.
 ghost use mathlib.Core.Path.{_≡_};
-ghost use Rattle.accept.specs.Accept.{tellsCommitter, isCommitter, acceptTo, tellsThird, answerAccept, commitMessage, tellsCommit, commitMessages, tryCommit, acceptAnswer, continuesFast, countsAccepts, accepted, afterAccepted, accepting};
+ghost use Rattle.accept.specs.Accept.{tellsCommitter, isCommitter, acceptTo, committerHears, answerAccept, commitMessage, tellsCommit, commitMessages, tryCommit, acceptAnswer, continuesFast, countsAccepts, accepted, afterAccepted, accepting};
 use message::ConsensusMsg;
 use message::OptionalProcess;
 use message::Outcome;
@@ -30,7 +30,7 @@ fn tells_committer(mode: PFMode) -> bool
     }
 }
 
-// Whether the member commits the value by the accepts that it hears, as its leader does.
+// Whether the member commits the value by the accepts that it hears, as the round's leader does.
 fn is_committer(asked: Asked, heard: Heard) -> bool
     ensures { λ r. ⌜ r ≡ isCommitter asked heard ⌝ }
 {
@@ -56,8 +56,8 @@ fn accept_to(asked: Asked, core: Core, round: PaxosRound, p: u64) -> Outgoing
 }
 
 // Whether process p, the committer, hears an accept besides the leader.
-fn tells_third(asked: Asked, round: PaxosRound, p: u64) -> bool
-    ensures { λ r. ⌜ r ≡ tellsThird asked round p ⌝ }
+fn committer_hears(asked: Asked, round: PaxosRound, p: u64) -> bool
+    ensures { λ r. ⌜ r ≡ committerHears asked round p ⌝ }
 {
     let mode = asked.mode;
     if tells_committer(mode) {
@@ -90,7 +90,7 @@ fn answer_accept(
         )),
         OptionalProcess::Process(p) => {
             let to_leader = accept_to(asked, core, round, round.leader);
-            if tells_third(asked, round, p) {
+            if committer_hears(asked, round, p) {
                 return steps::two_messages(accept_to(asked, core, round, p), to_leader);
             }
             steps::one_message(to_leader)
@@ -247,7 +247,7 @@ pub fn accepting(asked: Asked, heard: Heard, round: PaxosRound, v: u64, core: Co
 {
     let paxos = core.paxos;
     let me = asked.member;
-    let step = promise_accept::receive_accept(paxos, me, heard.src, round, v);
+    let step = paxos.receive_accept(me, heard.src, round, v);
     let state = step.state;
     let outcome = step.outcome;
     after_accepted(asked, heard, round, v, core, state, outcome)

@@ -12,7 +12,8 @@ use mir.Val.{boolByte}
 use Rattle.read_tracker.specs.Reads.{readId}
 use Rattle.read_tracker.specs.declared.OpenRead.{OpenRead}
 use Rattle.read_tracker.specs.declared.ServedRead.{ServedRead}
-use Rattle.array_reads.specs.Rows.{isYes, openRows, servedRows, noRead}
+use Rattle.array_reads.specs.Rows.{openRows, servedRows, noRead}
+use Rattle.flat.specs.Decode.{isYes}
 use Rattle.array_reads.proofs.Strides.{of-row, rows-length, rows-at, rows-set}
 
 -- a flag as it is stored

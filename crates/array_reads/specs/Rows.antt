@@ -1,22 +1,20 @@
--- The reads that stand in arrays of numbers: five numbers are an open read, four a served one. 0 is no, and any other number yes.
+-- The reads that stand in arrays of numbers: five numbers are an open read, four a served one.
 -- Assumes nothing.
 use Prim.Native.Nat.{ℕ}
-use mathlib.Core.Bool.{Bool, false, not}
+use mathlib.Core.Bool.{false}
 use mathlib.Core.List.{List, [], _∷_}
-use lib.Dec.{eqb}
 use Rattle.read_tracker.specs.Reads.{readId, newRead}
 use Rattle.read_tracker.specs.declared.OpenRead.{OpenRead}
 use Rattle.read_tracker.specs.declared.ServedRead.{ServedRead}
 use Rattle.read_tracker.specs.declared.ReadTable.{ReadTable}
+use Rattle.flat.specs.Decode.{decodedOpen, decodedServed}
 use Rattle.serving.specs.declared.Tracked.{Tracked}
 use Rattle.array_reads.specs.declared.Counted.{Counted}
 
-abbrev pub isYes : ℕ → Bool
-isYes n = not (eqb n 0)
-
 -- the open reads, five numbers each
 unfoldable pub openRows : List ℕ → List OpenRead
-openRows (a ∷ b ∷ c ∷ d ∷ e ∷ l) = record { id = readId a; tag = b; «arrival_slot» = c; «ready_count» = d; «local_ready» = isYes e } ∷ openRows l
+openRows (a ∷ b ∷ c ∷ d ∷ e ∷ l) =
+    decodedOpen (record { id = a; tag = b; «arrival_slot» = c; «ready_count» = d; «local_ready» = e }) ∷ openRows l
 openRows (a ∷ b ∷ c ∷ d ∷ []) = []
 openRows (a ∷ b ∷ c ∷ []) = []
 openRows (a ∷ b ∷ []) = []
@@ -25,7 +23,7 @@ openRows [] = []
 
 -- the served reads, four numbers each
 unfoldable pub servedRows : List ℕ → List ServedRead
-servedRows (a ∷ b ∷ c ∷ d ∷ l) = record { id = readId a; tag = b; «waited_for» = c; fast = isYes d } ∷ servedRows l
+servedRows (a ∷ b ∷ c ∷ d ∷ l) = decodedServed (record { id = a; tag = b; «waited_for» = c; fast = d }) ∷ servedRows l
 servedRows (a ∷ b ∷ c ∷ []) = []
 servedRows (a ∷ b ∷ []) = []
 servedRows (a ∷ []) = []

@@ -1,4 +1,4 @@
--- Which number of a lent array is which field of a twin. The arrays are the twins' own memory: a struct of numbers lies as an array of them.
+-- Which number of a lent array is which field of a flat form. The arrays are the memory of the flat forms: a struct of numbers lies as an array of them.
 -- Assumes nothing.
 use mathlib.Core.List.{List, [], _∷_}
 use Prim.Native.Nat.{ℕ}
@@ -6,17 +6,17 @@ use lib.ListN.{getD, set}
 use Rattle.calls.specs.declared.OptionalCommit.{OptionalCommit}
 use Rattle.steps.specs.declared.OptionalMessage.{OptionalMessage}
 use Rattle.steps.specs.declared.OptionalMessage.the-variants.{NoMessage, Send}
-use Rattle.twins.specs.Freeze.{frozenCommit, frozenOutgoing}
-use Rattle.twins.specs.declared.FlatCall.{FlatCall}
-use Rattle.twins.specs.declared.FlatCommit.{FlatCommit}
-use Rattle.twins.specs.declared.FlatCore.{FlatCore}
-use Rattle.twins.specs.declared.FlatHeld.{FlatHeld}
-use Rattle.twins.specs.declared.FlatMessage.{FlatMessage}
-use Rattle.twins.specs.declared.FlatOption.{FlatOption}
-use Rattle.twins.specs.declared.FlatOutgoing.{FlatOutgoing}
-use Rattle.twins.specs.declared.FlatPromise.{FlatPromise}
-use Rattle.twins.specs.declared.FlatRound.{FlatRound}
-use Rattle.twins.specs.declared.FlatSettings.{FlatSettings}
+use Rattle.flat.specs.Encode.{encodedCommit, encodedOutgoing}
+use Rattle.flat.specs.declared.FlatCall.{FlatCall}
+use Rattle.flat.specs.declared.FlatCommit.{FlatCommit}
+use Rattle.flat.specs.declared.FlatCore.{FlatCore}
+use Rattle.flat.specs.declared.FlatHeld.{FlatHeld}
+use Rattle.flat.specs.declared.FlatMessage.{FlatMessage}
+use Rattle.flat.specs.declared.FlatOption.{FlatOption}
+use Rattle.flat.specs.declared.FlatOutgoing.{FlatOutgoing}
+use Rattle.flat.specs.declared.FlatPromise.{FlatPromise}
+use Rattle.flat.specs.declared.FlatRound.{FlatRound}
+use Rattle.flat.specs.declared.FlatSettings.{FlatSettings}
 use Rattle.arrays.specs.declared.Setup.{Setup}
 
 abbrev at : List ℕ → ℕ → ℕ
@@ -157,9 +157,9 @@ outgoingNumbers f =
 -- of a message that is not sent the kind alone is written, 0
 unfoldable pub putMessage : OptionalMessage → List ℕ → List ℕ
 putMessage NoMessage l = set l 0 0
-putMessage (Send o) l = outgoingNumbers (frozenOutgoing (Send o))
+putMessage (Send o) l = outgoingNumbers (encodedOutgoing (Send o))
 
 -- the commit, and the number of the reads that are served
 abbrev pub restNumbers : OptionalCommit → ℕ → List ℕ
 restNumbers commit served =
-    frozenCommit commit .given ∷ frozenCommit commit .slot ∷ frozenCommit commit .v ∷ frozenCommit commit .fast ∷ served ∷ []
+    encodedCommit commit .given ∷ encodedCommit commit .slot ∷ encodedCommit commit .v ∷ encodedCommit commit .fast ∷ served ∷ []

@@ -1,19 +1,19 @@
-// The arrays of numbers that a host lends, and the twins that they are: each function reads a twin out of an array, or writes one into it. The arrays
-// are the twins' own memory, so that a host keeps structs.
+// The arrays of numbers that a host lends, and the flat forms that they are: each function reads a flat form out of an array, or writes one into it. The arrays
+// are the memory of the flat forms, so that a host keeps structs.
 ghost use mathlib.Core.Path.{_≡_};
 ghost use Rattle.arrays.specs.Arrays.{setupOf, coreOf, coreNumbers, messageOf, callOf, outgoingNumbers, putMessage, restNumbers};
 ghost use Rattle.steps.specs.declared.OptionalMessage.the-variants.{Send};
-ghost use Rattle.twins.specs.Freeze.{frozenOutgoing};
+ghost use Rattle.flat.specs.Encode.{encodedOutgoing};
 use calls::OptionalCommit;
+use flat::FlatCall;
+use flat::FlatCore;
+use flat::FlatHeld;
+use flat::FlatMessage;
+use flat::FlatOption;
+use flat::FlatPromise;
+use flat::FlatRound;
 use steps::OptionalMessage;
 use steps::Outgoing;
-use twins::FlatCall;
-use twins::FlatCore;
-use twins::FlatHeld;
-use twins::FlatMessage;
-use twins::FlatOption;
-use twins::FlatPromise;
-use twins::FlatRound;
 
 // The settings without their tables, and whether the shard is made.
 pub struct Setup {
@@ -174,9 +174,9 @@ pub fn put_core(c: &mut [u64; 18], f: FlatCore)
 
 // The numbers of a message that is sent.
 pub fn put_sent(out: &mut [u64; 20], sent: Outgoing)
-    ensures { λ _. ⌜ now (out .exit) ≡ outgoingNumbers (frozenOutgoing (Send sent)) ⌝ }
+    ensures { λ _. ⌜ now (out .exit) ≡ outgoingNumbers (encodedOutgoing (Send sent)) ⌝ }
 {
-    let f = twins::freeze_outgoing(OptionalMessage::Send(sent));
+    let f = flat::encode_outgoing(OptionalMessage::Send(sent));
     let first = f.first;
     let message = f.message;
     let rv = message.rv;
@@ -224,6 +224,6 @@ pub fn put_message(out: &mut [u64; 20], m: OptionalMessage)
 pub fn put_rest(rest: &mut [u64; 5], commit: OptionalCommit, served_count: u64)
     ensures { λ _. ⌜ now (rest .exit) ≡ restNumbers commit «served_count» ⌝ }
 {
-    let f = twins::freeze_commit(commit);
+    let f = flat::encode_commit(commit);
     *rest = [f.given, f.slot, f.v, f.fast, served_count];
 }

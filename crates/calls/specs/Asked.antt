@@ -1,15 +1,17 @@
 -- What the handlers ask of the settings and of a message.
 -- Assumes nothing.
 use mathlib.Core.Bool.{Bool, false, cond, not, _&&_}
+use mathlib.Core.List.{List}
 use Prim.Native.Nat.{ℕ}
 use lib.Dec.{eqb}
 use Rattle.message.specs.Modes.{isSwiftPaxos}
 use Rattle.message.specs.declared.ConsensusMsg.{ConsensusMsg}
 use Rattle.message.specs.declared.ConsensusMsg.the-variants.{Prepare, Accept, ForwardRequest, Commit, ReadRequest, ReadResponse}
 use Rattle.message.specs.declared.OptionalProcess.the-variants.{NoProcess}
+use Rattle.message.specs.declared.PFMode.{PFMode}
 use Rattle.message.specs.declared.PaxosRound.{PaxosRound}
 use Rattle.message.specs.declared.RoundV.the-variants.{FastV, PaxosV}
-use Rattle.settings.specs.Questions.{isLiveReplica, isReplica, quorumsOf, delegateOf, committerOf, startingRoundOf}
+use Rattle.settings.specs.Questions.{isLiveReplica, isReplica, quorumsOf, delegateIn, committerOf, startingRoundOf}
 use Rattle.settings.specs.declared.Settings.{Settings}
 use Rattle.steps.specs.declared.Asked.{Asked}
 use Rattle.steps.specs.declared.Heard.{Heard}
@@ -28,19 +30,22 @@ askedOf s =
     }
 
 -- in SwiftPaxos, at another than the leader, the proposer of a fast value gathers the answers
-abbrev pub proposerGathers : Settings → PaxosRound → Bool
-proposerGathers s round = isSwiftPaxos (s .mode) && not (eqb (round .leader) (s .«my_pid»))
+abbrev pub proposerGathers : ℕ → PFMode → PaxosRound → Bool
+proposerGathers own mode round = isSwiftPaxos mode && not (eqb (round .leader) own)
 
--- delegate_or_leader
-unfoldable pub gathererOf : Settings → ConsensusMsg → ℕ
-gathererOf s (Prepare slot round (FastV proposer v)) =
-    cond (proposerGathers s round) proposer (delegateOf s (s .mode) (round .leader))
-gathererOf s (Prepare slot round (PaxosV at v)) = delegateOf s (s .mode) (round .leader)
-gathererOf s (Accept slot round v) = delegateOf s (s .mode) (round .leader)
-gathererOf s (ForwardRequest v) = 0
-gathererOf s (Commit slot v) = 0
-gathererOf s (ReadRequest id) = 0
-gathererOf s (ReadResponse id next) = 0
+-- delegate_or_leader of process_message, at the process own
+unfoldable pub gathererIn : ℕ → PFMode → List ℕ → ConsensusMsg → ℕ
+gathererIn own mode delegates (Prepare slot round (FastV proposer v)) =
+    cond (proposerGathers own mode round) proposer (delegateIn delegates mode (round .leader))
+gathererIn own mode delegates (Prepare slot round (PaxosV at v)) = delegateIn delegates mode (round .leader)
+gathererIn own mode delegates (Accept slot round v) = delegateIn delegates mode (round .leader)
+gathererIn own mode delegates (ForwardRequest v) = 0
+gathererIn own mode delegates (Commit slot v) = 0
+gathererIn own mode delegates (ReadRequest id) = 0
+gathererIn own mode delegates (ReadResponse id next) = 0
+
+abbrev pub gathererOf : Settings → ConsensusMsg → ℕ
+gathererOf s msg = gathererIn (s .«my_pid») (s .mode) (s .delegates) msg
 
 abbrev pub heardOf : Settings → Delivery → Heard
 heardOf s d =

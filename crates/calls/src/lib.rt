@@ -1,12 +1,13 @@
 // Calls and replies, and what is decided of a call before it is handled: that it is refused, or what the handlers ask of the settings and of
 // its message. So a refusal costs no look at the tables of the settings.
 ghost use mathlib.Core.Path.{_≡_};
-ghost use Rattle.calls.specs.Asked.{askedOf, proposerGathers, gathererOf, heardOf, nothingHeard, heardIn};
+ghost use Rattle.calls.specs.Asked.{askedOf, proposerGathers, gathererIn, heardOf, nothingHeard, heardIn};
 ghost use Rattle.calls.specs.Decision.{ifFit, readFits, admissionOf, unlessSpent, ifMade, decisionFor, decisionOf};
 use delivery::Delivery;
 use message::ConsensusMsg;
 use message::OptionalProcess;
 use message::Outcome;
+use message::PFMode;
 use message::PaxosRound;
 use message::Refusal;
 use message::RoundV;
@@ -71,12 +72,11 @@ pub fn asked_of(settings: Settings) -> Asked
 }
 
 // Whether the proposer of a fast value gathers the answers: in SwiftPaxos, at another than the leader.
-fn proposer_gathers(settings: Settings, round: PaxosRound) -> bool
-    ensures { λ r. ⌜ r ≡ proposerGathers settings round ⌝ }
+fn proposer_gathers(own: u64, mode: PFMode, round: PaxosRound) -> bool
+    ensures { λ r. ⌜ r ≡ proposerGathers own mode round ⌝ }
 {
-    let mode = settings.mode;
     if mode.is_swift_paxos() {
-        if round.leader == settings.my_pid {
+        if round.leader == own {
             return false;
         }
         return true;
@@ -85,27 +85,27 @@ fn proposer_gathers(settings: Settings, round: PaxosRound) -> bool
 }
 
 // Who gathers the answers to the message.
-fn gatherer_of(settings: Settings, msg: ConsensusMsg) -> u64
-    ensures { λ r. ⌜ r ≡ gathererOf settings msg ⌝ }
+pub fn gatherer_in(own: u64, mode: PFMode, delegates: &[u64; 64], msg: ConsensusMsg) -> u64
+    ensures { λ r. ⌜ r ≡ gathererIn own mode (now (delegates .entry)) msg ⌝ }
 {
     match msg {
         ConsensusMsg::Prepare { slot: _, round, rv } => match rv {
             RoundV::FastV { proposer, v: _ } => {
-                if proposer_gathers(settings, round) {
+                if proposer_gathers(own, mode, round) {
                     return proposer;
                 }
-                settings.delegate(round)
+                settings::delegate_in(delegates, mode, round.leader)
             }
             RoundV::PaxosV {
                 accept_round: _,
                 v: _,
-            } => settings.delegate(round),
+            } => settings::delegate_in(delegates, mode, round.leader),
         },
         ConsensusMsg::Accept {
             slot: _,
             round,
             v: _,
-        } => settings.delegate(round),
+        } => settings::delegate_in(delegates, mode, round.leader),
         ConsensusMsg::ForwardRequest { v: _ } => 0,
         ConsensusMsg::Commit { slot: _, v: _ } => 0,
         ConsensusMsg::ReadRequest { id: _ } => 0,
@@ -125,9 +125,12 @@ pub fn heard_of(settings: Settings, d: Delivery) -> Heard
     let msg = message.msg;
     let requester = said.requester;
     let held_requester = d.held_requester;
+    let mode = settings.mode;
+    let delegates = settings.delegates;
+    let committers = settings.committers;
     let source_live = settings.is_live_replica(message.src);
-    let delegate = gatherer_of(settings, msg);
-    let committer = settings.committer(requester);
+    let delegate = gatherer_in(settings.my_pid, mode, &delegates, msg);
+    let committer = settings::committer_in(settings.has_committers, &committers, mode, requester);
     Heard {
         src: message.src,
         source_live,

@@ -223,7 +223,7 @@ read-fits shard tag arrival =
   where
     opens : (o : Opened) → fromState shard (afterInsert (askedOf (shard .settings)) (shard .state .rounds) (shard .state .table) (inserted (shard .state .table) (shard .state .rounds) tag arrival) o)
         ≡ shardAfterInsert shard (inserted (shard .state .table) (shard .state .rounds) tag arrival) o
-    opens NotOpened = refl
+    opens (NotOpened why) = refl
     opens (Id id) = refl
 
 -- ---- messages

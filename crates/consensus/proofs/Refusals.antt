@@ -33,11 +33,11 @@ use Rattle.steps.specs.declared.Next.{Next}
 use Rattle.steps.specs.declared.Next.the-variants.{Stays, Continues, Commits, Refuses}
 use Rattle.steps.specs.declared.Rounds.{Rounds}
 use Rattle.steps.specs.declared.RoundsStep.{RoundsStep}
-use Rattle.paxos_family.proofs.Causes.{Caused, GoodRounds, classic-caused, fast-caused, AllowedRounds, propose-classic-allowed, propose-fast-allowed}
+use Rattle.paxos_family.proofs.Causes.{Caused, GoodRounds, classic-caused, fast-caused, Allowed, propose-classic-allowed, propose-fast-allowed}
 use Rattle.delivery.specs.Admit.{isAhead, isOwnSlot, needsValue, otherLastValue, valueAwaited, ready, admit}
 use Rattle.consensus.specs.Answers.{refused, committed, finishAt}
 use Rattle.consensus.specs.Call.{newShard, proposing, propose, read, admitted, receive, dispatch, unlessSpent, ifMade, callWith}
-use Rattle.consensus.specs.Causes.{Spent, ProposalCause, MessageCause, Cause}
+use Rattle.consensus.specs.Causes.{TakenOrRefused, Spent, ProposalCause, MessageCause, Cause}
 use Rattle.calls.specs.Asked.{askedOf, heardOf}
 use Rattle.consensus.specs.Handle.{onCommit, onReadRequest, onReadResponse, startRead, afterInsert, processed, processMessage, handle}
 use Rattle.delivery.specs.Limits.{isNumber, isSlot, numbersFit, processesFit}
@@ -46,10 +46,6 @@ use Rattle.calls.specs.declared.Call.{Call}
 use Rattle.calls.specs.declared.Call.the-variants.{Propose, StartRead, Receive}
 use Rattle.delivery.specs.declared.Delivery.{Delivery}
 use Rattle.consensus.specs.declared.Shard.{Shard}
-
--- taken, or refused with the shard left, nothing handed back but the number, and a cause
-abbrev pub TakenOrRefused : (Refusal → Type 0) → Shard → Answer → Type 0
-TakenOrRefused cause shard r = (r .reply .outcome ≡ Done) ⊎ ((why : Refusal) × (r ≡ refused why shard) × cause why)
 
 ahead-slot : (core : Core) (o : OptionalSlot) → isAhead core o ≡ true → (slot : ℕ) × (o ≡ Slot slot) × (core .slot < slot)
 ahead-slot core NoSlot e = absurd (not-both e refl)
@@ -77,9 +73,9 @@ module _ (choose : Choice) (shard : Shard) where
 
   -- ---- a proposal
 
-  proposing-allowed : (v : ℕ) → AllowedRounds asked (proposing asked v rounds)
+  proposing-allowed : (v : ℕ) → Allowed asked v rounds (proposing asked v rounds .next)
   unfolding proposing
-  proposing-allowed v = of-both (AllowedRounds asked) (hasFastPath (asked .mode)) (propose-fast-allowed asked v rounds) (propose-classic-allowed asked v (rounds .core))
+  proposing-allowed v = of-both (λ (x : RoundsStep). Allowed asked v rounds (x .next)) (hasFastPath (asked .mode)) (propose-fast-allowed asked v rounds) (propose-classic-allowed asked v rounds)
 
   proposal-ok : (v : ℕ) → Ok (Propose v) (propose shard v)
   unfolding propose committed
@@ -88,11 +84,11 @@ module _ (choose : Choice) (shard : Shard) where
       step : RoundsStep
       step = proposing asked v rounds
 
-      ends : (n : Next) → Caused (λ (why : Refusal). why ≡ ProposalNotAllowed) n → Ok (Propose v) (finishAt shard asked true (step .rounds) (step .messages) n)
+      ends : (n : Next) → Allowed asked v rounds n → Ok (Propose v) (finishAt shard asked true (step .rounds) (step .messages) n)
       ends Stays g = inl refl
       ends Continues g = inl refl
       ends (Commits w) g = inl refl
-      ends (Refuses why) g = inr (why, refl, subst (ProposalCause shard v) (sym g) tt)
+      ends (Refuses why) g = inr (why, refl, subst (ProposalCause shard v) (sym (g .0)) (g .1))
 
       go : (t : Bool) → isNumber v ≡ t → Ok (Propose v) (cond t (finishAt shard asked true (step .rounds) (step .messages) (step .next)) (refused NumberTooLarge shard))
       go true e = ends (step .next) (proposing-allowed v)
@@ -128,13 +124,13 @@ module _ (choose : Choice) (shard : Shard) where
     abbrev step : RoundsStep
     step = processed choose asked heard (d .message .msg) rounds
 
-    processed-caused : GoodRounds asked heard step
+    processed-caused : GoodRounds asked heard (d .message .msg) rounds step
     unfolding processed
     processed-caused =
-        of-both (GoodRounds asked heard) (hasFastPath (asked .mode)) (fast-caused asked heard choose (d .message .msg) rounds)
-        (classic-caused asked heard (d .message .msg) (rounds .core))
+        of-both (GoodRounds asked heard (d .message .msg) rounds) (hasFastPath (asked .mode)) (fast-caused asked heard rounds choose (d .message .msg))
+        (classic-caused asked heard rounds (d .message .msg))
 
-    in-handling : (why : Refusal) → HandlingCause asked heard why → MessageCause choose shard d why
+    in-handling : (why : Refusal) → HandlingCause asked heard (d .message .msg) rounds why → MessageCause choose shard d why
     in-handling SettingsOutsideLimits g = g
     in-handling NumberTooLarge g = absurd g
     in-handling NoSuchProcess g = absurd g
@@ -152,7 +148,7 @@ module _ (choose : Choice) (shard : Shard) where
     unfolding processMessage committed
     process-ok = ends (step .next) (d .said .«value_held») refl refl processed-caused
       where
-        ends : (n : Next) (held : Bool) → step .next ≡ n → d .said .«value_held» ≡ held → Caused (HandlingCause asked heard) n
+        ends : (n : Next) (held : Bool) → step .next ≡ n → d .said .«value_held» ≡ held → Caused (HandlingCause asked heard (d .message .msg) rounds) n
             → Ok (Receive d) (finishAt shard asked held (step .rounds) (step .messages) n)
         ends Stays held e f g = inl refl
         ends Continues held e f g = inl refl

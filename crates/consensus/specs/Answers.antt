@@ -2,7 +2,7 @@
 -- Assumes nothing.
 use mathlib.Core.Bool.{Bool, cond}
 use Prim.Native.Nat.{ℕ}
-use Rattle.message.specs.declared.Outcome.the-variants.{Done, Refused}
+use Rattle.message.specs.declared.Outcome.the-variants.{Done}
 use Rattle.message.specs.declared.Refusal.{Refusal}
 use Rattle.message.specs.declared.Refusal.the-variants.{ValueNotHeld}
 use Rattle.serving.specs.Serving.{commitSlot as serveReads}
@@ -15,12 +15,12 @@ use Rattle.steps.specs.declared.Next.{Next}
 use Rattle.steps.specs.declared.Next.the-variants.{Stays, Continues, Commits, Refuses}
 use Rattle.steps.specs.declared.Rounds.{Rounds}
 use Rattle.steps.specs.declared.RoundsStep.{RoundsStep}
-use Rattle.core_calls.specs.Replies.{isFast}
+use Rattle.core_calls.specs.Replies.{refusedReply, sentReply, isFast}
 use Rattle.rounds_calls.specs.RoundsCall.{nextSlot}
 use Rattle.state_calls.specs.StateCall.{withTracker}
 use Rattle.consensus.specs.declared.Answer.{Answer}
 use Rattle.calls.specs.declared.OptionalCommit.{OptionalCommit}
-use Rattle.calls.specs.declared.OptionalCommit.the-variants.{NoCommit, Committed}
+use Rattle.calls.specs.declared.OptionalCommit.the-variants.{Committed}
 use Rattle.consensus.specs.declared.Shard.{Shard}
 use Rattle.state_calls.specs.declared.State.{State}
 
@@ -36,10 +36,10 @@ withRounds shard rounds = withState shard (record { rounds = rounds; table = sha
 
 -- a refusal hands back its number alone and leaves the shard
 abbrev pub refused : Refusal → Shard → Answer
-refused why shard = record { shard = shard; reply = record { outcome = Refused why; messages = noMessages; commit = NoCommit; «served_count» = 0 } }
+refused why shard = record { shard = shard; reply = refusedReply why }
 
 abbrev pub sent : Shard → Messages → Answer
-sent shard messages = record { shard = shard; reply = record { outcome = Done; messages = messages; commit = NoCommit; «served_count» = 0 } }
+sent shard messages = record { shard = shard; reply = sentReply messages }
 
 abbrev pub nothing : Shard → Answer
 nothing shard = sent shard noMessages
@@ -66,7 +66,8 @@ committed shard a v s messages =
 
 -- ---- the end of a call
 
--- a step becomes an answer: what is refused leaves the old shard, and a commit needs its value ("last the 6 of a commit")
+-- a step becomes an answer: what is refused leaves the old shard, and a commit needs its value ("last the 6 of a commit"). No handler ends with
+-- `Continues`; it is answered all the same, so that every step has an answer.
 abbrev pub finishAt : Shard → Asked → Bool → Rounds → Messages → Next → Answer
 finishAt shard a held s messages Stays = sent (withRounds shard s) messages
 finishAt shard a held s messages Continues = sent (withRounds shard s) messages

@@ -1,5 +1,5 @@
--- Why a call is refused (document 01, the table of "Message and answer"): for each kind of call, what there is where it gives a number. A
--- number that a kind of call never gives has ⊥. An unmade shard gives the number that it was marked with, and is no matter of these tables.
+-- Why a call is refused (document 01, the table of "Message and answer"): for each kind of call and each number, what holds where the call is refused
+-- with that number; ⊥ where it never is. An unmade shard gives the number that it was marked with, which is not in these tables.
 -- Assumes nothing.
 use mathlib.Core.Path.{_≡_}
 use mathlib.Core.Logic.{_⊎_}
@@ -12,16 +12,23 @@ use Rattle.message.specs.declared.Refusal.{Refusal}
 use Rattle.message.specs.declared.Refusal.the-variants.{SettingsOutsideLimits, NumberTooLarge, NoSuchProcess, OtherLastValue, SlotAhead, ValueNotHeld, SourceNotLive, Panic, AcceptUnlikeHeld, SecondFastAnswer, ProposalNotAllowed, NoRoomForRead}
 use Rattle.fast_state.specs.Adopt.{Choice}
 use Rattle.read_tracker.specs.declared.ReadTracker.{ReadTracker}
-use Rattle.paxos_family.specs.Causes.{HandlingCause}
+use Rattle.paxos_family.specs.Causes.{HandlingCause, NotAllowed}
 use Rattle.steps.specs.declared.Next.the-variants.{Commits}
 use Rattle.delivery.specs.Admit.{otherLastValue, valueAwaited}
 use Rattle.calls.specs.Asked.{askedOf, heardOf}
+use Rattle.consensus.specs.Answers.{refused}
+use Rattle.consensus.specs.declared.Answer.{Answer}
+use Rattle.message.specs.declared.Outcome.the-variants.{Done}
 use Rattle.consensus.specs.Handle.{processed}
 use Rattle.delivery.specs.Limits.{isNumber, isSlot, numbersFit, processesFit}
 use Rattle.calls.specs.declared.Call.{Call}
 use Rattle.calls.specs.declared.Call.the-variants.{Propose, StartRead, Receive}
 use Rattle.delivery.specs.declared.Delivery.{Delivery}
 use Rattle.consensus.specs.declared.Shard.{Shard}
+
+-- taken, or refused with the shard left, nothing handed back but the number, and a cause
+abbrev pub TakenOrRefused : (Refusal → Type 0) → Shard → Answer → Type 0
+TakenOrRefused cause shard r = (r .reply .outcome ≡ Done) ⊎ ((why : Refusal) × (r ≡ refused why shard) × cause why)
 
 -- "own slot 2^63−1, which is spent"
 abbrev pub Spent : Shard → Type 0
@@ -40,7 +47,7 @@ ProposalCause shard v SourceNotLive = ⊥
 ProposalCause shard v Panic = ⊥
 ProposalCause shard v AcceptUnlikeHeld = ⊥
 ProposalCause shard v SecondFastAnswer = ⊥
-ProposalCause shard v ProposalNotAllowed = Unit {0}
+ProposalCause shard v ProposalNotAllowed = NotAllowed (askedOf (shard .settings)) v (shard .state .rounds)
 ProposalCause shard v NoRoomForRead = ⊥
 
 -- ---- a new read
@@ -65,6 +72,14 @@ ReadCause shard tag arrival NoRoomForRead = NoRoom (shard .state .rounds .core .
 
 -- ---- a message
 
+-- "slot ahead of own"
+abbrev pub Ahead : Shard → Delivery → Type 0
+Ahead shard d = (slot : ℕ) × (msgSlot (d .message .msg) ≡ Slot slot) × (shard .state .rounds .core .slot < slot)
+
+-- what the handler of a Prepare or an Accept refuses it for
+abbrev pub HandlerCause : Shard → Delivery → Refusal → Type 0
+HandlerCause shard d why = HandlingCause (askedOf (shard .settings)) (heardOf (shard .settings) d) (d .message .msg) (shard .state .rounds) why
+
 module _ (choose : Choice) where
   -- "value not held, and `ready_to_process` waits or the call would commit"
   abbrev pub NotHeld : Shard → Delivery → Type 0
@@ -73,10 +88,6 @@ module _ (choose : Choice) where
       × ((valueAwaited (shard .settings .«my_pid») (shard .state .rounds .core) d ≡ true)
       ⊎ ((v : ℕ) × (processed choose (askedOf (shard .settings)) (heardOf (shard .settings) d) (d .message .msg) (shard .state .rounds) .next ≡ Commits v)))
 
-  -- "slot ahead of own"
-  abbrev pub Ahead : Shard → Delivery → Type 0
-  Ahead shard d = (slot : ℕ) × (msgSlot (d .message .msg) ≡ Slot slot) × (shard .state .rounds .core .slot < slot)
-
   abbrev pub MessageCause : Shard → Delivery → Refusal → Type 0
   MessageCause shard d SettingsOutsideLimits = ⊥
   MessageCause shard d NumberTooLarge = Spent shard ⊎ (numbersFit d ≡ false)
@@ -84,10 +95,10 @@ module _ (choose : Choice) where
   MessageCause shard d OtherLastValue = otherLastValue (shard .state .rounds .core) d ≡ true
   MessageCause shard d SlotAhead = Ahead shard d
   MessageCause shard d ValueNotHeld = NotHeld shard d
-  MessageCause shard d SourceNotLive = HandlingCause (askedOf (shard .settings)) (heardOf (shard .settings) d) SourceNotLive
-  MessageCause shard d Panic = HandlingCause (askedOf (shard .settings)) (heardOf (shard .settings) d) Panic
-  MessageCause shard d AcceptUnlikeHeld = HandlingCause (askedOf (shard .settings)) (heardOf (shard .settings) d) AcceptUnlikeHeld
-  MessageCause shard d SecondFastAnswer = HandlingCause (askedOf (shard .settings)) (heardOf (shard .settings) d) SecondFastAnswer
+  MessageCause shard d SourceNotLive = HandlerCause shard d SourceNotLive
+  MessageCause shard d Panic = HandlerCause shard d Panic
+  MessageCause shard d AcceptUnlikeHeld = HandlerCause shard d AcceptUnlikeHeld
+  MessageCause shard d SecondFastAnswer = HandlerCause shard d SecondFastAnswer
   MessageCause shard d ProposalNotAllowed = ⊥
   MessageCause shard d NoRoomForRead = ⊥
 

@@ -1,17 +1,13 @@
 -- Handling an admitted message (the Rust's full_process_message), and start_read.
 -- Assumes nothing.
-use mathlib.Core.Bool.{Bool, cond, not, _&&_}
+use mathlib.Core.Bool.{Bool, cond, not}
 use Prim.Native.Nat.{ℕ}
 use lib.Dec.{eqb, ltb}
-use Rattle.message.specs.Modes.{hasFastPath, isSwiftPaxos}
-use Rattle.message.specs.Rounds.{increment}
+use Rattle.message.specs.Modes.{hasFastPath}
 use Rattle.message.specs.declared.ConsensusMsg.{ConsensusMsg}
 use Rattle.message.specs.declared.ConsensusMsg.the-variants.{Prepare, Accept, ForwardRequest, Commit, ReadRequest, ReadResponse}
-use Rattle.message.specs.declared.OptionalValue.the-variants.{NoValue}
-use Rattle.message.specs.declared.PaxosRound.{PaxosRound}
 use Rattle.message.specs.declared.ReadId.{ReadId}
-use Rattle.message.specs.declared.Refusal.the-variants.{Panic, NoRoomForRead}
-use Rattle.message.specs.declared.RoundV.the-variants.{FastV, PaxosV}
+use Rattle.message.specs.declared.Refusal.the-variants.{Panic}
 use Rattle.fast_state.specs.Adopt.{Choice}
 use Rattle.read_tracker.specs.Reads.{insert}
 use Rattle.serving.specs.Serving.{receiveReady}
@@ -19,20 +15,18 @@ use Rattle.read_tracker.specs.declared.Inserted.{Inserted}
 use Rattle.read_tracker.specs.declared.Opened.{Opened}
 use Rattle.read_tracker.specs.declared.Opened.the-variants.{Refused, Id}
 use Rattle.round_state.specs.Paxos.{isHeld}
-use Rattle.settings.specs.Questions.{isLiveReplica, isReplica, quorumsOf, delegateOf, committerOf, startingRoundOf}
-use Rattle.settings.specs.declared.Settings.{Settings}
+use Rattle.settings.specs.Questions.{quorumsOf}
 use Rattle.paxos_family.specs.Process.{processClassic, processFast}
 use Rattle.steps.specs.Steps.{noMessages, oneMessage, sends, toAll, onRounds}
 use Rattle.steps.specs.declared.Asked.{Asked}
-use Rattle.steps.specs.declared.Core.{Core}
-use Rattle.steps.specs.declared.Destination.the-variants.{One}
 use Rattle.steps.specs.declared.Heard.{Heard}
 use Rattle.steps.specs.declared.Rounds.{Rounds}
 use Rattle.steps.specs.declared.RoundsStep.{RoundsStep}
 use Rattle.state_calls.specs.StateCall.{withTracker}
-use Rattle.consensus.specs.Answers.{refused, sent, nothing, served, committed, finish}
+use Rattle.consensus.specs.Answers.{withState, refused, sent, nothing, served, committed, finish}
 use Rattle.calls.specs.Asked.{askedOf, heardOf}
-use Rattle.core_calls.specs.CoreCall.{nextReadable}
+use Rattle.core_calls.specs.CoreCall.{readAnswer}
+use Rattle.core_calls.specs.Replies.{sentReply}
 use Rattle.consensus.specs.declared.Answer.{Answer}
 use Rattle.delivery.specs.declared.Delivery.{Delivery}
 use Rattle.calls.specs.declared.OptionalCommit.the-variants.{NoCommit}
@@ -51,13 +45,7 @@ onCommit shard slot v =
 unfoldable pub onReadRequest : Shard → ℕ → ReadId → Answer
 onReadRequest shard src id =
     cond (eqb src (shard .settings .«my_pid»)) (refused Panic shard)
-    (sent shard
-    (oneMessage
-    (record {
-      destination = One src;
-      message =
-          record { msg = ReadResponse id (nextReadable (shard .state .rounds .core)); src = shard .settings .«my_pid»; «last_v» = NoValue };
-    })))
+    (sent shard (oneMessage (readAnswer (shard .settings .«my_pid») src id (shard .state .rounds .core))))
 
 -- a response of an older slot still counts
 unfoldable pub onReadResponse : Shard → ReadId → Bool → Answer
@@ -67,22 +55,18 @@ onReadResponse shard id fast =
     noMessages
     NoCommit
 
--- start_read, with refusal 12
+-- start_read: a place and an id, or refusal 12
 abbrev pub afterInsert : Shard → Inserted → Opened → Answer
-afterInsert shard ins Refused = refused NoRoomForRead shard
+afterInsert shard ins (Refused why) = refused why shard
 afterInsert shard ins (Id id) =
     record {
       shard =
-          record {
-            made = shard .made;
-            settings = shard .settings;
-            state =
-                record {
-                  rounds = record { core = withTracker (ins .tracker) (shard .state .rounds .core); fast = shard .state .rounds .fast };
-                  table = ins .table;
-                };
-          };
-      reply = sent shard (oneMessage (sends (askedOf (shard .settings)) (shard .state .rounds .core) toAll (ReadRequest id))) .reply;
+          withState shard
+          (record {
+            rounds = record { core = withTracker (ins .tracker) (shard .state .rounds .core); fast = shard .state .rounds .fast };
+            table = ins .table;
+          });
+      reply = sentReply (oneMessage (sends (askedOf (shard .settings)) (shard .state .rounds .core) toAll (ReadRequest id)));
     }
 
 abbrev pub readInserted : Shard → ℕ → ℕ → Inserted

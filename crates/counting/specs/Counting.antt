@@ -1,5 +1,5 @@
--- The answers to a leader's own message that are only counted: one set of the core grows by the sender, and nothing is sent. They are found by the
--- numbers of the call and of the core.
+-- Answers that are only counted, accepts by the leader and promises by whoever gathers them: one set of the core grows by the sender, and nothing is
+-- sent. They are found by the numbers of the call and of the core.
 -- Assumes nothing.
 use mathlib.Core.Bool.{Bool, cond, not, _&&_}
 use mathlib.Core.List.{List, []}
@@ -15,16 +15,16 @@ use Rattle.message.specs.declared.PaxosRound.{PaxosRound}
 use Rattle.round_state.specs.Paxos.{getLastAcceptedRound, isHeld, counted, acceptFits}
 use Rattle.round_state.specs.declared.Member.{Member}
 use Rattle.sets.specs.Sets.{contains, size}
-use Rattle.settings.specs.Questions.{delegateOf}
-use Rattle.twins.specs.Thaw.{thawedHeld, thawedMode, thawedPromise, thawedRound, thawedSettings}
-use Rattle.twins.specs.declared.FlatCore.{FlatCore}
-use Rattle.twins.specs.declared.FlatMessage.{FlatMessage}
+use Rattle.settings.specs.Questions.{delegateIn}
+use Rattle.flat.specs.Decode.{decodedHeld, decodedMode, decodedPromise, decodedRound, decodedSettings}
+use Rattle.flat.specs.declared.FlatCore.{FlatCore}
+use Rattle.flat.specs.declared.FlatMessage.{FlatMessage}
 
 abbrev pub roundIn : FlatMessage → PaxosRound
 roundIn m = record { «round_group» = m .«round_group»; leader = m .leader }
 
 abbrev pub memberOf : Setup → Member
-memberOf s = askedOf (thawedSettings (settingsOf s [] [])) .member
+memberOf s = askedOf (decodedSettings (settingsOf s [] [])) .member
 
 abbrev pub majorityOf : Setup → ℕ
 majorityOf s = memberOf s .quorums .majority
@@ -33,15 +33,15 @@ majorityOf s = memberOf s .quorums .majority
 unfoldable pub inOwnRound : Setup → FlatCore → FlatMessage → Bool
 inOwnRound s c m =
     contains (s .«alive_replicas») (s .«my_pid»)
-    && (contains (s .«alive_replicas») (m .src) && not (before (thawedRound (c .round)) (Round (roundIn m))))
+    && (contains (s .«alive_replicas») (m .src) && not (before (decodedRound (c .round)) (Round (roundIn m))))
 
 -- ---- accepts
 
 -- what is held is the accept's value, accepted in its round
 unfoldable pub repeatsHeld : FlatCore → FlatMessage → Bool
 repeatsHeld c m =
-    not (before (getLastAcceptedRound (thawedHeld (c .«max_rv»))) (Round (roundIn m)))
-    && acceptFits (thawedHeld (c .«max_rv»)) (roundIn m) (m .v)
+    not (before (getLastAcceptedRound (decodedHeld (c .«max_rv»))) (Round (roundIn m)))
+    && acceptFits (decodedHeld (c .«max_rv»)) (roundIn m) (m .v)
 
 unfoldable pub acceptsWith : Setup → FlatCore → FlatMessage → ℕ
 acceptsWith s c m = counted (memberOf s) (m .src) (c .«accepted_set»)
@@ -57,8 +57,8 @@ countsAccept s c m =
 -- what is held stays, since the promise's value was not accepted later
 unfoldable pub keepsHeld : FlatCore → FlatMessage → Bool
 keepsHeld c m =
-    isHeld (thawedHeld (c .«max_rv»))
-    && not (before (getLastAcceptedRound (thawedHeld (c .«max_rv»))) (acceptRoundOf (thawedPromise (m .rv))))
+    isHeld (decodedHeld (c .«max_rv»))
+    && not (before (getLastAcceptedRound (decodedHeld (c .«max_rv»))) (acceptRoundOf (decodedPromise (m .rv))))
 
 unfoldable pub promisesWith : Setup → FlatCore → FlatMessage → ℕ
 promisesWith s c m = counted (memberOf s) (m .src) (c .«prepared_set»)
@@ -71,7 +71,7 @@ completes s c m =
 -- the member gathers the promises of the round, and the value is no fast one, whose proposer may gather them
 unfoldable pub gathers : Setup → List ℕ → FlatMessage → Bool
 gathers s delegates m =
-    eqb (m .rv .fast) 0 && eqb (delegateOf (thawedSettings (settingsOf s [] delegates)) (thawedMode (s .mode)) (m .leader)) (s .«my_pid»)
+    eqb (m .rv .fast) 0 && eqb (delegateIn delegates (decodedMode (s .mode)) (m .leader)) (s .«my_pid»)
 
 -- who gathers the promises counts, and the majority is not reached with this one
 unfoldable pub countsPromise : Setup → List ℕ → FlatCore → FlatMessage → Bool

@@ -1,13 +1,13 @@
-// The answers to a leader's own Prepare or Accept that it only counts: one set of the core grows by the sender, and nothing is sent. They are found
-// by the numbers of the call and of the core, before a message or the settings are put together.
+// Answers that are only counted, accepts by the leader and promises by whoever gathers them: one set of the core grows by the sender, and nothing is
+// sent. They are found by the numbers of the call and of the core, before a message or the settings are put together.
 ghost use mathlib.Core.Path.{_≡_};
 ghost use Rattle.counting.specs.Counting.{roundIn, memberOf, majorityOf, inOwnRound, repeatsHeld, acceptsWith, countsAccept, keepsHeld, promisesWith, completes, gathers, countsPromise, counts, withCounted};
 use arrays::Setup;
+use flat::FlatCore;
+use flat::FlatMessage;
 use message::OptionalRound;
 use message::PaxosRound;
 use round_state::Member;
-use twins::FlatCore;
-use twins::FlatMessage;
 
 pub fn round_in(m: FlatMessage) -> PaxosRound
     ensures { λ r. ⌜ r ≡ roundIn m ⌝ }
@@ -21,7 +21,7 @@ pub fn round_in(m: FlatMessage) -> PaxosRound
 fn member_of(setup: Setup) -> Member
     ensures { λ r. ⌜ r ≡ memberOf setup ⌝ }
 {
-    let asked = twin_calls::asked_of(setup);
+    let asked = flat_calls::asked_of(setup);
     let member = asked.member;
     member
 }
@@ -40,7 +40,7 @@ fn in_own_round(setup: Setup, c: FlatCore, m: FlatMessage) -> bool
     let at = c.round;
     if sets::contains(setup.alive_replicas, setup.my_pid) {
         if sets::contains(setup.alive_replicas, m.src) {
-            if twins::thaw_round(at).before(OptionalRound::Round(round_in(m))) {
+            if flat::decode_round(at).before(OptionalRound::Round(round_in(m))) {
                 return false;
             }
             return true;
@@ -54,14 +54,14 @@ fn in_own_round(setup: Setup, c: FlatCore, m: FlatMessage) -> bool
 fn repeats_held(c: FlatCore, m: FlatMessage) -> bool
     ensures { λ r. ⌜ r ≡ repeatsHeld c m ⌝ }
 {
-    let flat = c.max_rv;
-    let held = twins::thaw_held(flat);
+    let max_rv = c.max_rv;
+    let held = flat::decode_held(max_rv);
     let round = round_in(m);
     if held.get_last_accepted_round()
         .before(OptionalRound::Round(round)) {
         return false;
     }
-    held.fits(round, m.v)
+    held.accept_fits(round, m.v)
 }
 
 fn accepts_with(setup: Setup, c: FlatCore, m: FlatMessage) -> u64
@@ -93,11 +93,11 @@ fn counts_accept(setup: Setup, c: FlatCore, m: FlatMessage) -> bool
 fn keeps_held(c: FlatCore, m: FlatMessage) -> bool
     ensures { λ r. ⌜ r ≡ keepsHeld c m ⌝ }
 {
-    let flat = c.max_rv;
+    let max_rv = c.max_rv;
     let rv = m.rv;
-    let held = twins::thaw_held(flat);
+    let held = flat::decode_held(max_rv);
     if held.is_held() {
-        let promise = twins::thaw_promise(rv);
+        let promise = flat::decode_promise(rv);
         if held.get_last_accepted_round()
             .before(promise.get_accept_round()) {
             return false;
@@ -129,7 +129,8 @@ fn gathers(setup: Setup, delegates: &[u64; 64], m: FlatMessage) -> bool
     ensures { λ r. ⌜ r ≡ gathers setup (now (delegates .entry)) m ⌝ }
 {
     if m.rv.fast == 0 {
-        return twin_calls::delegate(delegates, setup, m.leader) == setup.my_pid;
+        return settings::delegate_in(delegates, flat::decode_mode(setup.mode), m.leader)
+            == setup.my_pid;
     }
     false
 }

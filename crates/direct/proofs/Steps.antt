@@ -1,6 +1,6 @@
 -- What the steps of a call leave, put together: each law takes what the callees of one function ensure.
 -- Assumes nothing.
-use mathlib.Core.Bool.{Bool, true, false, cond}
+use mathlib.Core.Bool.{Bool, true, false}
 use mathlib.Core.List.{List}
 use mathlib.Core.Path.{_≡_, refl, sym, ap, ap₂, _∙_}
 use Prim.Native.Nat.{ℕ, _+_}
@@ -10,9 +10,11 @@ use Rattle.arrays.specs.Arrays.{coreOf, coreNumbers}
 use Rattle.arrays.specs.declared.Setup.{Setup}
 use Rattle.core_calls.specs.Replies.{sentReply}
 use Rattle.counting.specs.Counting.{counts, withCounted}
-use Rattle.direct_core.specs.Handled.{Written, putReply, putServed, Lent, askedHere, Proposed, putStep, handledBy, Answered, answerRequest}
+use Rattle.direct_core.specs.Handled.{Written, putReply, putServed, Left, leaves, withNumber, passedOn, askedIn, putStep, handledBy, answerRequest}
 use Rattle.message.specs.Modes.{hasFastPath}
+use Rattle.message.specs.Refusals.{refusalNumber}
 use Rattle.message.specs.declared.ConsensusMsg.the-variants.{ReadRequest}
+use Rattle.message.specs.declared.Refusal.the-variants.{NoRoomForRead}
 use Rattle.propose.specs.Propose.{proposeClassic}
 use Rattle.quorum.specs.Quorum.{rowOf}
 use Rattle.quorum.specs.declared.QuorumRow.{QuorumRow}
@@ -27,12 +29,12 @@ use Rattle.steps.specs.declared.Asked.{Asked}
 use Rattle.steps.specs.declared.Core.{Core}
 use Rattle.steps.specs.declared.Destination.{Destination}
 use Rattle.steps.specs.declared.Outgoing.{Outgoing}
-use Rattle.twins.specs.Freeze.{frozenBool}
-use Rattle.twin_calls.specs.Refusals.{refusalOf}
-use Rattle.twins.specs.Thaw.{isYes, thawedCore, thawedMode}
-use Rattle.twins.specs.declared.FlatCall.{FlatCall}
-use Rattle.twins.specs.declared.FlatCore.{FlatCore}
-use Rattle.direct.specs.Direct.{trackerOf, withTracker, majorityOf, Opening, opening, opened, openRead, Direct, direct, counted, countResponse, response, Serving, servings, servedBy, serveReady, withServing, served, isResponse, forSlots, isOlder, handled, fromProposed, forSlot, fromAnswered, taken, fromOpening, directCall}
+use Rattle.flat.specs.Encode.{encodedBool}
+use Rattle.flat_calls.specs.Refusals.{refusalOf}
+use Rattle.flat.specs.Decode.{isYes, decodedCore, decodedMode}
+use Rattle.flat.specs.declared.FlatCall.{FlatCall}
+use Rattle.flat.specs.declared.FlatCore.{FlatCore}
+use Rattle.direct.specs.Direct.{trackerOf, withTracker, majorityOf, Opening, opening, opened, openRead, Direct, direct, counted, countResponse, response, Serving, serving, servedBy, serveReady, withServing, served, isResponse, concernsSlot, isOlder, handled, slotCall, taken, fromOpening, directCall}
 
 -- ---- a new read
 
@@ -47,34 +49,34 @@ module _ (s : Setup) (reads : List OpenRead) (f : FlatCall) (w : Written) where
         «local_ready» = eqb (c .«max_rv» .given) 0;
       }
 
-  pub opened-is : (c : FlatCore) {b : ℕ} {reads′ : List OpenRead} {core′ : List ℕ} {asked : Asked} {thawed : Core} {to : Destination} {m : Outgoing} {w′ : Written}
-      → b ≡ frozenBool (eqb (c .«max_rv» .given) 0)
+  pub opened-is : (c : FlatCore) {b : ℕ} {reads′ : List OpenRead} {core′ : List ℕ} {asked : Asked} {decoded : Core} {to : Destination} {m : Outgoing} {w′ : Written}
+      → b ≡ encodedBool (eqb (c .«max_rv» .given) 0)
       → reads′ ≡ set reads (c .«open_count») (readOf c b)
       → core′ ≡ coreNumbers (withTracker (record { «next_id» = c .«next_id» + 1; «open_count» = c .«open_count» + 1 }) c)
-      → asked ≡ askedHere s
-      → thawed ≡ thawedCore c
+      → asked ≡ askedIn s
+      → decoded ≡ decodedCore c
       → to ≡ toAll
-      → m ≡ sends asked thawed to (ReadRequest (readId (c .«next_id»)))
+      → m ≡ sends asked decoded to (ReadRequest (readId (c .«next_id»)))
       → w′ ≡ putReply (sentReply (oneMessage m)) w
       → opening 0 core′ reads′ w′ ≡ opened s c reads f w
   unfolding opened
-  opened-is c {b} {reads′} {core′} {asked} {thawed} {to} {m} {w′} eb er ec ea et ed em ew =
+  opened-is c {b} {reads′} {core′} {asked} {decoded} {to} {m} {w′} eb er ec ea et ed em ew =
       ap (λ (x : List ℕ). opening 0 x reads′ w′) ec
       ∙ ap₂ (opening 0 _) (er ∙ ap (λ (n : ℕ). set reads (c .«open_count») (readOf c n)) eb) (ew ∙ ap (λ (x : Outgoing). putReply (sentReply (oneMessage x)) w) message)
     where
-      message : m ≡ sends (askedHere s) (thawedCore c) toAll (ReadRequest (readId (c .«next_id»)))
+      message : m ≡ sends (askedIn s) (decodedCore c) toAll (ReadRequest (readId (c .«next_id»)))
       message =
           em
-          ∙ ap (λ (x : Asked). sends x thawed to (ReadRequest (readId (c .«next_id»)))) ea
-          ∙ ap (λ (x : Core). sends (askedHere s) x to (ReadRequest (readId (c .«next_id»)))) et
-          ∙ ap (λ (x : Destination). sends (askedHere s) (thawedCore c) x (ReadRequest (readId (c .«next_id»)))) ed
+          ∙ ap (λ (x : Asked). sends x decoded to (ReadRequest (readId (c .«next_id»)))) ea
+          ∙ ap (λ (x : Core). sends (askedIn s) x to (ReadRequest (readId (c .«next_id»)))) et
+          ∙ ap (λ (x : Destination). sends (askedIn s) (decodedCore c) x (ReadRequest (readId (c .«next_id»)))) ed
 
   module _ (core : List ℕ) {c : FlatCore} (e : c ≡ coreOf core) where
-    pub open-full : leb 128 (c .«open_count») ≡ true → opening 12 core reads w ≡ openRead s core reads f w
+    pub open-full : leb 128 (c .«open_count») ≡ true → opening (refusalNumber NoRoomForRead) core reads w ≡ openRead s core reads f w
     unfolding openRead
     open-full p = simp (ap (λ (x : FlatCore). leb 128 (x .«open_count»)) (sym e) ∙ p)
 
-    pub open-spent : leb 128 (c .«open_count») ≡ false → ltb 9223372036854775807 (c .«next_id») ≡ true → opening 12 core reads w ≡ openRead s core reads f w
+    pub open-spent : leb 128 (c .«open_count») ≡ false → ltb 9223372036854775807 (c .«next_id») ≡ true → opening (refusalNumber NoRoomForRead) core reads w ≡ openRead s core reads f w
     unfolding openRead
     open-spent p q =
         simp (ap (λ (x : FlatCore). leb 128 (x .«open_count»)) (sym e) ∙ p, ap (λ (x : FlatCore). ltb 9223372036854775807 (x .«next_id»)) (sym e) ∙ q)
@@ -94,10 +96,10 @@ module _ (s : Setup) (core : List ℕ) (table : ReadTable) where
     numbers left en ep = ep ∙ ap coreNumbers en ∙ ap (λ (x : FlatCore). coreNumbers (withTracker (left .tracker) x)) ec
 
     pub serve-ready : (rest : List ℕ) {left : Tracked} → left ≡ commitSlot t table (row .majority) (c .slot) → next ≡ withTracker (left .tracker) c → core′ ≡ coreNumbers next
-        → servings core′ (left .table) (set rest 4 (left .«served_count»)) ≡ serveReady s core table rest
+        → serving core′ (left .table) (set rest 4 (left .«served_count»)) ≡ serveReady s core table rest
     unfolding serveReady
     serve-ready rest {left} e en ep =
-        ap (λ (x : List ℕ). servings x (left .table) (set rest 4 (left .«served_count»))) (numbers left en ep)
+        ap (λ (x : List ℕ). serving x (left .table) (set rest 4 (left .«served_count»))) (numbers left en ep)
         ∙ ap (servedBy (coreOf core) rest)
         (e
         ∙ ap (λ (x : ReadTracker). commitSlot x table (row .majority) (c .slot)) (et ∙ ap trackerOf ec)
@@ -134,7 +136,7 @@ module _ (s : Setup) (committers delegates core : List ℕ) (table : ReadTable) 
   unfolding handled
   older p e = ap (direct 0 core table) e ∙ simp (p)
 
-  abbrev answer : Lent
+  abbrev answer : Left
   answer = handledBy s committers delegates core f w
 
   pub only-counted : {c next : FlatCore} {core′ : List ℕ} {w′ : Written} → c ≡ coreOf core → isOlder (coreOf core) (f .message) ≡ false → counts s delegates (coreOf core) (f .message) ≡ true
@@ -146,49 +148,56 @@ module _ (s : Setup) (committers delegates core : List ℕ) (table : ReadTable) 
   only-counted ec p q en ep e =
       ap₂ (λ (x : List ℕ) (y : Written). direct 0 x table y) (ep ∙ ap coreNumbers en ∙ ap (λ (x : FlatCore). coreNumbers (withCounted s x (f .message))) ec) e ∙ simp (p, q)
 
-  pub served-too : (l : Lent) {v : Serving} → isOlder (coreOf core) (f .message) ≡ false → counts s delegates (coreOf core) (f .message) ≡ false → l ≡ answer → l .handled .deeper ≡ true
+  pub served-too : (l : Left) {v : Serving} → isOlder (coreOf core) (f .message) ≡ false → counts s delegates (coreOf core) (f .message) ≡ false → l ≡ answer → l .handled .«may_serve» ≡ true
       → v ≡ serveReady s (l .core) table (l .reply .rest)
       → withServing (l .reply) v ≡ handled s committers delegates core table f w
   unfolding handled served
   served-too l p o e q v = ap (withServing (l .reply)) v ∙ by-served q ∙ ap (served s table) e ∙ simp (p, o)
     where
-      by-served : l .handled .deeper ≡ true → withServing (l .reply) (serveReady s (l .core) table (l .reply .rest)) ≡ served s table l
+      by-served : l .handled .«may_serve» ≡ true → withServing (l .reply) (serveReady s (l .core) table (l .reply .rest)) ≡ served s table l
       by-served q = simp (q)
 
-  pub not-served : (l : Lent) → isOlder (coreOf core) (f .message) ≡ false → counts s delegates (coreOf core) (f .message) ≡ false → l ≡ answer → l .handled .deeper ≡ false
+  pub not-served : (l : Left) → isOlder (coreOf core) (f .message) ≡ false → counts s delegates (coreOf core) (f .message) ≡ false → l ≡ answer → l .handled .«may_serve» ≡ false
       → direct (l .handled .number) (l .core) table (l .reply) ≡ handled s committers delegates core table f w
   unfolding handled served
   not-served l p o e q = by-served q ∙ ap (served s table) e ∙ simp (p, o)
     where
-      by-served : l .handled .deeper ≡ false → direct (l .handled .number) (l .core) table (l .reply) ≡ served s table l
+      by-served : l .handled .«may_serve» ≡ false → direct (l .handled .number) (l .core) table (l .reply) ≡ served s table l
       by-served q = simp (q)
 
-  pub passed-on : hasFastPath (thawedMode (s .mode)) ≡ true → direct 255 core table w ≡ forSlot s committers delegates core table f w
-  unfolding forSlot
+  -- what a call leaves that serves no read
+  unserved : (n : ℕ) (core′ : List ℕ) (w′ : Written) → direct n core′ table w′ ≡ served s table (leaves (withNumber n) core′ w′)
+  unfolding served
+  unserved n core′ w′ = refl
+
+  pub passed-on : hasFastPath (decodedMode (s .mode)) ≡ true → direct passedOn core table w ≡ slotCall s committers delegates core table f w
+  unfolding slotCall
   passed-on p = simp (p)
 
-  pub proposal-taken : {p : Proposed} → hasFastPath (thawedMode (s .mode)) ≡ false → eqb (f .kind) 0 ≡ true
-      → p ≡ putStep (proposeClassic (askedHere s) (f .v) (thawedCore (coreOf core))) core w
-      → fromProposed table p ≡ forSlot s committers delegates core table f w
-  unfolding forSlot
-  proposal-taken h k e = ap (fromProposed table) e ∙ simp (h, k)
+  pub proposal-taken : {n : ℕ} {core′ : List ℕ} {w′ : Written} → hasFastPath (decodedMode (s .mode)) ≡ false → eqb (f .kind) 0 ≡ true
+      → leaves (withNumber n) core′ w′ ≡ putStep (proposeClassic (askedIn s) (f .v) (decodedCore (coreOf core))) core w
+      → direct n core′ table w′ ≡ slotCall s committers delegates core table f w
+  unfolding slotCall
+  proposal-taken {n} {core′} {w′} h k e = unserved n core′ w′ ∙ ap (served s table) e ∙ simp (h, k)
 
-  pub in-classic : {d : Direct} → hasFastPath (thawedMode (s .mode)) ≡ false → eqb (f .kind) 0 ≡ false → d ≡ handled s committers delegates core table f w
-      → d ≡ forSlot s committers delegates core table f w
-  unfolding forSlot
+  pub in-classic : {d : Direct} → hasFastPath (decodedMode (s .mode)) ≡ false → eqb (f .kind) 0 ≡ false → d ≡ handled s committers delegates core table f w
+      → d ≡ slotCall s committers delegates core table f w
+  unfolding slotCall
   in-classic h k e = e ∙ simp (h, k)
 
   pub response-taken : {d : Direct} → isResponse f ≡ true → d ≡ response s core table f w → d ≡ taken s committers delegates core table f w
   unfolding taken
   response-taken p e = e ∙ simp (p)
 
-  pub slot-taken : {d : Direct} → isResponse f ≡ false → forSlots f ≡ true → d ≡ forSlot s committers delegates core table f w → d ≡ taken s committers delegates core table f w
+  pub slot-taken : {d : Direct} → isResponse f ≡ false → concernsSlot f ≡ true → d ≡ slotCall s committers delegates core table f w → d ≡ taken s committers delegates core table f w
   unfolding taken
   slot-taken p q e = e ∙ simp (p, q)
 
-  pub request-taken : {a : Answered} → isResponse f ≡ false → forSlots f ≡ false → a ≡ answerRequest s core (f .message) w → fromAnswered core table a ≡ taken s committers delegates core table f w
+  pub request-taken : {n : ℕ} {w′ : Written} → isResponse f ≡ false → concernsSlot f ≡ false
+      → leaves (withNumber n) core w′ ≡ answerRequest s core (f .message) w
+      → direct n core table w′ ≡ taken s committers delegates core table f w
   unfolding taken
-  request-taken p q e = ap (fromAnswered core table) e ∙ simp (p, q)
+  request-taken {n} {w′} p q e = unserved n core w′ ∙ ap (served s table) e ∙ simp (p, q)
 
   pub refused : {n : ℕ} → n ≡ refusalOf s (coreOf core) f → eqb n 0 ≡ false → direct n core table w ≡ directCall s committers delegates core table f w
   unfolding directCall

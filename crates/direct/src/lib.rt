@@ -1,19 +1,35 @@
-// A call on a shard that a host lends as arrays of numbers, changed in place. The arrays are the parts of the twin of a shard, of a call and of a reply.
+// A call on a shard that a host lends as arrays of numbers, changed in place. The arrays are the memory of a shard, of a call and of a reply as structs.
 // A call that is refused writes nothing. EPaxos and SwiftPaxos are passed on where the fast half has to act: then too nothing is written.
 ghost use mathlib.Core.Path.{_≡_};
-ghost use Rattle.array_reads.specs.Rows.{openRows, tableOf};
+ghost use Rattle.array_reads.specs.Rows.{openRows};
 ghost use Rattle.arrays.specs.Arrays.{setupOf, coreOf, callOf};
-ghost use Rattle.direct_core.specs.Handled.{written};
-ghost use Rattle.direct.specs.Direct.{trackerOf, withTracker, opening, openRead, direct, countResponse, response, servings, serveReady, isResponse, forSlots, namesSlot, ofOlderRound, isOlder, handled, forSlot, taken, directCall, LeftUnlessTaken};
+ghost use Rattle.direct_core.specs.Lent.{came, left};
+ghost use Rattle.direct_core.specs.Handled.{replyCame, replyLeft};
+ghost use Rattle.direct.specs.Direct.{readsCame, readsLeft, trackerOf, withTracker, opening, openRead, direct, countResponse, response, serving, serveReady, isResponse, concernsSlot, namesSlot, ofOlderRound, isOlder, handled, slotCall, taken, directCall, LeftUnlessTaken};
 use arrays::Setup;
+use direct_core::ACCEPT;
+use direct_core::COMMIT;
+use direct_core::NEW_READ;
+use direct_core::PASSED_ON;
+use direct_core::PREPARE;
+use direct_core::PROPOSAL;
+use direct_core::READ_RESPONSE;
+use flat::FlatCall;
+use flat::FlatCore;
+use flat::FlatMessage;
 use message::ConsensusMsg;
 use message::OptionalRound;
 use message::ReadId;
 use read_tracker::OpenRead;
 use read_tracker::ReadTracker;
-use twins::FlatCall;
-use twins::FlatCore;
-use twins::FlatMessage;
+
+// The number of a refusal.
+const NO_ROOM_FOR_READ: u64 = 12;
+
+// The most reads that are open at once, and the last id of a read.
+const MOST_OPEN: u64 = 128;
+
+const LAST_ID: u64 = 9223372036854775807;
 
 // A new read, which everyone is asked for. The own answer counts at once where nothing is held.
 fn open_read(
@@ -26,14 +42,16 @@ fn open_read(
     third: &mut [u64; 20],
     rest: &mut [u64; 5],
 ) -> u64
-    ensures { λ r. ⌜ (opening r (now (core .exit)) (openRows (now (reads .exit))) (written (now (first .exit)) (now (second .exit)) (now (third .exit)) (now (rest .exit))) ≡ openRead setup (now (core .entry)) (openRows (now (reads .entry))) f (written (now (first .entry)) (now (second .entry)) (now (third .entry)) (now (rest .entry)))) × LeftUnlessTaken r (now (reads .entry)) (now (reads .exit)) ⌝ }
+    ensures { λ r. ⌜ opening r (left core) (openRows (left reads)) (replyLeft first second third rest)
+        ≡ openRead setup (came core) (openRows (came reads)) f (replyCame first second third rest) ⌝ }
+    ensures left_unless_taken { λ r. ⌜ LeftUnlessTaken r reads ⌝ }
 {
     let c = arrays::core_in(core);
-    if c.open_count >= 128 {
-        return 12;
+    if c.open_count >= MOST_OPEN {
+        return NO_ROOM_FOR_READ;
     }
-    if c.next_id > 9223372036854775807 {
-        return 12;
+    if c.next_id > LAST_ID {
+        return NO_ROOM_FOR_READ;
     }
     let id = ReadId(c.next_id);
     let local_ready = c.max_rv.given == 0;
@@ -41,7 +59,7 @@ fn open_read(
         id,
         tag: f.v,
         arrival_slot: f.arrival_slot,
-        ready_count: twins::freeze_bool(local_ready),
+        ready_count: flat::encode_bool(local_ready),
         local_ready,
     };
     array_reads::insert(reads, c.open_count, read);
@@ -49,9 +67,9 @@ fn open_read(
     next.next_id = c.next_id + 1;
     next.open_count = c.open_count + 1;
     arrays::put_core(core, next);
-    let asked = twin_calls::asked_of(setup);
+    let asked = flat_calls::asked_of(setup);
     let request = ConsensusMsg::ReadRequest { id };
-    let message = asked.sends(twins::thaw_core(c), steps::to_all(), request);
+    let message = asked.sends(flat::decode_core(c), steps::to_all(), request);
     direct_core::put_sent(first, second, third, rest, message);
     0
 }
@@ -85,12 +103,13 @@ fn count_response(
     third: &mut [u64; 20],
     rest: &mut [u64; 5],
 )
-    ensures { λ _. ⌜ direct 0 (now (core .exit)) (tableOf (now (reads .exit)) (now (served .exit))) (written (now (first .exit)) (now (second .exit)) (now (third .exit)) (now (rest .exit))) ≡ countResponse setup (now (core .entry)) (tableOf (now (reads .entry)) (now (served .entry))) f (written (now (first .entry)) (now (second .entry)) (now (third .entry)) (now (rest .entry))) ⌝ }
+    ensures { λ _. ⌜ direct 0 (left core) (readsLeft reads served) (replyLeft first second third rest)
+        ≡ countResponse setup (came core) (readsCame reads served) f (replyCame first second third rest) ⌝ }
 {
     let c = arrays::core_in(core);
-    let row = quorum::ruled(setup.replica_count);
+    let row = quorum::row_by_rule(setup.replica_count);
     let id = ReadId(f.message.id);
-    let fast = twins::is_yes(f.fast);
+    let fast = flat::is_yes(f.fast);
     let counted = array_reads::receive_ready(
         reads,
         served,
@@ -117,7 +136,8 @@ fn response(
     third: &mut [u64; 20],
     rest: &mut [u64; 5],
 )
-    ensures { λ _. ⌜ direct 0 (now (core .exit)) (tableOf (now (reads .exit)) (now (served .exit))) (written (now (first .exit)) (now (second .exit)) (now (third .exit)) (now (rest .exit))) ≡ response setup (now (core .entry)) (tableOf (now (reads .entry)) (now (served .entry))) f (written (now (first .entry)) (now (second .entry)) (now (third .entry)) (now (rest .entry))) ⌝ }
+    ensures { λ _. ⌜ direct 0 (left core) (readsLeft reads served) (replyLeft first second third rest)
+        ≡ response setup (came core) (readsCame reads served) f (replyCame first second third rest) ⌝ }
 {
     let c = arrays::core_in(core);
     if c.open_count == 0 {
@@ -135,10 +155,10 @@ pub fn serve_ready(
     served: &mut [u64; 512],
     rest: &mut [u64; 5],
 )
-    ensures { λ _. ⌜ servings (now (core .exit)) (tableOf (now (reads .exit)) (now (served .exit))) (now (rest .exit)) ≡ serveReady setup (now (core .entry)) (tableOf (now (reads .entry)) (now (served .entry))) (now (rest .entry)) ⌝ }
+    ensures { λ _. ⌜ serving (left core) (readsLeft reads served) (left rest) ≡ serveReady setup (came core) (readsCame reads served) (came rest) ⌝ }
 {
     let c = arrays::core_in(core);
-    let row = quorum::ruled(setup.replica_count);
+    let row = quorum::row_by_rule(setup.replica_count);
     let ready = array_reads::commit_slot(reads, served, tracker_of(c), row.majority, c.slot);
     let tracker = ready.tracker;
     arrays::put_core(core, with_tracker(c, tracker));
@@ -148,21 +168,21 @@ pub fn serve_ready(
 fn is_response(f: FlatCall) -> bool
     ensures { λ r. ⌜ r ≡ isResponse f ⌝ }
 {
-    if f.kind == 0 {
+    if f.kind == PROPOSAL {
         return false;
     }
-    f.message.kind == 6
+    f.message.kind == READ_RESPONSE
 }
 
-// A proposal, a Prepare, an Accept, a ForwardRequest or a Commit.
-pub fn for_slots(f: FlatCall) -> bool
-    ensures { λ r. ⌜ r ≡ forSlots f ⌝ }
+// A proposal, a Prepare, an Accept, a ForwardRequest or a Commit: kinds 1 to 4.
+pub fn concerns_slot(f: FlatCall) -> bool
+    ensures { λ r. ⌜ r ≡ concernsSlot f ⌝ }
 {
-    if f.kind == 0 {
+    if f.kind == PROPOSAL {
         return true;
     }
-    if f.message.kind >= 1 {
-        return f.message.kind <= 4;
+    if f.message.kind >= PREPARE {
+        return f.message.kind <= COMMIT;
     }
     false
 }
@@ -170,13 +190,13 @@ pub fn for_slots(f: FlatCall) -> bool
 fn names_slot(kind: u64) -> bool
     ensures { λ r. ⌜ r ≡ namesSlot kind ⌝ }
 {
-    if kind == 1 {
+    if kind == PREPARE {
         return true;
     }
-    if kind == 2 {
+    if kind == ACCEPT {
         return true;
     }
-    kind == 4
+    kind == COMMIT
 }
 
 // Whether a Prepare or an Accept is of an older round.
@@ -184,10 +204,10 @@ fn of_older_round(c: FlatCore, m: FlatMessage) -> bool
     ensures { λ r. ⌜ r ≡ ofOlderRound c m ⌝ }
 {
     let at = c.round;
-    if m.kind == 4 {
+    if m.kind == COMMIT {
         return false;
     }
-    OptionalRound::Round(counting::round_in(m)).before(twins::thaw_round(at))
+    OptionalRound::Round(counting::round_in(m)).before(flat::decode_round(at))
 }
 
 // Whether the message is a Prepare or an Accept of an older slot or round, or a Commit of an older slot, which does nothing.
@@ -203,9 +223,9 @@ pub fn is_older(c: FlatCore, m: FlatMessage) -> bool
     false
 }
 
-// Reads of the core what is asked, and not all of it.
+// Takes the core out for this question alone, so that the compiler loads only the numbers that it asks for.
 fn is_older_in(core: &[u64; 18], m: FlatMessage) -> bool
-    ensures { λ r. ⌜ r ≡ isOlder (coreOf (now (core .entry))) m ⌝ }
+    ensures { λ r. ⌜ r ≡ isOlder (coreOf (came core)) m ⌝ }
 {
     is_older(arrays::core_in(core), m)
 }
@@ -225,7 +245,9 @@ fn handled(
     third: &mut [u64; 20],
     rest: &mut [u64; 5],
 ) -> u64
-    ensures { λ r. ⌜ (direct r (now (core .exit)) (tableOf (now (reads .exit)) (now (served .exit))) (written (now (first .exit)) (now (second .exit)) (now (third .exit)) (now (rest .exit))) ≡ handled setup (now (committers .entry)) (now (delegates .entry)) (now (core .entry)) (tableOf (now (reads .entry)) (now (served .entry))) f (written (now (first .entry)) (now (second .entry)) (now (third .entry)) (now (rest .entry)))) × (LeftUnlessTaken r (now (reads .entry)) (now (reads .exit)) × LeftUnlessTaken r (now (served .entry)) (now (served .exit))) ⌝ }
+    ensures { λ r. ⌜ direct r (left core) (readsLeft reads served) (replyLeft first second third rest)
+        ≡ handled setup (came committers) (came delegates) (came core) (readsCame reads served) f (replyCame first second third rest) ⌝ }
+    ensures left_unless_taken { λ r. ⌜ LeftUnlessTaken r reads × LeftUnlessTaken r served ⌝ }
 {
     let message = f.message;
     if is_older_in(core, message) {
@@ -249,15 +271,15 @@ fn handled(
         third,
         rest,
     );
-    if h.deeper {
+    if h.may_serve {
         serve_ready(setup, core, reads, served, rest);
         return 0;
     }
     h.number
 }
 
-// In EPaxos and SwiftPaxos the fast half has to act.
-fn for_slot(
+// What concerns a slot is passed on in EPaxos and SwiftPaxos, since the fast half has to act.
+fn slot_call(
     setup: Setup,
     committers: &[u64; 64],
     delegates: &[u64; 64],
@@ -270,13 +292,15 @@ fn for_slot(
     third: &mut [u64; 20],
     rest: &mut [u64; 5],
 ) -> u64
-    ensures { λ r. ⌜ (direct r (now (core .exit)) (tableOf (now (reads .exit)) (now (served .exit))) (written (now (first .exit)) (now (second .exit)) (now (third .exit)) (now (rest .exit))) ≡ forSlot setup (now (committers .entry)) (now (delegates .entry)) (now (core .entry)) (tableOf (now (reads .entry)) (now (served .entry))) f (written (now (first .entry)) (now (second .entry)) (now (third .entry)) (now (rest .entry)))) × (LeftUnlessTaken r (now (reads .entry)) (now (reads .exit)) × LeftUnlessTaken r (now (served .entry)) (now (served .exit))) ⌝ }
+    ensures { λ r. ⌜ direct r (left core) (readsLeft reads served) (replyLeft first second third rest)
+        ≡ slotCall setup (came committers) (came delegates) (came core) (readsCame reads served) f (replyCame first second third rest) ⌝ }
+    ensures left_unless_taken { λ r. ⌜ LeftUnlessTaken r reads × LeftUnlessTaken r served ⌝ }
 {
-    let mode = twins::thaw_mode(setup.mode);
+    let mode = flat::decode_mode(setup.mode);
     if mode.has_fast_path() {
-        return 255;
+        return PASSED_ON;
     }
-    if f.kind == 0 {
+    if f.kind == PROPOSAL {
         return direct_core::propose(setup, core, f.v, first, second, third, rest);
     }
     handled(
@@ -308,14 +332,16 @@ fn taken(
     third: &mut [u64; 20],
     rest: &mut [u64; 5],
 ) -> u64
-    ensures { λ r. ⌜ (direct r (now (core .exit)) (tableOf (now (reads .exit)) (now (served .exit))) (written (now (first .exit)) (now (second .exit)) (now (third .exit)) (now (rest .exit))) ≡ taken setup (now (committers .entry)) (now (delegates .entry)) (now (core .entry)) (tableOf (now (reads .entry)) (now (served .entry))) f (written (now (first .entry)) (now (second .entry)) (now (third .entry)) (now (rest .entry)))) × (LeftUnlessTaken r (now (reads .entry)) (now (reads .exit)) × LeftUnlessTaken r (now (served .entry)) (now (served .exit))) ⌝ }
+    ensures { λ r. ⌜ direct r (left core) (readsLeft reads served) (replyLeft first second third rest)
+        ≡ taken setup (came committers) (came delegates) (came core) (readsCame reads served) f (replyCame first second third rest) ⌝ }
+    ensures left_unless_taken { λ r. ⌜ LeftUnlessTaken r reads × LeftUnlessTaken r served ⌝ }
 {
     if is_response(f) {
         response(setup, core, reads, served, f, first, second, third, rest);
         return 0;
     }
-    if for_slots(f) {
-        return for_slot(
+    if concerns_slot(f) {
+        return slot_call(
             setup,
             committers,
             delegates,
@@ -349,15 +375,18 @@ pub extern "C" fn chanbook_direct_call(
     third: &mut [u64; 20],
     rest: &mut [u64; 5],
 ) -> u64
-    ensures { λ r. ⌜ (direct r (now (core .exit)) (tableOf (now (reads .exit)) (now (served .exit))) (written (now (first .exit)) (now (second .exit)) (now (third .exit)) (now (rest .exit))) ≡ directCall (setupOf (now (setup .entry))) (now (committers .entry)) (now (delegates .entry)) (now (core .entry)) (tableOf (now (reads .entry)) (now (served .entry))) (callOf (now (call .entry))) (written (now (first .entry)) (now (second .entry)) (now (third .entry)) (now (rest .entry)))) × (LeftUnlessTaken r (now (reads .entry)) (now (reads .exit)) × LeftUnlessTaken r (now (served .entry)) (now (served .exit))) ⌝ }
+    ensures { λ r. ⌜ direct r (left core) (readsLeft reads served) (replyLeft first second third rest)
+        ≡ directCall (setupOf (came setup)) (came committers) (came delegates) (came core) (readsCame reads served) (callOf (came call))
+        (replyCame first second third rest) ⌝ }
+    ensures left_unless_taken { λ r. ⌜ LeftUnlessTaken r reads × LeftUnlessTaken r served ⌝ }
 {
-    let number = twin_calls::refusal(setup, core, call);
+    let number = flat_calls::refusal(setup, core, call);
     if number != 0 {
         return number;
     }
     let s = arrays::setup_in(setup);
     let f = arrays::call_in(call);
-    if f.kind == 1 {
+    if f.kind == NEW_READ {
         return open_read(s, core, reads, f, first, second, third, rest);
     }
     taken(

@@ -1,37 +1,31 @@
 -- A direct call is the call on the shard that the arrays stand for, or is passed on and has written nothing.
 -- Assumes nothing.
-use mathlib.Core.Bool.{Bool, true, false, cond, not, _&&_}
+use mathlib.Core.Bool.{Bool, true, false, cond, not, _&&_, _||_}
 use mathlib.Core.List.{List}
 use mathlib.Core.Logic.{_⊎_, inl, inr}
-use mathlib.Core.Path.{_≡_, refl, sym, ap, ap₂, subst, _∙_}
+use mathlib.Core.Path.{_≡_, refl, sym, ap, subst, _∙_}
 use Prim.Native.Nat.{ℕ, _≤_}
 use native.Mathlib.Omega.{arith}
 use borrow.Author.Tests.{eqb-true, eqb-false, leb-true}
 use lib.Dec.{eqb, leb, ltb}
-use Rattle.basics.proofs.Tests.{either, not-both, and-left, and-right, or-cases}
-use Rattle.arrays.specs.Arrays.{settingsOf, coreOf, coreNumbers}
+use Rattle.basics.proofs.Tests.{either, not-both, of-both, and-left, and-right, or-cases}
+use Rattle.arrays.specs.Arrays.{coreOf, coreNumbers}
 use Rattle.arrays.specs.declared.Setup.{Setup}
-use Rattle.calls.specs.Asked.{askedOf, heardOf, heardIn}
-use Rattle.calls.specs.Decision.{ifMade, decisionFor, decisionOf}
+use Rattle.calls.specs.Asked.{askedOf}
+use Rattle.calls.specs.Decision.{decisionFor, decisionOf}
 use Rattle.calls.specs.declared.Call.{Call}
 use Rattle.calls.specs.declared.Call.the-variants.{Propose, StartRead, Receive}
-use Rattle.calls.specs.declared.Decision.{Decision}
-use Rattle.calls.specs.declared.Decision.the-variants.{Refuse, Handle}
+use Rattle.calls.specs.declared.Decision.the-variants.{Handle}
 use Rattle.calls.specs.declared.Reply.{Reply}
-use Rattle.calls.specs.declared.Taken.{Taken}
 use Rattle.consensus.proofs.ByParts.{by-parts}
-use Rattle.consensus.specs.Answers.{withState}
 use Rattle.consensus.specs.ByParts.{fromState}
 use Rattle.consensus.specs.Call.{callOf}
-use Rattle.consensus.specs.declared.Answer.{Answer}
-use Rattle.consensus.specs.declared.Shard.{Shard}
 use Rattle.core_calls.specs.CoreCall.{sendsFrom, refusesIn, needsMore, readAnswer, coreFinishAt, coreFinish, coreProposed, coreProcessed, coreOnCommit, coreOnReadRequest, coreOnReadResponse, coreCall, coreTaken, coreHandle}
 use Rattle.core_calls.specs.Replies.{sentReply}
 use Rattle.core_calls.specs.declared.CoreAnswer.{CoreAnswer}
-use Rattle.counting.specs.Counting.{roundIn, countsAccept, countsPromise, counts, withCounted}
-use Rattle.delivery.specs.declared.Delivery.{Delivery}
-use Rattle.direct.specs.Direct.{Direct, direct, majorityOf, opening, opened, openRead, fromOpening, countResponse, response, served, isResponse, forSlots, namesSlot, ofOlderRound, isOlder, handled, fromProposed, forSlot, fromAnswered, taken, directCall}
-use Rattle.direct_core.specs.Handled.{Written, putReply, putServed, putAnswer, askedHere, putStep, putProcessed, handledBy, answerRequest}
+use Rattle.counting.specs.Counting.{countsAccept, countsPromise, counts, withCounted}
+use Rattle.direct.specs.Direct.{Direct, direct, majorityOf, opening, opened, openRead, fromOpening, countResponse, response, served, isResponse, concernsSlot, namesSlot, ofOlderRound, isOlder, handled, slotCall, taken, directCall}
+use Rattle.direct_core.specs.Handled.{Written, passedOn, putReply, putServed, putAnswer, askedIn, heardIn, putStep, putProcessed, handledBy, answerRequest}
 use Rattle.enter.specs.Enter.{isOlder as enterOlder}
 use Rattle.direct_fast.specs.DirectFast.{fastHalfActs}
 use Rattle.fast_state.specs.declared.FastState.{FastState}
@@ -40,7 +34,7 @@ use Rattle.message.specs.Refusals.{refusalNumber}
 use Rattle.message.specs.declared.Outcome.{Outcome}
 use Rattle.message.specs.declared.Outcome.the-variants.{Done, Refused}
 use Rattle.message.specs.declared.Refusal.{Refusal}
-use Rattle.message.specs.declared.Refusal.the-variants.{Panic}
+use Rattle.message.specs.declared.Refusal.the-variants.{Panic, NoRoomForRead}
 use Rattle.propose.specs.Propose.{proposeClassic}
 use Rattle.read_tracker.specs.Reads.{insert, inserted, refused as refusedRead}
 use Rattle.read_tracker.specs.declared.Inserted.{Inserted}
@@ -49,65 +43,54 @@ use Rattle.round_state.specs.Paxos.{isHeld}
 use Rattle.round_state.specs.declared.HeldPromise.the-variants.{NothingHeld, Held}
 use Rattle.rounds_calls.specs.RoundsCall.{withFast, roundsHandle, roundsTaken, roundsPassed}
 use Rattle.rounds_calls.specs.declared.RoundsAnswer.{RoundsAnswer}
-use Rattle.settings.specs.declared.Settings.{Settings}
 use Rattle.state_calls.specs.StateCall.{stateCall, stateAfter, statePassed, withReads, readsHandle, readsTaken, serveReady, withTable, afterInsert, countResponse as statesCount, openRead as stateOpenRead}
-use Rattle.state_calls.specs.declared.State.{State}
 use Rattle.state_calls.specs.declared.StateAnswer.{StateAnswer}
 use Rattle.paxos_family.specs.Process.{processClassic}
 use Rattle.paxos_family.proofs.Older.{Older, older-prepare, older-accept}
-use Rattle.message.specs.declared.PaxosRound.{PaxosRound}
 use Rattle.steps.specs.Steps.{noMessages, oneMessage, stays}
 use Rattle.steps.specs.declared.CoreStep.{CoreStep}
 use Rattle.steps.specs.declared.Core.{Core}
 use Rattle.steps.specs.declared.Messages.{Messages}
 use Rattle.steps.specs.declared.Next.{Next}
 use Rattle.steps.specs.declared.Next.the-variants.{Stays, Continues, Commits, Refuses}
-use Rattle.twins.specs.Freeze.{frozenOutcome}
-use Rattle.twin_calls.specs.Refusals.{refusalOf}
-use Rattle.twins.specs.Thaw.{isYes, thawedCall, thawedCore, thawedDelivery, thawedHeld, thawedMade, thawedMode, thawedMsg, thawedPromise, thawedSettings, thawedSource}
-use Rattle.twins.specs.declared.FlatCall.{FlatCall}
-use Rattle.twins.specs.declared.FlatHeld.{FlatHeld}
-use Rattle.direct_calls.specs.Stands.{shardOf, Stands, Claim, DirectIsCall}
+use Rattle.flat.specs.Encode.{encodedOutcome}
+use Rattle.flat_calls.specs.Refusals.{refusalOf}
+use Rattle.flat.specs.Decode.{isYes, decodedCall, decodedCore, decodedHeld, decodedMode, decodedMsg, decodedPromise, decodedSource}
+use Rattle.flat.specs.declared.FlatCall.{FlatCall}
+use Rattle.flat.specs.declared.FlatHeld.{FlatHeld}
+use Rattle.direct_calls.specs.Stands.{Stands, DirectDoesOrPasses, DirectIsCall}
+use Rattle.direct_calls.proofs.Common.{CallOn, callOn, not-taken, other-kind, by-kind}
 use Rattle.direct_calls.proofs.Counted.{accept-leaves, promise-leaves}
-use Rattle.direct_calls.proofs.Deeper.{DeeperDone, by-test, finish-step, committed, processed-is}
-use Rattle.direct_calls.proofs.Proposed.{numbered, Uncommitted, proposal-uncommitted, step-written}
-use Rattle.direct_calls.proofs.Taken.{Parts, onState, answered}
+use Rattle.direct_calls.proofs.Deeper.{DeeperDone, finish-step, committed, processed-is}
+use Rattle.direct_calls.proofs.Proposed.{Uncommitted, proposal-uncommitted, step-written}
+use Rattle.direct_calls.proofs.Taken.{Parts, onState, answered, parts-stand}
 
 module _ (s : Setup) (committers delegates core : List ℕ) (fast : FastState) (table : ReadTable) (f : FlatCall) (w : Written) where
-  abbrev thawed : Core
-  thawed = thawedCore (coreOf core)
+  open CallOn (callOn s committers delegates core fast table f) using (decoded, settings, shard, called, outcome, delivered, round, takenAs)
 
-  abbrev settings : Settings
-  settings = thawedSettings (settingsOf s committers delegates)
-
-  abbrev shard : Shard
-  shard = shardOf s committers delegates core fast table
-
-  abbrev called : Call
-  called = thawedCall (s .«process_count») (s .«my_pid») f
+  -- no field of `CallOn`: `simp` rewrites it
+  abbrev kind : ℕ
+  kind = f .message .kind
 
   abbrev result : Direct
   result = directCall s committers delegates core table f w
-
-  abbrev takenAs : Call → Taken
-  takenAs c = record { asked = askedOf settings; heard = heardIn settings c; call = c }
 
   abbrev StandsFor : StateAnswer → Direct → Type 0
   StandsFor x d = Parts core fast table w x (x .reply .outcome) d
 
   abbrev Passed : Direct → Type 0
-  Passed d = (fastHalfActs s f ≡ true) × (d ≡ direct 255 core table w)
+  Passed d = (fastHalfActs s f ≡ true) × (d ≡ direct passedOn core table w)
 
   -- ---- a message whose answer the core gives
 
   abbrev onCommit : CoreAnswer
-  onCommit = coreOnCommit (askedOf settings) (f .message .slot) (f .message .v) thawed
+  onCommit = coreOnCommit (askedOf settings) (f .message .slot) (f .message .v) decoded
 
   abbrev processing : CoreStep
-  processing = processClassic (askedOf settings) (heardOf settings (thawedDelivery (s .«process_count») (s .«my_pid») f)) (thawedMsg (f .message)) thawed
+  processing = processClassic (askedOf settings) (heardIn s committers delegates f) (decodedMsg (f .message)) decoded
 
   abbrev coreAnswer : CoreAnswer
-  coreAnswer = cond (eqb (f .message .kind) 4) onCommit (coreFinish (askedOf settings) (isYes (f .«value_held»)) thawed processing)
+  coreAnswer = cond (eqb (f .message .kind) 4) onCommit (coreFinish (askedOf settings) (isYes (f .«value_held»)) decoded processing)
 
   -- what is written is the answer
   handled-by : handledBy s committers delegates core f w ≡ putAnswer coreAnswer core w
@@ -115,9 +98,9 @@ module _ (s : Setup) (committers delegates core : List ℕ) (fast : FastState) (
   handled-by = go (eqb (f .message .kind) 4)
     where
       go : (t : Bool) → cond t (putAnswer onCommit core w) (putProcessed (askedOf settings) (isYes (f .«value_held»)) processing core w)
-          ≡ putAnswer (cond t onCommit (coreFinish (askedOf settings) (isYes (f .«value_held»)) thawed processing)) core w
+          ≡ putAnswer (cond t onCommit (coreFinish (askedOf settings) (isYes (f .«value_held»)) decoded processing)) core w
       go true = refl
-      go false = processed-is (askedOf settings) (isYes (f .«value_held»)) core w thawed processing
+      go false = processed-is (askedOf settings) (isYes (f .«value_held»)) core w decoded processing
 
   after-by : (c : Call) (k : Core) (reply : Reply) (t : Bool) → hasFastPath (settings .mode) ≡ false
       → readsTaken (askedOf settings) table (withFast fast (record { core = k; reply = reply; deeper = t })) c
@@ -126,7 +109,7 @@ module _ (s : Setup) (committers delegates core : List ℕ) (fast : FastState) (
       ≡ onState s core fast table w t (record { core = k; reply = reply; deeper = t })
   unfolding stateAfter statePassed roundsPassed withReads
   after-by c k reply true p r =
-      ap (λ (b : Bool). withReads (askedOf settings) table c (cond b (roundsTaken (askedOf settings) (heardIn settings c) (shard .state .rounds) a c) (withFast fast a))) p ∙ r
+      ap (λ (b : Bool). withReads (askedOf settings) table c (cond b (roundsTaken (askedOf settings) (takenAs c .heard) (shard .state .rounds) a c) (withFast fast a))) p ∙ r
     where
       a : CoreAnswer
       a = record { core = k; reply = reply; deeper = true }
@@ -134,12 +117,12 @@ module _ (s : Setup) (committers delegates core : List ℕ) (fast : FastState) (
 
   answer-deeper : DeeperDone coreAnswer
   answer-deeper =
-      by-test (eqb (f .message .kind) 4) onCommit (coreFinish (askedOf settings) (isYes (f .«value_held»)) thawed processing)
-      (committed (askedOf settings) (f .message .slot) (f .message .v) thawed)
-      (finish-step (askedOf settings) (isYes (f .«value_held»)) thawed processing)
+      of-both DeeperDone (eqb (f .message .kind) 4)
+      (committed (askedOf settings) (f .message .slot) (f .message .v) decoded)
+      (finish-step (askedOf settings) (isYes (f .«value_held»)) decoded processing)
 
   classic : (c : Call) → hasFastPath (settings .mode) ≡ false
-      → coreCall thawed (Handle (takenAs c)) ≡ coreAnswer
+      → coreCall decoded (Handle (takenAs c)) ≡ coreAnswer
       → readsTaken (askedOf settings) table (withFast fast (coreAnswer)) c
       ≡ serveReady (majorityOf s) table (withFast fast (coreAnswer))
       → StandsFor (stateCall (shard .state) (Handle (takenAs c))) (served s table (putAnswer (coreAnswer) core w))
@@ -153,7 +136,7 @@ module _ (s : Setup) (committers delegates core : List ℕ) (fast : FastState) (
 
   -- ---- a call that sends from the core, and opens and serves no read
 
-  leaves : (c : Call) (next : Core) (core′ : List ℕ) (ms : Messages) {d : Direct} → coreCall thawed (Handle (takenAs c)) ≡ sendsFrom next ms → thawedCore (coreOf core′) ≡ next
+  leaves : (c : Call) (next : Core) (core′ : List ℕ) (ms : Messages) {d : Direct} → coreCall decoded (Handle (takenAs c)) ≡ sendsFrom next ms → decodedCore (coreOf core′) ≡ next
       → d ≡ direct 0 core′ table (putReply (sentReply ms) w)
       → StandsFor (stateCall (shard .state) (Handle (takenAs c))) d
   unfolding stateAfter
@@ -161,17 +144,17 @@ module _ (s : Setup) (committers delegates core : List ℕ) (fast : FastState) (
       subst (λ (x : StateAnswer). StandsFor x d) (sym (ap (stateAfter (shard .state) (Handle (takenAs c))) e))
       (subst (λ (x : Direct). StandsFor (withTable table (withFast fast (sendsFrom next ms))) x) (sym p) (refl, n, refl, refl, refl))
 
-  nothing : (c : Call) {d : Direct} → coreCall thawed (Handle (takenAs c)) ≡ sendsFrom thawed noMessages → d ≡ direct 0 core table (putServed 0 w)
+  nothing : (c : Call) {d : Direct} → coreCall decoded (Handle (takenAs c)) ≡ sendsFrom decoded noMessages → d ≡ direct 0 core table (putServed 0 w)
       → StandsFor (stateCall (shard .state) (Handle (takenAs c))) d
-  nothing c e p = leaves c thawed core noMessages e refl p
+  nothing c e p = leaves c decoded core noMessages e refl p
 
   -- ---- proposals
 
   abbrev proposing : CoreStep
-  proposing = proposeClassic (askedOf settings) (f .v) thawed
+  proposing = proposeClassic (askedOf settings) (f .v) decoded
 
   abbrev finished : CoreAnswer
-  finished = coreFinish (askedOf settings) true thawed proposing
+  finished = coreFinish (askedOf settings) true decoded proposing
 
   -- a proposal that goes no deeper is what the core makes of it
   shallow : (k : Core) (reply : Reply) (t : Bool) → t ≡ false
@@ -181,85 +164,76 @@ module _ (s : Setup) (committers delegates core : List ℕ) (fast : FastState) (
   shallow k reply true e = absurd (not-both refl e)
   shallow k reply false e = refl
 
-  not-deeper : (step : CoreStep) → Uncommitted (step .next) → coreFinish (askedOf settings) true thawed step .deeper ≡ false
+  not-deeper : (step : CoreStep) → Uncommitted (step .next) → coreFinish (askedOf settings) true decoded step .deeper ≡ false
   not-deeper step u = go (step .next) u
     where
-      go : (next : Next) → Uncommitted next → coreFinishAt (askedOf settings) true thawed (step .core) (step .messages) next .deeper ≡ false
+      go : (next : Next) → Uncommitted next → coreFinishAt (askedOf settings) true decoded (step .core) (step .messages) next .deeper ≡ false
       go Stays u = refl
       go Continues u = refl
       go (Commits v) u = absurd u
       go (Refuses why) u = refl
 
   proposed : hasFastPath (settings .mode) ≡ false
-      → StandsFor (stateCall (shard .state) (Handle (takenAs (Propose (f .v))))) (fromProposed table (putStep (proposeClassic (askedHere s) (f .v) thawed) core w))
+      → StandsFor (stateCall (shard .state) (Handle (takenAs (Propose (f .v))))) (served s table (putStep (proposeClassic (askedIn s) (f .v) decoded) core w))
   unfolding coreCall coreTaken coreProposed
   proposed p =
-      let u : Uncommitted (proposing .next) = proposal-uncommitted (askedOf settings) (f .v) thawed in
-      let e : coreCall thawed (Handle (takenAs (Propose (f .v)))) ≡ finished = simp (p) in
-      subst (λ (x : StateAnswer). StandsFor x (fromProposed table (putStep proposing core w)))
+      let u : Uncommitted (proposing .next) = proposal-uncommitted (askedOf settings) (f .v) decoded in
+      let e : coreCall decoded (Handle (takenAs (Propose (f .v)))) ≡ finished = simp (p) in
+      subst (λ (x : StateAnswer). StandsFor x (served s table (putStep proposing core w)))
       (sym (ap (stateAfter (shard .state) (Handle (takenAs (Propose (f .v))))) e ∙ shallow (finished .core) (finished .reply) (finished .deeper) (not-deeper proposing u)))
-      (step-written (askedOf settings) core fast table w thawed proposing u)
+      (step-written s (askedOf settings) core fast table w decoded proposing u)
 
   -- ---- messages
-
-  abbrev delivered : Delivery
-  delivered = thawedDelivery (s .«process_count») (s .«my_pid») f
-
-  abbrev kind : ℕ
-  kind = f .message .kind
 
   abbrev StandsHandled : Type 0
   StandsHandled =
       StandsFor (stateCall (shard .state) (Handle (takenAs (Receive delivered)))) (served s table (putAnswer (coreAnswer) core w))
 
   prepare-handled : hasFastPath (settings .mode) ≡ false → eqb kind 1 ≡ true → eqb kind 4 ≡ false → StandsHandled
-  unfolding coreCall coreTaken coreHandle coreProcessed thawedMsg readsTaken readsHandle
+  unfolding coreCall coreTaken coreHandle coreProcessed decodedMsg readsTaken readsHandle
   prepare-handled p k1 k4 = classic (Receive delivered) p (simp (k1, k4, p)) (simp (k1))
 
   accept-handled : hasFastPath (settings .mode) ≡ false → eqb kind 1 ≡ false → eqb kind 2 ≡ true → eqb kind 4 ≡ false → StandsHandled
-  unfolding coreCall coreTaken coreHandle coreProcessed thawedMsg readsTaken readsHandle
+  unfolding coreCall coreTaken coreHandle coreProcessed decodedMsg readsTaken readsHandle
   accept-handled p k1 k2 k4 = classic (Receive delivered) p (simp (k1, k2, k4, p)) (simp (k1, k2))
 
   forward-handled : hasFastPath (settings .mode) ≡ false → eqb kind 1 ≡ false → eqb kind 2 ≡ false → eqb kind 3 ≡ true → eqb kind 4 ≡ false → StandsHandled
-  unfolding coreCall coreTaken coreHandle coreProcessed thawedMsg readsTaken readsHandle
+  unfolding coreCall coreTaken coreHandle coreProcessed decodedMsg readsTaken readsHandle
   forward-handled p k1 k2 k3 k4 = classic (Receive delivered) p (simp (k1, k2, k3, k4, p)) (simp (k1, k2, k3))
 
   commit-handled : hasFastPath (settings .mode) ≡ false → eqb kind 1 ≡ false → eqb kind 2 ≡ false → eqb kind 3 ≡ false → eqb kind 4 ≡ true → StandsHandled
-  unfolding coreCall coreTaken coreHandle coreProcessed thawedMsg readsTaken readsHandle
+  unfolding coreCall coreTaken coreHandle coreProcessed decodedMsg readsTaken readsHandle
   commit-handled p k1 k2 k3 k4 = classic (Receive delivered) p (simp (k1, k2, k3, k4)) (simp (k1, k2, k3, k4))
 
   -- a ReadRequest, in every mode
   abbrev source : ℕ
-  source = thawedSource (s .«process_count») (s .«my_pid») (f .message)
+  source = decodedSource (s .«process_count») (s .«my_pid») (f .message)
 
   abbrev StandsRequested : Type 0
-  StandsRequested = StandsFor (stateCall (shard .state) (Handle (takenAs (Receive delivered)))) (fromAnswered core table (answerRequest s core (f .message) w))
+  StandsRequested = StandsFor (stateCall (shard .state) (Handle (takenAs (Receive delivered)))) (served s table (answerRequest s core (f .message) w))
 
   request-handled : eqb kind 1 ≡ false → eqb kind 2 ≡ false → eqb kind 3 ≡ false → eqb kind 4 ≡ false → eqb kind 6 ≡ false → StandsRequested
-  unfolding coreCall coreTaken coreHandle coreOnReadRequest thawedMsg answerRequest stateAfter
+  unfolding coreCall coreTaken coreHandle coreOnReadRequest decodedMsg answerRequest served stateAfter
   request-handled k1 k2 k3 k4 k6 = go (either (eqb source (s .«my_pid»)))
     where
       go : (eqb source (s .«my_pid») ≡ true) ⊎ (eqb source (s .«my_pid») ≡ false) → StandsRequested
       go (inl own) =
-          let e : coreCall thawed (Handle (takenAs (Receive delivered))) ≡ refusesIn thawed Panic = simp (k1, k2, k3, k4, k6, own) in
-          let d : fromAnswered core table (answerRequest s core (f .message) w) ≡ direct 8 core table w = simp (own) in
-          subst (λ (x : StateAnswer). StandsFor x (fromAnswered core table (answerRequest s core (f .message) w)))
+          let e : coreCall decoded (Handle (takenAs (Receive delivered))) ≡ refusesIn decoded Panic = simp (k1, k2, k3, k4, k6, own) in
+          let d : served s table (answerRequest s core (f .message) w) ≡ direct (refusalNumber Panic) core table w = simp (own) in
+          subst (λ (x : StateAnswer). StandsFor x (served s table (answerRequest s core (f .message) w)))
           (sym (ap (stateAfter (shard .state) (Handle (takenAs (Receive delivered)))) e))
           d
-      go (inr other) = leaves (Receive delivered) thawed core (oneMessage (readAnswer (s .«my_pid») source (record { 0 = f .message .id }) thawed)) (simp (k1, k2, k3, k4, k6, other)) refl (simp (other))
+      go (inr other) = leaves (Receive delivered) decoded core (oneMessage (readAnswer (s .«my_pid») source (record { 0 = f .message .id }) decoded)) (simp (k1, k2, k3, k4, k6, other)) refl (simp (other))
 
   -- ---- messages of an older slot or round
 
-  abbrev round : PaxosRound
-  round = roundIn (f .message)
-
   abbrev isBefore : Type 0
-  isBefore = (ltb (f .message .slot) (thawed .slot) ≡ true) ⊎ (ofOlderRound (coreOf core) (f .message) ≡ true)
+  isBefore = (ltb (f .message .slot) (decoded .slot) ≡ true) ⊎ (ofOlderRound (coreOf core) (f .message) ≡ true)
 
-  nothing-handled : {step : CoreStep} → step ≡ stays thawed noMessages → coreFinish (askedOf settings) (isYes (f .«value_held»)) thawed step ≡ sendsFrom thawed noMessages
-  nothing-handled e = ap (coreFinish (askedOf settings) (isYes (f .«value_held»)) thawed) e
+  nothing-handled : {step : CoreStep} → step ≡ stays decoded noMessages → coreFinish (askedOf settings) (isYes (f .«value_held»)) decoded step ≡ sendsFrom decoded noMessages
+  nothing-handled e = ap (coreFinish (askedOf settings) (isYes (f .«value_held»)) decoded) e
 
-  by-round : isBefore → Older (f .message .slot) round thawed
+  by-round : isBefore → Older (f .message .slot) round decoded
   unfolding ofOlderRound
   by-round (inl o) = inl o
   by-round (inr o) = inr (and-right (not (eqb kind 4)) _ o)
@@ -268,17 +242,17 @@ module _ (s : Setup) (committers delegates core : List ℕ) (fast : FastState) (
   unfolding ofOlderRound
   no-commit k4 o = not-both (and-left (not (eqb kind 4)) _ o) (ap not k4)
 
-  older-answer : isBefore → hasFastPath (settings .mode) ≡ false → namesSlot kind ≡ true → coreCall thawed (Handle (takenAs (Receive delivered))) ≡ sendsFrom thawed noMessages
-  unfolding coreCall coreTaken coreHandle coreProcessed coreOnCommit thawedMsg namesSlot
+  older-answer : isBefore → hasFastPath (settings .mode) ≡ false → namesSlot kind ≡ true → coreCall decoded (Handle (takenAs (Receive delivered))) ≡ sendsFrom decoded noMessages
+  unfolding coreCall coreTaken coreHandle coreProcessed coreOnCommit decodedMsg namesSlot
   older-answer o p n = go (either (eqb kind 1)) (either (eqb kind 2))
     where
-      commit : eqb kind 1 ≡ false → eqb kind 2 ≡ false → eqb kind 4 ≡ true → isBefore → coreCall thawed (Handle (takenAs (Receive delivered))) ≡ sendsFrom thawed noMessages
-      commit k1 k2 k4 (inl o) = let k3 : eqb kind 3 ≡ false = ap (λ (x : ℕ). eqb x 3) (eqb-true kind 4 k4) in simp (k1, k2, k3, k4, o)
+      commit : eqb kind 1 ≡ false → eqb kind 2 ≡ false → eqb kind 4 ≡ true → isBefore → coreCall decoded (Handle (takenAs (Receive delivered))) ≡ sendsFrom decoded noMessages
+      commit k1 k2 k4 (inl o) = let k3 : eqb kind 3 ≡ false = other-kind kind 4 3 k4 refl in simp (k1, k2, k3, k4, o)
       commit k1 k2 k4 (inr o) = absurd (no-commit k4 o)
 
-      go : (eqb kind 1 ≡ true) ⊎ (eqb kind 1 ≡ false) → (eqb kind 2 ≡ true) ⊎ (eqb kind 2 ≡ false) → coreCall thawed (Handle (takenAs (Receive delivered))) ≡ sendsFrom thawed noMessages
-      go (inl k1) k2 = (simp (k1, p)) ∙ nothing-handled (older-prepare (askedOf settings) (heardOf settings delivered) (f .message .slot) round (thawedPromise (f .message .rv)) thawed (by-round o))
-      go (inr k1) (inl k2) = (simp (k1, k2, p)) ∙ nothing-handled (older-accept (askedOf settings) (heardOf settings delivered) (f .message .slot) round (f .message .v) thawed (by-round o))
+      go : (eqb kind 1 ≡ true) ⊎ (eqb kind 1 ≡ false) → (eqb kind 2 ≡ true) ⊎ (eqb kind 2 ≡ false) → coreCall decoded (Handle (takenAs (Receive delivered))) ≡ sendsFrom decoded noMessages
+      go (inl k1) k2 = (simp (k1, p)) ∙ nothing-handled (older-prepare (askedOf settings) (heardIn s committers delegates f) (f .message .slot) round (decodedPromise (f .message .rv)) decoded (by-round o))
+      go (inr k1) (inl k2) = (simp (k1, k2, p)) ∙ nothing-handled (older-accept (askedOf settings) (heardIn s committers delegates f) (f .message .slot) round (f .message .v) decoded (by-round o))
       go (inr k1) (inr k2) = commit k1 k2 (sym (simp (k1, k2)) ∙ n) o
 
   older-stands : isOlder (coreOf core) (f .message) ≡ true → hasFastPath (settings .mode) ≡ false
@@ -286,51 +260,51 @@ module _ (s : Setup) (committers delegates core : List ℕ) (fast : FastState) (
   unfolding isOlder
   older-stands o p =
       nothing (Receive delivered)
-      (older-answer (or-cases (ltb (f .message .slot) (thawed .slot)) _ (and-right (namesSlot kind) _ o)) p (and-left (namesSlot kind) _ o))
+      (older-answer (or-cases (ltb (f .message .slot) (decoded .slot)) _ (and-right (namesSlot kind) _ o)) p (and-left (namesSlot kind) _ o))
       refl
 
   -- ---- messages that are only counted
 
   -- what is not old is not old to the handlers
-  not-older : namesSlot kind ≡ true → eqb kind 4 ≡ false → isOlder (coreOf core) (f .message) ≡ false → enterOlder (f .message .slot) round thawed ≡ false
+  not-older : namesSlot kind ≡ true → eqb kind 4 ≡ false → isOlder (coreOf core) (f .message) ≡ false → enterOlder (f .message .slot) round decoded ≡ false
   unfolding isOlder ofOlderRound enterOlder
   not-older n k4 o = sym (simp (n, k4)) ∙ o
 
   counted-answer : hasFastPath (settings .mode) ≡ false → isOlder (coreOf core) (f .message) ≡ false → counts s delegates (coreOf core) (f .message) ≡ true
-      → coreCall thawed (Handle (takenAs (Receive delivered))) ≡ sendsFrom (thawedCore (withCounted s (coreOf core) (f .message))) noMessages
-  unfolding coreCall coreTaken coreHandle coreProcessed thawedMsg namesSlot counts withCounted
+      → coreCall decoded (Handle (takenAs (Receive delivered))) ≡ sendsFrom (decodedCore (withCounted s (coreOf core) (f .message))) noMessages
+  unfolding coreCall coreTaken coreHandle coreProcessed decodedMsg namesSlot counts withCounted
   counted-answer p o n = go (either (eqb kind 2))
     where
       accept : eqb kind 2 ≡ true → eqb kind 1 ≡ false → eqb kind 4 ≡ false
-          → coreCall thawed (Handle (takenAs (Receive delivered))) ≡ sendsFrom (thawedCore (withCounted s (coreOf core) (f .message))) noMessages
+          → coreCall decoded (Handle (takenAs (Receive delivered))) ≡ sendsFrom (decodedCore (withCounted s (coreOf core) (f .message))) noMessages
       accept k2 k1 k4 =
           let e : countsAccept s (coreOf core) (f .message) ≡ true = sym (simp (k2)) ∙ n in
           let names : namesSlot kind ≡ true = simp (k1, k2) in
           (simp (k1, k2, p))
-          ∙ ap (coreFinish (askedOf settings) (isYes (f .«value_held»)) thawed) (accept-leaves s committers delegates (coreOf core) f p (not-older names k4 o) k2 e)
+          ∙ ap (coreFinish (askedOf settings) (isYes (f .«value_held»)) decoded) (accept-leaves s committers delegates (coreOf core) f p (not-older names k4 o) k2 e)
           ∙ simp (k2)
 
       promise : eqb kind 1 ≡ true → eqb kind 2 ≡ false → eqb kind 4 ≡ false → countsPromise s delegates (coreOf core) (f .message) ≡ true
-          → coreCall thawed (Handle (takenAs (Receive delivered))) ≡ sendsFrom (thawedCore (withCounted s (coreOf core) (f .message))) noMessages
+          → coreCall decoded (Handle (takenAs (Receive delivered))) ≡ sendsFrom (decodedCore (withCounted s (coreOf core) (f .message))) noMessages
       promise k1 k2 k4 e =
           let names : namesSlot kind ≡ true = simp (k1) in
           (simp (k1, p))
-          ∙ ap (coreFinish (askedOf settings) (isYes (f .«value_held»)) thawed) (promise-leaves s committers delegates (coreOf core) f (not-older names k4 o) k1 e)
+          ∙ ap (coreFinish (askedOf settings) (isYes (f .«value_held»)) decoded) (promise-leaves s committers delegates (coreOf core) f (not-older names k4 o) k1 e)
           ∙ simp (k2)
 
-      go : (eqb kind 2 ≡ true) ⊎ (eqb kind 2 ≡ false) → coreCall thawed (Handle (takenAs (Receive delivered))) ≡ sendsFrom (thawedCore (withCounted s (coreOf core) (f .message))) noMessages
-      go (inl k2) = accept k2 (ap (λ (x : ℕ). eqb x 1) (eqb-true kind 2 k2)) (ap (λ (x : ℕ). eqb x 4) (eqb-true kind 2 k2))
+      go : (eqb kind 2 ≡ true) ⊎ (eqb kind 2 ≡ false) → coreCall decoded (Handle (takenAs (Receive delivered))) ≡ sendsFrom (decodedCore (withCounted s (coreOf core) (f .message))) noMessages
+      go (inl k2) = accept k2 (other-kind kind 2 1 k2 refl) (other-kind kind 2 4 k2 refl)
       go (inr k2) =
           let both : (eqb kind 1 && countsPromise s delegates (coreOf core) (f .message)) ≡ true = sym (simp (k2)) ∙ n in
           let k1 : eqb kind 1 ≡ true = and-left (eqb kind 1) _ both in
-          promise k1 k2 (ap (λ (x : ℕ). eqb x 4) (eqb-true kind 1 k1)) (and-right (eqb kind 1) _ both)
+          promise k1 k2 (other-kind kind 1 4 k1 refl) (and-right (eqb kind 1) _ both)
 
   abbrev countedCore : List ℕ
   countedCore = coreNumbers (withCounted s (coreOf core) (f .message))
 
   counted-stands : hasFastPath (settings .mode) ≡ false → isOlder (coreOf core) (f .message) ≡ false → counts s delegates (coreOf core) (f .message) ≡ true
       → StandsFor (stateCall (shard .state) (Handle (takenAs (Receive delivered)))) (direct 0 countedCore table (putServed 0 w))
-  counted-stands p o n = leaves (Receive delivered) (thawedCore (withCounted s (coreOf core) (f .message))) countedCore noMessages (counted-answer p o n) refl refl
+  counted-stands p o n = leaves (Receive delivered) (decodedCore (withCounted s (coreOf core) (f .message))) countedCore noMessages (counted-answer p o n) refl refl
 
   -- ---- responses
 
@@ -340,26 +314,26 @@ module _ (s : Setup) (committers delegates core : List ℕ) (fast : FastState) (
   either-mode false x = refl
 
   passed-response : eqb kind 1 ≡ false → eqb kind 2 ≡ false → eqb kind 3 ≡ false → eqb kind 4 ≡ false → eqb kind 6 ≡ true
-      → roundsPassed (shard .state .rounds) (takenAs (Receive delivered)) (needsMore thawed) ≡ withFast fast (needsMore thawed)
-  unfolding roundsPassed roundsTaken roundsHandle thawedMsg
-  passed-response k1 k2 k3 k4 k6 = simp (k1, k2, k3, k4, k6) (either-mode (hasFastPath (settings .mode)) (withFast fast (needsMore thawed)))
+      → roundsPassed (shard .state .rounds) (takenAs (Receive delivered)) (needsMore decoded) ≡ withFast fast (needsMore decoded)
+  unfolding roundsPassed roundsTaken roundsHandle decodedMsg
+  passed-response k1 k2 k3 k4 k6 = simp (k1, k2, k3, k4, k6) (either-mode (hasFastPath (settings .mode)) (withFast fast (needsMore decoded)))
 
   response-stands : eqb kind 1 ≡ false → eqb kind 2 ≡ false → eqb kind 3 ≡ false → eqb kind 4 ≡ false → eqb kind 6 ≡ true
       → StandsFor (stateCall (shard .state) (Handle (takenAs (Receive delivered)))) (response s core table f w)
-  unfolding coreCall coreTaken coreHandle coreOnReadResponse thawedMsg response countResponse stateAfter statePassed withReads readsTaken readsHandle
-  response-stands k1 k2 k3 k4 k6 = go (either (eqb (thawed .tracker .«open_count») 0))
+  unfolding coreCall coreTaken coreHandle coreOnReadResponse decodedMsg response countResponse stateAfter statePassed withReads readsTaken readsHandle
+  response-stands k1 k2 k3 k4 k6 = go (either (eqb (decoded .tracker .«open_count») 0))
     where
       counts : StateAnswer
-      counts = statesCount (majorityOf s) table (withFast fast (needsMore thawed)) (record { 0 = f .message .id }) (isYes (f .fast))
+      counts = statesCount (majorityOf s) table (withFast fast (needsMore decoded)) (record { 0 = f .message .id }) (isYes (f .fast))
 
-      deeper : stateAfter (shard .state) (Handle (takenAs (Receive delivered))) (needsMore thawed) ≡ counts
+      deeper : stateAfter (shard .state) (Handle (takenAs (Receive delivered))) (needsMore decoded) ≡ counts
       deeper = ap (withReads (askedOf settings) table (Receive delivered)) (passed-response k1 k2 k3 k4 k6) ∙ simp (k1, k2, k3, k4, k6)
 
-      go : (eqb (thawed .tracker .«open_count») 0 ≡ true) ⊎ (eqb (thawed .tracker .«open_count») 0 ≡ false)
+      go : (eqb (decoded .tracker .«open_count») 0 ≡ true) ⊎ (eqb (decoded .tracker .«open_count») 0 ≡ false)
           → StandsFor (stateCall (shard .state) (Handle (takenAs (Receive delivered)))) (response s core table f w)
       go (inl o) = nothing (Receive delivered) (simp (k1, k2, k3, k4, k6, o)) (simp (o))
       go (inr o) =
-          let e : coreCall thawed (Handle (takenAs (Receive delivered))) ≡ needsMore thawed = simp (k1, k2, k3, k4, k6, o) in
+          let e : coreCall decoded (Handle (takenAs (Receive delivered))) ≡ needsMore decoded = simp (k1, k2, k3, k4, k6, o) in
           let d : response s core table f w ≡ countResponse s core table f w = simp (o) in
           subst (λ (x : StateAnswer). StandsFor x (response s core table f w))
           (sym (ap (stateAfter (shard .state) (Handle (takenAs (Receive delivered)))) e ∙ deeper))
@@ -367,11 +341,11 @@ module _ (s : Setup) (committers delegates core : List ℕ) (fast : FastState) (
 
   -- ---- new reads
 
-  local : (h : FlatHeld) → not (isHeld (thawedHeld h)) ≡ eqb (h .given) 0
-  unfolding thawedHeld
+  local : (h : FlatHeld) → not (isHeld (decodedHeld h)) ≡ eqb (h .given) 0
+  unfolding decodedHeld
   local h = go (eqb (h .given) 0)
     where
-      go : (t : Bool) → not (isHeld (cond t NothingHeld (Held (thawedPromise (h .promise))))) ≡ t
+      go : (t : Bool) → not (isHeld (cond t NothingHeld (Held (decodedPromise (h .promise))))) ≡ t
       go true = refl
       go false = refl
 
@@ -381,13 +355,13 @@ module _ (s : Setup) (committers delegates core : List ℕ) (fast : FastState) (
   -- the state's answer where the own answer counts as the test says
   abbrev stateOpens : Bool → StateAnswer
   stateOpens ready =
-      afterInsert (askedOf settings) (shard .state .rounds) table (insert (thawed .tracker) table (f .v) (f .«arrival_slot») ready)
-      (insert (thawed .tracker) table (f .v) (f .«arrival_slot») ready .opened)
+      afterInsert (askedOf settings) (shard .state .rounds) table (insert (decoded .tracker) table (f .v) (f .«arrival_slot») ready)
+      (insert (decoded .tracker) table (f .v) (f .«arrival_slot») ready .opened)
 
   state-opens : stateCall (shard .state) (Handle (takenAs asks)) ≡ stateOpens (eqb (coreOf core .«max_rv» .given) 0)
   unfolding coreCall coreTaken stateAfter statePassed roundsPassed roundsTaken withReads readsTaken stateOpenRead
   state-opens =
-      ap (withReads (askedOf settings) table asks) (either-mode (hasFastPath (settings .mode)) (withFast fast (needsMore thawed)))
+      ap (withReads (askedOf settings) table asks) (either-mode (hasFastPath (settings .mode)) (withFast fast (needsMore decoded)))
       ∙ ap stateOpens (local (coreOf core .«max_rv»))
 
   opens : StandsFor (stateOpens (eqb (coreOf core .«max_rv» .given) 0)) (fromOpening table (openRead s core (table .reads) f w))
@@ -399,13 +373,13 @@ module _ (s : Setup) (committers delegates core : List ℕ) (fast : FastState) (
 
       tried : Bool → Bool → Inserted
       tried full spent =
-          cond full (refusedRead (thawed .tracker) table)
-          (cond spent (refusedRead (thawed .tracker) table) (inserted (thawed .tracker) table (f .v) (f .«arrival_slot») ready))
+          cond full (refusedRead (decoded .tracker) table)
+          (cond spent (refusedRead (decoded .tracker) table) (inserted (decoded .tracker) table (f .v) (f .«arrival_slot») ready))
 
       go : (full spent : Bool)
           → StandsFor (afterInsert (askedOf settings) (shard .state .rounds) table (tried full spent) (tried full spent .opened))
           (fromOpening table
-          (cond full (opening 12 core (table .reads) w) (cond spent (opening 12 core (table .reads) w) (opened s (coreOf core) (table .reads) f w))))
+          (cond full (opening (refusalNumber NoRoomForRead) core (table .reads) w) (cond spent (opening (refusalNumber NoRoomForRead) core (table .reads) w) (opened s (coreOf core) (table .reads) f w))))
       go true spent = refl
       go false true = refl
       go false false = (refl, refl, refl, refl, refl)
@@ -429,9 +403,9 @@ module _ (s : Setup) (committers delegates core : List ℕ) (fast : FastState) (
     read-is k = simp (z, k)
 
     read : eqb (f .kind) 1 ≡ true → Done?
-    unfolding thawedCall
+    unfolding decodedCall
     read k =
-        let k0 : eqb (f .kind) 0 ≡ false = ap (λ (x : ℕ). eqb x 0) (eqb-true (f .kind) 1 k) in
+        let k0 : eqb (f .kind) 0 ≡ false = other-kind (f .kind) 1 0 k refl in
         stands-as asks (fromOpening table (openRead s core (table .reads) f w)) (simp (k0, k)) (read-is k) read-stands
 
     module _ (k : eqb (f .kind) 1 ≡ false) where
@@ -439,48 +413,48 @@ module _ (s : Setup) (committers delegates core : List ℕ) (fast : FastState) (
       unfolding directCall
       taken-is = simp (z, k)
 
-      module _ (r : isResponse f ≡ false) (p : forSlots f ≡ true) where
-        passed : hasFastPath (thawedMode (s .mode)) ≡ true → Done?
-        unfolding taken forSlot fastHalfActs
+      module _ (r : isResponse f ≡ false) (p : concernsSlot f ≡ true) where
+        passed : hasFastPath (decodedMode (s .mode)) ≡ true → Done?
+        unfolding taken slotCall fastHalfActs
         passed h = inl (simp (k, h, p), taken-is ∙ simp (r, p, h))
 
-        proposal-is : hasFastPath (thawedMode (s .mode)) ≡ false → eqb (f .kind) 0 ≡ true
-            → result ≡ fromProposed table (putStep (proposeClassic (askedHere s) (f .v) thawed) core w)
-        unfolding taken forSlot
+        proposal-is : hasFastPath (decodedMode (s .mode)) ≡ false → eqb (f .kind) 0 ≡ true
+            → result ≡ served s table (putStep (proposeClassic (askedIn s) (f .v) decoded) core w)
+        unfolding taken slotCall
         proposal-is h k0 = taken-is ∙ simp (r, p, h, k0)
 
-        module _ (h : hasFastPath (thawedMode (s .mode)) ≡ false) (k0 : eqb (f .kind) 0 ≡ false) where
+        module _ (h : hasFastPath (decodedMode (s .mode)) ≡ false) (k0 : eqb (f .kind) 0 ≡ false) where
           older-is : isOlder (coreOf core) (f .message) ≡ true → result ≡ direct 0 core table (putServed 0 w)
-          unfolding taken forSlot handled
+          unfolding taken slotCall handled
           older-is o = taken-is ∙ simp (r, p, h, k0, o)
 
           counted-is : isOlder (coreOf core) (f .message) ≡ false → counts s delegates (coreOf core) (f .message) ≡ true → result ≡ direct 0 countedCore table (putServed 0 w)
-          unfolding taken forSlot handled
+          unfolding taken slotCall handled
           counted-is o n = taken-is ∙ simp (r, p, h, k0, o, n)
 
           served-is : isOlder (coreOf core) (f .message) ≡ false → counts s delegates (coreOf core) (f .message) ≡ false
               → result ≡ served s table (putAnswer (coreAnswer) core w)
-          unfolding taken forSlot handled
+          unfolding taken slotCall handled
           served-is o n = taken-is ∙ by-tests ∙ ap (served s table) handled-by
             where
               by-tests : taken s committers delegates core table f w ≡ served s table (handledBy s committers delegates core f w)
               by-tests = simp (r, p, h, k0, o, n)
 
-      request-is : isResponse f ≡ false → forSlots f ≡ false → result ≡ fromAnswered core table (answerRequest s core (f .message) w)
+      request-is : isResponse f ≡ false → concernsSlot f ≡ false → result ≡ served s table (answerRequest s core (f .message) w)
       unfolding taken
       request-is r p = taken-is ∙ simp (r, p)
 
       proposal : eqb (f .kind) 0 ≡ true → Done?
-      unfolding isResponse forSlots thawedCall
-      proposal k0 = go (either (hasFastPath (thawedMode (s .mode))))
+      unfolding isResponse concernsSlot decodedCall
+      proposal k0 = go (either (hasFastPath (decodedMode (s .mode))))
         where
-          go : (hasFastPath (thawedMode (s .mode)) ≡ true) ⊎ (hasFastPath (thawedMode (s .mode)) ≡ false) → Done?
+          go : (hasFastPath (decodedMode (s .mode)) ≡ true) ⊎ (hasFastPath (decodedMode (s .mode)) ≡ false) → Done?
           go (inl h) = passed (simp (k0)) (simp (k0)) h
           go (inr h) = stands-as (Propose (f .v)) _ (simp (k0)) (proposal-is (simp (k0)) (simp (k0)) h k0) (proposed h)
 
       module _ (k0 : eqb (f .kind) 0 ≡ false) where
         received : called ≡ Receive delivered
-        unfolding thawedCall
+        unfolding decodedCall
         received = simp (k0, k)
 
         as-response : eqb kind 1 ≡ false → eqb kind 2 ≡ false → eqb kind 3 ≡ false → eqb kind 4 ≡ false → eqb kind 6 ≡ true → Done?
@@ -496,7 +470,7 @@ module _ (s : Setup) (committers delegates core : List ℕ) (fast : FastState) (
         Handled? = hasFastPath (settings .mode) ≡ false → StandsHandled
 
         -- in the classic modes what is old does nothing, and what is only counted changes a set
-        in-classic : isResponse f ≡ false → forSlots f ≡ true → hasFastPath (thawedMode (s .mode)) ≡ false → Handled? → Done?
+        in-classic : isResponse f ≡ false → concernsSlot f ≡ true → hasFastPath (decodedMode (s .mode)) ≡ false → Handled? → Done?
         in-classic r p h handles = go (either (isOlder (coreOf core) (f .message))) (either (counts s delegates (coreOf core) (f .message)))
           where
             go : (isOlder (coreOf core) (f .message) ≡ true) ⊎ (isOlder (coreOf core) (f .message) ≡ false) → (counts s delegates (coreOf core) (f .message) ≡ true) ⊎ (counts s delegates (coreOf core) (f .message) ≡ false) → Done?
@@ -504,58 +478,48 @@ module _ (s : Setup) (committers delegates core : List ℕ) (fast : FastState) (
             go (inr o) (inl n) = stands-as (Receive delivered) _ received (counted-is r p h k0 o n) (counted-stands h o n)
             go (inr o) (inr n) = stands-as (Receive delivered) _ received (served-is r p h k0 o n) (handles h)
 
-        in-any-mode : isResponse f ≡ false → forSlots f ≡ true → Handled? → Done?
-        in-any-mode r p handles = go (either (hasFastPath (thawedMode (s .mode))))
+        in-any-mode : isResponse f ≡ false → concernsSlot f ≡ true → Handled? → Done?
+        in-any-mode r p handles = go (either (hasFastPath (decodedMode (s .mode))))
           where
-            go : (hasFastPath (thawedMode (s .mode)) ≡ true) ⊎ (hasFastPath (thawedMode (s .mode)) ≡ false) → Done?
+            go : (hasFastPath (decodedMode (s .mode)) ≡ true) ⊎ (hasFastPath (decodedMode (s .mode)) ≡ false) → Done?
             go (inl h) = passed r p h
             go (inr h) = in-classic r p h handles
 
-        for-slots : leb 1 kind ≡ true → leb kind 4 ≡ true → forSlots f ≡ true
-        unfolding forSlots
-        for-slots l m = simp (k0, l, m)
+        concerns-slot : leb 1 kind ≡ true → leb kind 4 ≡ true → concernsSlot f ≡ true
+        unfolding concernsSlot
+        concerns-slot l m = simp (k0, l, m)
 
         -- a kind n from 1 to 4 has the other tests decided
         named : (n : ℕ) → eqb kind n ≡ true → leb 1 n ≡ true → leb n 4 ≡ true → eqb n 6 ≡ false → Handled? → Done?
         named n e l m six handles =
             let same : kind ≡ n = eqb-true kind n e in
-            in-any-mode (no-response (ap (λ (x : ℕ). eqb x 6) same ∙ six)) (for-slots (ap (leb 1) same ∙ l) (ap (λ (x : ℕ). leb x 4) same ∙ m)) handles
+            in-any-mode (no-response (ap (λ (x : ℕ). eqb x 6) same ∙ six)) (concerns-slot (ap (leb 1) same ∙ l) (ap (λ (x : ℕ). leb x 4) same ∙ m)) handles
 
         other : eqb kind 1 ≡ false → eqb kind 2 ≡ false → eqb kind 3 ≡ false → eqb kind 4 ≡ false → eqb kind 6 ≡ false → Done?
-        unfolding forSlots
+        unfolding concernsSlot
         other k1 k2 k3 k4 k6 =
             stands-as (Receive delivered) _ received (request-is (no-response k6) (go (either (leb 1 kind)) (either (leb kind 4)))) (request-handled k1 k2 k3 k4 k6)
           where
             outside : 1 ≤ kind → kind ≤ 4 → ⊥
             outside a b = omega (arith, a, b, eqb-false kind 1 k1, eqb-false kind 2 k2, eqb-false kind 3 k3, eqb-false kind 4 k4)
 
-            go : (leb 1 kind ≡ true) ⊎ (leb 1 kind ≡ false) → (leb kind 4 ≡ true) ⊎ (leb kind 4 ≡ false) → cond (eqb (f .kind) 0) true (leb 1 kind && leb kind 4) ≡ false
+            go : (leb 1 kind ≡ true) ⊎ (leb 1 kind ≡ false) → (leb kind 4 ≡ true) ⊎ (leb kind 4 ≡ false) → (eqb (f .kind) 0 || (leb 1 kind && leb kind 4)) ≡ false
             go (inl a) (inl b) = absurd (outside (leb-true 1 kind a) (leb-true kind 4 b))
             go (inl a) (inr b) = simp (k0, a, b)
             go (inr a) b = simp (k0, a)
 
         message : Done?
-        message = one (either (eqb kind 1))
+        message =
+            by-kind Done? kind
+            (λ k1. named 1 k1 refl refl refl (λ h. prepare-handled h k1 (other-kind kind 1 4 k1 refl)))
+            (λ k1 k2. named 2 k2 refl refl refl (λ h. accept-handled h k1 k2 (other-kind kind 2 4 k2 refl)))
+            (λ k1 k2 k3. named 3 k3 refl refl refl (λ h. forward-handled h k1 k2 k3 (other-kind kind 3 4 k3 refl)))
+            (λ k1 k2 k3 k4. named 4 k4 refl refl refl (λ h. commit-handled h k1 k2 k3 k4))
+            (λ k1 k2 k3 k4. read-message k1 k2 k3 k4 (either (eqb kind 6)))
           where
-            six : eqb kind 1 ≡ false → eqb kind 2 ≡ false → eqb kind 3 ≡ false → eqb kind 4 ≡ false → (eqb kind 6 ≡ true) ⊎ (eqb kind 6 ≡ false) → Done?
-            six k1 k2 k3 k4 (inl k6) = as-response k1 k2 k3 k4 k6
-            six k1 k2 k3 k4 (inr k6) = other k1 k2 k3 k4 k6
-
-            four : eqb kind 1 ≡ false → eqb kind 2 ≡ false → eqb kind 3 ≡ false → (eqb kind 4 ≡ true) ⊎ (eqb kind 4 ≡ false) → Done?
-            four k1 k2 k3 (inl k4) = named 4 k4 refl refl refl (λ h. commit-handled h k1 k2 k3 k4)
-            four k1 k2 k3 (inr k4) = six k1 k2 k3 k4 (either (eqb kind 6))
-
-            three : eqb kind 1 ≡ false → eqb kind 2 ≡ false → (eqb kind 3 ≡ true) ⊎ (eqb kind 3 ≡ false) → Done?
-            three k1 k2 (inl k3) = named 3 k3 refl refl refl (λ h. forward-handled h k1 k2 k3 (ap (λ (x : ℕ). eqb x 4) (eqb-true kind 3 k3)))
-            three k1 k2 (inr k3) = four k1 k2 k3 (either (eqb kind 4))
-
-            two : eqb kind 1 ≡ false → (eqb kind 2 ≡ true) ⊎ (eqb kind 2 ≡ false) → Done?
-            two k1 (inl k2) = named 2 k2 refl refl refl (λ h. accept-handled h k1 k2 (ap (λ (x : ℕ). eqb x 4) (eqb-true kind 2 k2)))
-            two k1 (inr k2) = three k1 k2 (either (eqb kind 3))
-
-            one : (eqb kind 1 ≡ true) ⊎ (eqb kind 1 ≡ false) → Done?
-            one (inl k1) = named 1 k1 refl refl refl (λ h. prepare-handled h k1 (ap (λ (x : ℕ). eqb x 4) (eqb-true kind 1 k1)))
-            one (inr k1) = two k1 (either (eqb kind 2))
+            read-message : eqb kind 1 ≡ false → eqb kind 2 ≡ false → eqb kind 3 ≡ false → eqb kind 4 ≡ false → (eqb kind 6 ≡ true) ⊎ (eqb kind 6 ≡ false) → Done?
+            read-message k1 k2 k3 k4 (inl k6) = as-response k1 k2 k3 k4 k6
+            read-message k1 k2 k3 k4 (inr k6) = other k1 k2 k3 k4 k6
 
     taken-call : Done?
     taken-call = new (either (eqb (f .kind) 1))
@@ -568,15 +532,12 @@ module _ (s : Setup) (committers delegates core : List ℕ) (fast : FastState) (
         new (inl k) = read k
         new (inr k) = other-call k (either (eqb (f .kind) 0))
 
-  abbrev outcome : Outcome
-  outcome = ifMade (thawedMade (s .made) (s .mode)) (s .«process_count») (s .«my_pid») thawed called
-
   refused-is : (why : Refusal) → outcome ≡ Refused why → result ≡ direct (refusalNumber why) core table w
-  unfolding directCall frozenOutcome
-  refused-is why e = simp (e, numbered why)
+  unfolding directCall encodedOutcome
+  refused-is why e = simp (e, not-taken why)
 
   number-is : outcome ≡ Done → refusalOf s (coreOf core) f ≡ 0
-  unfolding frozenOutcome
+  unfolding encodedOutcome
   number-is e = simp (e)
 
   decided : (o : Outcome) → outcome ≡ o → Passed result ⊎ StandsFor (stateCall (shard .state) (decisionFor settings called o)) result
@@ -585,22 +546,17 @@ module _ (s : Setup) (committers delegates core : List ℕ) (fast : FastState) (
   decided (Refused why) e = inr (refused-is why e)
 
   together : (x : StateAnswer) (o : Outcome) (d : Direct) → Parts core fast table w x o d → Stands s committers delegates core fast table w (fromState shard x) o d
-  together x Done d (n, c, k, t, r) = (
-    n,
-    ap₂ (λ (a : Core) (b : ReadTable). withState shard (record { rounds = record { core = a; fast = fast }; table = b })) c t
-        ∙ ap (λ (h : FastState). withState shard (record { rounds = record { core = x .state .rounds .core; fast = h }; table = x .state .table })) (sym k),
-    r,
-  )
+  together x Done d p = parts-stand s committers delegates core fast fast table w x d p
   together x (Refused why) d e = e
 
-  claimed : Claim s committers delegates core fast table f w (callOf shard called)
+  claimed : DirectDoesOrPasses s committers delegates core fast table f w (callOf shard called)
   unfolding decisionOf
-  claimed = subst (Claim s committers delegates core fast table f w) (by-parts shard called) (go (decided outcome refl))
+  claimed = subst (DirectDoesOrPasses s committers delegates core fast table f w) (by-parts shard called) (go (decided outcome refl))
     where
       x : StateAnswer
       x = stateCall (shard .state) (decisionFor settings called outcome)
 
-      go : Passed result ⊎ StandsFor x result → Claim s committers delegates core fast table f w (fromState shard x)
+      go : Passed result ⊎ StandsFor x result → DirectDoesOrPasses s committers delegates core fast table f w (fromState shard x)
       go (inl p) = inl p
       go (inr h) = inr (together x (x .reply .outcome) result h)
 

@@ -11,8 +11,9 @@ use Rattle.basics.proofs.Tests.{not-both, and-left, and-right}
 use Rattle.accept.specs.Accept.{accepting, accepted, tryCommit}
 use Rattle.arrays.specs.Arrays.{settingsOf}
 use Rattle.arrays.specs.declared.Setup.{Setup}
-use Rattle.calls.specs.Asked.{askedOf, heardOf, gathererOf}
+use Rattle.calls.specs.Asked.{askedOf, gathererOf, gathererIn}
 use Rattle.counting.specs.Counting.{roundIn, memberOf, majorityOf, inOwnRound, repeatsHeld, acceptsWith, countsAccept, keepsHeld, promisesWith, completes, gathers, countsPromise, withAccepts, withPromises}
+use Rattle.direct_core.specs.Handled.{heardIn}
 use Rattle.enter.specs.Enter.{isOlder, fromLive, inRound, enter}
 use Rattle.message.specs.Modes.{hasFastPath, isSwiftPaxos}
 use Rattle.message.specs.Promises.{acceptRoundOf}
@@ -25,23 +26,22 @@ use Rattle.message.specs.declared.PaxosRound.{PaxosRound}
 use Rattle.message.specs.declared.RoundV.{RoundV}
 use Rattle.message.specs.declared.RoundV.the-variants.{PaxosV}
 use Rattle.paxos_family.specs.Process.{processClassic, onPrepare, inPrepare, onAccept}
-use Rattle.prepare.specs.Prepare.{holdFirst, preparing, prepared, gather}
+use Rattle.prepare.specs.Prepare.{holdFirst, preparing, prepared, becomesPrepared, gather}
 use Rattle.round_state.proofs.Holding.{accept-fits, promise-not-later}
 use Rattle.round_state.specs.Paxos.{getLastAcceptedRound, isHeld, isPrepared, counted, heldAfterPromise, receivePromise, acceptFits, afterAccept, receiveAccept}
 use Rattle.round_state.specs.declared.HeldPromise.{HeldPromise}
 use Rattle.round_state.specs.declared.HeldPromise.the-variants.{NothingHeld, Held}
 use Rattle.sets.specs.Sets.{contains, size}
-use Rattle.settings.specs.Questions.{delegateOf}
+use Rattle.settings.specs.Questions.{delegateIn}
 use Rattle.settings.specs.declared.Settings.{Settings}
 use Rattle.steps.specs.Steps.{noMessages, withPaxos, leftFastPath, stays, continues}
 use Rattle.steps.specs.declared.Asked.{Asked}
 use Rattle.steps.specs.declared.Core.{Core}
 use Rattle.steps.specs.declared.Heard.{Heard}
-use Rattle.twin_calls.proofs.Tables.{same-gatherer}
-use Rattle.twins.specs.Thaw.{thawedCore, thawedDelivery, thawedHeld, thawedMode, thawedMsg, thawedPromise, thawedSettings, thawedSource}
-use Rattle.twins.specs.declared.FlatCall.{FlatCall}
-use Rattle.twins.specs.declared.FlatCore.{FlatCore}
-use Rattle.twins.specs.declared.FlatMessage.{FlatMessage}
+use Rattle.flat.specs.Decode.{decodedCore, decodedHeld, decodedMode, decodedMsg, decodedPromise, decodedSettings, decodedSource}
+use Rattle.flat.specs.declared.FlatCall.{FlatCall}
+use Rattle.flat.specs.declared.FlatCore.{FlatCore}
+use Rattle.flat.specs.declared.FlatMessage.{FlatMessage}
 
 not-swift : (m : PFMode) → hasFastPath m ≡ false → isSwiftPaxos m ≡ false
 not-swift Paxos e = refl
@@ -82,7 +82,7 @@ module _ (a : Asked) (h : Heard) (slot : ℕ) (round : PaxosRound) (core : Core)
   pub promise-counted : (rv : RoundV) → Meets → isHeld (core .paxos .«max_rv») ≡ true → eqb (h .delegate) (a .member .«my_pid») ≡ true
       → (not (isPrepared (a .member) (core .paxos)) && leb (a .member .quorums .majority) (size (counted (a .member) (h .src) (core .paxos .«prepared_set»)))) ≡ false
       → processClassic a h (Prepare slot round rv) core ≡ stays (withPaxos (receivePromise (a .member) (h .src) rv (core .paxos) .state) core) noMessages
-  unfolding processClassic onPrepare inPrepare prepared holdFirst preparing gather receivePromise
+  unfolding processClassic onPrepare inPrepare prepared holdFirst preparing gather becomesPrepared receivePromise
   promise-counted rv m held own few = simp (enters m, held, own, few)
 
 kept : (held : HeldPromise) (rv : RoundV) → isHeld held ≡ true → before (getLastAcceptedRound held) (acceptRoundOf rv) ≡ false → heldAfterPromise held rv ≡ held
@@ -97,11 +97,11 @@ accepted-is held round v b e = go (accept-fits held round v e)
     go (inl l) = absurd (not-both l b)
     go (inr same) = same
 
--- ---- on the twins
+-- ---- on the flat forms
 
 module _ (s : Setup) (committers delegates : List ℕ) (c : FlatCore) (f : FlatCall) where
   abbrev settings : Settings
-  settings = thawedSettings (settingsOf s committers delegates)
+  settings = decodedSettings (settingsOf s committers delegates)
 
   abbrev m : FlatMessage
   m = f .message
@@ -110,21 +110,21 @@ module _ (s : Setup) (committers delegates : List ℕ) (c : FlatCore) (f : FlatC
   a = askedOf settings
 
   abbrev h : Heard
-  h = heardOf settings (thawedDelivery (s .«process_count») (s .«my_pid») f)
+  h = heardIn s committers delegates f
 
   abbrev core : Core
-  core = thawedCore c
+  core = decodedCore c
 
   -- the source of a message of a kind that there is
-  source-is : (k : ℕ) → eqb (m .kind) k ≡ true → leb 1 k ≡ true → leb k 6 ≡ true → thawedSource (s .«process_count») (s .«my_pid») m ≡ m .src
-  unfolding thawedSource
+  source-is : (k : ℕ) → eqb (m .kind) k ≡ true → leb 1 k ≡ true → leb k 6 ≡ true → decodedSource (s .«process_count») (s .«my_pid») m ≡ m .src
+  unfolding decodedSource
   source-is k e l u =
       let same : m .kind ≡ k = eqb-true (m .kind) k e in
       let low : leb 1 (m .kind) ≡ true = ap (leb 1) same ∙ l in
       let high : leb (m .kind) 6 ≡ true = ap (λ (x : ℕ). leb x 6) same ∙ u in
       simp (low, high)
 
-  meets : isOlder (m .slot) (roundIn m) core ≡ false → inOwnRound s c m ≡ true → thawedSource (s .«process_count») (s .«my_pid») m ≡ m .src
+  meets : isOlder (m .slot) (roundIn m) core ≡ false → inOwnRound s c m ≡ true → decodedSource (s .«process_count») (s .«my_pid») m ≡ m .src
       → Meets a h (m .slot) (roundIn m) core
   unfolding inOwnRound
   meets o r e =
@@ -144,7 +144,7 @@ module _ (s : Setup) (committers delegates : List ℕ) (c : FlatCore) (f : FlatC
       core)
 
   pub accept-leaves : hasFastPath (a .mode) ≡ false → isOlder (m .slot) (roundIn m) core ≡ false → eqb (m .kind) 2 ≡ true → countsAccept s c m ≡ true
-      → processClassic a h (Accept (m .slot) (roundIn m) (m .v)) core ≡ stays (thawedCore (withAccepts (acceptsWith s c m) c)) noMessages
+      → processClassic a h (Accept (m .slot) (roundIn m) (m .v)) core ≡ stays (decodedCore (withAccepts (acceptsWith s c m) c)) noMessages
   unfolding countsAccept repeatsHeld acceptsWith
   accept-leaves p o k e =
       accept-counted a h (m .slot) (roundIn m) core (m .v) (meets o (and-left (inOwnRound s c m) _ rest) src) (not-swift (a .mode) p)
@@ -153,7 +153,7 @@ module _ (s : Setup) (committers delegates : List ℕ) (c : FlatCore) (f : FlatC
       (ap (λ (x : ℕ). leb (majorityOf s) (size (counted (memberOf s) x (c .«accepted_set»)))) src ∙ negated _ (and-right (repeatsHeld c m) _ last))
       ∙ ap₂ (λ (x : ℕ) (y : HeldPromise). stays (withSet x y) noMessages) src (sym same)
     where
-      src : thawedSource (s .«process_count») (s .«my_pid») m ≡ m .src
+      src : decodedSource (s .«process_count») (s .«my_pid») m ≡ m .src
       src = source-is 2 k refl refl
 
       rest : (inOwnRound s c m && (repeatsHeld c m && not (leb (majorityOf s) (size (acceptsWith s c m))))) ≡ true
@@ -163,10 +163,10 @@ module _ (s : Setup) (committers delegates : List ℕ) (c : FlatCore) (f : FlatC
       last = and-right (inOwnRound s c m) _ rest
 
       isLater : Bool
-      isLater = before (getLastAcceptedRound (thawedHeld (c .«max_rv»))) (Round (roundIn m))
+      isLater = before (getLastAcceptedRound (decodedHeld (c .«max_rv»))) (Round (roundIn m))
 
       fitting : Bool
-      fitting = acceptFits (thawedHeld (c .«max_rv»)) (roundIn m) (m .v)
+      fitting = acceptFits (decodedHeld (c .«max_rv»)) (roundIn m) (m .v)
 
       repeats : (not isLater && fitting) ≡ true
       repeats = and-left (repeatsHeld c m) _ last
@@ -174,8 +174,8 @@ module _ (s : Setup) (committers delegates : List ℕ) (c : FlatCore) (f : FlatC
       fits : fitting ≡ true
       fits = and-right (not isLater) fitting repeats
 
-      same : thawedHeld (c .«max_rv») ≡ Held (PaxosV (Round (roundIn m)) (m .v))
-      same = accepted-is (thawedHeld (c .«max_rv»)) (roundIn m) (m .v) (negated isLater (and-left (not isLater) fitting repeats)) fits
+      same : decodedHeld (c .«max_rv») ≡ Held (PaxosV (Round (roundIn m)) (m .v))
+      same = accepted-is (decodedHeld (c .«max_rv»)) (roundIn m) (m .v) (negated isLater (and-left (not isLater) fitting repeats)) fits
 
   abbrev withPrepared : ℕ → HeldPromise → Core
   withPrepared src held =
@@ -185,25 +185,25 @@ module _ (s : Setup) (committers delegates : List ℕ) (c : FlatCore) (f : FlatC
 
   -- no fast value: who gathers is asked of the settings alone
   gatherer-is : eqb (m .kind) 1 ≡ true → eqb (m .rv .fast) 0 ≡ true
-      → gathererOf settings (thawedMsg m) ≡ delegateOf (thawedSettings (settingsOf s [] delegates)) (thawedMode (s .mode)) (m .leader)
-  unfolding gathererOf thawedMsg thawedPromise
-  gatherer-is k e = same-gatherer s committers delegates (thawedMsg m) ∙ simp (k, e)
+      → gathererOf settings (decodedMsg m) ≡ delegateIn delegates (decodedMode (s .mode)) (m .leader)
+  unfolding gathererIn decodedMsg decodedPromise
+  gatherer-is k e = simp (k, e)
 
   pub promise-leaves : isOlder (m .slot) (roundIn m) core ≡ false → eqb (m .kind) 1 ≡ true → countsPromise s delegates c m ≡ true
-      → processClassic a h (Prepare (m .slot) (roundIn m) (thawedPromise (m .rv))) core ≡ stays (thawedCore (withPromises (promisesWith s c m) c)) noMessages
+      → processClassic a h (Prepare (m .slot) (roundIn m) (decodedPromise (m .rv))) core ≡ stays (decodedCore (withPromises (promisesWith s c m) c)) noMessages
   unfolding countsPromise gathers keepsHeld completes promisesWith receivePromise
   promise-leaves o k e =
-      promise-counted a h (m .slot) (roundIn m) core (thawedPromise (m .rv)) (meets o (and-left (inOwnRound s c m) _ rest) src)
-      (and-left (isHeld (thawedHeld (c .«max_rv»))) _ keeps)
+      promise-counted a h (m .slot) (roundIn m) core (decodedPromise (m .rv)) (meets o (and-left (inOwnRound s c m) _ rest) src)
+      (and-left (isHeld (decodedHeld (c .«max_rv»))) _ keeps)
       (ap (λ (x : ℕ). eqb x (s .«my_pid»)) (gatherer-is k (and-left (eqb (m .rv .fast) 0) _ gathered)) ∙ and-right (eqb (m .rv .fast) 0) _ gathered)
       (ap (λ (x : ℕ). not (isPrepared (a .member) (core .paxos)) && leb (majorityOf s) (size (counted (memberOf s) x (c .«prepared_set»)))) src ∙ negated _ (and-right (keepsHeld c m) _ last))
       ∙ ap₂ (λ (x : ℕ) (y : HeldPromise). stays (withPrepared x y) noMessages) src
-      (kept (thawedHeld (c .«max_rv»)) (thawedPromise (m .rv)) (and-left (isHeld (thawedHeld (c .«max_rv»))) _ keeps) (negated _ (and-right (isHeld (thawedHeld (c .«max_rv»))) _ keeps)))
+      (kept (decodedHeld (c .«max_rv»)) (decodedPromise (m .rv)) (and-left (isHeld (decodedHeld (c .«max_rv»))) _ keeps) (negated _ (and-right (isHeld (decodedHeld (c .«max_rv»))) _ keeps)))
     where
-      src : thawedSource (s .«process_count») (s .«my_pid») m ≡ m .src
+      src : decodedSource (s .«process_count») (s .«my_pid») m ≡ m .src
       src = source-is 1 k refl refl
 
-      gathered : (eqb (m .rv .fast) 0 && eqb (delegateOf (thawedSettings (settingsOf s [] delegates)) (thawedMode (s .mode)) (m .leader)) (s .«my_pid»)) ≡ true
+      gathered : (eqb (m .rv .fast) 0 && eqb (delegateIn delegates (decodedMode (s .mode)) (m .leader)) (s .«my_pid»)) ≡ true
       gathered = and-left (gathers s delegates m) _ e
 
       rest : (inOwnRound s c m && (keepsHeld c m && not (completes s c m))) ≡ true
@@ -212,5 +212,5 @@ module _ (s : Setup) (committers delegates : List ℕ) (c : FlatCore) (f : FlatC
       last : (keepsHeld c m && not (completes s c m)) ≡ true
       last = and-right (inOwnRound s c m) _ rest
 
-      keeps : (isHeld (thawedHeld (c .«max_rv»)) && not (before (getLastAcceptedRound (thawedHeld (c .«max_rv»))) (acceptRoundOf (thawedPromise (m .rv))))) ≡ true
+      keeps : (isHeld (decodedHeld (c .«max_rv»)) && not (before (getLastAcceptedRound (decodedHeld (c .«max_rv»))) (acceptRoundOf (decodedPromise (m .rv))))) ≡ true
       keeps = and-left (keepsHeld c m) _ last

@@ -1,11 +1,11 @@
 -- What the core passes on or commits is no refusal, and what is written of a step is its answer.
 -- Assumes nothing.
-use mathlib.Core.Bool.{Bool, true, false, cond}
+use mathlib.Core.Bool.{Bool, true, false}
 use mathlib.Core.List.{List}
 use mathlib.Core.Path.{_≡_, refl}
 use Prim.Native.Nat.{ℕ}
 use lib.Dec.{ltb}
-use Rattle.basics.proofs.Tests.{not-both}
+use Rattle.basics.proofs.Tests.{not-both, of-both}
 use Rattle.core_calls.specs.CoreCall.{coreCommitted, coreFinishAt, coreFinish, coreOnCommit}
 use Rattle.core_calls.specs.declared.CoreAnswer.{CoreAnswer}
 use Rattle.direct_core.specs.Handled.{Written, putOutcome, putAnswer, refusedBy, isCommit, decidedValue, putProcessed}
@@ -17,14 +17,10 @@ use Rattle.steps.specs.declared.CoreStep.{CoreStep}
 use Rattle.steps.specs.declared.Messages.{Messages}
 use Rattle.steps.specs.declared.Next.{Next}
 use Rattle.steps.specs.declared.Next.the-variants.{Stays, Continues, Commits, Refuses}
-use Rattle.direct_calls.proofs.Proposed.{numbered}
+use Rattle.direct_calls.proofs.Common.{not-taken}
 
 abbrev pub DeeperDone : CoreAnswer → Type 0
 DeeperDone a = a .deeper ≡ true → a .reply .outcome ≡ Done
-
-pub by-test : (t : Bool) (x y : CoreAnswer) → DeeperDone x → DeeperDone y → DeeperDone (cond t x y)
-by-test true x y p q = p
-by-test false x y p q = q
 
 pub finish : (a : Asked) (held : Bool) (old s : Core) (ms : Messages) (next : Next) → DeeperDone (coreFinishAt a held old s ms next)
 unfolding coreCommitted
@@ -39,7 +35,8 @@ finish-step a held old step = finish a held old (step .core) (step .messages) (s
 
 pub committed : (a : Asked) (slot v : ℕ) (core : Core) → DeeperDone (coreOnCommit a slot v core)
 unfolding coreOnCommit coreCommitted
-committed a slot v core = by-test (ltb slot (core .slot)) _ _ (λ h. refl) (by-test (hasFastPath (a .mode)) _ _ (λ h. refl) (λ h. refl))
+committed a slot v core =
+    of-both DeeperDone (ltb slot (core .slot)) (λ h. refl) (of-both DeeperDone (hasFastPath (a .mode)) (λ h. refl) (λ h. refl))
 
 -- what is written of the step of a message is its answer, whatever the core was
 module _ (a : Asked) (held : Bool) (core : List ℕ) (w : Written) (old : Core) where
@@ -50,7 +47,7 @@ module _ (a : Asked) (held : Bool) (core : List ℕ) (w : Written) (old : Core) 
   by-next s ms Continues t e = refl
   by-next s ms (Commits v) true e = simp (e)
   by-next s ms (Commits v) false e = simp (e)
-  by-next s ms (Refuses why) t e = simp (numbered why)
+  by-next s ms (Refuses why) t e = simp (not-taken why)
 
   pub processed-is : (step : CoreStep) → putProcessed a held step core w ≡ putAnswer (coreFinish a held old step) core w
   processed-is step = by-next (step .core) (step .messages) (step .next) held refl

@@ -1,35 +1,31 @@
 -- A call in EPaxos or SwiftPaxos is the call on the shard that the arrays stand for; and by one of the two functions every call is.
 -- Assumes nothing.
-use mathlib.Core.Bool.{Bool, true, false, cond, _&&_, _||_}
+use mathlib.Core.Bool.{Bool, true, false, cond, not, _&&_, _||_}
 use mathlib.Core.List.{List}
 use mathlib.Core.Logic.{_⊎_, inl, inr}
 use mathlib.Core.Path.{_≡_, refl, sym, ap, ap₂, subst, _∙_}
 use Prim.Native.Nat.{ℕ}
 use native.Mathlib.Omega.{arith}
-use borrow.Author.Tests.{eqb-true, eqb-false, leb-true}
+use borrow.Author.Tests.{eqb-false, leb-true}
 use lib.Dec.{eqb, leb, ltb}
-use Rattle.basics.proofs.Tests.{either, not-both, and-left, and-right}
-use Rattle.arrays.specs.Arrays.{settingsOf, coreOf}
+use Rattle.basics.proofs.Tests.{either, not-both, fails, and-left, and-right}
+use Rattle.arrays.specs.Arrays.{coreOf}
 use Rattle.arrays.specs.declared.Setup.{Setup}
-use Rattle.calls.specs.Asked.{askedOf, heardOf, heardIn}
-use Rattle.calls.specs.Decision.{ifMade, decisionFor, decisionOf}
+use Rattle.calls.specs.Asked.{askedOf}
+use Rattle.calls.specs.Decision.{decisionFor, decisionOf}
 use Rattle.calls.specs.declared.Call.{Call}
 use Rattle.calls.specs.declared.Call.the-variants.{Propose, Receive}
 use Rattle.calls.specs.declared.Decision.the-variants.{Handle}
 use Rattle.calls.specs.declared.OptionalCommit.{OptionalCommit}
-use Rattle.calls.specs.declared.Taken.{Taken}
 use Rattle.consensus.proofs.ByParts.{by-parts}
-use Rattle.consensus.specs.Answers.{withState}
 use Rattle.consensus.specs.ByParts.{fromState}
 use Rattle.consensus.specs.Call.{callOf}
 use Rattle.consensus.specs.declared.Answer.{Answer}
-use Rattle.consensus.specs.declared.Shard.{Shard}
 use Rattle.core_calls.specs.CoreCall.{sendsFrom, needsMore, coreCommitted, coreFinishAt, coreProposed, coreProcessed, coreOnCommit, coreCall, coreTaken, coreHandle}
 use Rattle.core_calls.specs.declared.CoreAnswer.{CoreAnswer}
-use Rattle.delivery.specs.declared.Delivery.{Delivery}
-use Rattle.direct.specs.Direct.{Direct, majorityOf, forSlots, namesSlot, ofOlderRound, isOlder}
-use Rattle.direct_core.specs.Handled.{Written, putServed, putOutcome}
-use Rattle.direct_fast.specs.DirectFast.{fastStep, holdsValue, fastAnswer, putFast, FastDirect, fastDirect, servedToo, isOld, fastHandled, fastHalfActs, fastCall}
+use Rattle.direct.specs.Direct.{Direct, majorityOf, concernsSlot, namesSlot, ofOlderRound, isOlder}
+use Rattle.direct_core.specs.Handled.{Written, passedOn, putServed, putOutcome, heardIn}
+use Rattle.direct_fast.specs.DirectFast.{fastStep, holdsValue, fastAnswer, putFast, FastDirect, fastDirect, fastServed, isOld, fastHandled, fastHalfActs, fastCall}
 use Rattle.fast_arrays.specs.FastArrays.{FastArrays, answersIn, fastOf, putAfter}
 use Rattle.fast_calls.specs.FastCall.{afterNext, fastFinish}
 use Rattle.fast_calls.specs.declared.After.{After}
@@ -47,7 +43,6 @@ use Rattle.message.specs.declared.ConsensusMsg.the-variants.{Prepare, Accept, F
 use Rattle.message.specs.declared.OptionalRound.the-variants.{Round}
 use Rattle.message.specs.declared.Outcome.{Outcome}
 use Rattle.message.specs.declared.Outcome.the-variants.{Done, Refused}
-use Rattle.message.specs.declared.PaxosRound.{PaxosRound}
 use Rattle.message.specs.declared.Refusal.{Refusal}
 use Rattle.paxos_family.proofs.Older.{Older, older-fast-prepare, older-fast-accept}
 use Rattle.paxos_family.specs.Commit.{commitSlot}
@@ -56,7 +51,6 @@ use Rattle.propose.specs.Propose.{proposeChange, proposeFast}
 use Rattle.read_tracker.specs.declared.ReadTable.{ReadTable}
 use Rattle.rounds_calls.specs.RoundsCall.{withFast, roundsCommitted, roundsFinishAt, roundsFinish, roundsHandle, roundsTaken, roundsPassed}
 use Rattle.rounds_calls.specs.declared.RoundsAnswer.{RoundsAnswer}
-use Rattle.settings.specs.declared.Settings.{Settings}
 use Rattle.state_calls.specs.StateCall.{stateCall, stateAfter, statePassed, withReads, readsHandle, readsTaken, serveReady, withTable}
 use Rattle.state_calls.specs.declared.StateAnswer.{StateAnswer}
 use Rattle.steps.specs.Steps.{noMessages, stays, onRounds}
@@ -68,43 +62,34 @@ use Rattle.steps.specs.declared.Messages.{Messages}
 use Rattle.steps.specs.declared.Next.{Next}
 use Rattle.steps.specs.declared.Next.the-variants.{Stays, Continues, Commits, Refuses}
 use Rattle.steps.specs.declared.Rounds.{Rounds}
-use Rattle.twin_calls.specs.Refusals.{refusalOf}
-use Rattle.twins.proofs.Twins.{value-frozen}
-use Rattle.twins.specs.Freeze.{frozenOutcome}
-use Rattle.twins.specs.Thaw.{isYes, thawedCall, thawedCore, thawedDelivery, thawedMade, thawedMsg, thawedPromise, thawedSettings, thawedValue}
-use Rattle.twins.specs.declared.FlatCall.{FlatCall}
-use Rattle.direct_calls.specs.FastStands.{FastStands, FastDoes, Declined, DirectDoes, OneOfBoth}
-use Rattle.direct_calls.specs.Stands.{shardOf, Claim}
+use Rattle.flat_calls.specs.Refusals.{refusalOf}
+use Rattle.flat.proofs.Encoded.{value-encoded}
+use Rattle.flat.specs.Encode.{encodedOutcome}
+use Rattle.flat.specs.Decode.{isYes, decodedCall, decodedMode, decodedMsg, decodedPromise, decodedValue}
+use Rattle.flat.specs.declared.FlatCall.{FlatCall}
+use Rattle.direct_calls.specs.FastStands.{FastStands, FastDoes, Declined, DirectDoes, OneOfBoth, DeclinedIsDirect, ClassicIsDirect}
+use Rattle.direct_calls.specs.Stands.{DirectDoesOrPasses}
 use Rattle.direct_calls.proofs.Calls.{direct-is-call}
 use Rattle.direct_calls.proofs.Deeper.{finish}
-use Rattle.direct_calls.proofs.Proposed.{numbered}
-use Rattle.direct_calls.proofs.Taken.{Parts, isDone, onState, answered}
+use Rattle.direct_calls.proofs.Common.{CallOn, callOn, not-taken, not-passed-on, other-kind, by-kind}
+use Rattle.direct_calls.proofs.Taken.{Parts, isDone, onState, answered, parts-stand}
 
 or-false : (t : Bool) → (t || false) ≡ t
 or-false true = refl
 or-false false = refl
 
 module _ (s : Setup) (committers delegates core : List ℕ) (fast : FastArrays) (table : ReadTable) (f : FlatCall) (w : Written) where
-  abbrev thawed : Core
-  thawed = thawedCore (coreOf core)
-
-  abbrev settings : Settings
-  settings = thawedSettings (settingsOf s committers delegates)
-
   abbrev half : FastState
   half = fastOf fast
 
-  abbrev shard : Shard
-  shard = shardOf s committers delegates core half table
+  open CallOn (callOn s committers delegates core half table f) using (decoded, settings, shard, called, outcome, delivered, round, takenAs)
+
+  -- no field of `CallOn`: `simp` rewrites it
+  abbrev kind : ℕ
+  kind = f .message .kind
 
   abbrev rounds : Rounds
-  rounds = record { core = thawed; fast = half }
-
-  abbrev called : Call
-  called = thawedCall (s .«process_count») (s .«my_pid») f
-
-  abbrev takenAs : Call → Taken
-  takenAs c = record { asked = askedOf settings; heard = heardIn settings c; call = c }
+  rounds = record { core = decoded; fast = half }
 
   -- ---- the fast half afterwards
 
@@ -116,14 +101,14 @@ module _ (s : Setup) (committers delegates core : List ℕ) (fast : FastArrays) 
   -- what is written stands for it
   half-written : (a : CoreAnswer) (o : Outcome) (after : After)
       → fastOf (cond (eqb (putOutcome a o core w .handled .number) 0) (putAfter after fast) fast) ≡ halfAfter o after
-  unfolding putOutcome thawedValue
-  half-written a Done (Changed c) = simp (value-frozen (c .answers .«swift_leader_answer»))
+  unfolding putOutcome decodedValue
+  half-written a Done (Changed c) = simp (value-encoded (c .answers .«swift_leader_answer»))
   half-written a Done Cleared = refl
-  half-written a (Refused why) after = simp (numbered why)
+  half-written a (Refused why) after = simp (not-taken why)
 
   not-written : (a : CoreAnswer) (why : Refusal) (after : After) → cond (eqb (putOutcome a (Refused why) core w .handled .number) 0) (putAfter after fast) fast ≡ fast
   unfolding putOutcome
-  not-written a why after = simp (numbered why)
+  not-written a why after = simp (not-taken why)
 
   -- what a call leaves, part by part
   abbrev FastParts : StateAnswer → Outcome → FastDirect → Type 0
@@ -142,7 +127,7 @@ module _ (s : Setup) (committers delegates core : List ℕ) (fast : FastArrays) 
 
   stands-by : (k : Core) (o : Outcome) (ms : Messages) (commit : OptionalCommit) (n : ℕ) (t : Bool) (after : After) → (t ≡ true → o ≡ Done)
       → let a : CoreAnswer = record { core = k; reply = record { outcome = o; messages = ms; commit = commit; «served_count» = n }; deeper = t } in
-      StandsFor (onState s core (halfAfter o after) table w t a) (servedToo s table (putFast (record { answer = a; after = after }) core fast w))
+      StandsFor (onState s core (halfAfter o after) table w t a) (fastServed s table (putFast (record { answer = a; after = after }) core fast w))
   unfolding putFast
   stands-by k Done ms commit n true after h =
       let a : CoreAnswer = record { core = k; reply = record { outcome = Done; messages = ms; commit = commit; «served_count» = n }; deeper = true } in
@@ -164,37 +149,37 @@ module _ (s : Setup) (committers delegates core : List ℕ) (fast : FastArrays) 
     stateOf = stateCall (shard .state) (Handle (takenAs c))
 
     passes : (x : FastAnswer) → hasFastPath (settings .mode) ≡ true
-        → coreCall thawed (Handle (takenAs c)) ≡ needsMore thawed
-        → roundsTaken (askedOf settings) (heardIn settings c) rounds (needsMore thawed) c ≡ onRoundsOf x
+        → coreCall decoded (Handle (takenAs c)) ≡ needsMore decoded
+        → roundsTaken (askedOf settings) (takenAs c .heard) rounds (needsMore decoded) c ≡ onRoundsOf x
         → readsTaken (askedOf settings) table (onRoundsOf x) c ≡ serveReady (majorityOf s) table (onRoundsOf x)
         → stateOf ≡ onStateOf x
     unfolding stateAfter statePassed roundsPassed withReads
     passes x p e r q =
         ap (stateAfter (shard .state) (Handle (takenAs c))) e
-        ∙ ap (λ (t : Bool). withReads (askedOf settings) table c (cond t taken-rounds (withFast half (needsMore thawed)))) p
+        ∙ ap (λ (t : Bool). withReads (askedOf settings) table c (cond t taken-rounds (withFast half (needsMore decoded)))) p
         ∙ ap (withReads (askedOf settings) table c) r
         ∙ ap (λ (y : StateAnswer). cond (x .answer .deeper) y (withTable table (onRoundsOf x))) q
       where
         taken-rounds : RoundsAnswer
-        taken-rounds = roundsTaken (askedOf settings) (heardIn settings c) rounds (needsMore thawed) c
+        taken-rounds = roundsTaken (askedOf settings) (takenAs c .heard) rounds (needsMore decoded) c
 
     stands : (x : FastAnswer) {y : FastAnswer} → y ≡ x → stateOf ≡ onStateOf x → (x .answer .deeper ≡ true → x .answer .reply .outcome ≡ Done)
-        → StandsFor stateOf (servedToo s table (putFast y core fast w))
+        → StandsFor stateOf (fastServed s table (putFast y core fast w))
     stands x {y} e q h =
-        subst (λ (z : StateAnswer). StandsFor z (servedToo s table (putFast y core fast w))) (sym q)
-        (subst (λ (z : FastAnswer). StandsFor (onStateOf x) (servedToo s table (putFast z core fast w))) (sym e)
+        subst (λ (z : StateAnswer). StandsFor z (fastServed s table (putFast y core fast w))) (sym q)
+        (subst (λ (z : FastAnswer). StandsFor (onStateOf x) (fastServed s table (putFast z core fast w))) (sym e)
         (stands-by (x .answer .core) (x .answer .reply .outcome) (x .answer .reply .messages) (x .answer .reply .commit) (x .answer .reply .«served_count»)
         (x .answer .deeper) (x .after) h))
 
     -- a call that does nothing
-    nothing : stateOf ≡ withTable table (withFast half (sendsFrom thawed noMessages)) → StandsFor stateOf (fastDirect 0 core fast table (putServed 0 w))
+    nothing : stateOf ≡ withTable table (withFast half (sendsFrom decoded noMessages)) → StandsFor stateOf (fastDirect 0 core fast table (putServed 0 w))
     nothing e = subst (λ (x : StateAnswer). StandsFor x (fastDirect 0 core fast table (putServed 0 w))) (sym e) (refl, refl, refl, refl, refl)
 
   -- ---- the end of a step
 
   finish-rounds : (a : Asked) → hasFastPath (a .mode) ≡ true → (held : Bool) (k : Core) (ms : Messages) (c : FastChange) (next : Next)
       → roundsFinishAt a held rounds (record { core = k; fast = changed c half }) ms next
-      ≡ onRoundsOf (record { answer = coreFinishAt a held thawed k ms next; after = afterNext next c })
+      ≡ onRoundsOf (record { answer = coreFinishAt a held decoded k ms next; after = afterNext next c })
   unfolding roundsCommitted coreCommitted commitSlot
   finish-rounds a p held k ms c Stays = refl
   finish-rounds a p held k ms c Continues = refl
@@ -204,39 +189,33 @@ module _ (s : Setup) (committers delegates core : List ℕ) (fast : FastArrays) 
 
   -- a Commit of the own slot
   abbrev committedAs : ℕ → FastAnswer
-  committedAs v = record { answer = coreCommitted (askedOf settings) v thawed noMessages; after = Cleared }
+  committedAs v = record { answer = coreCommitted (askedOf settings) v decoded noMessages; after = Cleared }
 
   committed-rounds : (a : Asked) → hasFastPath (a .mode) ≡ true → (v : ℕ)
-      → roundsCommitted a v rounds noMessages ≡ onRoundsOf (record { answer = coreCommitted a v thawed noMessages; after = Cleared })
+      → roundsCommitted a v rounds noMessages ≡ onRoundsOf (record { answer = coreCommitted a v decoded noMessages; after = Cleared })
   unfolding roundsCommitted coreCommitted commitSlot
   committed-rounds a p v = simp (p)
 
   -- ---- proposals
 
   abbrev answer : FastAnswer
-  answer = fastAnswer s committers delegates thawed (answersIn (fast .answers)) (fast .values) (fast .epaxos) (fast .swift) f
+  answer = fastAnswer s committers delegates decoded (answersIn (fast .answers)) (fast .values) (fast .epaxos) (fast .swift) f
 
   module _ (p : hasFastPath (settings .mode) ≡ true) where
-    proposed : eqb (f .kind) 0 ≡ true → StandsFor (stateOf (Propose (f .v))) (servedToo s table (putFast answer core fast w))
+    proposed : eqb (f .kind) 0 ≡ true → StandsFor (stateOf (Propose (f .v))) (fastServed s table (putFast answer core fast w))
     unfolding fastAnswer fastStep holdsValue fastFinish coreCall coreTaken coreProposed roundsTaken readsTaken proposeFast
     proposed k =
-        stands (Propose (f .v)) (fastFinish (askedOf settings) true thawed step) (simp (k))
+        stands (Propose (f .v)) (fastFinish (askedOf settings) true decoded step) (simp (k))
         (passes (Propose (f .v)) _ p (simp (p)) (finish-rounds (askedOf settings) p true (step .core) (step .messages) (step .change) (step .next)) refl)
-        (finish (askedOf settings) true thawed (step .core) (step .messages) (step .next))
+        (finish (askedOf settings) true decoded (step .core) (step .messages) (step .next))
       where
         step : ChangeStep
-        step = proposeChange (askedOf settings) (f .v) thawed (answersIn (fast .answers)) (fast .epaxos) (fast .swift)
+        step = proposeChange (askedOf settings) (f .v) decoded (answersIn (fast .answers)) (fast .epaxos) (fast .swift)
 
     -- ---- messages
 
-    abbrev delivered : Delivery
-    delivered = thawedDelivery (s .«process_count») (s .«my_pid») f
-
-    abbrev kind : ℕ
-    kind = f .message .kind
-
     abbrev msg : ConsensusMsg
-    msg = thawedMsg (f .message)
+    msg = decodedMsg (f .message)
 
     -- what the rounds handle
     abbrev ForRounds : ConsensusMsg → Type 0
@@ -248,12 +227,12 @@ module _ (s : Setup) (committers delegates core : List ℕ) (fast : FastArrays) 
     ForRounds (ReadResponse id next) = ⊥
 
     abbrev heard : Heard
-    heard = heardOf settings delivered
+    heard = heardIn s committers delegates f
 
     abbrev held : Bool
     held = isYes (f .«value_held»)
 
-    core-passes : (m : ConsensusMsg) → ForRounds m → coreHandle (askedOf settings) heard delivered thawed m ≡ needsMore thawed
+    core-passes : (m : ConsensusMsg) → ForRounds m → coreHandle (askedOf settings) heard delivered decoded m ≡ needsMore decoded
     unfolding coreHandle coreProcessed
     core-passes (Prepare slot round rv) t = simp (p)
     core-passes (Accept slot round v) t = simp (p)
@@ -266,17 +245,17 @@ module _ (s : Setup) (committers delegates core : List ℕ) (fast : FastArrays) 
     reads-after (ForwardRequest v) t x = refl
 
     abbrev stepOf : ConsensusMsg → ChangeStep
-    stepOf m = processChange lowestBest (askedOf settings) heard m thawed (answersIn (fast .answers)) (fast .values) (fast .epaxos) (fast .swift)
+    stepOf m = processChange lowestBest (askedOf settings) heard m decoded (answersIn (fast .answers)) (fast .values) (fast .epaxos) (fast .swift)
 
     abbrev processedAs : ConsensusMsg → FastAnswer
-    processedAs m = fastFinish (askedOf settings) held thawed (stepOf m)
+    processedAs m = fastFinish (askedOf settings) held decoded (stepOf m)
 
     finished : (m : ConsensusMsg) → roundsFinish (askedOf settings) held rounds (processFast lowestBest (askedOf settings) heard m rounds) ≡ onRoundsOf (processedAs m)
     unfolding processFast fastFinish
     finished m = finish-rounds (askedOf settings) p held (stepOf m .core) (stepOf m .messages) (stepOf m .change) (stepOf m .next)
 
     rounds-handle : (m : ConsensusMsg) → ForRounds m
-        → roundsHandle (askedOf settings) heard held rounds (needsMore thawed) m
+        → roundsHandle (askedOf settings) heard held rounds (needsMore decoded) m
         ≡ roundsFinish (askedOf settings) held rounds (processFast lowestBest (askedOf settings) heard m rounds)
     unfolding roundsHandle
     rounds-handle (Prepare slot round rv) t = refl
@@ -285,12 +264,12 @@ module _ (s : Setup) (committers delegates core : List ℕ) (fast : FastArrays) 
 
     deeper-done : (m : ConsensusMsg) → processedAs m .answer .deeper ≡ true → processedAs m .answer .reply .outcome ≡ Done
     unfolding fastFinish
-    deeper-done m = finish (askedOf settings) held thawed (stepOf m .core) (stepOf m .messages) (stepOf m .next)
+    deeper-done m = finish (askedOf settings) held decoded (stepOf m .core) (stepOf m .messages) (stepOf m .next)
 
     abbrev receives : Call
     receives = Receive delivered
 
-    processed : eqb (f .kind) 0 ≡ false → eqb kind 4 ≡ false → ForRounds msg → StandsFor (stateOf receives) (servedToo s table (putFast answer core fast w))
+    processed : eqb (f .kind) 0 ≡ false → eqb kind 4 ≡ false → ForRounds msg → StandsFor (stateOf receives) (fastServed s table (putFast answer core fast w))
     unfolding fastAnswer fastStep holdsValue coreCall coreTaken roundsTaken readsTaken
     processed k k4 t =
         stands receives (processedAs msg) (simp (k, k4))
@@ -300,63 +279,60 @@ module _ (s : Setup) (committers delegates core : List ℕ) (fast : FastArrays) 
     unfolding coreCommitted
     commit-done v = refl
 
-    commits : eqb (f .kind) 0 ≡ false → eqb kind 4 ≡ true → msg ≡ Commit (f .message .slot) (f .message .v) → ltb (f .message .slot) (thawed .slot) ≡ false
-        → StandsFor (stateOf receives) (servedToo s table (putFast answer core fast w))
+    commits : eqb (f .kind) 0 ≡ false → eqb kind 4 ≡ true → msg ≡ Commit (f .message .slot) (f .message .v) → ltb (f .message .slot) (decoded .slot) ≡ false
+        → StandsFor (stateOf receives) (fastServed s table (putFast answer core fast w))
     unfolding fastAnswer fastStep holdsValue fastFinish coreCall coreTaken coreHandle coreOnCommit roundsTaken roundsHandle readsTaken readsHandle
     commits k k4 m o =
         stands receives (committedAs (f .message .v)) (simp (k, k4))
-        (passes receives _ p (ap (coreHandle (askedOf settings) heard delivered thawed) m ∙ simp (o, p))
-        (ap (roundsHandle (askedOf settings) heard held rounds (needsMore thawed)) m ∙ committed-rounds (askedOf settings) p (f .message .v))
+        (passes receives _ p (ap (coreHandle (askedOf settings) heard delivered decoded) m ∙ simp (o, p))
+        (ap (roundsHandle (askedOf settings) heard held rounds (needsMore decoded)) m ∙ committed-rounds (askedOf settings) p (f .message .v))
         (ap (readsHandle (majorityOf s) table _ (isYes (f .fast))) m)) (λ h. commit-done (f .message .v))
 
     -- ---- messages of an older slot
 
     -- the rounds do nothing
-    idle : (m : ConsensusMsg) → msg ≡ m → ForRounds m → processFast lowestBest (askedOf settings) heard m rounds ≡ onRounds half (stays thawed noMessages)
+    idle : (m : ConsensusMsg) → msg ≡ m → ForRounds m → processFast lowestBest (askedOf settings) heard m rounds ≡ onRounds half (stays decoded noMessages)
         → StandsFor (stateOf receives) (fastDirect 0 core fast table (putServed 0 w))
     unfolding coreCall coreTaken stateAfter statePassed roundsPassed roundsTaken withReads
     idle m e t o =
         nothing receives
-        (ap (λ (x : ConsensusMsg). stateAfter (shard .state) (Handle (takenAs receives)) (coreHandle (askedOf settings) heard delivered thawed x)) e
+        (ap (λ (x : ConsensusMsg). stateAfter (shard .state) (Handle (takenAs receives)) (coreHandle (askedOf settings) heard delivered decoded x)) e
         ∙ ap (stateAfter (shard .state) (Handle (takenAs receives))) (core-passes m t)
-        ∙ ap (λ (b : Bool). withReads (askedOf settings) table receives (cond b (roundsHandle (askedOf settings) heard held rounds (needsMore thawed) msg) (withFast half (needsMore thawed)))) p
-        ∙ ap (λ (x : ConsensusMsg). withReads (askedOf settings) table receives (roundsHandle (askedOf settings) heard held rounds (needsMore thawed) x)) e
+        ∙ ap (λ (b : Bool). withReads (askedOf settings) table receives (cond b (roundsHandle (askedOf settings) heard held rounds (needsMore decoded) msg) (withFast half (needsMore decoded)))) p
+        ∙ ap (λ (x : ConsensusMsg). withReads (askedOf settings) table receives (roundsHandle (askedOf settings) heard held rounds (needsMore decoded) x)) e
         ∙ ap (withReads (askedOf settings) table receives) (rounds-handle m t ∙ ap (roundsFinish (askedOf settings) held rounds) o))
 
     -- a Commit ends at the core
-    idle-commit : msg ≡ Commit (f .message .slot) (f .message .v) → ltb (f .message .slot) (thawed .slot) ≡ true
+    idle-commit : msg ≡ Commit (f .message .slot) (f .message .v) → ltb (f .message .slot) (decoded .slot) ≡ true
         → StandsFor (stateOf receives) (fastDirect 0 core fast table (putServed 0 w))
     unfolding coreCall coreTaken coreHandle coreOnCommit stateAfter
     idle-commit e o =
-        let handles : coreHandle (askedOf settings) heard delivered thawed msg ≡ sendsFrom thawed noMessages = ap (coreHandle (askedOf settings) heard delivered thawed) e ∙ simp (o) in
+        let handles : coreHandle (askedOf settings) heard delivered decoded msg ≡ sendsFrom decoded noMessages = ap (coreHandle (askedOf settings) heard delivered decoded) e ∙ simp (o) in
         nothing receives (ap (stateAfter (shard .state) (Handle (takenAs receives))) handles)
 
     -- ---- by the kind of the message
 
     abbrev isBefore : Bool
-    isBefore = ltb (f .message .slot) (thawed .slot)
-
-    abbrev round : PaxosRound
-    round = record { «round_group» = f .message .«round_group»; leader = f .message .leader }
+    isBefore = ltb (f .message .slot) (decoded .slot)
 
     abbrev handledAs : Bool → FastDirect
-    handledAs older = cond older (fastDirect 0 core fast table (putServed 0 w)) (servedToo s table (putFast answer core fast w))
+    handledAs older = cond older (fastDirect 0 core fast table (putServed 0 w)) (fastServed s table (putFast answer core fast w))
 
     module _ (k : eqb (f .kind) 0 ≡ false) where
-      is-prepare : eqb kind 1 ≡ true → msg ≡ Prepare (f .message .slot) round (thawedPromise (f .message .rv))
-      unfolding thawedMsg
+      is-prepare : eqb kind 1 ≡ true → msg ≡ Prepare (f .message .slot) round (decodedPromise (f .message .rv))
+      unfolding decodedMsg
       is-prepare k1 = simp (k1)
 
       is-accept : eqb kind 1 ≡ false → eqb kind 2 ≡ true → msg ≡ Accept (f .message .slot) round (f .message .v)
-      unfolding thawedMsg
+      unfolding decodedMsg
       is-accept k1 k2 = simp (k1, k2)
 
       is-forward : eqb kind 1 ≡ false → eqb kind 2 ≡ false → eqb kind 3 ≡ true → msg ≡ ForwardRequest (f .message .v)
-      unfolding thawedMsg
+      unfolding decodedMsg
       is-forward k1 k2 k3 = simp (k1, k2, k3)
 
       is-commit : eqb kind 1 ≡ false → eqb kind 2 ≡ false → eqb kind 3 ≡ false → eqb kind 4 ≡ true → msg ≡ Commit (f .message .slot) (f .message .v)
-      unfolding thawedMsg
+      unfolding decodedMsg
       is-commit k1 k2 k3 k4 = simp (k1, k2, k3, k4)
 
       abbrev Stood : Type 0
@@ -364,7 +340,7 @@ module _ (s : Setup) (committers delegates core : List ℕ) (fast : FastArrays) 
 
       by-age : {old : Bool} → isOld (coreOf core) f ≡ old
           → (old ≡ true → StandsFor (stateOf receives) (fastDirect 0 core fast table (putServed 0 w)))
-          → (old ≡ false → StandsFor (stateOf receives) (servedToo s table (putFast answer core fast w)))
+          → (old ≡ false → StandsFor (stateOf receives) (fastServed s table (putFast answer core fast w)))
           → Stood
       by-age {old} e older own = subst (λ (t : Bool). StandsFor (stateOf receives) (handledAs t)) (sym e) (go (either old))
         where
@@ -373,13 +349,13 @@ module _ (s : Setup) (committers delegates core : List ℕ) (fast : FastArrays) 
           go (inr o) = subst (λ (t : Bool). StandsFor (stateOf receives) (handledAs t)) (sym o) (own o)
 
       abbrev beforeRound : Bool
-      beforeRound = before (Round round) (thawed .paxos .round)
+      beforeRound = before (Round round) (decoded .paxos .round)
 
       -- of an older slot, or of an older round
-      too-old : (isBefore || beforeRound) ≡ true → Older (f .message .slot) round thawed
+      too-old : (isBefore || beforeRound) ≡ true → Older (f .message .slot) round decoded
       too-old e = go (either isBefore)
         where
-          go : (isBefore ≡ true) ⊎ (isBefore ≡ false) → Older (f .message .slot) round thawed
+          go : (isBefore ≡ true) ⊎ (isBefore ≡ false) → Older (f .message .slot) round decoded
           go (inl o) = inl o
           go (inr o) = inr (sym (simp (o)) ∙ e)
 
@@ -387,7 +363,7 @@ module _ (s : Setup) (committers delegates core : List ℕ) (fast : FastArrays) 
       unfolding isOld isOlder ofOlderRound namesSlot
       as-prepare k1 =
           let e = is-prepare k1 in
-          let k4 : eqb kind 4 ≡ false = ap (λ (x : ℕ). eqb x 4) (eqb-true kind 1 k1) in
+          let k4 : eqb kind 4 ≡ false = other-kind kind 1 4 k1 refl in
           by-age (simp (k, k1, k4)) (λ o. idle _ e tt (older-fast-prepare (askedOf settings) heard (f .message .slot) round lowestBest _ rounds (too-old o)))
           (λ o. processed k k4 (subst ForRounds (sym e) tt))
 
@@ -395,14 +371,14 @@ module _ (s : Setup) (committers delegates core : List ℕ) (fast : FastArrays) 
       unfolding isOld isOlder ofOlderRound namesSlot
       as-accept k1 k2 =
           let e = is-accept k1 k2 in
-          let k4 : eqb kind 4 ≡ false = ap (λ (x : ℕ). eqb x 4) (eqb-true kind 2 k2) in
+          let k4 : eqb kind 4 ≡ false = other-kind kind 2 4 k2 refl in
           by-age (simp (k, k1, k2, k4)) (λ o. idle _ e tt (older-fast-accept (askedOf settings) heard (f .message .slot) round lowestBest _ rounds (too-old o)))
           (λ o. processed k k4 (subst ForRounds (sym e) tt))
 
       as-forward : eqb kind 1 ≡ false → eqb kind 2 ≡ false → eqb kind 3 ≡ true → Stood
       unfolding isOld isOlder namesSlot
       as-forward k1 k2 k3 =
-          let k4 : eqb kind 4 ≡ false = ap (λ (x : ℕ). eqb x 4) (eqb-true kind 3 k3) in
+          let k4 : eqb kind 4 ≡ false = other-kind kind 3 4 k3 refl in
           let new : isOld (coreOf core) f ≡ false = simp (k, k1, k2, k4) in
           subst (λ (t : Bool). StandsFor (stateOf receives) (handledAs t)) (sym new) (processed k k4 (subst ForRounds (sym (is-forward k1 k2 k3)) tt))
 
@@ -412,29 +388,12 @@ module _ (s : Setup) (committers delegates core : List ℕ) (fast : FastArrays) 
           let e = is-commit k1 k2 k3 k4 in
           by-age (simp (k, k1, k2, k4) (or-false isBefore)) (idle-commit e) (commits k k4 e)
 
-      by-kind : leb 1 kind ≡ true → leb kind 4 ≡ true → Stood
-      by-kind l m = one (either (eqb kind 1))
+      message-handled : leb 1 kind ≡ true → leb kind 4 ≡ true → Stood
+      message-handled l m = by-kind Stood kind as-prepare as-accept as-forward as-commit (λ k1 k2 k3 k4. absurd (none k1 k2 k3 k4))
         where
           none : eqb kind 1 ≡ false → eqb kind 2 ≡ false → eqb kind 3 ≡ false → eqb kind 4 ≡ false → ⊥
           none k1 k2 k3 k4 =
               omega (arith, leb-true 1 kind l, leb-true kind 4 m, eqb-false kind 1 k1, eqb-false kind 2 k2, eqb-false kind 3 k3, eqb-false kind 4 k4)
-
-          four : eqb kind 1 ≡ false → eqb kind 2 ≡ false → eqb kind 3 ≡ false → (eqb kind 4 ≡ true) ⊎ (eqb kind 4 ≡ false)
-              → Stood
-          four k1 k2 k3 (inl k4) = as-commit k1 k2 k3 k4
-          four k1 k2 k3 (inr k4) = absurd (none k1 k2 k3 k4)
-
-          three : eqb kind 1 ≡ false → eqb kind 2 ≡ false → (eqb kind 3 ≡ true) ⊎ (eqb kind 3 ≡ false) → Stood
-          three k1 k2 (inl k3) = as-forward k1 k2 k3
-          three k1 k2 (inr k3) = four k1 k2 k3 (either (eqb kind 4))
-
-          two : eqb kind 1 ≡ false → (eqb kind 2 ≡ true) ⊎ (eqb kind 2 ≡ false) → Stood
-          two k1 (inl k2) = as-accept k1 k2
-          two k1 (inr k2) = three k1 k2 (either (eqb kind 3))
-
-          one : (eqb kind 1 ≡ true) ⊎ (eqb kind 1 ≡ false) → Stood
-          one (inl k1) = as-prepare k1
-          one (inr k1) = two k1 (either (eqb kind 2))
 
   -- ---- together
 
@@ -450,12 +409,12 @@ module _ (s : Setup) (committers delegates core : List ℕ) (fast : FastArrays) 
         go (inl k) = absurd (not-both a (simp (k)))
         go (inr k) = k
 
-    acts : (hasFastPath (settings .mode) && forSlots f) ≡ true
+    acts : (hasFastPath (settings .mode) && concernsSlot f) ≡ true
     unfolding fastHalfActs
     acts = sym (simp (no-read)) ∙ a
 
     fast-mode : hasFastPath (settings .mode) ≡ true
-    fast-mode = and-left (hasFastPath (settings .mode)) (forSlots f) acts
+    fast-mode = and-left (hasFastPath (settings .mode)) (concernsSlot f) acts
 
     module _ (z : refusalOf s (coreOf core) f ≡ 0) where
       handled-is : result ≡ handledAs fast-mode (isOld (coreOf core) f)
@@ -463,20 +422,20 @@ module _ (s : Setup) (committers delegates core : List ℕ) (fast : FastArrays) 
       handled-is = simp (a, z)
 
       proposal-stands : eqb (f .kind) 0 ≡ true → StandsFor (stateOf called) result
-      unfolding thawedCall isOld
+      unfolding decodedCall isOld
       proposal-stands k =
-          let own : result ≡ servedToo s table (putFast answer core fast w) = handled-is ∙ simp (k) in
+          let own : result ≡ fastServed s table (putFast answer core fast w) = handled-is ∙ simp (k) in
           let call : called ≡ Propose (f .v) = simp (k) in
           subst (λ (c : Call). StandsFor (stateOf c) result) (sym call) (subst (StandsFor (stateOf (Propose (f .v)))) (sym own) (proposed fast-mode k))
 
       message-stands : eqb (f .kind) 0 ≡ false → StandsFor (stateOf called) result
-      unfolding thawedCall forSlots
+      unfolding decodedCall concernsSlot
       message-stands k =
-          let inside : (leb 1 (f .message .kind) && leb (f .message .kind) 4) ≡ true = sym (simp (k)) ∙ and-right (hasFastPath (settings .mode)) (forSlots f) acts in
+          let inside : (leb 1 (f .message .kind) && leb (f .message .kind) 4) ≡ true = sym (simp (k)) ∙ and-right (hasFastPath (settings .mode)) (concernsSlot f) acts in
           let call : called ≡ receives fast-mode = simp (k, no-read) in
           subst (λ (c : Call). StandsFor (stateOf c) result) (sym call)
           (subst (StandsFor (stateOf (receives fast-mode))) (sym handled-is)
-          (by-kind fast-mode k (and-left (leb 1 (f .message .kind)) _ inside) (and-right (leb 1 (f .message .kind)) _ inside)))
+          (message-handled fast-mode k (and-left (leb 1 (f .message .kind)) _ inside) (and-right (leb 1 (f .message .kind)) _ inside)))
 
       taken-stands : StandsFor (stateOf called) result
       taken-stands = go (either (eqb (f .kind) 0))
@@ -485,15 +444,12 @@ module _ (s : Setup) (committers delegates core : List ℕ) (fast : FastArrays) 
           go (inl k) = proposal-stands k
           go (inr k) = message-stands k
 
-    abbrev outcome : Outcome
-    outcome = ifMade (thawedMade (s .made) (s .mode)) (s .«process_count») (s .«my_pid») thawed called
-
     refused-is : (why : Refusal) → outcome ≡ Refused why → result ≡ fastDirect (refusalNumber why) core fast table w
-    unfolding fastCall frozenOutcome
-    refused-is why e = simp (a, e, numbered why)
+    unfolding fastCall encodedOutcome
+    refused-is why e = simp (a, e, not-taken why)
 
     number-is : outcome ≡ Done → refusalOf s (coreOf core) f ≡ 0
-    unfolding frozenOutcome
+    unfolding encodedOutcome
     number-is e = simp (e)
 
     decided : (o : Outcome) → outcome ≡ o → StandsFor (stateCall (shard .state) (decisionFor settings called o)) result
@@ -502,12 +458,7 @@ module _ (s : Setup) (committers delegates core : List ℕ) (fast : FastArrays) 
     decided (Refused why) e = refused-is why e
 
     together : (x : StateAnswer) (o : Outcome) (d : FastDirect) → FastParts x o d → FastStands s committers delegates core fast table w (fromState shard x) o d
-    together x Done d (n, c, k, t, r) = (
-      n,
-      ap₂ (λ (y : Core) (b : ReadTable). withState shard (record { rounds = record { core = y; fast = fastOf (d .fast) }; table = b })) c t
-          ∙ ap (λ (h : FastState). withState shard (record { rounds = record { core = x .state .rounds .core; fast = h }; table = x .state .table })) (sym k),
-      r,
-    )
+    together x Done d p = parts-stand s committers delegates core half (fastOf (d .fast)) table w x (d .direct) p
     together x (Refused why) d e = e
 
     does : FastDoes s committers delegates core fast table w f
@@ -519,24 +470,37 @@ module _ (s : Setup) (committers delegates core : List ℕ) (fast : FastArrays) 
 
   declines : fastHalfActs s f ≡ false → Declined s committers delegates core fast table w f
   unfolding fastCall
-  declines a = (a, simp (a))
+  declines a = simp (a)
 
-  either-does : (Declined s committers delegates core fast table w f × DirectDoes s committers delegates core fast table w f)
-      ⊎ FastDoes s committers delegates core fast table w f
-  either-does = go (either (fastHalfActs s f))
+  direct-does : fastHalfActs s f ≡ false → DirectDoes s committers delegates core fast table w f
+  direct-does a = go (direct-is-call s committers delegates core half table f w)
     where
-      direct-does : fastHalfActs s f ≡ false → DirectDoes s committers delegates core fast table w f
-      direct-does a = elim-passed (direct-is-call s committers delegates core half table f w)
-        where
-          elim-passed : Claim s committers delegates core half table f w (callOf shard called) → DirectDoes s committers delegates core fast table w f
-          elim-passed (inl q) = absurd (not-both (q .0) a)
-          elim-passed (inr q) = q
+      go : DirectDoesOrPasses s committers delegates core half table f w (callOf shard called) → DirectDoes s committers delegates core fast table w f
+      go (inl q) = absurd (not-both (q .0) a)
+      go (inr q) = q
 
-      go : (fastHalfActs s f ≡ true) ⊎ (fastHalfActs s f ≡ false)
-          → (Declined s committers delegates core fast table w f × DirectDoes s committers delegates core fast table w f)
-          ⊎ FastDoes s committers delegates core fast table w f
-      go (inl a) = inr (does a)
-      go (inr a) = inl (declines a, direct-does a)
+  -- what the fast half makes has another number than what is passed on
+  not-declined : (a : Answer) (o : Outcome) (d : FastDirect) → FastStands s committers delegates core fast table w a o d → d .direct .number ≡ passedOn → ⊥
+  not-declined a Done d (n, k, r) e = not-both (ap (λ (x : ℕ). eqb x passedOn) e) (ap (λ (x : ℕ). eqb x passedOn) n)
+  not-declined a (Refused why) d p e =
+      not-both (ap (λ (x : ℕ). eqb x passedOn) e) (ap (λ (x : FastDirect). eqb (x .direct .number) passedOn) p ∙ not-passed-on why)
+
+  has-no-part : result .direct .number ≡ passedOn → fastHalfActs s f ≡ false
+  has-no-part e = fails (λ a. not-declined (callOf shard called) (callOf shard called .reply .outcome) result (does a) e)
 
 pub one-of-both : OneOfBoth
-one-of-both s committers delegates core fast table f w = either-does s committers delegates core fast table f w
+one-of-both s committers delegates core fast table f w = (
+  does s committers delegates core fast table f w,
+  λ a. (declines s committers delegates core fast table f w a, direct-does s committers delegates core fast table f w a),
+)
+
+pub declined-is-direct : DeclinedIsDirect
+declined-is-direct s committers delegates core fast table f w e = has-no-part s committers delegates core fast table f w e
+
+pub classic-is-direct : ClassicIsDirect
+unfolding fastHalfActs
+classic-is-direct s f h = go (either (eqb (f .kind) 1))
+  where
+    go : (eqb (f .kind) 1 ≡ true) ⊎ (eqb (f .kind) 1 ≡ false) → (not (eqb (f .kind) 1) && (hasFastPath (decodedMode (s .mode)) && concernsSlot f)) ≡ false
+    go (inl k) = simp (k)
+    go (inr k) = simp (k, h)

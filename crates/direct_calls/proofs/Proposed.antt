@@ -1,27 +1,25 @@
 -- What a proposal leaves in the arrays stands for what the state makes of it: a proposal in a classic mode commits nothing.
 -- Assumes nothing.
-use mathlib.Core.Bool.{true, false}
+use mathlib.Core.Bool.{true}
 use mathlib.Core.List.{List}
-use mathlib.Core.Path.{_≡_, refl}
+use mathlib.Core.Path.{refl}
 use Prim.Native.Nat.{ℕ}
-use lib.Dec.{eqb}
 use Rattle.basics.proofs.Tests.{of-both}
 use Rattle.core_calls.specs.CoreCall.{coreFinishAt}
-use Rattle.direct.specs.Direct.{fromProposed}
+use Rattle.arrays.specs.declared.Setup.{Setup}
+use Rattle.direct.specs.Direct.{served}
 use Rattle.direct_core.specs.Handled.{Written, refusedBy, putStep}
 use Rattle.fast_state.specs.declared.FastState.{FastState}
 use Rattle.message.specs.Modes.{isMultiPaxos}
-use Rattle.message.specs.Refusals.{refusalNumber}
+use Rattle.message.specs.declared.ConsensusMsg.the-variants.{Prepare, Accept}
 use Rattle.message.specs.declared.OptionalRound.the-variants.{NoRound, Round}
 use Rattle.message.specs.declared.Outcome.{Outcome}
 use Rattle.message.specs.declared.Outcome.the-variants.{Done, Refused}
 use Rattle.message.specs.declared.PaxosRound.{PaxosRound}
-use Rattle.message.specs.declared.Refusal.{Refusal}
-use Rattle.message.specs.declared.Refusal.the-variants.{SettingsOutsideLimits, NumberTooLarge, NoSuchProcess, OtherLastValue, SlotAhead, ValueNotHeld, SourceNotLive, Panic, AcceptUnlikeHeld, SecondFastAnswer, ProposalNotAllowed, NoRoomForRead}
 use Rattle.message.specs.declared.RoundV.{RoundV}
 use Rattle.message.specs.declared.RoundV.the-variants.{PaxosV}
 use Rattle.proposal.specs.Proposal.{mayPropose, proposalRound}
-use Rattle.propose.specs.Propose.{afterPrepare, proposePrepare, afterAccept, afterOwnPromise, proposeAccept, proposeClassic}
+use Rattle.propose.specs.Propose.{proposed, proposePrepare, afterOwnPromise, proposeAccept, proposeClassic}
 use Rattle.read_tracker.specs.declared.ReadTable.{ReadTable}
 use Rattle.round_state.specs.Paxos.{gotoRound, paxosProposeV, selfAccept}
 use Rattle.round_state.specs.declared.PaxosState.{PaxosState}
@@ -34,23 +32,9 @@ use Rattle.steps.specs.declared.CoreStep.{CoreStep}
 use Rattle.steps.specs.declared.Messages.{Messages}
 use Rattle.steps.specs.declared.Next.{Next}
 use Rattle.steps.specs.declared.Next.the-variants.{Stays, Continues, Commits, Refuses}
-use Rattle.twins.proofs.Twins.{core-frozen}
+use Rattle.flat.proofs.Encoded.{core-encoded}
+use Rattle.direct_calls.proofs.Common.{not-taken}
 use Rattle.direct_calls.proofs.Taken.{Parts}
-
--- no refusal has the number 0
-pub numbered : (why : Refusal) → eqb (refusalNumber why) 0 ≡ false
-numbered SettingsOutsideLimits = refl
-numbered NumberTooLarge = refl
-numbered NoSuchProcess = refl
-numbered OtherLastValue = refl
-numbered SlotAhead = refl
-numbered ValueNotHeld = refl
-numbered SourceNotLive = refl
-numbered Panic = refl
-numbered AcceptUnlikeHeld = refl
-numbered SecondFastAnswer = refl
-numbered ProposalNotAllowed = refl
-numbered NoRoomForRead = refl
 
 -- ---- a proposal commits nothing
 
@@ -68,7 +52,7 @@ module _ (a : Asked) where
   unfolding proposePrepare
   by-prepare round rv core = go (paxosProposeV (a .member) rv (gotoRound (Round round) (core .paxos)) .outcome)
     where
-      go : (o : Outcome) → UncommittedBy (afterPrepare a round rv core (paxosProposeV (a .member) rv (gotoRound (Round round) (core .paxos)) .state) o)
+      go : (o : Outcome) → UncommittedBy (proposed a (Prepare (core .slot) round rv) core (paxosProposeV (a .member) rv (gotoRound (Round round) (core .paxos)) .state) o)
       go Done = tt
       go (Refused why) = tt
 
@@ -79,7 +63,7 @@ module _ (a : Asked) where
       p : PaxosState
       p = paxosProposeV (a .member) (PaxosV NoRound v) (gotoRound (Round round) (core .paxos)) .state
 
-      then : (o : Outcome) → UncommittedBy (afterAccept a round v core (selfAccept (a .member) round p .state) o)
+      then : (o : Outcome) → UncommittedBy (proposed a (Accept (core .slot) round v) core (selfAccept (a .member) round p .state) o)
       then Done = tt
       then (Refused why) = tt
 
@@ -96,18 +80,18 @@ module _ (a : Asked) where
 
 -- ---- what is written
 
-module _ (a : Asked) (core : List ℕ) (fast : FastState) (table : ReadTable) (w : Written) (old : Core) where
+module _ (setup : Setup) (a : Asked) (core : List ℕ) (fast : FastState) (table : ReadTable) (w : Written) (old : Core) where
   abbrev after : Core → Messages → Next → StateAnswer
   after s ms next = withTable table (withFast fast (coreFinishAt a true old s ms next))
 
   written-by : (s : Core) (ms : Messages) (next : Next) → Uncommitted next
-      → Parts core fast table w (after s ms next) (after s ms next .reply .outcome) (fromProposed table (putStep (record { core = s; messages = ms; next = next }) core w))
-  unfolding putStep refusedBy
-  written-by s ms Stays u = (refl, core-frozen s, refl, refl, refl)
-  written-by s ms Continues u = (refl, core-frozen s, refl, refl, refl)
+      → Parts core fast table w (after s ms next) (after s ms next .reply .outcome) (served setup table (putStep (record { core = s; messages = ms; next = next }) core w))
+  unfolding served putStep refusedBy
+  written-by s ms Stays u = (refl, core-encoded s, refl, refl, refl)
+  written-by s ms Continues u = (refl, core-encoded s, refl, refl, refl)
   written-by s ms (Commits v) u = absurd u
-  written-by s ms (Refuses why) u = simp (numbered why)
+  written-by s ms (Refuses why) u = simp (not-taken why)
 
   pub step-written : (step : CoreStep) → Uncommitted (step .next)
-      → Parts core fast table w (after (step .core) (step .messages) (step .next)) (after (step .core) (step .messages) (step .next) .reply .outcome) (fromProposed table (putStep step core w))
+      → Parts core fast table w (after (step .core) (step .messages) (step .next)) (after (step .core) (step .messages) (step .next) .reply .outcome) (served setup table (putStep step core w))
   step-written step u = written-by (step .core) (step .messages) (step .next) u

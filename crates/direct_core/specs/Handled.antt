@@ -23,11 +23,12 @@ use Rattle.steps.specs.declared.CoreStep.{CoreStep}
 use Rattle.steps.specs.declared.Heard.{Heard}
 use Rattle.steps.specs.declared.Next.{Next}
 use Rattle.steps.specs.declared.Next.the-variants.{Stays, Continues, Commits, Refuses}
-use Rattle.twins.specs.Freeze.{frozenCore}
-use Rattle.twins.specs.Thaw.{isYes, thawedCore, thawedDelivery, thawedMsg, thawedSettings, thawedSource}
-use Rattle.twins.specs.declared.FlatCall.{FlatCall}
-use Rattle.twins.specs.declared.FlatMessage.{FlatMessage}
+use Rattle.flat.specs.Encode.{encodedCore}
+use Rattle.flat.specs.Decode.{isYes, decodedCore, decodedDelivery, decodedMsg, decodedSettings, decodedSource}
+use Rattle.flat.specs.declared.FlatCall.{FlatCall}
+use Rattle.flat.specs.declared.FlatMessage.{FlatMessage}
 use Rattle.direct_core.specs.declared.Handled.{Handled}
+use Rattle.direct_core.specs.Lent.{Array, came, left}
 
 -- ---- the reply
 
@@ -40,6 +41,14 @@ pub record Written : Type 0 where
 
 abbrev pub written : List ℕ → List ℕ → List ℕ → List ℕ → Written
 written first second third rest = record { first = first; second = second; third = third; rest = rest }
+
+-- when the function is called
+abbrev pub replyCame : Array → Array → Array → Array → Written
+replyCame first second third rest = written (came first) (came second) (came third) (came rest)
+
+-- when it returns
+abbrev pub replyLeft : Array → Array → Array → Array → Written
+replyLeft first second third rest = written (left first) (left second) (left third) (left rest)
 
 unfoldable pub putReply : Reply → Written → Written
 putReply r w =
@@ -54,50 +63,65 @@ putReply r w =
 abbrev pub putServed : ℕ → Written → Written
 putServed n w = putReply (record { outcome = Done; messages = noMessages; commit = NoCommit; «served_count» = n }) w
 
--- ---- the answer of the core
+-- ---- what is left
 
--- the numbers of the core as well
-pub record Lent : Type 0 where
+-- the number and whether reads may be ready, the core and the reply
+pub record Left : Type 0 where
   pub handled : Handled
   pub core : List ℕ
   pub reply : Written
 
-abbrev pub lent : Handled → List ℕ → Written → Lent
-lent handled core reply = record { handled = handled; core = core; reply = reply }
+abbrev pub leaves : Handled → List ℕ → Written → Left
+leaves handled core reply = record { handled = handled; core = core; reply = reply }
+
+-- no read is to be served
+abbrev pub withNumber : ℕ → Handled
+withNumber number = record { number = number; «may_serve» = false }
 
 -- a refusal writes nothing
-unfoldable pub putOutcome : CoreAnswer → Outcome → List ℕ → Written → Lent
-putOutcome a Done core w = lent (record { number = 0; deeper = a .deeper }) (coreNumbers (frozenCore (a .core))) (putReply (a .reply) w)
-putOutcome a (Refused why) core w = lent (record { number = refusalNumber why; deeper = false }) core w
+abbrev pub refusedWith : ℕ → List ℕ → Written → Left
+refusedWith number core w = leaves (withNumber number) core w
 
-abbrev pub putAnswer : CoreAnswer → List ℕ → Written → Lent
+-- the number of a call that has to go to the other of the two functions for hosts; no refusal has it
+abbrev pub passedOn : ℕ
+passedOn = 255
+
+-- ---- the answer of the core
+
+-- what the answer leaves, by whether it is a refusal
+unfoldable pub putOutcome : CoreAnswer → Outcome → List ℕ → Written → Left
+putOutcome a Done core w = leaves (record { number = 0; «may_serve» = a .deeper }) (coreNumbers (encodedCore (a .core))) (putReply (a .reply) w)
+putOutcome a (Refused why) core w = refusedWith (refusalNumber why) core w
+
+abbrev pub putAnswer : CoreAnswer → List ℕ → Written → Left
 putAnswer a core w = putOutcome a (a .reply .outcome) core w
 
-abbrev pub askedHere : Setup → Asked
-askedHere s = askedOf (thawedSettings (settingsOf s [] []))
+-- ---- what the handlers ask of the setup and hear of a message
+
+-- nothing that is asked depends on the tables of committers and delegates
+abbrev pub askedIn : Setup → Asked
+askedIn s = askedOf (decodedSettings (settingsOf s [] []))
+
+abbrev pub heardIn : Setup → List ℕ → List ℕ → FlatCall → Heard
+heardIn s committers delegates f =
+    heardOf (decodedSettings (settingsOf s committers delegates)) (decodedDelivery (s .«process_count») (s .«my_pid») f)
 
 -- ---- a proposal
 
+-- the number of the refusal, or 0
 unfoldable pub refusedBy : Next → ℕ
 refusedBy Stays = 0
 refusedBy Continues = 0
 refusedBy (Commits v) = 0
 refusedBy (Refuses why) = refusalNumber why
 
--- the number of the refusal or 0, the core and the reply
-pub record Proposed : Type 0 where
-  pub number : ℕ
-  pub core : List ℕ
-  pub reply : Written
-
-abbrev pub proposed : ℕ → List ℕ → Written → Proposed
-proposed number core reply = record { number = number; core = core; reply = reply }
+-- a step that is not refused and commits nothing
+abbrev pub putUncommitted : CoreStep → Written → Left
+putUncommitted s w = leaves (withNumber 0) (coreNumbers (encodedCore (s .core))) (putReply (sentReply (s .messages)) w)
 
 -- the step of a proposal, which commits nothing
-unfoldable pub putStep : CoreStep → List ℕ → Written → Proposed
-putStep s core w =
-    cond (eqb (refusedBy (s .next)) 0) (proposed 0 (coreNumbers (frozenCore (s .core))) (putReply (sentReply (s .messages)) w))
-    (proposed (refusedBy (s .next)) core w)
+unfoldable pub putStep : CoreStep → List ℕ → Written → Left
+putStep s core w = cond (eqb (refusedBy (s .next)) 0) (putUncommitted s w) (refusedWith (refusedBy (s .next)) core w)
 
 -- ---- a Commit, and what the rounds handle
 
@@ -107,53 +131,42 @@ isCommit Continues = false
 isCommit (Commits v) = true
 isCommit (Refuses why) = false
 
+-- the value that is committed, or 0
 unfoldable pub decidedValue : Next → ℕ
 decidedValue Stays = 0
 decidedValue Continues = 0
 decidedValue (Commits v) = v
 decidedValue (Refuses why) = 0
 
-abbrev pub refusedWith : ℕ → List ℕ → Written → Lent
-refusedWith number core w = lent (record { number = number; deeper = false }) core w
-
 -- a commit needs its value
-abbrev pub putDecided : Asked → Bool → CoreStep → List ℕ → Written → Lent
+abbrev pub putDecided : Asked → Bool → CoreStep → List ℕ → Written → Left
 putDecided a held s core w =
     cond held (putAnswer (coreCommitted a (decidedValue (s .next)) (s .core) (s .messages)) core w) (refusedWith (refusalNumber ValueNotHeld) core w)
 
-unfoldable pub putProcessed : Asked → Bool → CoreStep → List ℕ → Written → Lent
+-- the step of a message
+unfoldable pub putProcessed : Asked → Bool → CoreStep → List ℕ → Written → Left
 putProcessed a held s core w =
     cond (eqb (refusedBy (s .next)) 0)
-    (cond (isCommit (s .next)) (putDecided a held s core w)
-    (lent (record { number = 0; deeper = false }) (coreNumbers (frozenCore (s .core))) (putReply (sentReply (s .messages)) w)))
+    (cond (isCommit (s .next)) (putDecided a held s core w) (putUncommitted s w))
     (refusedWith (refusedBy (s .next)) core w)
 
-abbrev pub heardHere : Setup → List ℕ → List ℕ → FlatCall → Heard
-heardHere s committers delegates f =
-    heardOf (thawedSettings (settingsOf s committers delegates)) (thawedDelivery (s .«process_count») (s .«my_pid») f)
-
-unfoldable pub handledBy : Setup → List ℕ → List ℕ → List ℕ → FlatCall → Written → Lent
+-- a Commit has no round, and goes to the core at once
+unfoldable pub handledBy : Setup → List ℕ → List ℕ → List ℕ → FlatCall → Written → Left
 handledBy s committers delegates core f w =
-    cond (eqb (f .message .kind) 4) (putAnswer (coreOnCommit (askedHere s) (f .message .slot) (f .message .v) (thawedCore (coreOf core))) core w)
-    (putProcessed (askedHere s) (isYes (f .«value_held»))
-    (processClassic (askedHere s) (heardHere s committers delegates f) (thawedMsg (f .message)) (thawedCore (coreOf core)))
+    cond (eqb (f .message .kind) 4) (putAnswer (coreOnCommit (askedIn s) (f .message .slot) (f .message .v) (decodedCore (coreOf core))) core w)
+    (putProcessed (askedIn s) (isYes (f .«value_held»))
+    (processClassic (askedIn s) (heardIn s committers delegates f) (decodedMsg (f .message)) (decodedCore (coreOf core)))
     core
     w)
 
 -- ---- a ReadRequest
 
--- the number of the refusal or 0, and the reply; the core is left as it is
-pub record Answered : Type 0 where
-  pub number : ℕ
-  pub reply : Written
-
-abbrev pub answered : ℕ → Written → Answered
-answered number reply = record { number = number; reply = reply }
-
-abbrev pub requestedBy : Setup → List ℕ → FlatMessage → ℕ → Written → Answered
+-- the core is left as it is; one's own request is refused, since nothing is sent to oneself
+abbrev pub requestedBy : Setup → List ℕ → FlatMessage → ℕ → Written → Left
 requestedBy s core m src w =
-    cond (eqb src (s .«my_pid»)) (answered (refusalNumber Panic) w)
-    (answered 0 (putReply (sentReply (oneMessage (readAnswer (s .«my_pid») src (record { 0 = m .id }) (thawedCore (coreOf core))))) w))
+    cond (eqb src (s .«my_pid»)) (refusedWith (refusalNumber Panic) core w)
+    (leaves (withNumber 0) core
+    (putReply (sentReply (oneMessage (readAnswer (s .«my_pid») src (record { 0 = m .id }) (decodedCore (coreOf core))))) w))
 
-unfoldable pub answerRequest : Setup → List ℕ → FlatMessage → Written → Answered
-answerRequest s core m w = requestedBy s core m (thawedSource (s .«process_count») (s .«my_pid») m) w
+unfoldable pub answerRequest : Setup → List ℕ → FlatMessage → Written → Left
+answerRequest s core m w = requestedBy s core m (decodedSource (s .«process_count») (s .«my_pid») m) w

@@ -3,15 +3,18 @@
 // its values stay in registers. Proposals, and steps that commit nothing, have a way of their own for the same reason.
 ghost use mathlib.Core.Path.{_≡_};
 ghost use Rattle.arrays.specs.Arrays.{coreOf};
-ghost use Rattle.direct_core.specs.Handled.{written, putReply, putServed, lent, putOutcome, putAnswer, answered, answerRequest, refusedBy, proposed, putStep, askedHere, isCommit, decidedValue, putProcessed, handledBy};
+ghost use Rattle.direct_core.specs.Lent.{came, left};
+ghost use Rattle.direct_core.specs.Handled.{replyCame, replyLeft, putReply, putServed, withNumber, leaves, putAnswer, askedIn, refusedBy, putStep, isCommit, decidedValue, putProcessed, handledBy, answerRequest};
 ghost use Rattle.propose.specs.Propose.{proposeClassic};
 ghost use Rattle.core_calls.specs.Replies.{sentReply};
 ghost use Rattle.steps.specs.Steps.{oneMessage};
-ghost use Rattle.twins.specs.Thaw.{thawedCore};
+ghost use Rattle.flat.specs.Decode.{decodedCore};
 use arrays::Setup;
 use calls::OptionalCommit;
 use calls::Reply;
 use core_calls::CoreAnswer;
+use flat::FlatCall;
+use flat::FlatMessage;
 use message::Outcome;
 use message::ReadId;
 use steps::Asked;
@@ -19,13 +22,43 @@ use steps::CoreStep;
 use steps::Next;
 use steps::OptionalMessage;
 use steps::Outgoing;
-use twins::FlatCall;
-use twins::FlatMessage;
 
-// The number of the refusal, or 0, and whether reads may have become ready.
+// What a call gives that has to go to the other of the two functions for hosts. No refusal has this number.
+pub const PASSED_ON: u64 = 255;
+
+// Numbers of refusals.
+const VALUE_NOT_HELD: u64 = 6;
+
+const PANIC: u64 = 8;
+
+// The kinds of a call. Any other number is a message.
+pub const PROPOSAL: u64 = 0;
+
+pub const NEW_READ: u64 = 1;
+
+// Kinds of a message.
+pub const PREPARE: u64 = 1;
+
+pub const ACCEPT: u64 = 2;
+
+pub const COMMIT: u64 = 4;
+
+pub const READ_RESPONSE: u64 = 6;
+
+// The number of the refusal, or 0, and whether open reads may have become ready, so that they have to be served.
 pub struct Handled {
     pub number: u64,
-    pub deeper: bool,
+    pub may_serve: bool,
+}
+
+// No read is to be served.
+fn with_number(number: u64) -> Handled
+    ensures { λ r. ⌜ r ≡ withNumber number ⌝ }
+{
+    Handled {
+        number,
+        may_serve: false,
+    }
 }
 
 fn put_reply(
@@ -35,7 +68,7 @@ fn put_reply(
     rest: &mut [u64; 5],
     reply: Reply,
 )
-    ensures { λ _. ⌜ written (now (first .exit)) (now (second .exit)) (now (third .exit)) (now (rest .exit)) ≡ putReply reply (written (now (first .entry)) (now (second .entry)) (now (third .entry)) (now (rest .entry))) ⌝ }
+    ensures { λ _. ⌜ replyLeft first second third rest ≡ putReply reply (replyCame first second third rest) ⌝ }
 {
     let messages = reply.messages;
     let one = messages.first;
@@ -56,7 +89,7 @@ pub fn put_served(
     rest: &mut [u64; 5],
     served_count: u64,
 )
-    ensures { λ _. ⌜ written (now (first .exit)) (now (second .exit)) (now (third .exit)) (now (rest .exit)) ≡ putServed «served_count» (written (now (first .entry)) (now (second .entry)) (now (third .entry)) (now (rest .entry))) ⌝ }
+    ensures { λ _. ⌜ replyLeft first second third rest ≡ putServed «served_count» (replyCame first second third rest) ⌝ }
 {
     arrays::put_message(first, OptionalMessage::NoMessage);
     arrays::put_message(second, OptionalMessage::NoMessage);
@@ -72,7 +105,8 @@ pub fn put_sent(
     rest: &mut [u64; 5],
     sent: Outgoing,
 )
-    ensures { λ _. ⌜ written (now (first .exit)) (now (second .exit)) (now (third .exit)) (now (rest .exit)) ≡ putReply (sentReply (oneMessage sent)) (written (now (first .entry)) (now (second .entry)) (now (third .entry)) (now (rest .entry))) ⌝ }
+    ensures { λ _. ⌜ replyLeft first second third rest
+        ≡ putReply (sentReply (oneMessage sent)) (replyCame first second third rest) ⌝ }
 {
     arrays::put_sent(first, sent);
     arrays::put_message(second, OptionalMessage::NoMessage);
@@ -89,28 +123,25 @@ pub fn put_answer(
     rest: &mut [u64; 5],
     a: CoreAnswer,
 ) -> Handled
-    ensures { λ r. ⌜ lent r (now (core .exit)) (written (now (first .exit)) (now (second .exit)) (now (third .exit)) (now (rest .exit))) ≡ putAnswer a (now (core .entry)) (written (now (first .entry)) (now (second .entry)) (now (third .entry)) (now (rest .entry))) ⌝ }
+    ensures { λ r. ⌜ leaves r (left core) (replyLeft first second third rest) ≡ putAnswer a (came core) (replyCame first second third rest) ⌝ }
 {
     let reply = a.reply;
     let outcome = reply.outcome;
     match outcome {
         Outcome::Done => {
             let next = a.core;
-            arrays::put_core(core, twins::freeze_core(next));
+            arrays::put_core(core, flat::encode_core(next));
             put_reply(first, second, third, rest, reply);
             Handled {
                 number: 0,
-                deeper: a.deeper,
+                may_serve: a.deeper,
             }
         }
-        Outcome::Refused(why) => Handled {
-            number: why.number(),
-            deeper: false,
-        },
+        Outcome::Refused(why) => with_number(why.number()),
     }
 }
 
-// The answer to a ReadRequest, which leaves the core as it is. 8 where it is one's own: nothing is sent to oneself.
+// The answer to a ReadRequest, which leaves the core as it is. One's own is refused: nothing is sent to oneself.
 pub fn answer_request(
     setup: Setup,
     core: &[u64; 18],
@@ -120,18 +151,22 @@ pub fn answer_request(
     third: &mut [u64; 20],
     rest: &mut [u64; 5],
 ) -> u64
-    ensures { λ r. ⌜ answered r (written (now (first .exit)) (now (second .exit)) (now (third .exit)) (now (rest .exit))) ≡ answerRequest setup (now (core .entry)) message (written (now (first .entry)) (now (second .entry)) (now (third .entry)) (now (rest .entry))) ⌝ }
+    ensures { λ r. ⌜ leaves (withNumber r) (came core) (replyLeft first second third rest)
+        ≡ answerRequest setup (came core) message (replyCame first second third rest) ⌝ }
 {
     let own = setup.my_pid;
-    let src = twins::thaw_source(setup.process_count, own, message);
+    let src = flat::decode_source(setup.process_count, own, message);
     if src == own {
-        return 8;
+        return PANIC;
     }
-    let thawed = twins::thaw_core(arrays::core_in(core));
-    let sent = core_calls::read_answer(own, src, ReadId(message.id), thawed);
+    let decoded = flat::decode_core(arrays::core_in(core));
+    let sent = core_calls::read_answer(own, src, ReadId(message.id), decoded);
     put_sent(first, second, third, rest, sent);
     0
 }
+
+// Three questions about what comes after a step. They stand apart, and not as one `match` whose arms write, so that a step that commits nothing is
+// written at once: the compiler keeps an answer that may be of every kind in memory (docs/DECISIONS.md 58).
 
 // The number of the refusal, or 0.
 fn refused_by(next: Next) -> u64
@@ -145,39 +180,6 @@ fn refused_by(next: Next) -> u64
     }
 }
 
-// A proposal. It commits nothing, so that nothing but the core and the messages is to be written.
-pub fn propose(
-    setup: Setup,
-    core: &mut [u64; 18],
-    v: u64,
-    first: &mut [u64; 20],
-    second: &mut [u64; 20],
-    third: &mut [u64; 20],
-    rest: &mut [u64; 5],
-) -> u64
-    ensures { λ r. ⌜ proposed r (now (core .exit)) (written (now (first .exit)) (now (second .exit)) (now (third .exit)) (now (rest .exit))) ≡ putStep (proposeClassic (askedHere setup) v (thawedCore (coreOf (now (core .entry))))) (now (core .entry)) (written (now (first .entry)) (now (second .entry)) (now (third .entry)) (now (rest .entry))) ⌝ }
-{
-    let asked = twin_calls::asked_of(setup);
-    let thawed = twins::thaw_core(arrays::core_in(core));
-    let step = propose::propose_classic(asked, v, thawed);
-    let next = step.next;
-    let after = step.core;
-    let messages = step.messages;
-    let one = messages.first;
-    let two = messages.second;
-    let three = messages.third;
-    let number = refused_by(next);
-    if number != 0 {
-        return number;
-    }
-    arrays::put_core(core, twins::freeze_core(after));
-    arrays::put_message(first, one);
-    arrays::put_message(second, two);
-    arrays::put_message(third, three);
-    arrays::put_rest(rest, OptionalCommit::NoCommit, 0);
-    0
-}
-
 fn is_commit(next: Next) -> bool
     ensures { λ r. ⌜ r ≡ isCommit next ⌝ }
 {
@@ -189,6 +191,7 @@ fn is_commit(next: Next) -> bool
     }
 }
 
+// The value that is committed, or 0.
 fn decided_value(next: Next) -> u64
     ensures { λ r. ⌜ r ≡ decidedValue next ⌝ }
 {
@@ -198,6 +201,41 @@ fn decided_value(next: Next) -> u64
         Next::Commits(v) => v,
         Next::Refuses(_) => 0,
     }
+}
+
+// A proposal. It commits nothing, so that nothing but the core and the messages is to be written.
+pub fn propose(
+    setup: Setup,
+    core: &mut [u64; 18],
+    v: u64,
+    first: &mut [u64; 20],
+    second: &mut [u64; 20],
+    third: &mut [u64; 20],
+    rest: &mut [u64; 5],
+) -> u64
+    ensures { λ r. ⌜ leaves (withNumber r) (left core) (replyLeft first second third rest)
+        ≡ putStep (proposeClassic (askedIn setup) v (decodedCore (coreOf (came core)))) (came core) (replyCame first second third rest) ⌝ }
+{
+    let asked = flat_calls::asked_of(setup);
+    let decoded = flat::decode_core(arrays::core_in(core));
+    let step = propose::propose_classic(asked, v, decoded);
+    let next = step.next;
+    let after = step.core;
+    let messages = step.messages;
+    let one = messages.first;
+    let two = messages.second;
+    let three = messages.third;
+    let number = refused_by(next);
+    if number != 0 {
+        return number;
+    }
+    // The same five lines end `put_processed`: a function for both would have two callers, and `after` would be copied for it (docs/DECISIONS.md 57).
+    arrays::put_core(core, flat::encode_core(after));
+    arrays::put_message(first, one);
+    arrays::put_message(second, two);
+    arrays::put_message(third, three);
+    arrays::put_rest(rest, OptionalCommit::NoCommit, 0);
+    0
 }
 
 // The step of a message. Most commit nothing, so that nothing but the core and the messages is to be written. A commit needs its value.
@@ -211,7 +249,8 @@ fn put_processed(
     rest: &mut [u64; 5],
     step: CoreStep,
 ) -> Handled
-    ensures { λ r. ⌜ lent r (now (core .exit)) (written (now (first .exit)) (now (second .exit)) (now (third .exit)) (now (rest .exit))) ≡ putProcessed asked held step (now (core .entry)) (written (now (first .entry)) (now (second .entry)) (now (third .entry)) (now (rest .entry))) ⌝ }
+    ensures { λ r. ⌜ leaves r (left core) (replyLeft first second third rest)
+        ≡ putProcessed asked held step (came core) (replyCame first second third rest) ⌝ }
 {
     let next = step.next;
     let after = step.core;
@@ -221,10 +260,7 @@ fn put_processed(
     let three = messages.third;
     let number = refused_by(next);
     if number != 0 {
-        return Handled {
-            number,
-            deeper: false,
-        };
+        return with_number(number);
     }
     if is_commit(next) {
         if held {
@@ -232,20 +268,14 @@ fn put_processed(
             let decided = core_calls::core_committed(asked, v, after, messages);
             return put_answer(core, first, second, third, rest, decided);
         }
-        return Handled {
-            number: 6,
-            deeper: false,
-        };
+        return with_number(VALUE_NOT_HELD);
     }
-    arrays::put_core(core, twins::freeze_core(after));
+    arrays::put_core(core, flat::encode_core(after));
     arrays::put_message(first, one);
     arrays::put_message(second, two);
     arrays::put_message(third, three);
     arrays::put_rest(rest, OptionalCommit::NoCommit, 0);
-    Handled {
-        number: 0,
-        deeper: false,
-    }
+    with_number(0)
 }
 
 // A Commit, or what the rounds handle.
@@ -260,18 +290,19 @@ pub fn handle(
     third: &mut [u64; 20],
     rest: &mut [u64; 5],
 ) -> Handled
-    ensures { λ r. ⌜ lent r (now (core .exit)) (written (now (first .exit)) (now (second .exit)) (now (third .exit)) (now (rest .exit))) ≡ handledBy setup (now (committers .entry)) (now (delegates .entry)) (now (core .entry)) f (written (now (first .entry)) (now (second .entry)) (now (third .entry)) (now (rest .entry))) ⌝ }
+    ensures { λ r. ⌜ leaves r (left core) (replyLeft first second third rest)
+        ≡ handledBy setup (came committers) (came delegates) (came core) f (replyCame first second third rest) ⌝ }
 {
-    let asked = twin_calls::asked_of(setup);
-    let thawed = twins::thaw_core(arrays::core_in(core));
+    let asked = flat_calls::asked_of(setup);
+    let decoded = flat::decode_core(arrays::core_in(core));
     let message = f.message;
-    if message.kind == 4 {
-        let committed = core_calls::core_on_commit(asked, message.slot, message.v, thawed);
+    if message.kind == COMMIT {
+        let committed = core_calls::core_on_commit(asked, message.slot, message.v, decoded);
         return put_answer(core, first, second, third, rest, committed);
     }
-    let heard = twin_calls::heard_of(setup, committers, delegates, f);
-    let held = twins::is_yes(f.value_held);
-    let msg = twins::thaw_msg(message);
-    let step = paxos_family::process_classic(asked, heard, msg, thawed);
+    let heard = flat_calls::heard_of(setup, committers, delegates, f);
+    let held = flat::is_yes(f.value_held);
+    let msg = flat::decode_msg(message);
+    let step = paxos_family::process_classic(asked, heard, msg, decoded);
     put_processed(asked, held, core, first, second, third, rest, step)
 }

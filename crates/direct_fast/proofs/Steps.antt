@@ -8,35 +8,35 @@ use lib.Dec.{eqb}
 use Rattle.arrays.specs.Arrays.{coreOf}
 use Rattle.arrays.specs.declared.Setup.{Setup}
 use Rattle.direct.specs.Direct.{direct, Serving, withServing, serveReady, served}
-use Rattle.direct_core.specs.Handled.{Written, putServed, Lent, putAnswer}
+use Rattle.direct_core.specs.Handled.{Written, putServed, Left, passedOn, putAnswer}
 use Rattle.fast_arrays.specs.FastArrays.{FastArrays, answersIn, putAfter}
 use Rattle.fast_calls.specs.declared.FastAnswer.{FastAnswer}
 use Rattle.fast_state.specs.declared.FastAnswers.{FastAnswers}
 use Rattle.read_tracker.specs.declared.ReadTable.{ReadTable}
 use Rattle.steps.specs.declared.Core.{Core}
-use Rattle.twin_calls.specs.Refusals.{refusalOf}
-use Rattle.twins.specs.Thaw.{thawedCore}
-use Rattle.twins.specs.declared.FlatCall.{FlatCall}
-use Rattle.twins.specs.declared.FlatCore.{FlatCore}
-use Rattle.direct_fast.specs.DirectFast.{fastAnswer, FastLent, putFast, FastDirect, fastDirect, servedToo, isOld, fastHandled, fastHalfActs, fastCall}
+use Rattle.flat_calls.specs.Refusals.{refusalOf}
+use Rattle.flat.specs.Decode.{decodedCore}
+use Rattle.flat.specs.declared.FlatCall.{FlatCall}
+use Rattle.flat.specs.declared.FlatCore.{FlatCore}
+use Rattle.direct_fast.specs.DirectFast.{fastAnswer, FastLeft, putFast, fastWritten, FastDirect, fastDirect, fastServed, isOld, fastHandled, fastHalfActs, fastCall}
 
 -- ---- what is written
 
-module _ (x : FastAnswer) (core : List ℕ) (fast : FastArrays) (w : Written) (l : Lent) (e : l ≡ putAnswer (x .answer) core w) where
-  abbrev left : Bool → FastLent
-  left t = record { lent = putAnswer (x .answer) core w; fast = cond t (putAfter (x .after) fast) fast }
+module _ (x : FastAnswer) (core : List ℕ) (fast : FastArrays) (w : Written) (l : Left) (e : l ≡ putAnswer (x .answer) core w) where
+  abbrev writtenIf : Bool → FastLeft
+  writtenIf t = record { common = putAnswer (x .answer) core w; fast = cond t (putAfter (x .after) fast) fast }
 
   by-number : (t : Bool) (after : FastArrays) → eqb (l .handled .number) 0 ≡ t → after ≡ cond t (putAfter (x .after) fast) fast
-      → record { lent = l; fast = after } ≡ putFast x core fast w
+      → record { common = l; fast = after } ≡ putFast x core fast w
   unfolding putFast
   by-number t after n g =
-      ap₂ (λ (a : Lent) (b : FastArrays). record { lent = a; fast = b }) e g
-      ∙ ap left (sym n ∙ ap (λ (a : Lent). eqb (a .handled .number) 0) e)
+      ap₂ (λ (a : Left) (b : FastArrays). record { common = a; fast = b }) e g
+      ∙ ap writtenIf (sym n ∙ ap (λ (a : Left). eqb (a .handled .number) 0) e)
 
-  pub put-taken : {after : FastArrays} → eqb (l .handled .number) 0 ≡ true → after ≡ putAfter (x .after) fast → record { lent = l; fast = after } ≡ putFast x core fast w
+  pub put-taken : {after : FastArrays} → eqb (l .handled .number) 0 ≡ true → after ≡ putAfter (x .after) fast → record { common = l; fast = after } ≡ putFast x core fast w
   put-taken {after} n g = by-number true after n g
 
-  pub put-refused : eqb (l .handled .number) 0 ≡ false → record { lent = l; fast = fast } ≡ putFast x core fast w
+  pub put-refused : eqb (l .handled .number) 0 ≡ false → record { common = l; fast = fast } ≡ putFast x core fast w
   put-refused n = by-number false fast n refl
 
 -- ---- calls
@@ -45,15 +45,15 @@ module _ (s : Setup) (committers delegates core : List ℕ) (fast : FastArrays) 
   abbrev answerOf : Core → FastAnswers → FastAnswer
   answerOf k answers = fastAnswer s committers delegates k answers (fast .values) (fast .epaxos) (fast .swift) f
 
-  abbrev pub wholeAnswer : FastLent
-  wholeAnswer = putFast (answerOf (thawedCore (coreOf core)) (answersIn (fast .answers))) core fast w
+  abbrev written : FastLeft
+  written = fastWritten s committers delegates core fast f w
 
-  pub answer-put : {c : FlatCore} {k : Core} {before : FastAnswers} {x : FastAnswer} {l : FastLent} → c ≡ coreOf core → k ≡ thawedCore c → before ≡ answersIn (fast .answers)
+  pub answer-put : {c : FlatCore} {k : Core} {before : FastAnswers} {x : FastAnswer} {l : FastLeft} → c ≡ coreOf core → k ≡ decodedCore c → before ≡ answersIn (fast .answers)
       → x ≡ fastAnswer s committers delegates k before (fast .values) (fast .epaxos) (fast .swift) f
       → l ≡ putFast x core fast w
-      → l ≡ wholeAnswer
+      → l ≡ written
   answer-put {k = k} ec ek eb ex el =
-      el ∙ ap (λ (y : FastAnswer). putFast y core fast w) (ex ∙ ap₂ (λ (y : Core) (z : FastAnswers). answerOf y z) (ek ∙ ap thawedCore ec) eb)
+      el ∙ ap (λ (y : FastAnswer). putFast y core fast w) (ex ∙ ap₂ (λ (y : Core) (z : FastAnswers). answerOf y z) (ek ∙ ap decodedCore ec) eb)
 
   module _ (table : ReadTable) where
     pub older : {c : FlatCore} {w′ : Written} → c ≡ coreOf core → isOld c f ≡ true → w′ ≡ putServed 0 w
@@ -61,24 +61,24 @@ module _ (s : Setup) (committers delegates core : List ℕ) (fast : FastArrays) 
     unfolding fastHandled
     older ec p e = ap (fastDirect 0 core fast table) e ∙ simp (sym (ap (λ (x : FlatCore). isOld x f) ec) ∙ p)
 
-    handled : {c : FlatCore} (l : FastLent) {d : FastDirect} → c ≡ coreOf core → isOld c f ≡ false → l ≡ wholeAnswer → d ≡ servedToo s table l
+    handled : {c : FlatCore} (l : FastLeft) {d : FastDirect} → c ≡ coreOf core → isOld c f ≡ false → l ≡ written → d ≡ fastServed s table l
         → d ≡ fastHandled s committers delegates core fast table f w
     unfolding fastHandled
-    handled l ec p e d = d ∙ ap (servedToo s table) e ∙ simp (sym (ap (λ (x : FlatCore). isOld x f) ec) ∙ p)
+    handled l ec p e d = d ∙ ap (fastServed s table) e ∙ simp (sym (ap (λ (x : FlatCore). isOld x f) ec) ∙ p)
 
-    pub reads-served : {c : FlatCore} (l : FastLent) {v : Serving} → c ≡ coreOf core → isOld c f ≡ false → l ≡ wholeAnswer → l .lent .handled .deeper ≡ true
-        → v ≡ serveReady s (l .lent .core) table (l .lent .reply .rest)
-        → record { direct = withServing (l .lent .reply) v; fast = l .fast } ≡ fastHandled s committers delegates core fast table f w
+    pub reads-served : {c : FlatCore} (l : FastLeft) {v : Serving} → c ≡ coreOf core → isOld c f ≡ false → l ≡ written → l .common .handled .«may_serve» ≡ true
+        → v ≡ serveReady s (l .common .core) table (l .common .reply .rest)
+        → record { direct = withServing (l .common .reply) v; fast = l .fast } ≡ fastHandled s committers delegates core fast table f w
     unfolding served
     reads-served l ec p e q v =
-        handled l ec p e (ap (λ (x : Serving). record { direct = withServing (l .lent .reply) x; fast = l .fast }) v ∙ simp (q))
+        handled l ec p e (ap (λ (x : Serving). record { direct = withServing (l .common .reply) x; fast = l .fast }) v ∙ simp (q))
 
-    pub no-reads-served : {c : FlatCore} (l : FastLent) → c ≡ coreOf core → isOld c f ≡ false → l ≡ wholeAnswer → l .lent .handled .deeper ≡ false
-        → fastDirect (l .lent .handled .number) (l .lent .core) (l .fast) table (l .lent .reply) ≡ fastHandled s committers delegates core fast table f w
+    pub no-reads-served : {c : FlatCore} (l : FastLeft) → c ≡ coreOf core → isOld c f ≡ false → l ≡ written → l .common .handled .«may_serve» ≡ false
+        → fastDirect (l .common .handled .number) (l .common .core) (l .fast) table (l .common .reply) ≡ fastHandled s committers delegates core fast table f w
     unfolding served
     no-reads-served l ec p e q = handled l ec p e (simp (q))
 
-    pub not-fast : fastHalfActs s f ≡ false → fastDirect 255 core fast table w ≡ fastCall s committers delegates core fast table f w
+    pub not-fast : fastHalfActs s f ≡ false → fastDirect passedOn core fast table w ≡ fastCall s committers delegates core fast table f w
     unfolding fastCall
     not-fast p = simp (p)
 

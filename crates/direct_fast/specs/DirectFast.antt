@@ -1,17 +1,17 @@
 -- What a call in EPaxos or SwiftPaxos leaves in the arrays that are lent, and the number that it hands back: 0 where it is taken, a refusal's number,
--- or 255 where the fast half has no part in it.
+-- or `passedOn` where the fast half has no part in it.
 -- Assumes nothing.
-use mathlib.Core.Bool.{Bool, true, false, cond, _&&_}
+use mathlib.Core.Bool.{Bool, cond, not, _&&_, _||_}
 use mathlib.Core.List.{List}
 use Prim.Native.Nat.{ℕ}
 use lib.Dec.{eqb}
-use Rattle.arrays.specs.Arrays.{settingsOf, coreOf}
+use Rattle.arrays.specs.Arrays.{coreOf}
 use Rattle.arrays.specs.declared.Setup.{Setup}
-use Rattle.calls.specs.Asked.{heardOf}
-use Rattle.direct.specs.Direct.{direct, Direct, served, forSlots, isOlder}
-use Rattle.direct_core.specs.Handled.{Written, putServed, Lent, putAnswer, askedHere}
+use Rattle.direct.specs.Direct.{direct, Direct, served, concernsSlot, isOlder}
+use Rattle.direct_core.specs.Handled.{Written, putServed, Left, leaves, passedOn, putAnswer, askedIn, heardIn}
+use Rattle.direct_core.specs.Lent.{Array, came, left}
 use Rattle.direct_core.specs.declared.Handled.{Handled}
-use Rattle.fast_arrays.specs.FastArrays.{FastArrays, answersIn, putAfter}
+use Rattle.fast_arrays.specs.FastArrays.{FastArrays, fastArrays, answersIn, putAfter}
 use Rattle.fast_calls.specs.FastCall.{fastFinish}
 use Rattle.fast_calls.specs.declared.FastAnswer.{FastAnswer}
 use Rattle.fast_state.specs.Adopt.{lowestBest}
@@ -25,10 +25,20 @@ use Rattle.steps.specs.Steps.{noMessages, commits, withChange}
 use Rattle.steps.specs.declared.Asked.{Asked}
 use Rattle.steps.specs.declared.ChangeStep.{ChangeStep}
 use Rattle.steps.specs.declared.Core.{Core}
-use Rattle.twin_calls.specs.Refusals.{refusalOf}
-use Rattle.twins.specs.Thaw.{isYes, thawedCore, thawedDelivery, thawedMode, thawedMsg, thawedSettings}
-use Rattle.twins.specs.declared.FlatCall.{FlatCall}
-use Rattle.twins.specs.declared.FlatCore.{FlatCore}
+use Rattle.flat_calls.specs.Refusals.{refusalOf}
+use Rattle.flat.specs.Decode.{isYes, decodedCore, decodedMode, decodedMsg}
+use Rattle.flat.specs.declared.FlatCall.{FlatCall}
+use Rattle.flat.specs.declared.FlatCore.{FlatCore}
+
+-- ---- the arrays of the fast half
+
+-- when the function is called
+abbrev pub halfCame : Array → Array → Array → Array → FastArrays
+halfCame answers values epaxos swift = fastArrays (came answers) (came values) (came epaxos) (came swift)
+
+-- when it returns
+abbrev pub halfLeft : Array → Array → Array → Array → FastArrays
+halfLeft answers values epaxos swift = fastArrays (left answers) (left values) (left epaxos) (left swift)
 
 -- ---- a proposal, a Commit, and what the rounds handle
 
@@ -36,42 +46,43 @@ unfoldable pub fastStep : Asked → Setup → List ℕ → List ℕ → Core →
 fastStep asked s committers delegates core answers values epaxos swift f =
     cond (eqb (f .kind) 0) (proposeChange asked (f .v) core answers epaxos swift)
     (cond (eqb (f .message .kind) 4) (withChange (unchanged answers) (commits (f .message .v) core noMessages))
-    (processChange lowestBest
-    asked
-    (heardOf (thawedSettings (settingsOf s committers delegates)) (thawedDelivery (s .«process_count») (s .«my_pid») f))
-    (thawedMsg (f .message))
-    core
-    answers
-    values
-    epaxos
-    swift))
+    (processChange lowestBest asked (heardIn s committers delegates f) (decodedMsg (f .message)) core answers values epaxos swift))
 
 -- the value that is proposed, and that of a Commit, which refusal 6 has asked for
 unfoldable pub holdsValue : FlatCall → Bool
-holdsValue f = cond (eqb (f .kind) 0) true (cond (eqb (f .message .kind) 4) true (isYes (f .«value_held»)))
+holdsValue f = eqb (f .kind) 0 || (eqb (f .message .kind) 4 || isYes (f .«value_held»))
 
 unfoldable pub fastAnswer : Setup → List ℕ → List ℕ → Core → FastAnswers → List ℕ → List ℕ → List ℕ → FlatCall → FastAnswer
 fastAnswer s committers delegates core answers values epaxos swift f =
-    fastFinish (askedHere s) (holdsValue f) core (fastStep (askedHere s) s committers delegates core answers values epaxos swift f)
+    fastFinish (askedIn s) (holdsValue f) core (fastStep (askedIn s) s committers delegates core answers values epaxos swift f)
 
 -- ---- what is written
 
 -- the core and the reply, as in the classic modes, and the fast half
-pub record FastLent : Type 0 where
-  pub lent : Lent
+pub record FastLeft : Type 0 where
+  pub common : Left
   pub fast : FastArrays
 
-abbrev pub fastLent : Handled → List ℕ → FastArrays → Written → FastLent
-fastLent handled core fast reply = record { lent = record { handled = handled; core = core; reply = reply }; fast = fast }
+abbrev pub fastLeaves : Handled → List ℕ → FastArrays → Written → FastLeft
+fastLeaves handled core fast reply = record { common = leaves handled core reply; fast = fast }
 
 -- a refusal has another number than 0, and writes nothing
-unfoldable pub putFast : FastAnswer → List ℕ → FastArrays → Written → FastLent
+unfoldable pub putFast : FastAnswer → List ℕ → FastArrays → Written → FastLeft
 putFast x core fast w =
     record {
-      lent = putAnswer (x .answer) core w;
+      common = putAnswer (x .answer) core w;
       fast = cond (eqb (putAnswer (x .answer) core w .handled .number) 0) (putAfter (x .after) fast) fast;
     }
 
+-- the answer of the fast half to a call that is not too old
+abbrev pub fastWritten : Setup → List ℕ → List ℕ → List ℕ → FastArrays → FlatCall → Written → FastLeft
+fastWritten s committers delegates core fast f w =
+    putFast (fastAnswer s committers delegates (decodedCore (coreOf core)) (answersIn (fast .answers)) (fast .values) (fast .epaxos) (fast .swift) f)
+    core
+    fast
+    w
+
+-- what a call leaves
 pub record FastDirect : Type 0 where
   pub direct : Direct
   pub fast : FastArrays
@@ -81,29 +92,26 @@ fastDirect number core fast table reply = record { direct = direct number core t
 
 -- ---- calls
 
-abbrev pub servedToo : Setup → ReadTable → FastLent → FastDirect
-servedToo s table l = record { direct = served s table (l .lent); fast = l .fast }
+-- the fast half is as the answer left it
+abbrev pub fastServed : Setup → ReadTable → FastLeft → FastDirect
+fastServed s table l = record { direct = served s table (l .common); fast = l .fast }
 
 -- a message that is too old does nothing
 unfoldable pub isOld : FlatCore → FlatCall → Bool
-isOld c f = cond (eqb (f .kind) 0) false (isOlder c (f .message))
+isOld c f = not (eqb (f .kind) 0) && isOlder c (f .message)
 
 unfoldable pub fastHandled : Setup → List ℕ → List ℕ → List ℕ → FastArrays → ReadTable → FlatCall → Written → FastDirect
 fastHandled s committers delegates core fast table f w =
     cond (isOld (coreOf core) f) (fastDirect 0 core fast table (putServed 0 w))
-    (servedToo s table
-    (putFast
-    (fastAnswer s committers delegates (thawedCore (coreOf core)) (answersIn (fast .answers)) (fast .values) (fast .epaxos) (fast .swift) f)
-    core
-    fast
-    w))
+    (fastServed s table (fastWritten s committers delegates core fast f w))
 
--- in EPaxos and SwiftPaxos, in what concerns slots and is no new read
+-- in EPaxos and SwiftPaxos, in what concerns a slot and is no new read
 unfoldable pub fastHalfActs : Setup → FlatCall → Bool
-fastHalfActs s f = cond (eqb (f .kind) 1) false (hasFastPath (thawedMode (s .mode)) && forSlots f)
+fastHalfActs s f = not (eqb (f .kind) 1) && (hasFastPath (decodedMode (s .mode)) && concernsSlot f)
 
 unfoldable pub fastCall : Setup → List ℕ → List ℕ → List ℕ → FastArrays → ReadTable → FlatCall → Written → FastDirect
 fastCall s committers delegates core fast table f w =
     cond (fastHalfActs s f)
-    (cond (eqb (refusalOf s (coreOf core) f) 0) (fastHandled s committers delegates core fast table f w) (fastDirect (refusalOf s (coreOf core) f) core fast table w))
-    (fastDirect 255 core fast table w)
+    (cond (eqb (refusalOf s (coreOf core) f) 0) (fastHandled s committers delegates core fast table f w)
+    (fastDirect (refusalOf s (coreOf core) f) core fast table w))
+    (fastDirect passedOn core fast table w)

@@ -1,33 +1,35 @@
 // A call in EPaxos or SwiftPaxos on a shard that a host lends as arrays of numbers, changed in place: what `chanbook_direct_call` passes on. A call
 // that is refused writes nothing. It stands in a library of its own, so that the handlers, which the classic modes share, have one caller in each.
 ghost use mathlib.Core.Path.{_≡_};
-ghost use Rattle.array_reads.specs.Rows.{tableOf};
-ghost use Rattle.arrays.specs.Arrays.{setupOf, coreOf, callOf};
-ghost use Rattle.direct.specs.Direct.{LeftUnlessTaken};
-ghost use Rattle.direct_core.specs.Handled.{written};
-ghost use Rattle.fast_arrays.specs.FastArrays.{fastArrays, answersIn};
-ghost use Rattle.twins.specs.Thaw.{thawedCore};
-ghost use Rattle.direct_fast.specs.DirectFast.{fastStep, holdsValue, fastAnswer, fastLent, putFast, fastDirect, fastHandled, isOld, fastHalfActs, fastCall};
+ghost use Rattle.arrays.specs.Arrays.{setupOf, callOf};
+ghost use Rattle.direct_core.specs.Lent.{came, left};
+ghost use Rattle.direct_core.specs.Handled.{replyCame, replyLeft};
+ghost use Rattle.direct.specs.Direct.{readsCame, readsLeft, LeftUnlessTaken};
+ghost use Rattle.direct_fast.specs.DirectFast.{halfCame, halfLeft, fastStep, holdsValue, fastAnswer, fastLeaves, putFast, fastWritten, fastDirect, fastHandled, isOld, fastHalfActs, fastCall};
 use arrays::Setup;
+use direct_core::COMMIT;
 use direct_core::Handled;
+use direct_core::NEW_READ;
+use direct_core::PASSED_ON;
+use direct_core::PROPOSAL;
 use fast_calls::FastAnswer;
 use fast_state::FastAnswers;
+use flat::FlatCall;
+use flat::FlatCore;
 use steps::Asked;
 use steps::ChangeStep;
 use steps::Core;
-use twins::FlatCall;
-use twins::FlatCore;
 
-// Whether the fast half has a part in the call: in EPaxos and SwiftPaxos, in what concerns slots and is no new read.
+// Whether the fast half has a part in the call: in EPaxos and SwiftPaxos, in what concerns a slot and is no new read.
 fn fast_half_acts(setup: Setup, f: FlatCall) -> bool
     ensures { λ r. ⌜ r ≡ fastHalfActs setup f ⌝ }
 {
-    let mode = twins::thaw_mode(setup.mode);
-    if f.kind == 1 {
+    let mode = flat::decode_mode(setup.mode);
+    if f.kind == NEW_READ {
         return false;
     }
     if mode.has_fast_path() {
-        return direct::for_slots(f);
+        return direct::concerns_slot(f);
     }
     false
 }
@@ -36,7 +38,7 @@ fn fast_half_acts(setup: Setup, f: FlatCall) -> bool
 fn is_old(c: FlatCore, f: FlatCall) -> bool
     ensures { λ r. ⌜ r ≡ isOld c f ⌝ }
 {
-    if f.kind == 0 {
+    if f.kind == PROPOSAL {
         return false;
     }
     direct::is_older(c, f.message)
@@ -55,17 +57,17 @@ fn fast_step(
     swift: &[u64; 64],
     f: FlatCall,
 ) -> ChangeStep
-    ensures { λ r. ⌜ r ≡ fastStep asked setup (now (committers .entry)) (now (delegates .entry)) core answers (now (values .entry)) (now (epaxos .entry)) (now (swift .entry)) f ⌝ }
+    ensures { λ r. ⌜ r ≡ fastStep asked setup (came committers) (came delegates) core answers (came values) (came epaxos) (came swift) f ⌝ }
 {
     let message = f.message;
-    if f.kind == 0 {
+    if f.kind == PROPOSAL {
         return propose::propose_change(asked, f.v, core, answers, epaxos, swift);
     }
-    if message.kind == 4 {
+    if message.kind == COMMIT {
         return core.commits_silent(message.v).unchanged(answers);
     }
-    let heard = twin_calls::heard_of(setup, committers, delegates, f);
-    let msg = twins::thaw_msg(message);
+    let heard = flat_calls::heard_of(setup, committers, delegates, f);
+    let msg = flat::decode_msg(message);
     paxos_family::process_change(asked, heard, msg, core, answers, values, epaxos, swift)
 }
 
@@ -73,13 +75,13 @@ fn fast_step(
 fn holds_value(f: FlatCall) -> bool
     ensures { λ r. ⌜ r ≡ holdsValue f ⌝ }
 {
-    if f.kind == 0 {
+    if f.kind == PROPOSAL {
         return true;
     }
-    if f.message.kind == 4 {
+    if f.message.kind == COMMIT {
         return true;
     }
-    twins::is_yes(f.value_held)
+    flat::is_yes(f.value_held)
 }
 
 // All that is not refused ends here, so that the end has one caller.
@@ -94,9 +96,9 @@ fn fast_answer(
     swift: &[u64; 64],
     f: FlatCall,
 ) -> FastAnswer
-    ensures { λ r. ⌜ r ≡ fastAnswer setup (now (committers .entry)) (now (delegates .entry)) core answers (now (values .entry)) (now (epaxos .entry)) (now (swift .entry)) f ⌝ }
+    ensures { λ r. ⌜ r ≡ fastAnswer setup (came committers) (came delegates) core answers (came values) (came epaxos) (came swift) f ⌝ }
 {
-    let asked = twin_calls::asked_of(setup);
+    let asked = flat_calls::asked_of(setup);
     let step = fast_step(
         asked,
         setup,
@@ -125,7 +127,8 @@ fn put_fast(
     rest: &mut [u64; 5],
     x: FastAnswer,
 ) -> Handled
-    ensures { λ r. ⌜ fastLent r (now (core .exit)) (fastArrays (now (answers .exit)) (now (values .exit)) (now (epaxos .exit)) (now (swift .exit))) (written (now (first .exit)) (now (second .exit)) (now (third .exit)) (now (rest .exit))) ≡ putFast x (now (core .entry)) (fastArrays (now (answers .entry)) (now (values .entry)) (now (epaxos .entry)) (now (swift .entry))) (written (now (first .entry)) (now (second .entry)) (now (third .entry)) (now (rest .entry))) ⌝ }
+    ensures { λ r. ⌜ fastLeaves r (left core) (halfLeft answers values epaxos swift) (replyLeft first second third rest)
+        ≡ putFast x (came core) (halfCame answers values epaxos swift) (replyCame first second third rest) ⌝ }
 {
     let answer = x.answer;
     let after = x.after;
@@ -136,7 +139,8 @@ fn put_fast(
     h
 }
 
-fn fast_handle(
+// The answer to a call that is not too old, written into the arrays.
+fn fast_written(
     setup: Setup,
     committers: &[u64; 64],
     delegates: &[u64; 64],
@@ -151,15 +155,16 @@ fn fast_handle(
     third: &mut [u64; 20],
     rest: &mut [u64; 5],
 ) -> Handled
-    ensures { λ r. ⌜ fastLent r (now (core .exit)) (fastArrays (now (answers .exit)) (now (values .exit)) (now (epaxos .exit)) (now (swift .exit))) (written (now (first .exit)) (now (second .exit)) (now (third .exit)) (now (rest .exit))) ≡ putFast (fastAnswer setup (now (committers .entry)) (now (delegates .entry)) (thawedCore (coreOf (now (core .entry)))) (answersIn (now (answers .entry))) (now (values .entry)) (now (epaxos .entry)) (now (swift .entry)) f) (now (core .entry)) (fastArrays (now (answers .entry)) (now (values .entry)) (now (epaxos .entry)) (now (swift .entry))) (written (now (first .entry)) (now (second .entry)) (now (third .entry)) (now (rest .entry))) ⌝ }
+    ensures { λ r. ⌜ fastLeaves r (left core) (halfLeft answers values epaxos swift) (replyLeft first second third rest)
+        ≡ fastWritten setup (came committers) (came delegates) (came core) (halfCame answers values epaxos swift) f (replyCame first second third rest) ⌝ }
 {
-    let thawed = twins::thaw_core(arrays::core_in(core));
+    let decoded = flat::decode_core(arrays::core_in(core));
     let before = fast_arrays::answers_in(answers);
     let x = fast_answer(
         setup,
         committers,
         delegates,
-        thawed,
+        decoded,
         before,
         values,
         epaxos,
@@ -198,13 +203,16 @@ fn fast_handled(
     third: &mut [u64; 20],
     rest: &mut [u64; 5],
 ) -> u64
-    ensures { λ r. ⌜ (fastDirect r (now (core .exit)) (fastArrays (now (answers .exit)) (now (values .exit)) (now (epaxos .exit)) (now (swift .exit))) (tableOf (now (reads .exit)) (now (served .exit))) (written (now (first .exit)) (now (second .exit)) (now (third .exit)) (now (rest .exit))) ≡ fastHandled setup (now (committers .entry)) (now (delegates .entry)) (now (core .entry)) (fastArrays (now (answers .entry)) (now (values .entry)) (now (epaxos .entry)) (now (swift .entry))) (tableOf (now (reads .entry)) (now (served .entry))) f (written (now (first .entry)) (now (second .entry)) (now (third .entry)) (now (rest .entry)))) × (LeftUnlessTaken r (now (reads .entry)) (now (reads .exit)) × LeftUnlessTaken r (now (served .entry)) (now (served .exit))) ⌝ }
+    ensures { λ r. ⌜ fastDirect r (left core) (halfLeft answers values epaxos swift) (readsLeft reads served) (replyLeft first second third rest)
+        ≡ fastHandled setup (came committers) (came delegates) (came core) (halfCame answers values epaxos swift)
+        (readsCame reads served) f (replyCame first second third rest) ⌝ }
+    ensures left_unless_taken { λ r. ⌜ LeftUnlessTaken r reads × LeftUnlessTaken r served ⌝ }
 {
     if is_old(arrays::core_in(core), f) {
         direct_core::put_served(first, second, third, rest, 0);
         return 0;
     }
-    let h = fast_handle(
+    let h = fast_written(
         setup,
         committers,
         delegates,
@@ -219,7 +227,7 @@ fn fast_handled(
         third,
         rest,
     );
-    if h.deeper {
+    if h.may_serve {
         direct::serve_ready(setup, core, reads, served, rest);
         return 0;
     }
@@ -246,14 +254,17 @@ pub extern "C" fn chanbook_fast_call(
     third: &mut [u64; 20],
     rest: &mut [u64; 5],
 ) -> u64
-    ensures { λ r. ⌜ (fastDirect r (now (core .exit)) (fastArrays (now (answers .exit)) (now (values .exit)) (now (epaxos .exit)) (now (swift .exit))) (tableOf (now (reads .exit)) (now (served .exit))) (written (now (first .exit)) (now (second .exit)) (now (third .exit)) (now (rest .exit))) ≡ fastCall (setupOf (now (setup .entry))) (now (committers .entry)) (now (delegates .entry)) (now (core .entry)) (fastArrays (now (answers .entry)) (now (values .entry)) (now (epaxos .entry)) (now (swift .entry))) (tableOf (now (reads .entry)) (now (served .entry))) (callOf (now (call .entry))) (written (now (first .entry)) (now (second .entry)) (now (third .entry)) (now (rest .entry)))) × (LeftUnlessTaken r (now (reads .entry)) (now (reads .exit)) × LeftUnlessTaken r (now (served .entry)) (now (served .exit))) ⌝ }
+    ensures { λ r. ⌜ fastDirect r (left core) (halfLeft answers values epaxos swift) (readsLeft reads served) (replyLeft first second third rest)
+        ≡ fastCall (setupOf (came setup)) (came committers) (came delegates) (came core) (halfCame answers values epaxos swift)
+        (readsCame reads served) (callOf (came call)) (replyCame first second third rest) ⌝ }
+    ensures left_unless_taken { λ r. ⌜ LeftUnlessTaken r reads × LeftUnlessTaken r served ⌝ }
 {
     let s = arrays::setup_in(setup);
     let f = arrays::call_in(call);
     if !fast_half_acts(s, f) {
-        return 255;
+        return PASSED_ON;
     }
-    let number = twin_calls::refusal(setup, core, call);
+    let number = flat_calls::refusal(setup, core, call);
     if number != 0 {
         return number;
     }

@@ -31,6 +31,7 @@ inRound round core = cond (before (core .paxos .round) (Round round)) (withPaxos
 unfoldable pub isOlder : ℕ → PaxosRound → Core → Bool
 isOlder slot round core = ltb slot (core .slot) || before (Round round) (core .paxos .round)
 
+-- the round is entered if the source is taken; the Rust's goto_round comes before its assertion, and a refused call leaves nothing of it
 unfoldable pub fromLive : Asked → Heard → PaxosRound → Core → CoreStep
 fromLive a h round core = cond (sourceTaken a h) (continues (inRound round core) noMessages) (refuses SourceNotLive core)
 

@@ -44,7 +44,7 @@ fn adopting(asked: Asked, round: PaxosRound, v: u64, core: Core) -> CoreStep
     let paxos = core.paxos;
     let me = asked.member;
     if paxos.is_prepared(me) {
-        let step = promise_accept::adopt_from_epaxos(paxos, me, round, v);
+        let step = paxos.adopt_from_epaxos(me, round, v);
         let state = step.state;
         let outcome = step.outcome;
         return prepare::after_own_accept(asked, round, core, state, outcome);

@@ -4,9 +4,8 @@ ghost use mathlib.Core.Path.{_≡_};
 ghost use mathlib.Core.Bool.{cond};
 ghost use lib.Dec.{eqb};
 ghost use Rattle.tables.specs.Tables.{lookUp};
-ghost use Prim.Native.Nat.{_-_};
 ghost use Rattle.fast_state.specs.Fast.{scoreAfter, epaxosCounted, epaxosAnswered, epaxosProposeV, epaxosCanCommit};
-ghost use Rattle.fast_state.specs.Adopt.{better, bestBelow, lowestBest, adopted, valueIn, scoreIn, epaxosTryAdopt};
+ghost use Rattle.fast_state.specs.Adopt.{better, bestBelow, lowestBest, adopted, valueIn, scoreIn, epaxosTryAdoptAfter};
 use fast_state::Adoption;
 use fast_state::Best;
 use fast_state::Entry;
@@ -22,18 +21,9 @@ fn score_after(src: u64, proposer: u64, score: u64) -> u64
     ensures { λ r. ⌜ r ≡ scoreAfter src proposer score ⌝ }
 {
     if src == proposer {
-        return one_less(score);
+        return message::saturating_sub(score, 1);
     }
     message::increment(score)
-}
-
-fn one_less(n: u64) -> u64
-    ensures { λ r. ⌜ r ≡ n - 1 ⌝ }
-{
-    if n < 1 {
-        return 0;
-    }
-    n - 1
 }
 
 fn epaxos_counted(
@@ -47,7 +37,7 @@ fn epaxos_counted(
     ensures { λ r. ⌜ r ≡ epaxosCounted me src proposer v answers (now (scores .entry)) ⌝ }
 {
     let leader_answer = answers.swift_leader_answer;
-    let score = tables::read(scores, proposer);
+    let score = tables::look_up_in(scores, proposer);
     let counted = FastAnswers {
         fast_answer_set: sets::insert(answers.fast_answer_set, src),
         fast_preaccepted: fast_state::preaccepted_after(me, proposer, answers.fast_preaccepted),
@@ -75,7 +65,7 @@ pub fn epaxos_answered(
     ensures { λ r. ⌜ r ≡ epaxosAnswered me src proposer v answers (now (scores .entry)) ⌝ }
 {
     if sets::contains(answers.fast_answer_set, src) {
-        return answers.answered_before(me, src);
+        return answers.second_answer(me, src);
     }
     epaxos_counted(answers, scores, me, src, proposer, v).taken()
 }
@@ -85,7 +75,7 @@ pub fn epaxos_propose_v(answers: FastAnswers, scores: &[u64; 64], me: Member, v:
     ensures { λ r. ⌜ r ≡ epaxosProposeV me v answers (now (scores .entry)) ⌝ }
 {
     if answers.is_unanswered() {
-        if tables::read(scores, me.my_pid) == 2 {
+        if tables::look_up_in(scores, me.my_pid) == 2 {
             return epaxos_answered(answers, scores, me, me.my_pid, me.my_pid, v);
         }
         return answers.refused(Refusal::Panic);
@@ -108,7 +98,7 @@ fn unless_changed(table: &[u64; 64], changed: u64, to: u64, p: u64) -> u64
     if p == changed {
         return to;
     }
-    tables::read(table, p)
+    tables::look_up_in(table, p)
 }
 
 // The value of a proposer after a change.
@@ -116,7 +106,7 @@ fn value_in(entry: Entry, values: &[u64; 64], p: u64) -> u64
     ensures { λ r. ⌜ r ≡ valueIn entry (now (values .entry)) p ⌝ }
 {
     match entry {
-        Entry::SameEntries => tables::read(values, p),
+        Entry::SameEntries => tables::look_up_in(values, p),
         Entry::Recorded { proposer, v } => unless_changed(values, proposer, v, p),
         Entry::EPaxosScored {
             proposer,
@@ -136,8 +126,8 @@ fn score_in(entry: Entry, scores: &[u64; 64], p: u64) -> u64
     ensures { λ r. ⌜ r ≡ scoreIn entry (now (scores .entry)) p ⌝ }
 {
     match entry {
-        Entry::SameEntries => tables::read(scores, p),
-        Entry::Recorded { proposer: _, v: _ } => tables::read(scores, p),
+        Entry::SameEntries => tables::look_up_in(scores, p),
+        Entry::Recorded { proposer: _, v: _ } => tables::look_up_in(scores, p),
         Entry::EPaxosScored {
             proposer,
             v: _,
@@ -147,7 +137,7 @@ fn score_in(entry: Entry, scores: &[u64; 64], p: u64) -> u64
             proposer: _,
             v: _,
             score: _,
-        } => tables::read(scores, p),
+        } => tables::look_up_in(scores, p),
     }
 }
 
@@ -201,7 +191,7 @@ pub fn epaxos_try_adopt(
     scores: &[u64; 64],
     me: Member,
 ) -> Adoption
-    ensures { λ r. ⌜ r ≡ epaxosTryAdopt lowestBest me change (now (values .entry)) (now (scores .entry)) ⌝ }
+    ensures { λ r. ⌜ r ≡ epaxosTryAdoptAfter lowestBest me change (now (values .entry)) (now (scores .entry)) ⌝ }
 {
     let answers = change.answers;
     let entry = change.entry;
@@ -212,8 +202,8 @@ pub fn epaxos_try_adopt(
         if sets::size(answers.fast_proposers) < 2 {
             return Adoption::NoAdoption;
         }
-        let best = best(answers.fast_proposers, entry, scores);
-        let proposer = best.proposer;
+        let lowest = best(answers.fast_proposers, entry, scores);
+        let proposer = lowest.proposer;
         return adopted(entry, values, proposer);
     }
     Adoption::AdoptionRefused(Refusal::Panic)

@@ -5,12 +5,13 @@ use Prim.Native.Nat.{ℕ}
 use lib.ListN.{getD, replicate}
 use Rattle.fast_calls.specs.declared.After.{After}
 use Rattle.fast_calls.specs.declared.After.the-variants.{Changed, Cleared}
-use Rattle.fast_state.specs.Fast.{toVAfter, epaxosScoresAfter, swiftScoresAfter}
+use Rattle.fast_state.specs.Fast.{answersOf, toVAfter, epaxosScoresAfter, swiftScoresAfter}
 use Rattle.fast_state.specs.declared.FastAnswers.{FastAnswers}
 use Rattle.fast_state.specs.declared.FastChange.{FastChange}
 use Rattle.fast_state.specs.declared.FastState.{FastState}
-use Rattle.twins.specs.Freeze.{frozenValue}
-use Rattle.twins.specs.Thaw.{thawedValue}
+use Rattle.flat.specs.Encode.{encodedValue}
+use Rattle.flat.specs.Decode.{decodedFast}
+use Rattle.flat.specs.declared.FlatFast.{FlatFast}
 
 pub record FastArrays : Type 0 where
   pub answers : List ℕ
@@ -23,26 +24,24 @@ fastArrays answers values epaxos swift = record { answers = answers; values = va
 
 -- ---- what the arrays stand for
 
-abbrev pub answersIn : List ℕ → FastAnswers
-answersIn l =
+abbrev pub fastIn : FastArrays → FlatFast
+fastIn w =
     record {
-      «fast_answer_set» = getD l 0 0;
-      «fast_preaccepted» = getD l 1 0;
-      «fast_proposers» = getD l 2 0;
-      «swift_leader_answer» = thawedValue (record { given = getD l 3 0; n = getD l 4 0 });
-    }
-
-abbrev pub fastOf : FastArrays → FastState
-fastOf w =
-    record {
-      «fast_answer_set» = answersIn (w .answers) .«fast_answer_set»;
-      «fast_preaccepted» = answersIn (w .answers) .«fast_preaccepted»;
-      «fast_proposers» = answersIn (w .answers) .«fast_proposers»;
+      «fast_answer_set» = getD (w .answers) 0 0;
+      «fast_preaccepted» = getD (w .answers) 1 0;
+      «fast_proposers» = getD (w .answers) 2 0;
+      «swift_leader_answer» = record { given = getD (w .answers) 3 0; n = getD (w .answers) 4 0 };
       «fast_proposer_to_v» = w .values;
       «epaxos_proposer_scores» = w .epaxos;
       «swift_proposer_scores» = w .swift;
-      «swift_leader_answer» = answersIn (w .answers) .«swift_leader_answer»;
     }
+
+abbrev pub fastOf : FastArrays → FastState
+fastOf w = decodedFast (fastIn w)
+
+-- the answers alone, whatever stands in the tables
+abbrev pub answersIn : List ℕ → FastAnswers
+answersIn l = answersOf (fastOf (fastArrays l [] [] []))
 
 -- ---- what is left in them
 
@@ -51,8 +50,8 @@ answersNumbers f =
     f .«fast_answer_set»
     ∷ f .«fast_preaccepted»
     ∷ f .«fast_proposers»
-    ∷ frozenValue (f .«swift_leader_answer») .given
-    ∷ frozenValue (f .«swift_leader_answer») .n
+    ∷ encodedValue (f .«swift_leader_answer») .given
+    ∷ encodedValue (f .«swift_leader_answer») .n
     ∷ []
 
 abbrev pub putChange : FastChange → FastArrays → FastArrays

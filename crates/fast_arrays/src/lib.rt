@@ -6,7 +6,7 @@ use fast_calls::After;
 use fast_state::Entry;
 use fast_state::FastAnswers;
 use fast_state::FastChange;
-use twins::FlatOption;
+use flat::FlatOption;
 
 pub fn answers_in(a: &[u64; 5]) -> FastAnswers
     ensures { λ r. ⌜ r ≡ answersIn (now (a .entry)) ⌝ }
@@ -19,7 +19,7 @@ pub fn answers_in(a: &[u64; 5]) -> FastAnswers
         fast_answer_set: a[0],
         fast_preaccepted: a[1],
         fast_proposers: a[2],
-        swift_leader_answer: twins::thaw_value(leader_answer),
+        swift_leader_answer: flat::decode_value(leader_answer),
     }
 }
 
@@ -27,7 +27,7 @@ fn put_answers(a: &mut [u64; 5], answers: FastAnswers)
     ensures { λ _. ⌜ now (a .exit) ≡ answersNumbers answers ⌝ }
 {
     let answer = answers.swift_leader_answer;
-    let f = twins::freeze_value(answer);
+    let f = flat::encode_value(answer);
     *a = [
         answers.fast_answer_set,
         answers.fast_preaccepted,
@@ -44,15 +44,15 @@ fn put_entry(values: &mut [u64; 64], epaxos: &mut [u64; 64], swift: &mut [u64; 6
     match entry {
         Entry::SameEntries => {}
         Entry::Recorded { proposer, v } => {
-            tables::put(values, proposer, v);
+            tables::store_in(values, proposer, v);
         }
         Entry::EPaxosScored { proposer, v, score } => {
-            tables::put(values, proposer, v);
-            tables::put(epaxos, proposer, score);
+            tables::store_in(values, proposer, v);
+            tables::store_in(epaxos, proposer, score);
         }
         Entry::SwiftScored { proposer, v, score } => {
-            tables::put(values, proposer, v);
-            tables::put(swift, proposer, score);
+            tables::store_in(values, proposer, v);
+            tables::store_in(swift, proposer, score);
         }
     }
 }

@@ -1,2 +1,2 @@
 pub mod Adopting
-pub mod Clearing
+pub mod Stored

@@ -32,14 +32,17 @@ bestBelow proposers score (suc p) = better (bestBelow proposers score p) (contai
 abbrev pub Choice : Type 0
 Choice = FastAnswers → (ℕ → ℕ) → OptionalProcess
 
+-- ours: the lowest of the best proposers
 abbrev pub lowestBest : Choice
 lowestBest f score = bestBelow (f .«fast_proposers») score 64 .proposer
 
+-- best_v: the value of the chosen proposer
 unfoldable pub adopted : (ℕ → ℕ) → OptionalProcess → Adoption
 adopted value NoProcess = NoAdoption
 adopted value (Process p) = Adopt (value p)
 
--- the value and the score of a proposer after a change: those that are changed, and else those in the tables
+-- the value and the score of a proposer after a change: those that are changed, and else those in the tables. They are what `toVAfter` and
+-- `epaxosScoresAfter` store (proofs/Stored.antt).
 unfoldable pub valueIn : Entry → List ℕ → ℕ → ℕ
 valueIn SameEntries table p = lookUp table p
 valueIn (Recorded proposer v) table p = cond (eqb p proposer) v (lookUp table p)
@@ -54,14 +57,14 @@ scoreIn (SwiftScored proposer v score) table p = lookUp table p
 
 -- `epaxos_try_adopt` "needs a majority of answers and two proposers"; it asserts that the own proposal is there. The choice among the best
 -- proposers is a parameter.
-unfoldable pub epaxosTryAdoptWith : Choice → Member → FastAnswers → (ℕ → ℕ) → (ℕ → ℕ) → Adoption
-epaxosTryAdoptWith choose me f value score =
+unfoldable pub epaxosTryAdopt : Choice → Member → FastAnswers → (ℕ → ℕ) → (ℕ → ℕ) → Adoption
+epaxosTryAdopt choose me f value score =
     cond (contains (f .«fast_proposers») (me .«my_pid»))
     (cond (ltb (size (f .«fast_answer_set»)) (me .quorums .majority)) NoAdoption
     (cond (ltb (size (f .«fast_proposers»)) 2) NoAdoption (adopted value (choose f score))))
     (AdoptionRefused Panic)
 
--- after a change
-abbrev pub epaxosTryAdopt : Choice → Member → FastChange → List ℕ → List ℕ → Adoption
-epaxosTryAdopt choose me change values scores =
-    epaxosTryAdoptWith choose me (change .answers) (valueIn (change .entry) values) (scoreIn (change .entry) scores)
+-- epaxos_try_adopt of the state once the change is made
+abbrev pub epaxosTryAdoptAfter : Choice → Member → FastChange → List ℕ → List ℕ → Adoption
+epaxosTryAdoptAfter choose me change values scores =
+    epaxosTryAdopt choose me (change .answers) (valueIn (change .entry) values) (scoreIn (change .entry) scores)

@@ -1,7 +1,8 @@
 -- The EPaxos and SwiftPaxos half of the round state: fast answers, proposers and their scores (the Rust's round_state.rs; document 01,
--- "Round state"). The number of fast answers is the size of their set in EPaxos, the only mode that asks for it.
+-- "Round state"). The number of fast answers is the size of their set in EPaxos, the only mode that compares it with a quorum; where the Rust
+-- asserts that it is 0, the set is empty.
 -- Assumes nothing.
-use mathlib.Core.Bool.{Bool, true, false, cond, _&&_}
+use mathlib.Core.Bool.{Bool, true, cond, not, _&&_}
 use mathlib.Core.List.{List}
 use Prim.Native.Nat.{ℕ, _-_}
 use lib.Dec.{leb, eqb}
@@ -10,6 +11,7 @@ use Rattle.sets.specs.Sets.{contains, insert, size, isEmpty}
 use Rattle.sets.specs.declared.OptionalSet.{OptionalSet}
 use Rattle.sets.specs.declared.OptionalSet.the-variants.{NoSet, Set}
 use Rattle.tables.specs.Tables.{lookUp, store}
+use Rattle.message.specs.Promises.{hasValue}
 use Rattle.message.specs.Rounds.{increment}
 use Rattle.message.specs.declared.OptionalValue.{OptionalValue}
 use Rattle.message.specs.declared.OptionalValue.the-variants.{NoValue, Value}
@@ -36,16 +38,19 @@ answersOf f =
       «swift_leader_answer» = f .«swift_leader_answer»;
     }
 
+-- nothing is changed
 abbrev pub unchanged : FastAnswers → FastChange
 unchanged answers = record { answers = answers; entry = SameEntries }
 
+-- the change is made
 abbrev pub taken : FastChange → FastStep
 taken change = record { change = change; outcome = Done }
 
+-- the Rust panics, and nothing is changed
 abbrev pub refused : Refusal → FastAnswers → FastStep
 refused why answers = record { change = unchanged answers; outcome = Refused why }
 
--- the tables afterwards: of one proposer the value, or the value and the score of the mode
+-- the tables after a change: the value of one proposer is stored, and its score in the table of its mode
 unfoldable pub toVAfter : Entry → List ℕ → List ℕ
 toVAfter SameEntries table = table
 toVAfter (Recorded proposer v) table = store table proposer v
@@ -64,6 +69,7 @@ swiftScoresAfter (Recorded proposer v) table = table
 swiftScoresAfter (EPaxosScored proposer v score) table = table
 swiftScoresAfter (SwiftScored proposer v score) table = store table proposer score
 
+-- the state after a change
 abbrev pub changed : FastChange → FastState → FastState
 changed change f =
     record {
@@ -96,8 +102,8 @@ unfoldable pub preacceptedAfter : Member → ℕ → ℕ → ℕ
 preacceptedAfter me proposer n = cond (eqb proposer (me .«my_pid»)) (increment n) n
 
 -- a second answer: nothing if it is one's own, and else refused with 10
-unfoldable pub answeredBefore : Member → ℕ → FastAnswers → FastStep
-answeredBefore me src f = cond (eqb src (me .«my_pid»)) (taken (unchanged f)) (refused SecondFastAnswer f)
+unfoldable pub secondAnswer : Member → ℕ → FastAnswers → FastStep
+secondAnswer me src f = cond (eqb src (me .«my_pid»)) (taken (unchanged f)) (refused SecondFastAnswer f)
 
 -- the assertions that both proposals make first: no answer, none preaccepted, no proposer
 unfoldable pub isUnanswered : FastAnswers → Bool
@@ -123,9 +129,10 @@ epaxosCounted me src proposer v f scores =
       entry = EPaxosScored proposer v (scoreAfter src proposer (lookUp scores proposer));
     }
 
+-- epaxos_answered
 unfoldable pub epaxosAnswered : Member → ℕ → ℕ → ℕ → FastAnswers → List ℕ → FastStep
 epaxosAnswered me src proposer v f scores =
-    cond (contains (f .«fast_answer_set») src) (answeredBefore me src f) (taken (epaxosCounted me src proposer v f scores))
+    cond (contains (f .«fast_answer_set») src) (secondAnswer me src f) (taken (epaxosCounted me src proposer v f scores))
 
 -- epaxos_propose_v
 unfoldable pub epaxosProposeV : Member → ℕ → FastAnswers → List ℕ → FastStep
@@ -161,7 +168,7 @@ swiftCounted me src proposer v leader f scores =
       entry = SwiftScored proposer v (increment (lookUp scores proposer));
     }
 
--- an answer from outside the fixed quorum is uncounted, yet its proposer is recorded; the leader's may not come from there
+-- an answer from outside the fixed quorum is uncounted, yet its proposer is recorded
 abbrev pub swiftRecorded : ℕ → ℕ → ℕ → FastAnswers → FastChange
 swiftRecorded src proposer v f =
     record {
@@ -175,9 +182,11 @@ swiftRecorded src proposer v f =
       entry = Recorded proposer v;
     }
 
+-- an answer from outside the fixed quorum, with the assertion that it is not the leader's
 unfoldable pub swiftUncounted : ℕ → ℕ → ℕ → Bool → FastAnswers → FastStep
 swiftUncounted src proposer v leader f = cond leader (refused Panic f) (taken (swiftRecorded src proposer v f))
 
+-- the first answer of a process
 unfoldable pub swiftFirst : Member → ℕ → ℕ → ℕ → OptionalSet → Bool → FastAnswers → List ℕ → FastStep
 swiftFirst me src proposer v quorum leader f scores =
     cond (inQuorum quorum src) (taken (swiftCounted me src proposer v leader f scores)) (swiftUncounted src proposer v leader f)
@@ -185,30 +194,27 @@ swiftFirst me src proposer v quorum leader f scores =
 -- swift_answered
 unfoldable pub swiftAnswered : Member → ℕ → ℕ → ℕ → OptionalSet → Bool → FastAnswers → List ℕ → FastStep
 swiftAnswered me src proposer v quorum leader f scores =
-    cond (contains (f .«fast_answer_set») src) (answeredBefore me src f) (swiftFirst me src proposer v quorum leader f scores)
+    cond (contains (f .«fast_answer_set») src) (secondAnswer me src f) (swiftFirst me src proposer v quorum leader f scores)
 
-abbrev pub hasValue : OptionalValue → Bool
-hasValue NoValue = false
-hasValue (Value v) = true
-
--- swift_propose_v: a replica answers its own proposal
+-- a replica answers its own proposal, and another process does not
 unfoldable pub swiftOwn : Member → ℕ → OptionalSet → Bool → FastAnswers → List ℕ → FastStep
 swiftOwn me v quorum leader f scores =
     cond (me .replica) (swiftAnswered me (me .«my_pid») (me .«my_pid») v quorum leader f scores) (taken (unchanged f))
 
+-- the assertions of swift_propose_v
 unfoldable pub swiftUnanswered : Member → FastAnswers → List ℕ → Bool
-swiftUnanswered me f scores = cond (hasValue (f .«swift_leader_answer»)) false (isUnanswered f && eqb (lookUp scores (me .«my_pid»)) 0)
+swiftUnanswered me f scores = not (hasValue (f .«swift_leader_answer»)) && (isUnanswered f && eqb (lookUp scores (me .«my_pid»)) 0)
 
+-- swift_propose_v
 unfoldable pub swiftProposeV : Member → ℕ → OptionalSet → Bool → FastAnswers → List ℕ → FastStep
 swiftProposeV me v quorum leader f scores =
     cond (swiftUnanswered me f scores) (swiftOwn me v quorum leader f scores) (refused Panic f)
 
--- a fixed quorum is a majority, and without one the fast quorum is needed
+-- quorum_required of swift_can_commit: with a fixed quorum a majority of preaccepts is enough, and without one the fast quorum is needed
 unfoldable pub swiftQuorum : Member → Bool → ℕ
 swiftQuorum me fixed = cond fixed (me .quorums .majority) (me .quorums .fast)
 
 -- swift_can_commit
 unfoldable pub swiftCanCommit : Member → Bool → FastAnswers → Bool
 swiftCanCommit me fixed f =
-    cond (hasValue (f .«swift_leader_answer»))
-    (eqb (size (f .«fast_proposers»)) 1 && leb (swiftQuorum me fixed) (f .«fast_preaccepted»)) false
+    hasValue (f .«swift_leader_answer») && (eqb (size (f .«fast_proposers»)) 1 && leb (swiftQuorum me fixed) (f .«fast_preaccepted»))

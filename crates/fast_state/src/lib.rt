@@ -2,8 +2,8 @@
 // common; and the two halves together. A call changes the answers and, in the tables by proposer, the entry of one proposer: so the handlers hand
 // back this change, and the tables are read where they stand.
 ghost use mathlib.Core.Path.{_≡_};
-ghost use Rattle.fast_state.specs.Fast.{answersOf, unchanged, taken as takenFast, refused as refusedFast, toVAfter, epaxosScoresAfter, swiftScoresAfter, changed, noAnswers, preacceptedAfter, answeredBefore, isUnanswered, hasValue};
-ghost use Rattle.fast_state.specs.RoundState.{newRoundState, fullClearAll, fastIsClear, isClearAll};
+ghost use Rattle.fast_state.specs.Fast.{answersOf, unchanged, taken as takenFast, refused as refusedFast, toVAfter, epaxosScoresAfter, swiftScoresAfter, changed, noAnswers, preacceptedAfter, secondAnswer, isUnanswered};
+ghost use Rattle.fast_state.specs.RoundState.{newRoundState};
 use message::OptionalProcess;
 use message::OptionalRound;
 use message::OptionalValue;
@@ -79,15 +79,6 @@ pub fn preaccepted_after(me: Member, proposer: u64, n: u64) -> u64
     n
 }
 
-pub fn has_value(value: OptionalValue) -> bool
-    ensures { λ r. ⌜ r ≡ hasValue value ⌝ }
-{
-    match value {
-        OptionalValue::NoValue => false,
-        OptionalValue::Value(_) => true,
-    }
-}
-
 impl FastChange {
     pub fn taken(self) -> FastStep
         ensures { λ r. ⌜ r ≡ takenFast self ⌝ }
@@ -119,8 +110,8 @@ impl FastAnswers {
     }
 
     // A second answer from one process.
-    pub fn answered_before(self, me: Member, src: u64) -> FastStep
-        ensures { λ r. ⌜ r ≡ answeredBefore me src self ⌝ }
+    pub fn second_answer(self, me: Member, src: u64) -> FastStep
+        ensures { λ r. ⌜ r ≡ secondAnswer me src self ⌝ }
     {
         if src == me.my_pid {
             return self.unchanged().taken();
@@ -247,25 +238,6 @@ impl FastState {
             swift_leader_answer: leader_answer,
         }
     }
-
-    fn is_clear(self) -> bool
-        ensures { λ r. ⌜ r ≡ fastIsClear self ⌝ }
-    {
-        let answers = self.answers();
-        let answer = self.swift_leader_answer;
-        let epaxos_scores = self.epaxos_proposer_scores;
-        let swift_scores = self.swift_proposer_scores;
-        if has_value(answer) {
-            return false;
-        }
-        if answers.is_unanswered() {
-            if tables::all_are(epaxos_scores, 2) {
-                return tables::all_are(swift_scores, 0);
-            }
-            return false;
-        }
-        false
-    }
 }
 
 impl PaxosFamilyRoundState {
@@ -280,27 +252,5 @@ impl PaxosFamilyRoundState {
         };
         let fast = FastState::no_answers();
         PaxosFamilyRoundState { paxos, fast }
-    }
-
-    // A commit clears both halves.
-    pub fn full_clear(mut self) -> PaxosFamilyRoundState
-        ensures { λ r. ⌜ r ≡ fullClearAll self ⌝ }
-    {
-        let old = self.paxos;
-        let paxos = old.full_clear();
-        let fast = FastState::no_answers();
-        PaxosFamilyRoundState { paxos, fast }
-    }
-
-    // Whether no trace of a round is left.
-    pub fn is_clear(self, starting_round: OptionalRound) -> bool
-        ensures { λ r. ⌜ r ≡ isClearAll «starting_round» self ⌝ }
-    {
-        let paxos = self.paxos;
-        let fast = self.fast;
-        if paxos.is_clear(starting_round) {
-            return fast.is_clear();
-        }
-        false
     }
 }

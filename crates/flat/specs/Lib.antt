@@ -1,2 +1,2 @@
-pub mod State
-pub mod Calls
+pub mod Decode
+pub mod Encode

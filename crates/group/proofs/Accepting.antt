@@ -22,9 +22,9 @@ use Rattle.message.specs.declared.RoundV.the-variants.{FastV, PaxosV}
 use Rattle.round_state.specs.Paxos.{getLastAcceptedRound, paxosCanCommit, acceptFits, afterAccept, receiveAccept}
 use Rattle.round_state.specs.declared.HeldPromise.{HeldPromise}
 use Rattle.round_state.specs.declared.HeldPromise.the-variants.{NothingHeld, Held}
-use Rattle.settings.specs.Questions.{quorumsOf, delegateOf, committerOf}
+use Rattle.settings.specs.Questions.{quorumsOf, delegateOf, committerOf, committerIn}
 use Rattle.settings.specs.declared.Settings.{Settings}
-use Rattle.accept.specs.Accept.{tellsCommitter, isCommitter, acceptTo, tellsThird, answerAccept, commitMessage, tellsCommit, commitMessages, tryCommit, answered, follower, accepted, accepting}
+use Rattle.accept.specs.Accept.{tellsCommitter, isCommitter, acceptTo, committerHears, answerAccept, commitMessage, tellsCommit, commitMessages, tryCommit, answered, follower, accepted, accepting}
 use Rattle.enter.specs.Enter.{inRound}
 use Rattle.paxos_family.specs.Process.{onAccept}
 use Rattle.steps.specs.Steps.{noMessages, oneMessage, twoMessages, also, heldV, withPaxos, leftFastPath, stays, commits, refuses}
@@ -79,7 +79,7 @@ is-process-number NoProcess i = sym (eqb·zero-suc i)
 is-process-number (Process q) i = sym (eqb·suc-suc q i)
 
 pub committer-same : (s : Settings) (i : ℕ) (p : OptionalProcess) → committerOf (memberSettings s i) p ≡ committerOf s p
-unfolding committerOf
+unfolding committerIn
 committer-same s i p = refl
 
 eqb-swap : (a b : ℕ) → eqb b a ≡ eqb a b
@@ -164,15 +164,6 @@ module _ (s : Settings) (i : ℕ) (classic : isSwiftPaxos (s .mode) ≡ false) (
       cond (eqb c 0 || eqb c (suc i) || eqb c (suc l)) (toLeader core l r)
       (record { destination = model.to (pred c); message = model.accept (core .slot) r (heldV (core .paxos .«max_rv»)) } ∷ toLeader core l r)
 
-  answer-one : (core : Core) (p : ℕ) → tellsThird (askedBy s i) round p ≡ false → answerAccept (askedBy s i) round core (Process p) ≡ oneMessage (acceptTo (askedBy s i) core round (round .leader))
-  unfolding answerAccept
-  answer-one core p e = simp e
-
-  answer-two : (core : Core) (p : ℕ) → tellsThird (askedBy s i) round p ≡ true
-      → answerAccept (askedBy s i) round core (Process p) ≡ twoMessages (acceptTo (askedBy s i) core round p) (acceptTo (askedBy s i) core round (round .leader))
-  unfolding answerAccept
-  answer-two core p e = simp e
-
   -- the third hears it exactly where the model says so
   third-told : (t : Bool) (p : ℕ) (a b : Bool) → (t && (not b && not a)) ≡ not (eqb (cond t (suc p) 0) 0 || cond t a false || cond t b false)
   third-told false p a b = refl
@@ -185,11 +176,11 @@ module _ (s : Settings) (i : ℕ) (classic : isSwiftPaxos (s .mode) ≡ false) (
   test-third true p q = eqb·suc-suc p q
   test-third false p q = eqb·zero-suc q
 
-  tells-third-number : (p : ℕ)
-      → tellsThird (askedBy s i) round p
+  committer-hears-number : (p : ℕ)
+      → committerHears (askedBy s i) round p
       ≡ not (eqb (cond (tellsCommitter (s .mode)) (suc p) 0) 0 || eqb (cond (tellsCommitter (s .mode)) (suc p) 0) (suc i) || eqb (cond (tellsCommitter (s .mode)) (suc p) 0) (suc (round .leader)))
-  unfolding tellsThird
-  tells-third-number p =
+  unfolding committerHears
+  committer-hears-number p =
       third-told (tellsCommitter (s .mode)) p (eqb p i) (eqb p (round .leader))
       ∙ ap₂ (λ (x y : Bool). not (eqb (cond (tellsCommitter (s .mode)) (suc p) 0) 0 || x || y)) (sym (test-third (tellsCommitter (s .mode)) p i)) (sym (test-third (tellsCommitter (s .mode)) p (round .leader)))
 
@@ -221,10 +212,10 @@ module _ (s : Settings) (i : ℕ) (classic : isSwiftPaxos (s .mode) ≡ false) (
       told c = eqb c 0 || eqb c (suc i) || eqb c (suc (round .leader))
 
       go : (t : Bool) → tellsCommitter (s .mode) ≡ t
-          → meanings meaningOf (envelopes (cond (tellsThird (askedBy s i) round p) (twoMessages (acceptTo (askedBy s i) core round p) (acceptTo (askedBy s i) core round (round .leader))) (oneMessage (acceptTo (askedBy s i) core round (round .leader)))))
+          → meanings meaningOf (envelopes (cond (committerHears (askedBy s i) round p) (twoMessages (acceptTo (askedBy s i) core round p) (acceptTo (askedBy s i) core round (round .leader))) (oneMessage (acceptTo (askedBy s i) core round (round .leader)))))
           ≡ answersAt core (cond (tellsCommitter (s .mode)) (suc p) 0) (round .leader) (roundNumber (Round round))
       go true e =
-          listed (tellsThird (askedBy s i) round p) ∙ ap (λ (t : Bool). cond t two (toLeader core (round .leader) (roundNumber (Round round)))) (tells-third-number p)
+          listed (committerHears (askedBy s i) round p) ∙ ap (λ (t : Bool). cond t two (toLeader core (round .leader) (roundNumber (Round round)))) (committer-hears-number p)
           ∙ not-cond (told (cond (tellsCommitter (s .mode)) (suc p) 0)) (toLeader core (round .leader) (roundNumber (Round round))) two
           ∙ ap
           (λ (q : ℕ).
@@ -232,14 +223,14 @@ module _ (s : Settings) (i : ℕ) (classic : isSwiftPaxos (s .mode) ≡ false) (
           (record { destination = model.to q; message = model.accept (core .slot) (roundNumber (Round round)) (heldV (core .paxos .«max_rv»)) } ∷ toLeader core (round .leader) (roundNumber (Round round))))
           (ap (λ (t : Bool). pred (cond t (suc p) 0)) (sym e))
       go false e =
-          listed (tellsThird (askedBy s i) round p) ∙ ap (λ (t : Bool). cond t two (toLeader core (round .leader) (roundNumber (Round round)))) (tells-third-number p)
+          listed (committerHears (askedBy s i) round p) ∙ ap (λ (t : Bool). cond t two (toLeader core (round .leader) (roundNumber (Round round)))) (committer-hears-number p)
           ∙ ap (λ (t : Bool). cond (not (told (cond t (suc p) 0))) two (toLeader core (round .leader) (roundNumber (Round round)))) e
           ∙ ap (λ (t : Bool). answersAt core (cond t (suc p) 0) (round .leader) (roundNumber (Round round))) (sym e)
 
   answer-appends : (core : Core) (p : OptionalProcess) → Appends (answerAccept (askedBy s i) round core p)
   unfolding answerAccept
   answer-appends core NoProcess = one-appends (acceptTo (askedBy s i) core round (round .leader))
-  answer-appends core (Process p) = go (tellsThird (askedBy s i) round p)
+  answer-appends core (Process p) = go (committerHears (askedBy s i) round p)
     where
       go : (t : Bool)
           → Appends (cond t (twoMessages (acceptTo (askedBy s i) core round p) (acceptTo (askedBy s i) core round (round .leader))) (oneMessage (acceptTo (askedBy s i) core round (round .leader))))

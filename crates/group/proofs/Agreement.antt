@@ -48,7 +48,7 @@ use Rattle.agreement.specs.Refinement.{SetupRules, Refines, AsModel}
 use Rattle.agreement.specs.Voting.{QuorumsMeet}
 use Rattle.agreement.proofs.Refinement.{refines-claim}
 use Rattle.agreement.proofs.Voting.{majority-meets}
-use Rattle.group.specs.Claim.{memberSettings, begun, MemberCall, Entry, entryOf, afterCall, entriesFrom, entries, listed, messagesOf, SentTo, WasSent, MayStand, LegalFrom, Legal, At, one, slotAt, Proposed, Claim, Classic}
+use Rattle.group.specs.Claim.{memberSettings, begun, MemberCall, Entry, entryOf, afterCall, entriesFrom, entries, listed, messagesOf, SentTo, WasSent, MayStand, LegalFrom, Legal, At, plusCommit, slotAt, Proposed, Claim, Classic}
 use Rattle.group.proofs.Calls.{isDone, decisionOf, seenAnswer, engineOf, viewShard, refuse-as-model, kindOf, Valid, call-ok}
 use Rattle.group.proofs.Proposing.{starting-fits}
 use Rattle.group.proofs.View.{roundNumber, no-member, meaningOf, destinationOf, envelope, envelopesOf, envelopes, setupOf}
@@ -309,7 +309,7 @@ slots-same member (e ∷ past) = commit (e .reply .commit) (slots-same member pa
     same false = refl
 
     commit : (c : OptionalCommit) → slotAt member past ≡ engine.commitsBy member (engine.withProposal (e .member) (kindOf (e .call)) (isDone (e .reply .outcome)) (logOf past))
-        → cond (eqb member (e .member)) (one c (slotAt member past)) (slotAt member past)
+        → cond (eqb member (e .member)) (plusCommit c (slotAt member past)) (slotAt member past)
         ≡ engine.commitsBy member (engine.withCommit (e .member) (decisionOf c) (engine.withProposal (e .member) (kindOf (e .call)) (isDone (e .reply .outcome)) (logOf past)))
     commit NoCommit rest = same (eqb member (e .member)) ∙ rest
     commit (Committed slot v fast) rest = ap (λ (n : ℕ). cond (eqb member (e .member)) (suc n) n) rest

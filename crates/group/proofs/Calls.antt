@@ -27,13 +27,13 @@ use Rattle.message.specs.declared.PFMode.the-variants.{Paxos, MultiPaxos, Multi
 use Rattle.message.specs.declared.PaxosRound.{PaxosRound}
 use Rattle.message.specs.declared.ReadId.{ReadId}
 use Rattle.message.specs.declared.Refusal.{Refusal}
-use Rattle.message.specs.declared.Refusal.the-variants.{NumberTooLarge, NoSuchProcess, OtherLastValue, SlotAhead, ValueNotHeld, Panic, NoRoomForRead}
+use Rattle.message.specs.declared.Refusal.the-variants.{NumberTooLarge, NoSuchProcess, OtherLastValue, SlotAhead, ValueNotHeld, Panic}
 use Rattle.message.specs.declared.RoundV.{RoundV}
 use Rattle.message.specs.declared.RoundV.the-variants.{FastV, PaxosV}
 use Rattle.fast_state.specs.Adopt.{lowestBest}
 use Rattle.read_tracker.specs.declared.Opened.{Opened}
 use Rattle.read_tracker.specs.declared.Opened.the-variants.{Refused as NotOpened, Id}
-use Rattle.settings.specs.Questions.{delegateOf, startingRoundOf}
+use Rattle.settings.specs.Questions.{delegateOf, startingRoundOf, delegateIn}
 use Rattle.settings.specs.Settings.{withinLimits}
 use Rattle.settings.specs.declared.Settings.{Settings}
 use Rattle.settings.proofs.Limits.{within-counts, within-members}
@@ -53,7 +53,7 @@ use Rattle.steps.specs.declared.RoundsStep.{RoundsStep}
 use Rattle.delivery.specs.Admit.{isAhead, otherLastValue, valueAwaited, ready, admit}
 use Rattle.consensus.specs.Answers.{refused, sent, nothing, committed, finishAt, finish}
 use Rattle.consensus.specs.Call.{proposing, propose, read, admitted, receive, dispatch, unlessSpent, ifMade, callWith, callOf}
-use Rattle.calls.specs.Asked.{gathererOf, heardOf}
+use Rattle.calls.specs.Asked.{gathererOf, heardOf, gathererIn}
 use Rattle.core_calls.specs.CoreCall.{nextReadable}
 use Rattle.consensus.specs.Handle.{onCommit, onReadRequest, onReadResponse, afterInsert, readInserted, startRead, processed, processMessage, handle}
 use Rattle.delivery.specs.Limits.{isNumber, isSlot, numbersFit, rvProcesses, msgProcesses, requesterBelow, processesFit}
@@ -216,7 +216,7 @@ admitted-facts count own core d e =
     record { processes = p .0; not-ahead = ready-cond (isAhead core (msgSlot (d .message .msg))) (cond (otherLastValue core d) (Refused OtherLastValue) (cond (valueAwaited own core d) (Refused ValueNotHeld) Done)) SlotAhead (p .1) }
 
 delegate-same : (s : Settings) (i : ℕ) (m : PFMode) (l : ℕ) → delegateOf (memberSettings s i) m l ≡ delegateOf s m l
-unfolding delegateOf
+unfolding delegateIn
 delegate-same s i Paxos l = refl
 delegate-same s i MultiPaxos l = refl
 delegate-same s i MultiPaxos3P l = refl
@@ -269,14 +269,14 @@ module _ (s : Settings) (i : ℕ) (classic : Classic (s .mode)) (limits : within
 
   -- who gathers, in the classic modes
   gatherer : (slot : ℕ) (round : PaxosRound) (rv : RoundV) → gathererOf (memberSettings s i) (Prepare slot round rv) ≡ delegateOf s (s .mode) (round .leader)
-  unfolding gathererOf
+  unfolding gathererIn
   gatherer slot round (FastV proposer v) =
       ap (λ (t : Bool). cond (t && not (eqb (round .leader) i)) proposer (delegateOf (memberSettings s i) (s .mode) (round .leader))) (not-swift (s .mode) classic)
       ∙ delegate-same s i (s .mode) (round .leader)
   gatherer slot round (PaxosV at v) = delegate-same s i (s .mode) (round .leader)
 
   accept-gatherer : (slot : ℕ) (round : PaxosRound) (v : ℕ) → gathererOf (memberSettings s i) (Accept slot round v) ≡ delegateOf s (s .mode) (round .leader)
-  unfolding gathererOf
+  unfolding gathererIn
   accept-gatherer slot round v = delegate-same s i (s .mode) (round .leader)
 
   slot-of : (core : Core) (slot : ℕ) → ltb (core .slot) slot ≡ false → slot ≤ core .slot
@@ -467,7 +467,7 @@ module _ (s : Settings) (i : ℕ) (classic : Classic (s .mode)) (limits : within
     new-read tag arrival = go (isNumber tag && isSlot arrival)
       where
         opened : (o : Opened) → asModel reads (afterInsert shard (readInserted shard tag arrival) o)
-        opened NotOpened = (refl, refl, tt)
+        opened (NotOpened why) = (refl, refl, tt)
         opened (Id id) = (refl, refl, (refl, tt))
 
         go : (t : Bool) → asModel reads (cond t (afterInsert shard (readInserted shard tag arrival) (readInserted shard tag arrival .opened)) (refused NumberTooLarge shard))
@@ -574,7 +574,7 @@ module _ (s : Settings) (i : ℕ) (classic : Classic (s .mode)) (limits : within
     read-kept tag arrival = go (isNumber tag && isSlot arrival)
       where
         opened : (o : Opened) → ShardKept (afterInsert shard (readInserted shard tag arrival) o)
-        opened NotOpened = refused-kept NoRoomForRead
+        opened (NotOpened why) = refused-kept why
         opened (Id id) = record { same-settings = refl; same-made = refl; leaders-kept = record { in-round = ok .in-round; in-held = ok .in-held } }
 
         go : (t : Bool) → ShardKept (cond t (afterInsert shard (readInserted shard tag arrival) (readInserted shard tag arrival .opened)) (refused NumberTooLarge shard))

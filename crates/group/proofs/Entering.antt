@@ -22,8 +22,7 @@ use Rattle.round_state.proofs.Counting.{with-sender-own, with-sender-other, wit
 use Rattle.settings.specs.declared.Settings.{Settings}
 use Rattle.calls.specs.Asked.{askedOf}
 use Rattle.enter.specs.Enter.{inRound, isOlder, fromLive, enter}
-use Rattle.paxos_family.specs.Process.{ifContinues}
-use Rattle.steps.specs.Steps.{noMessages, heldV, withPaxos, stays, continues, refuses}
+use Rattle.steps.specs.Steps.{noMessages, heldV, withPaxos, stays, continues, refuses, andThen}
 use Rattle.steps.specs.declared.Core.{Core}
 use Rattle.steps.specs.declared.CoreStep.{CoreStep}
 use Rattle.steps.specs.declared.Heard.{Heard}
@@ -31,10 +30,6 @@ use Rattle.agreement.specs.Model.{View, Outcome, add, joined, quiet}
 use Rattle.agreement.specs.Model as model
 use Rattle.group.specs.Claim.{memberSettings}
 use Rattle.group.proofs.View.{roundNumber, before-number, no-member, insert-add, viewOf, Leaders, setupOf, Follows}
-
--- the rest where a step continues, and else the step
-abbrev pub after : CoreStep → (Core → CoreStep) → CoreStep
-after step rest = ifContinues (step .next) (rest (step .core)) step
 
 -- ---- views
 
@@ -181,29 +176,29 @@ module _ (s : Settings) (i : ℕ) (classic : isSwiftPaxos (s .mode) ≡ false) (
   pub enter-follows : Leaders core → round .leader < 64 → h .«source_live» ≡ contains (s .«alive_replicas») (h .src) → slot ≤ core .slot
       → (rest : Core → CoreStep) (k : View → Outcome)
       → (contains (s .«alive_replicas») i ≡ true → slot ≡ core .slot → before (Round round) (core .paxos .round) ≡ false → Follows (setupOf s) (rest (inRound round core)) (k (viewOf (inRound round core))))
-      → Follows (setupOf s) (after (enter (askedOf (memberSettings s i)) h slot round core) rest)
+      → Follows (setupOf s) (andThen (enter (askedOf (memberSettings s i)) h slot round core) rest)
       (model.enter (setupOf s) i (viewOf core) (h .src) slot (roundNumber (Round round)) k)
   enter-follows ok l live le rest k go-on = go (either (contains (s .«alive_replicas») i)) (either (isOlder slot round core)) (either (contains (s .«alive_replicas») (h .src)))
     where
       put : (step : CoreStep) (r : Outcome) → enter (askedOf (memberSettings s i)) h slot round core ≡ step
-          → model.enter (setupOf s) i (viewOf core) (h .src) slot (roundNumber (Round round)) k ≡ r → Follows (setupOf s) (after step rest) r
-          → Follows (setupOf s) (after (enter (askedOf (memberSettings s i)) h slot round core) rest)
+          → model.enter (setupOf s) i (viewOf core) (h .src) slot (roundNumber (Round round)) k ≡ r → Follows (setupOf s) (andThen step rest) r
+          → Follows (setupOf s) (andThen (enter (askedOf (memberSettings s i)) h slot round core) rest)
           (model.enter (setupOf s) i (viewOf core) (h .src) slot (roundNumber (Round round)) k)
       put step r e d f =
-          subst (λ (o : Outcome). Follows (setupOf s) (after (enter (askedOf (memberSettings s i)) h slot round core) rest) o) (sym d)
-          (subst (λ (t : CoreStep). Follows (setupOf s) (after t rest) r) (sym e) f)
+          subst (λ (o : Outcome). Follows (setupOf s) (andThen (enter (askedOf (memberSettings s i)) h slot round core) rest) o) (sym d)
+          (subst (λ (t : CoreStep). Follows (setupOf s) (andThen t rest) r) (sym e) f)
 
       go : (contains (s .«alive_replicas») i ≡ true) ⊎ (contains (s .«alive_replicas») i ≡ false)
           → (isOlder slot round core ≡ true) ⊎ (isOlder slot round core ≡ false)
           → (contains (s .«alive_replicas») (h .src) ≡ true) ⊎ (contains (s .«alive_replicas») (h .src) ≡ false)
-          → Follows (setupOf s) (after (enter (askedOf (memberSettings s i)) h slot round core) rest)
+          → Follows (setupOf s) (andThen (enter (askedOf (memberSettings s i)) h slot round core) rest)
           (model.enter (setupOf s) i (viewOf core) (h .src) slot (roundNumber (Round round)) k)
       go (inr e) o v = put (stays core noMessages) (quiet (viewOf core)) (enter-client e) (model-client k e) (record { seen-as = refl })
       go (inl e) (inl o) v = put (stays core noMessages) (quiet (viewOf core)) (enter-older e o) (model-older k e ok l o) (record { seen-as = refl })
       go (inl e) (inr o) (inr v) =
           subst
           (λ (t : CoreStep).
-          Follows (setupOf s) (after t rest) (model.enter (setupOf s) i (viewOf core) (h .src) slot (roundNumber (Round round)) k))
+          Follows (setupOf s) (andThen t rest) (model.enter (setupOf s) i (viewOf core) (h .src) slot (roundNumber (Round round)) k))
           (sym (enter-not-live e o (live ∙ v)))
           (record { seen-as = tt })
       go (inl e) (inr o) (inl v) =

@@ -20,19 +20,19 @@ use Rattle.message.specs.declared.OptionalValue.the-variants.{NoValue, Value}
 use Rattle.message.specs.declared.PFMode.the-variants.{Paxos}
 use Rattle.message.specs.declared.RoundV.the-variants.{PaxosV}
 use Rattle.settings.specs.Settings.{countsFit, membersFit, committersFit, modeFits, withinLimits}
-use Rattle.settings.specs.Questions.{delegateOf, committerOf}
+use Rattle.settings.specs.Questions.{committerFor, committerIn, delegateIn}
 use Rattle.settings.specs.declared.Settings.{Settings}
 use Rattle.round_state.specs.Paxos.{withSender, withOwn, heldAfterPromise, receivePromise, paxosProposeV, acceptFits, receiveAccept, acceptOwn, selfAccept}
 use Rattle.accept.specs.Accept.{isCommitter, answerAccept, tellsCommit, commitMessages, tryCommit, answered, follower, accepted, accepting}
 use Rattle.paxos_family.specs.Commit.{commitSlot}
 use Rattle.enter.specs.Enter.{inRound, isOlder, fromLive, enter}
-use Rattle.prepare.specs.Prepare.{holdFirst, answerPrepare, answersNothing, preparing, prepared, broadcastAccept, acceptPhase, gather}
+use Rattle.prepare.specs.Prepare.{holdFirst, answerPrepare, answersNothing, preparing, prepared, broadcastAccept, acceptPhase, becomesPrepared, gather}
 use Rattle.paxos_family.specs.Process.{inPrepare, onPrepare, onAccept, processClassic}
 use Rattle.propose.specs.Propose.{electing, mayPropose, proposePrepare, proposeClassic}
 use Rattle.delivery.specs.Admit.{otherLastValue, valueAwaited, ready, admit}
 use Rattle.consensus.specs.Answers.{committed}
 use Rattle.consensus.specs.Call.{newShard, proposing, propose, receive, dispatch, unlessSpent, callWith}
-use Rattle.calls.specs.Asked.{gathererOf}
+use Rattle.calls.specs.Asked.{gathererIn}
 use Rattle.consensus.specs.Handle.{onCommit, processed, processMessage, handle}
 use Rattle.delivery.specs.Limits.{roundNumbers, rvNumbers, msgNumbers, valueNumbers, processNumbers, numbersFit, rvProcesses, msgProcesses, requesterBelow, processesFit}
 use Rattle.calls.specs.declared.Call.the-variants.{Propose, Receive}
@@ -111,7 +111,7 @@ commits i slot v = record { member = i; commit = Committed slot v false }
 
 pub example-commits : commitsOf (entries three calls)
     ≡ (commits 2 1 20 ∷ commits 0 1 20 ∷ commits 1 1 20 ∷ none 2 ∷ none 1 ∷ none 2 ∷ none 1 ∷ commits 2 0 10 ∷ commits 1 0 10 ∷ commits 0 0 10 ∷ none 1 ∷ none 0 ∷ none 1 ∷ none 0 ∷ [])
-unfolding entriesFrom newShard callWith unlessSpent dispatch propose receive admit numbersFit processesFit ready otherLastValue valueAwaited roundNumbers rvNumbers msgNumbers valueNumbers processNumbers rvProcesses msgProcesses requesterBelow handle onCommit committed processMessage processed gathererOf proposing proposeClassic mayPropose electing proposePrepare processClassic onPrepare onAccept inPrepare enter fromLive isOlder inRound prepared holdFirst preparing answersNothing answerPrepare gather acceptPhase broadcastAccept accepting accepted follower answered tryCommit isCommitter commitSlot paxosProposeV receivePromise heldAfterPromise receiveAccept acceptFits acceptOwn selfAccept withSender withOwn nextLeaderRound roundBefore roundEqual increment delegateOf withinLimits countsFit membersFit committersFit modeFits contains count size insert
+unfolding entriesFrom newShard callWith unlessSpent dispatch propose receive admit numbersFit processesFit ready otherLastValue valueAwaited roundNumbers rvNumbers msgNumbers valueNumbers processNumbers rvProcesses msgProcesses requesterBelow handle onCommit committed processMessage processed gathererIn proposing proposeClassic mayPropose electing proposePrepare processClassic onPrepare onAccept inPrepare enter fromLive isOlder inRound prepared holdFirst preparing answersNothing answerPrepare gather becomesPrepared acceptPhase broadcastAccept accepting accepted follower answered tryCommit isCommitter commitSlot paxosProposeV receivePromise heldAfterPromise receiveAccept acceptFits acceptOwn selfAccept withSender withOwn nextLeaderRound roundBefore roundEqual increment delegateIn withinLimits countsFit membersFit committersFit modeFits contains count size insert
 example-commits = refl
 
 -- a call that is of a member and may stand, before a legal list
@@ -119,7 +119,7 @@ first : {A B C : Type 0} → A → B → C → A × B × C
 first below stands rest = (below, stands, rest)
 
 pub example-legal : Legal three calls
-unfolding LegalFrom newShard callWith unlessSpent dispatch propose receive admit numbersFit processesFit ready otherLastValue valueAwaited roundNumbers rvNumbers msgNumbers valueNumbers processNumbers rvProcesses msgProcesses requesterBelow handle onCommit committed processMessage processed gathererOf proposing proposeClassic mayPropose electing proposePrepare processClassic onPrepare onAccept inPrepare enter fromLive isOlder inRound prepared holdFirst preparing answersNothing answerPrepare gather acceptPhase broadcastAccept accepting accepted follower answered tryCommit commitMessages tellsCommit isCommitter answerAccept commitSlot paxosProposeV receivePromise heldAfterPromise receiveAccept acceptFits acceptOwn selfAccept withSender withOwn nextLeaderRound roundBefore roundEqual increment delegateOf committerOf withinLimits countsFit membersFit committersFit modeFits contains count size insert
+unfolding LegalFrom newShard callWith unlessSpent dispatch propose receive admit numbersFit processesFit ready otherLastValue valueAwaited roundNumbers rvNumbers msgNumbers valueNumbers processNumbers rvProcesses msgProcesses requesterBelow handle onCommit committed processMessage processed gathererIn proposing proposeClassic mayPropose electing proposePrepare processClassic onPrepare onAccept inPrepare enter fromLive isOlder inRound prepared holdFirst preparing answersNothing answerPrepare gather becomesPrepared acceptPhase broadcastAccept accepting accepted follower answered tryCommit commitMessages tellsCommit isCommitter answerAccept commitSlot paxosProposeV receivePromise heldAfterPromise receiveAccept acceptFits acceptOwn selfAccept withSender withOwn nextLeaderRound roundBefore roundEqual increment delegateIn committerIn committerFor withinLimits countsFit membersFit committersFit modeFits contains count size insert
 example-legal =
     first (lit< tt) tt
     (first (lit< tt) (_, _, inl refl, refl, inl refl, refl, neqb→ne 0 1 tt)

@@ -3,12 +3,14 @@
 -- Assumes nothing.
 use mathlib.Core.Path.{_≡_, refl, sym, subst, _∙_}
 use mathlib.Core.Logic.{inl, inr}
-use mathlib.Core.Bool.{true, false, _&&_}
+use mathlib.Core.Bool.{true, _&&_}
 use mathlib.Core.List.{List, [], _∷_}
 use Prim.Native.Nat.{ℕ, _<_}
 use native.Mathlib.Omega.{arith}
-use lib.Dec.{eqb, leb}
+use lib.Dec.{leb}
 use Rattle.message.specs.Modes.{hasFastPath, isMultiPaxos}
+use Rattle.message.specs.declared.ConsensusMsg.{ConsensusMsg}
+use Rattle.message.specs.declared.ConsensusMsg.the-variants.{Prepare, Accept}
 use Rattle.message.specs.declared.ConsensusMessage.{ConsensusMessage}
 use Rattle.message.specs.declared.OptionalRound.the-variants.{NoRound, Round}
 use Rattle.message.specs.declared.Outcome.{Outcome}
@@ -26,7 +28,7 @@ use Rattle.fast_state.specs.declared.FastChange.{FastChange}
 use Rattle.fast_state.specs.Adopt.{lowestBest}
 use Rattle.read_tracker.specs.declared.Opened.{Opened}
 use Rattle.read_tracker.specs.declared.Opened.the-variants.{Refused as NotOpened, Id}
-use Rattle.propose.specs.Propose.{proposalRound, mayPropose, afterPrepare, proposePrepare, afterAccept, afterOwnPromise, proposeAccept, proposeClassic, afterOwnAnswer, ownAnswer, leadsSwift, proposeChange, proposeFast}
+use Rattle.propose.specs.Propose.{proposalRound, mayPropose, proposed, proposePrepare, afterOwnPromise, proposeAccept, proposeClassic, afterOwnAnswer, ownAnswer, leadsFromStart, proposeChange, proposeFast}
 use Rattle.steps.specs.declared.Asked.{Asked}
 use Rattle.steps.specs.declared.ChangeStep.{ChangeStep}
 use Rattle.steps.specs.declared.Core.{Core}
@@ -86,20 +88,16 @@ abbrev CallToAll : Reply → Type 0
 CallToAll reply = SendsToAll (messagesOf (reply .messages)) × (reply .commit ≡ NoCommit)
 
 module _ (a : Asked) where
-  prepare-to-all : (round : PaxosRound) (rv : RoundV) (core : Core) (p : PaxosState) (o : Outcome) → StepToAll (afterPrepare a round rv core p o)
-  prepare-to-all round rv core p Done = (tt, tt)
-  prepare-to-all round rv core p (Refused why) = tt
+  proposed-to-all : (msg : ConsensusMsg) (core : Core) (p : PaxosState) (o : Outcome) → StepToAll (proposed a msg core p o)
+  proposed-to-all msg core p Done = (tt, tt)
+  proposed-to-all msg core p (Refused why) = tt
 
   propose-prepare-to-all : (round : PaxosRound) (rv : RoundV) (core : Core) → StepToAll (proposePrepare a round rv core)
   unfolding proposePrepare
-  propose-prepare-to-all round rv core = prepare-to-all round rv core _ (paxosProposeV (a .member) rv (gotoRound (Round round) (core .paxos)) .outcome)
-
-  accept-to-all : (round : PaxosRound) (v : ℕ) (core : Core) (p : PaxosState) (o : Outcome) → StepToAll (afterAccept a round v core p o)
-  accept-to-all round v core p Done = (tt, tt)
-  accept-to-all round v core p (Refused why) = tt
+  propose-prepare-to-all round rv core = proposed-to-all (Prepare (core .slot) round rv) core _ (paxosProposeV (a .member) rv (gotoRound (Round round) (core .paxos)) .outcome)
 
   own-promise-to-all : (round : PaxosRound) (v : ℕ) (core : Core) (p : PaxosState) (o : Outcome) → StepToAll (afterOwnPromise a round v core p o)
-  own-promise-to-all round v core p Done = accept-to-all round v core _ (selfAccept (a .member) round p .outcome)
+  own-promise-to-all round v core p Done = proposed-to-all (Accept (core .slot) round v) core _ (selfAccept (a .member) round p .outcome)
   own-promise-to-all round v core p (Refused why) = tt
 
   propose-accept-to-all : (round : PaxosRound) (v : ℕ) (core : Core) → StepToAll (proposeAccept a round v core)
@@ -121,7 +119,7 @@ module _ (a : Asked) where
   unfolding proposeChange
   fast-to-all v core f epaxos swift =
       of-both ChangeToAll (mayPropose a core)
-      (of-both ChangeToAll (leadsSwift a) (propose-accept-to-all (proposalRound a core) v core)
+      (of-both ChangeToAll (leadsFromStart a) (propose-accept-to-all (proposalRound a core) v core)
       (own-answer-to-all (proposalRound a core) v core _ (ownAnswer a v f epaxos swift .outcome))) tt
 
   proposing-to-all : (v : ℕ) (s : Rounds) → RoundsToAll (proposing a v s)
@@ -153,7 +151,7 @@ read-to-all shard tag arrival =
     of-both (λ (r : Answer). CallToAll (r .reply)) (isNumber tag && isSlot arrival) (opened (readInserted shard tag arrival .opened)) (refused-to-all NumberTooLarge shard)
   where
     opened : (o : Opened) → CallToAll (afterInsert shard (readInserted shard tag arrival) o .reply)
-    opened NotOpened = (tt, refl)
+    opened (NotOpened why) = (tt, refl)
     opened (Id id) = ((tt, tt), refl)
 
 -- ---- a run of a group of one

@@ -1,13 +1,15 @@
 -- What every step of the classic modes keeps: the slot, and that the leaders of rounds are processes.
 -- Assumes nothing.
 use mathlib.Core.Path.{_≡_, _∙_}
-use mathlib.Core.Bool.{Bool, true, false, cond, not, _&&_, _||_}
+use mathlib.Core.Bool.{Bool, true, false, cond, not, _||_}
 use Prim.Native.Nat.{ℕ, _<_}
 use lib.Dec.{eqb}
 use Rattle.sets.specs.Sets.{isEmpty}
 use Rattle.message.specs.Modes.{isMultiPaxos, isSwiftPaxos}
 use Rattle.message.specs.Promises.{acceptRoundOf}
 use Rattle.message.specs.Rounds.{before, nextLeaderRound}
+use Rattle.message.specs.declared.ConsensusMsg.{ConsensusMsg}
+use Rattle.message.specs.declared.ConsensusMsg.the-variants.{Prepare, Accept}
 use Rattle.message.specs.declared.OptionalRound.the-variants.{NoRound, Round}
 use Rattle.message.specs.declared.OptionalValue.{OptionalValue}
 use Rattle.message.specs.declared.OptionalValue.the-variants.{NoValue, Value}
@@ -16,7 +18,7 @@ use Rattle.message.specs.declared.Outcome.the-variants.{Done, Refused}
 use Rattle.message.specs.declared.PaxosRound.{PaxosRound}
 use Rattle.message.specs.declared.RoundV.{RoundV}
 use Rattle.message.specs.declared.RoundV.the-variants.{PaxosV}
-use Rattle.round_state.specs.Paxos.{getV, getLastAcceptedRound, isHeld, isPrepared, paxosCanCommit, acceptFits, gotoRound, heldAfterPromise, receivePromise, paxosProposeV, receiveAccept, acceptOwn, selfAccept}
+use Rattle.round_state.specs.Paxos.{getV, getLastAcceptedRound, isHeld, paxosCanCommit, acceptFits, gotoRound, heldAfterPromise, receivePromise, paxosProposeV, receiveAccept, acceptOwn, selfAccept}
 use Rattle.round_state.specs.declared.HeldPromise.{HeldPromise}
 use Rattle.round_state.specs.declared.HeldPromise.the-variants.{NothingHeld, Held}
 use Rattle.round_state.specs.declared.Member.{Member}
@@ -24,17 +26,15 @@ use Rattle.round_state.specs.declared.PaxosState.{PaxosState}
 use Rattle.round_state.specs.declared.PaxosStep.{PaxosStep}
 use Rattle.accept.specs.Accept.{isCommitter, answerAccept, tryCommit, answered, follower, accepted, afterAccepted, accepting}
 use Rattle.enter.specs.Enter.{isOlder, fromLive, enter}
-use Rattle.prepare.specs.Prepare.{holdFirst, answerPrepare, answersNothing, preparing, afterHeld, prepared, broadcastAccept, afterOwnAccept, acceptPhase, gather}
-use Rattle.paxos_family.specs.Process.{ifContinues, inPrepare, onPrepare, onAccept}
-use Rattle.propose.specs.Propose.{electing, proposalRound, mayPropose, afterPrepare, proposePrepare, afterAccept, afterOwnPromise, proposeAccept, proposeClassic}
-use Rattle.steps.specs.Steps.{noMessages, withPaxos, leftFastPath}
+use Rattle.prepare.specs.Prepare.{holdFirst, answerPrepare, answersNothing, preparing, afterHeld, prepared, broadcastAccept, afterOwnAccept, acceptPhase, withPromise, becomesPrepared, gather}
+use Rattle.paxos_family.specs.Process.{inPrepare, onPrepare, onAccept}
+use Rattle.propose.specs.Propose.{electing, proposalRound, mayPropose, proposed, proposePrepare, afterOwnPromise, proposeAccept, proposeClassic}
+use Rattle.steps.specs.Steps.{noMessages, withPaxos, leftFastPath, goesOn}
 use Rattle.steps.specs.declared.Asked.{Asked}
 use Rattle.steps.specs.declared.Core.{Core}
 use Rattle.steps.specs.declared.CoreStep.{CoreStep}
 use Rattle.steps.specs.declared.Heard.{Heard}
 use Rattle.steps.specs.declared.Messages.{Messages}
-use Rattle.steps.specs.declared.Next.{Next}
-use Rattle.steps.specs.declared.Next.the-variants.{Stays, Continues, Commits, Refuses}
 use Rattle.group.proofs.View.{LeaderFits, Leaders}
 use Rattle.group.proofs.Entering.{in-round-leaders, in-round-slot}
 
@@ -95,12 +95,6 @@ pub record Keeps (slot : ℕ) (step : CoreStep) : Type 0 where
 keeps-cond : {slot : ℕ} (b : Bool) {x y : CoreStep} → Keeps slot x → Keeps slot y → Keeps slot (cond b x y)
 keeps-cond true f g = f
 keeps-cond false f g = g
-
-keeps-next : {slot : ℕ} (n : Next) {x y : CoreStep} → Keeps slot x → Keeps slot y → Keeps slot (ifContinues n x y)
-keeps-next Stays f g = g
-keeps-next Continues f g = f
-keeps-next (Commits v) f g = g
-keeps-next (Refuses why) f g = g
 
 -- a core that keeps both
 abbrev Kept : ℕ → Core → Type 0
@@ -164,20 +158,19 @@ module _ (a : Asked) (h : Heard) (n : ℕ) (round : PaxosRound) (below : round .
   unfolding gather
   gather-keeps rv core k fits =
       let f = promise-fits (a .member) (h .src) rv (core .paxos) (state-of (k .1)) fits in
-      keeps-cond (not (isPrepared (a .member) (core .paxos)) && isPrepared (a .member) (receivePromise (a .member) (h .src) rv (core .paxos) .state))
-      (phase-keeps (withPaxos (receivePromise (a .member) (h .src) rv (core .paxos) .state) core) (k .0, leaders-of f)) (keeps (k .0, leaders-of f))
+      keeps-cond (becomesPrepared a core (withPromise a h rv core)) (phase-keeps (withPromise a h rv core) (k .0, leaders-of f)) (keeps (k .0, leaders-of f))
 
   in-prepare-keeps : (rv : RoundV) (core : Core) → Kept n core → LeaderFits (acceptRoundOf rv) → Keeps n (inPrepare a h round rv core)
   unfolding inPrepare
   in-prepare-keeps rv core k fits =
       let p = prepared-keeps rv core k fits in
-      keeps-next (prepared a h round rv core .next) (gather-keeps rv (prepared a h round rv core .core) (p .same-slot, p .leaders) fits) p
+      keeps-cond (goesOn (prepared a h round rv core .next)) (gather-keeps rv (prepared a h round rv core .core) (p .same-slot, p .leaders) fits) p
 
   pub on-prepare-keeps : (slot : ℕ) (rv : RoundV) (core : Core) → Kept n core → LeaderFits (acceptRoundOf rv) → Keeps n (onPrepare a h slot round rv core)
   unfolding onPrepare
   on-prepare-keeps slot rv core k fits =
       let e = enter-keeps slot core k in
-      keeps-next (enter a h slot round core .next) (in-prepare-keeps rv (enter a h slot round core .core) (e .same-slot, e .leaders) fits) e
+      keeps-cond (goesOn (enter a h slot round core .next)) (in-prepare-keeps rv (enter a h slot round core .core) (e .same-slot, e .leaders) fits) e
 
   commit-keeps : (v : ℕ) (core : Core) → Kept n core → (ms : Messages) → Keeps n (tryCommit a h round v core ms)
   unfolding tryCommit
@@ -211,7 +204,7 @@ module _ (a : Asked) (h : Heard) (n : ℕ) (round : PaxosRound) (below : round .
   unfolding onAccept
   on-accept-keeps slot v core k =
       let e = enter-keeps slot core k in
-      keeps-next (enter a h slot round core .next) (accepting-keeps v (enter a h slot round core .core) (e .same-slot, e .leaders)) e
+      keeps-cond (goesOn (enter a h slot round core .next)) (accepting-keeps v (enter a h slot round core .core) (e .same-slot, e .leaders)) e
 
 -- ---- proposals
 
@@ -219,25 +212,21 @@ module _ (a : Asked) (n : ℕ) (round : PaxosRound) (below : round .leader < 64)
   goto-fits : (p : PaxosState) → StateFits p → StateFits (gotoRound (Round round) p)
   goto-fits p ok = record { in-round = below; in-held = ok .in-held }
 
-  after-prepare-keeps : (rv : RoundV) (core : Core) (p : PaxosState) (o : Outcome) → Kept n core → StateFits p → Keeps n (afterPrepare a round rv core p o)
-  after-prepare-keeps rv core p Done k f = keeps (k .0, leaders-of f)
-  after-prepare-keeps rv core p (Refused why) k f = keeps k
+  proposed-keeps : (msg : ConsensusMsg) (core : Core) (p : PaxosState) (o : Outcome) → Kept n core → StateFits p → Keeps n (proposed a msg core p o)
+  proposed-keeps msg core p Done k f = keeps (k .0, leaders-of f)
+  proposed-keeps msg core p (Refused why) k f = keeps k
 
   prepare-keeps : (core : Core) → Kept n core → Keeps n (proposePrepare a round (PaxosV NoRound v) core)
   unfolding proposePrepare
   prepare-keeps core k =
-      after-prepare-keeps (PaxosV NoRound v) core (paxosProposeV (a .member) (PaxosV NoRound v) (gotoRound (Round round) (core .paxos)) .state)
+      proposed-keeps (Prepare (core .slot) round (PaxosV NoRound v)) core (paxosProposeV (a .member) (PaxosV NoRound v) (gotoRound (Round round) (core .paxos)) .state)
       (paxosProposeV (a .member) (PaxosV NoRound v) (gotoRound (Round round) (core .paxos)) .outcome)
       k
       (propose-fits (a .member) (PaxosV NoRound v) (gotoRound (Round round) (core .paxos)) (goto-fits (core .paxos) (state-of (k .1))) tt .state-fits)
 
-  after-accept-keeps : (core : Core) (p : PaxosState) (o : Outcome) → Kept n core → StateFits p → Keeps n (afterAccept a round v core p o)
-  after-accept-keeps core p Done k f = keeps (k .0, leaders-of f)
-  after-accept-keeps core p (Refused why) k f = keeps k
-
   own-promise-keeps : (core : Core) (p : PaxosState) (o : Outcome) → Kept n core → StateFits p → Keeps n (afterOwnPromise a round v core p o)
   own-promise-keeps core p Done k f =
-      after-accept-keeps core (selfAccept (a .member) round p .state) (selfAccept (a .member) round p .outcome) k (self-fits (a .member) round p f below .state-fits)
+      proposed-keeps (Accept (core .slot) round v) core (selfAccept (a .member) round p .state) (selfAccept (a .member) round p .outcome) k (self-fits (a .member) round p f below .state-fits)
   own-promise-keeps core p (Refused why) k f = keeps k
 
   accept-keeps : (core : Core) → Kept n core → Keeps n (proposeAccept a round v core)

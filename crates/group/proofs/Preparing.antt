@@ -20,7 +20,7 @@ use Rattle.message.specs.declared.OptionalValue.the-variants.{Value}
 use Rattle.message.specs.declared.PaxosRound.{PaxosRound}
 use Rattle.message.specs.declared.Refusal.the-variants.{Panic, AcceptUnlikeHeld}
 use Rattle.message.specs.declared.RoundV.{RoundV}
-use Rattle.round_state.specs.Paxos.{getV, getLastAcceptedRound, isHeld, isPrepared, taken, refused, heldAfterPromise, receivePromise, paxosProposeV, counted, acceptFits, afterAccept, receiveAccept, acceptOwn, selfAccept}
+use Rattle.round_state.specs.Paxos.{getV, getLastAcceptedRound, isHeld, taken, refused, heldAfterPromise, receivePromise, paxosProposeV, counted, acceptFits, afterAccept, receiveAccept, acceptOwn, selfAccept}
 use Rattle.round_state.specs.declared.HeldPromise.{HeldPromise}
 use Rattle.round_state.specs.declared.HeldPromise.the-variants.{NothingHeld, Held}
 use Rattle.round_state.specs.declared.PaxosStep.{PaxosStep}
@@ -28,9 +28,10 @@ use Rattle.settings.specs.Questions.{quorumsOf, delegateOf}
 use Rattle.settings.specs.declared.Settings.{Settings}
 use Rattle.calls.specs.Asked.{askedOf}
 use Rattle.enter.specs.Enter.{inRound}
-use Rattle.prepare.specs.Prepare.{holdFirst, answerPrepare, answersNothing, preparing, prepared, broadcastAccept, afterOwnAccept, acceptPhase, gather}
+use Rattle.prepare.specs.Prepare.{holdFirst, answerPrepare, answersNothing, preparing, prepared, broadcastAccept, afterOwnAccept, acceptPhase, withPromise, becomesPrepared, gather}
+use Rattle.paxos_family.proofs.Gathering.{gather-proposes, gather-waits}
 use Rattle.paxos_family.specs.Process.{inPrepare, onPrepare}
-use Rattle.steps.specs.Steps.{noMessages, oneMessage, sends, toAll, heldRv, heldV, withPaxos, leftFastPath, stays, continues, refuses}
+use Rattle.steps.specs.Steps.{noMessages, oneMessage, sends, toAll, heldRv, heldV, withPaxos, leftFastPath, stays, continues, refuses, andThen}
 use Rattle.steps.specs.declared.Asked.{Asked}
 use Rattle.steps.specs.declared.Core.{Core}
 use Rattle.steps.specs.declared.CoreStep.{CoreStep}
@@ -40,7 +41,7 @@ use Rattle.agreement.specs.Model.{View, Outcome, add, adopted, preparedBy, vote
 use Rattle.agreement.specs.Model as model
 use Rattle.group.specs.Claim.{memberSettings}
 use Rattle.group.proofs.View.{roundNumber, LeaderFits, leaderOf, leader-of, before-number, equal-number, viewOf, Leaders, setupOf, Follows}
-use Rattle.group.proofs.Entering.{after, add-again, in-round-leaders, in-round-round, counted-add, enter-follows}
+use Rattle.group.proofs.Entering.{add-again, in-round-leaders, in-round-round, counted-add, enter-follows}
 
 -- ---- what is held
 
@@ -230,37 +231,21 @@ module _ (s : Settings) (i : ℕ) (classic : isSwiftPaxos (s .mode) ≡ false) (
       go true = refl
       go false = refl
 
-  -- the core with the promise counted
-  abbrev promised : Core → RoundV → Core
-  promised core rv = withPaxos (receivePromise (askedBy s i .member) (h .src) rv (core .paxos) .state) core
-
-  -- the promise that completes a majority
-  abbrev completes : Core → RoundV → Bool
-  completes core rv = not (isPrepared (askedBy s i .member) (core .paxos)) && isPrepared (askedBy s i .member) (promised core rv .paxos)
-
-  gather-completes : (core : Core) (rv : RoundV) → completes core rv ≡ true → gather (askedBy s i) h round rv core ≡ acceptPhase (askedBy s i) round (promised core rv)
-  unfolding gather
-  gather-completes core rv e = simp e
-
-  gather-waits : (core : Core) (rv : RoundV) → completes core rv ≡ false → gather (askedBy s i) h round rv core ≡ stays (promised core rv) noMessages
-  unfolding gather
-  gather-waits core rv e = simp e
-
   completes-model : (core : Core) (rv : RoundV)
-      → (ltb (count (viewOf core .prepared) 64) (quorumsOf s .majority) && leb (quorumsOf s .majority) (count (viewOf (promised core rv) .prepared) 64))
-      ≡ completes core rv
-  unfolding size
+      → (ltb (count (viewOf core .prepared) 64) (quorumsOf s .majority) && leb (quorumsOf s .majority) (count (viewOf (withPromise (askedBy s i) h rv core) .prepared) 64))
+      ≡ becomesPrepared (askedBy s i) core (withPromise (askedBy s i) h rv core)
+  unfolding becomesPrepared size
   completes-model core rv =
-      ap (λ (t : Bool). t && leb (quorumsOf s .majority) (count (viewOf (promised core rv) .prepared) 64))
+      ap (λ (t : Bool). t && leb (quorumsOf s .majority) (count (viewOf (withPromise (askedBy s i) h rv core) .prepared) 64))
       (sym (not-leb (quorumsOf s .majority) (count (contains (core .paxos .«prepared_set»)) 64)))
 
-  picks-completes : (core : Core) (rv : RoundV) (x0 : View) → completes core rv ≡ true
-      → model.picks (setupOf s) i x0 (viewOf core) (viewOf (promised core rv)) ≡ cond (viewOf (promised core rv) .accepted i) (refuse x0) (picked (viewOf (promised core rv)))
+  picks-completes : (core : Core) (rv : RoundV) (x0 : View) → becomesPrepared (askedBy s i) core (withPromise (askedBy s i) h rv core) ≡ true
+      → model.picks (setupOf s) i x0 (viewOf core) (viewOf (withPromise (askedBy s i) h rv core)) ≡ cond (viewOf (withPromise (askedBy s i) h rv core) .accepted i) (refuse x0) (picked (viewOf (withPromise (askedBy s i) h rv core)))
   unfolding model.picks
   picks-completes core rv x0 e = let d = completes-model core rv ∙ e in simp d
 
-  picks-waits : (core : Core) (rv : RoundV) (x0 : View) → completes core rv ≡ false
-      → model.picks (setupOf s) i x0 (viewOf core) (viewOf (promised core rv)) ≡ quiet (viewOf (promised core rv))
+  picks-waits : (core : Core) (rv : RoundV) (x0 : View) → becomesPrepared (askedBy s i) core (withPromise (askedBy s i) h rv core) ≡ false
+      → model.picks (setupOf s) i x0 (viewOf core) (viewOf (withPromise (askedBy s i) h rv core)) ≡ quiet (viewOf (withPromise (askedBy s i) h rv core))
   unfolding model.picks
   picks-waits core rv x0 e = let d = completes-model core rv ∙ e in simp d
 
@@ -280,14 +265,14 @@ module _ (s : Settings) (i : ℕ) (classic : isSwiftPaxos (s .mode) ≡ false) (
       (λ (x : View).
       Follows (setupOf s) (gather (askedBy s i) h round rv core) (model.picks (setupOf s) i x0 (viewOf core) x))
       (promise-view core rv ok held fits)
-      (go (either (completes core rv)))
+      (go (either (becomesPrepared (askedBy s i) core (withPromise (askedBy s i) h rv core))))
     where
-      go : (completes core rv ≡ true) ⊎ (completes core rv ≡ false)
-          → Follows (setupOf s) (gather (askedBy s i) h round rv core) (model.picks (setupOf s) i x0 (viewOf core) (viewOf (promised core rv)))
+      go : (becomesPrepared (askedBy s i) core (withPromise (askedBy s i) h rv core) ≡ true) ⊎ (becomesPrepared (askedBy s i) core (withPromise (askedBy s i) h rv core) ≡ false)
+          → Follows (setupOf s) (gather (askedBy s i) h round rv core) (model.picks (setupOf s) i x0 (viewOf core) (viewOf (withPromise (askedBy s i) h rv core)))
       go (inl e) =
-          follows-both (gather-completes core rv e) (picks-completes core rv x0 e)
-          (phase-follows (promised core rv) at (held-promised (core .paxos .«max_rv») rv held) x0)
-      go (inr e) = follows-both (gather-waits core rv e) (picks-waits core rv x0 e) (record { seen-as = refl })
+          follows-both (gather-proposes (askedBy s i) round h rv core e) (picks-completes core rv x0 e)
+          (phase-follows (withPromise (askedBy s i) h rv core) at (held-promised (core .paxos .«max_rv») rv held) x0)
+      go (inr e) = follows-both (gather-waits (askedBy s i) round h rv core e) (picks-waits core rv x0 e) (record { seen-as = refl })
 
   -- ---- the answer to a Prepare
 
@@ -343,7 +328,7 @@ module _ (s : Settings) (i : ℕ) (classic : isSwiftPaxos (s .mode) ≡ false) (
 
   preparing-follows : (core : Core) (rv : RoundV) → Leaders core → core .paxos .round ≡ Round round → isHeld (core .paxos .«max_rv») ≡ true → LeaderFits (acceptRoundOf rv)
       → h .delegate ≡ delegateOf s (s .mode) (round .leader) → (x0 : View)
-      → Follows (setupOf s) (after (preparing (askedBy s i) h round core) (gather (askedBy s i) h round rv)) (promisedBy core rv x0)
+      → Follows (setupOf s) (andThen (preparing (askedBy s i) h round core) (gather (askedBy s i) h round rv)) (promisedBy core rv x0)
   preparing-follows core rv ok at held fits d x0 = go (either (eqb (h .delegate) i)) (either (answersNothing (askedBy s i) h round core)) (either (eqb (h .delegate) (h .src) || not (eqb (h .delegate) (round .leader))))
     where
       dn : setupOf s .voters .delegate (viewOf core .round) ≡ h .delegate
@@ -353,14 +338,14 @@ module _ (s : Settings) (i : ℕ) (classic : isSwiftPaxos (s .mode) ≡ false) (
       same t e = ap (λ (p : ℕ). eqb p i) dn ∙ e
 
       step : (t : CoreStep) (r : Outcome) → preparing (askedBy s i) h round core ≡ t → promisedBy core rv x0 ≡ r
-          → Follows (setupOf s) (after t (gather (askedBy s i) h round rv)) r
-          → Follows (setupOf s) (after (preparing (askedBy s i) h round core) (gather (askedBy s i) h round rv)) (promisedBy core rv x0)
-      step t r e f g = follows-both (ap (λ (z : CoreStep). after z (gather (askedBy s i) h round rv)) e) f g
+          → Follows (setupOf s) (andThen t (gather (askedBy s i) h round rv)) r
+          → Follows (setupOf s) (andThen (preparing (askedBy s i) h round core) (gather (askedBy s i) h round rv)) (promisedBy core rv x0)
+      step t r e f g = follows-both (ap (λ (z : CoreStep). andThen z (gather (askedBy s i) h round rv)) e) f g
 
       go : (eqb (h .delegate) i ≡ true) ⊎ (eqb (h .delegate) i ≡ false)
           → (answersNothing (askedBy s i) h round core ≡ true) ⊎ (answersNothing (askedBy s i) h round core ≡ false)
           → ((eqb (h .delegate) (h .src) || not (eqb (h .delegate) (round .leader))) ≡ true) ⊎ ((eqb (h .delegate) (h .src) || not (eqb (h .delegate) (round .leader))) ≡ false)
-          → Follows (setupOf s) (after (preparing (askedBy s i) h round core) (gather (askedBy s i) h round rv)) (promisedBy core rv x0)
+          → Follows (setupOf s) (andThen (preparing (askedBy s i) h round core) (gather (askedBy s i) h round rv)) (promisedBy core rv x0)
       go (inl e) n k = step (continues core noMessages) _ (preparing-delegate core e) (model-delegate core rv x0 (same true e)) (gather-follows core rv ok at held fits x0)
       go (inr e) (inl n) k =
           step (stays core noMessages) (quiet (viewOf core)) (preparing-silent core e n) (model-silent core rv x0 (same false e) (sym (answers-nothing core ok at) ∙ n))
@@ -420,16 +405,16 @@ module _ (s : Settings) (i : ℕ) (classic : isSwiftPaxos (s .mode) ≡ false) (
 
       go : (isHeld (core .paxos .«max_rv») ≡ true) ⊎ (isHeld (core .paxos .«max_rv») ≡ false)
           → (isEmpty (core .paxos .«prepared_set») ≡ true) ⊎ (isEmpty (core .paxos .«prepared_set») ≡ false)
-          → Follows (setupOf s) (after (prepared (askedBy s i) h round rv core) (gather (askedBy s i) h round rv))
+          → Follows (setupOf s) (andThen (prepared (askedBy s i) h round rv core) (gather (askedBy s i) h round rv))
           (goal (cond (isHeld (core .paxos .«max_rv»)) (viewOf core) (preparedBy i (adopted (roundNumber (acceptRoundOf rv)) (valueOf rv) (viewOf core)))))
       go (inl e) n =
-          follows-both (ap (λ (z : CoreStep). after z (gather (askedBy s i) h round rv)) (prepared-held core rv e))
+          follows-both (ap (λ (z : CoreStep). andThen z (gather (askedBy s i) h round rv)) (prepared-held core rv e))
           (ap (λ (t : Bool). goal (cond t (viewOf core) (preparedBy i (adopted (roundNumber (acceptRoundOf rv)) (valueOf rv) (viewOf core))))) e)
           (preparing-follows core rv ok at e fits d x0)
       go (inr e) (inr n) =
-          follows-both (ap (λ (z : CoreStep). after z (gather (askedBy s i) h round rv)) (prepared-refused core rv e n)) refl (record { seen-as = tt })
+          follows-both (ap (λ (z : CoreStep). andThen z (gather (askedBy s i) h round rv)) (prepared-refused core rv e n)) refl (record { seen-as = tt })
       go (inr e) (inl n) =
-          follows-both (ap (λ (z : CoreStep). after z (gather (askedBy s i) h round rv)) (prepared-first core rv e n))
+          follows-both (ap (λ (z : CoreStep). andThen z (gather (askedBy s i) h round rv)) (prepared-first core rv e n))
           (ap (λ (t : Bool). goal (cond t (viewOf core) (preparedBy i (adopted (roundNumber (acceptRoundOf rv)) (valueOf rv) (viewOf core))))) e ∙ ap goal (sym (first-view s i alive small core rv e)))
           (preparing-follows first rv (first-leaders s i alive small core rv ok e fits) (first-round s i alive small core rv ∙ at) (first-held s i alive small core rv e) fits d x0)
 

@@ -25,9 +25,9 @@ use Rattle.round_state.specs.Paxos.{isHeld, taken, gotoRound, heldAfterPromise,
 use Rattle.round_state.specs.declared.HeldPromise.the-variants.{NothingHeld}
 use Rattle.round_state.specs.declared.PaxosState.{PaxosState}
 use Rattle.round_state.specs.declared.PaxosStep.{PaxosStep}
-use Rattle.settings.specs.Questions.{delegateOf, startingRoundOf}
+use Rattle.settings.specs.Questions.{delegateOf, startingRoundOf, delegateIn}
 use Rattle.settings.specs.declared.Settings.{Settings}
-use Rattle.propose.specs.Propose.{notAllowed, electing, proposalRound, mayPropose, afterPrepare, proposePrepare, afterAccept as afterAcceptStep, afterOwnPromise, proposeAccept, proposeClassic}
+use Rattle.propose.specs.Propose.{notAllowed, electing, proposalRound, mayPropose, proposed, proposePrepare, afterOwnPromise, proposeAccept, proposeClassic}
 use Rattle.steps.specs.Steps.{oneMessage, sends, toAll, withPaxos, stays}
 use Rattle.steps.specs.declared.Core.{Core}
 use Rattle.agreement.specs.Model.{View, joined, adopted, preparedBy, voted, say}
@@ -49,7 +49,7 @@ no-start SwiftPaxos l e = refl
 
 -- with one, the leader gathers
 leader-gathers : (s : Settings) (m : PFMode) (l : ℕ) → isMultiPaxos m ≡ true → delegateOf s m l ≡ l
-unfolding delegateOf
+unfolding delegateIn
 leader-gathers s Paxos l e = absurd (not-both e refl)
 leader-gathers s MultiPaxos l e = refl
 leader-gathers s MultiPaxos3P l e = refl
@@ -143,7 +143,7 @@ module _ (s : Settings) (i : ℕ) (classic : isSwiftPaxos (s .mode) ≡ false) (
     prepare-step : (r : PaxosRound) (rv : RoundV)
         → proposePrepare (askedBy s i) r rv core ≡ stays (withPaxos (promised r rv) core) (oneMessage (sends (askedBy s i) core toAll (Prepare (core .slot) r rv)))
     unfolding proposePrepare
-    prepare-step r rv = ap (λ (t : PaxosStep). afterPrepare (askedBy s i) r rv core (t .state) (t .outcome)) (propose-promise r rv)
+    prepare-step r rv = ap (λ (t : PaxosStep). proposed (askedBy s i) (Prepare (core .slot) r rv) core (t .state) (t .outcome)) (propose-promise r rv)
 
     self-accept : (r : PaxosRound) → selfAccept (askedBy s i .member) r (promised r (PaxosV NoRound v)) ≡ taken (afterAccept (askedBy s i .member) i r v (promised r (PaxosV NoRound v)))
     unfolding selfAccept acceptOwn receiveAccept acceptFits receivePromise heldAfterPromise
@@ -155,7 +155,7 @@ module _ (s : Settings) (i : ℕ) (classic : isSwiftPaxos (s .mode) ≡ false) (
     unfolding proposeAccept
     accept-step r =
         ap (λ (t : PaxosStep). afterOwnPromise (askedBy s i) r v core (t .state) (t .outcome)) (propose-promise r (PaxosV NoRound v))
-        ∙ ap (λ (t : PaxosStep). afterAcceptStep (askedBy s i) r v core (t .state) (t .outcome)) (self-accept r)
+        ∙ ap (λ (t : PaxosStep). proposed (askedBy s i) (Accept (core .slot) r v) core (t .state) (t .outcome)) (self-accept r)
 
     -- ---- their views
 

@@ -5,11 +5,12 @@ use mathlib.Core.Logic.{_⊎_, inl, inr}
 use mathlib.Core.Bool.{Bool, true, false, cond}
 use mathlib.Core.List.{List, [], _∷_}
 use Prim.Native.Nat.{ℕ, zero, suc, _≤_, _<_}
-use native.Mathlib.Nat.{not-suc-le-zero, le-of-suc-le-suc, lt-of-lt-of-le}
+use native.Mathlib.Nat.{not-suc-le-zero, lt-of-lt-of-le}
 use native.Mathlib.Omega.{arith}
-use lib.Dec.{eqb, eqb·zero-suc, eqb·suc-suc, eqb·suc-zero}
-use lib.ListN.{length, getD, set, length-set, length-replicate}
+use lib.Dec.{eqb}
+use lib.ListN.{length, getD, length-set, length-replicate}
 use borrow.Author.Tests.{lt-ltb, eqb-true, eqb-false}
+use Rattle.basics.proofs.Places.{get-set}
 use Rattle.basics.proofs.Tests.{either}
 use Rattle.settings.specs.declared.Settings.{Settings}
 use Rattle.consensus.specs.Call.{callOf}
@@ -20,13 +21,6 @@ use Rattle.group.specs.Group.{newMembers, newGroup, shardAt, replaced, c
 use Rattle.group.specs.declared.Group.{Group}
 use Rattle.group.specs.declared.GroupAnswer.{GroupAnswer}
 use Rattle.group.proofs.Agreement.{agreement}
-
-get-set : {A : Type 0} (l : List A) (i j : ℕ) (x d : A) → i < length l → getD (set l i x) j d ≡ cond (eqb j i) x (getD l j d)
-get-set [] i j x d h = absurd (not-suc-le-zero h)
-get-set (y ∷ l) zero zero x d h = refl
-get-set (y ∷ l) zero (suc j) x d h = ap (λ (t : Bool). cond t x (getD l j d)) (sym (eqb·suc-zero j))
-get-set (y ∷ l) (suc i) zero x d h = ap (λ (t : Bool). cond t x y) (sym (eqb·zero-suc i))
-get-set (y ∷ l) (suc i) (suc j) x d h = get-set l i j x d (le-of-suc-le-suc h) ∙ ap (λ (t : Bool). cond t x (getD l j d)) (sym (eqb·suc-suc j i))
 
 -- ---- a new group
 

@@ -14,7 +14,7 @@ use Rattle.consensus.specs.declared.Shard.{Shard}
 use Rattle.agreement.proofs.Refinement.{as-model-moves-on}
 use Rattle.agreement.proofs.Slots.{NextSlot}
 use Rattle.agreement.proofs.Tests.{by-test}
-use Rattle.group.specs.Claim.{begun, MemberCall, Entry, entryOf, afterCall, shardsAfter, entriesFrom, entries, one, slotAt, Classic}
+use Rattle.group.specs.Claim.{begun, MemberCall, Entry, entryOf, afterCall, entriesFrom, entries, plusCommit, slotAt, Classic}
 use Rattle.group.proofs.Agreement.{setup-rules, begun-valid}
 use Rattle.group.proofs.Calls.{kindOf, decisionOf, seenAnswer, viewShard, Valid, call-ok}
 use Rattle.group.proofs.View.{meaningOf, setupOf}
@@ -22,8 +22,13 @@ use Rattle.group.proofs.View.{meaningOf, setupOf}
 abbrev slotOf : Shard → ℕ
 slotOf shard = shard .state .rounds .core .slot
 
+-- the shards after the calls of a list
+unfoldable pub shardsAfter : (ℕ → Shard) → List MemberCall → ℕ → Shard
+shardsAfter shards [] = shards
+shardsAfter shards (c ∷ cs) = shardsAfter (afterCall shards c) cs
+
 -- the next slot with a commit, and else the same
-next-slot : (c : OptionalCommit) (slot slot′ : ℕ) → NextSlot slot slot′ (decisionOf c) → slot′ ≡ one c slot
+next-slot : (c : OptionalCommit) (slot slot′ : ℕ) → NextSlot slot slot′ (decisionOf c) → slot′ ≡ plusCommit c slot
 next-slot NoCommit slot slot′ m = m
 next-slot (Committed at v fast) slot slot′ m = m .1
 
@@ -49,15 +54,15 @@ module _ (s : Settings) (classic : Classic (s .mode)) where
       commit : OptionalCommit
       commit = callOf old (c .call) .reply .commit
 
-      own : slotOf (callOf old (c .call) .shard) ≡ one commit (slotOf old)
+      own : slotOf (callOf old (c .call) .shard) ≡ plusCommit commit (slotOf old)
       own =
           next-slot commit (slotOf old) (slotOf (callOf old (c .call) .shard))
           (as-model-moves-on (setupOf s) (setup-rules s (setupOf s .voters .quorum)) (c .member) (viewShard old) meaningOf (kindOf (c .call)) (seenAnswer (callOf old (c .call)))
           (call-ok s (c .member) classic old (k .valid (c .member)) (c .call) .as-model))
 
       go : (j : ℕ) (t : Bool) → (T t → j ≡ c .member)
-          → slotOf (cond t (callOf old (c .call) .shard) (shards j)) ≡ cond t (one commit (slotAt j past)) (slotAt j past)
-      go j true e = own ∙ ap (one commit) (k .slots (c .member) ∙ ap (λ (i : ℕ). slotAt i past) (sym (e tt)))
+          → slotOf (cond t (callOf old (c .call) .shard) (shards j)) ≡ cond t (plusCommit commit (slotAt j past)) (slotAt j past)
+      go j true e = own ∙ ap (plusCommit commit) (k .slots (c .member) ∙ ap (λ (i : ℕ). slotAt i past) (sym (e tt)))
       go j false e = k .slots j
 
   run-counted : (shards : ℕ → Shard) (past : List Entry) → Counted shards past → (cs : List MemberCall) → Counted (shardsAfter shards cs) (entriesFrom shards past cs)

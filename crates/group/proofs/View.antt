@@ -203,9 +203,3 @@ SeenAs S core ms (Refuses why) r = Unit {0}
 
 pub record Follows (S : Setup) (step : CoreStep) (r : Outcome) : Type 0 where
   pub seen-as : SeenAs S (step .core) (step .messages) (step .next) r
-
--- test by test
-pub follows-cond : {S : Setup} {b b′ : Bool} {x y : CoreStep} {x′ y′ : Outcome} → b ≡ b′ → (b ≡ true → Follows S x x′) → (b ≡ false → Follows S y y′)
-    → Follows S (cond b x y) (cond b′ x′ y′)
-follows-cond {S} {b = true} {b′} {x} {y} {x′} {y′} e f g = subst (λ (t : Bool). Follows S x (cond t x′ y′)) e (f refl)
-follows-cond {S} {b = false} {b′} {x} {y} {x′} {y′} e f g = subst (λ (t : Bool). Follows S y (cond t x′ y′)) e (g refl)

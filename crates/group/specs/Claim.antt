@@ -45,13 +45,13 @@ memberSettings s i =
       delegates = s .delegates;
     }
 
--- "A group is one shard for each process. Each begins new."
+-- "A group is one shard for each process, made with .. Each begins new, at slot 0, with no read open."
 abbrev pub begun : Settings → ℕ → Shard
 begun s i = newShard (memberSettings s i)
 
 -- ---- runs
 
--- "A run is a list of calls, perhaps empty. Each call names a member."
+-- "A run is a list of calls, perhaps empty. Each call names a member and is a proposal of any value, a new read .., or a message."
 pub record MemberCall : Type 0 where
   pub member : ℕ
   pub call : Call
@@ -65,14 +65,9 @@ pub record Entry : Type 0 where
 abbrev pub entryOf : (ℕ → Shard) → MemberCall → Entry
 entryOf shards c = record { member = c .member; call = c .call; reply = callOf (shards (c .member)) (c .call) .reply }
 
--- "A shard goes from one call of its member to the next, and has no other writer."
+-- "A shard goes from one call of its member to the next, by value or lent, and has no other writer."
 abbrev pub afterCall : (ℕ → Shard) → MemberCall → ℕ → Shard
 afterCall shards c j = cond (eqb j (c .member)) (callOf (shards (c .member)) (c .call) .shard) (shards j)
-
--- the shards after the calls of a list
-unfoldable pub shardsAfter : (ℕ → Shard) → List MemberCall → ℕ → Shard
-shardsAfter shards [] = shards
-shardsAfter shards (c ∷ cs) = shardsAfter (afterCall shards c) cs
 
 -- the entries of a run that goes on from some shards and earlier entries
 unfoldable pub entriesFrom : (ℕ → Shard) → List Entry → List MemberCall → List Entry
@@ -91,7 +86,8 @@ listed (Send o) rest = o ∷ rest
 abbrev pub messagesOf : Messages → List Outgoing
 messagesOf ms = listed (ms .first) (listed (ms .second) (listed (ms .third) []))
 
--- sent to the member: to it alone, or to all but the source. "A Commit counts as sent to every other member."
+-- sent to the member: to it alone, or to all but the source. "A Commit counts as sent to every other member, the
+-- first destination and the rest."
 abbrev pub SentTo : ℕ → Destination → ℕ → Type 0
 SentTo source (One p) member = p ≡ member
 SentTo source (All first) member = source ≡ member → ⊥
@@ -122,14 +118,15 @@ abbrev pub At : Entry → List Entry → List Entry → Type 0
 At e earlier [] = ⊥
 At e earlier (x ∷ xs) = ((e ≡ x) × (earlier ≡ xs)) ⊎ At e earlier xs
 
-abbrev pub one : OptionalCommit → ℕ → ℕ
-one NoCommit n = n
-one (Committed slot v fast) n = suc n
+-- one more, where there is a commit
+abbrev pub plusCommit : OptionalCommit → ℕ → ℕ
+plusCommit NoCommit n = n
+plusCommit (Committed slot v fast) n = suc n
 
 -- "A member's slot at a call is the number of commits that its earlier calls in the list handed back."
 abbrev pub slotAt : ℕ → List Entry → ℕ
 slotAt member [] = 0
-slotAt member (e ∷ past) = cond (eqb member (e .member)) (one (e .reply .commit) (slotAt member past)) (slotAt member past)
+slotAt member (e ∷ past) = cond (eqb member (e .member)) (plusCommit (e .reply .commit) (slotAt member past)) (slotAt member past)
 
 -- "A value counts as proposed in a slot where a proposal of it, not refused, was made to a member at that slot"
 abbrev pub Proposed : ℕ → ℕ → List Entry → Type 0

@@ -2,7 +2,8 @@
    `rt staticlib direct` and `rt staticlib direct_fast` write.
    A host begins a shard with chanbook_shard_new and makes its calls with chanbook_call.
 
-   Every field is a number. 0 is no and any other number yes; the engine writes 1. A field that is not given is 0 where the engine writes it.
+   Every field is a number. 0 is no and any other number yes: a host tests such a field for 0, never for 1. A field that is not given is 0 where the
+   engine writes it.
    Whatever numbers stand in a shard or a call, the call is taken or answered with a refusal's number of document 01. A refused call leaves
    every byte of the shard as it was. One thread at a time may hold a shard. */
 #ifndef CHANBOOK_SHARD_H
@@ -116,7 +117,7 @@ struct chanbook_state {
     struct chanbook_table table;
 };
 
-/* made: 0, or the number with which a shard that is not made refuses every call. */
+/* made: 0 for a shard that is made. With any other number it refuses every call with 1; the engine writes 1. */
 struct chanbook_shard {
     uint64_t made;
     struct chanbook_settings settings;
@@ -133,7 +134,8 @@ enum {
 };
 
 /* Which fields count depends on the kind: Prepare slot, round, rv; Accept slot, round, v; ForwardRequest v; Commit slot, v; ReadRequest id;
-   ReadResponse id, next_readable_slot. Source and last value count always. Any other kind is refused with 8, after 2 and 3. */
+   ReadResponse id, next_readable_slot. Source and last value count always. Of any other kind id, source and last value count,
+   and the call is refused with 8, after 2 and 3. */
 struct chanbook_message {
     uint64_t kind;
     uint64_t slot;
@@ -189,14 +191,17 @@ struct chanbook_reply {
     uint64_t served_count;
 };
 
-/* A shard begins at *s, whatever stood there: 0, or 1 where the settings are outside the limits and the shard is not made. */
-uint64_t chanbook_shard_new(struct chanbook_shard *s, struct chanbook_settings settings);
+/* A shard after a call, and the call's reply. */
+struct chanbook_answer {
+    struct chanbook_shard shard;
+    struct chanbook_reply reply;
+};
 
-/* A call on the shard that is lent, over whole structs: slower than chanbook_call, for comparison. */
-struct chanbook_reply chanbook_shard_call(struct chanbook_shard *s, struct chanbook_call call);
+/* A shard as it begins. Its `made` is 0, or 1 where the settings are outside the limits. */
+struct chanbook_shard chanbook_shard_new(struct chanbook_settings settings);
 
-/* The same call by value, with a copy of the whole shard: slower still. */
-struct chanbook_reply chanbook_shard_call_by_value(struct chanbook_shard *s, struct chanbook_call call);
+/* A call by value. It copies the shard; a host takes chanbook_call below, which changes the shard in place. The tests compare the two. */
+struct chanbook_answer chanbook_shard_call(struct chanbook_shard shard, struct chanbook_call call);
 
 enum { CHANBOOK_PASSED_ON = 255 };
 

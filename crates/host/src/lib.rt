@@ -1,85 +1,132 @@
-// The engine for a host in C or Rust: exported functions over a shard that the host lends, with numbers only. Each takes out the part that the
-// call changes, calls the by-value function on it and writes the part back; a refusal writes back what was there.
+// A shard as one struct of numbers, by value: how it begins, and a call. A host makes its calls in place, over the same memory as arrays
+// (crates/direct, crates/direct_fast); the call here is the plain one that those are tested against.
 ghost use mathlib.Core.Path.{_≡_};
-ghost use Rattle.flat.specs.Calls.{flatByState, flatByRounds, flatByCore, flatDecision, flatCall, flatNew};
-use calls::Decision;
-use flat::FlatShard;
-use twins::FlatCall;
-use twins::FlatReply;
-use twins::FlatSettings;
+ghost use Rattle.host.specs.Shards.{decodedState, encodedState, decodedShard};
+ghost use Rattle.host.specs.Calls.{flatAnswer, flatCall, flatMade, flatNew};
+use consensus::Answer;
+use consensus::Shard;
+use flat::FlatCall;
+use flat::FlatReply;
+use flat::FlatRounds;
+use flat::FlatSettings;
+use flat::FlatTable;
+use message::Outcome;
+use state_calls::State;
 
-// By a copy of the state: what touches the table of the reads.
-fn state_in_place(s: &mut FlatShard, d: Decision) -> FlatReply
-    ensures { λ r. ⌜ (now (s .exit) ≡ flatByState (now (s .entry)) d .shard) × (r ≡ flatByState (now (s .entry)) d .reply) ⌝ }
-{
-    let c = s.state;
-    let a = flat::flat_state_call(c, d);
-    s.state = a.state;
-    a.reply
+#[repr(C)]
+pub struct FlatState {
+    pub rounds: FlatRounds,
+    pub table: FlatTable,
 }
 
-// By a copy of the rounds where that is enough: EPaxos and SwiftPaxos.
-fn rounds_in_place(s: &mut FlatShard, d: Decision) -> FlatReply
-    ensures { λ r. ⌜ (now (s .exit) ≡ flatByRounds (now (s .entry)) d .shard) × (r ≡ flatByRounds (now (s .entry)) d .reply) ⌝ }
+// `made` is 0 for a shard that is made. With any other number it refuses every call with 1; the engine writes 1.
+#[repr(C)]
+pub struct FlatShard {
+    pub made: u64,
+    pub settings: FlatSettings,
+    pub state: FlatState,
+}
+
+#[repr(C)]
+pub struct FlatAnswer {
+    pub shard: FlatShard,
+    pub reply: FlatReply,
+}
+
+fn decode_state(f: FlatState) -> State
+    ensures { λ r. ⌜ r ≡ decodedState f ⌝ }
 {
-    let c = s.state.rounds;
-    let a = flat::flat_rounds_call(c, d);
-    if a.deeper {
-        return state_in_place(s, d);
+    let rounds = f.rounds;
+    let table = f.table;
+    State {
+        rounds: flat::decode_rounds(rounds),
+        table: flat::decode_table(table),
     }
-    s.state.rounds = a.rounds;
-    a.reply
 }
 
-// By a copy of the core where that is enough: the usual call.
-fn core_in_place(s: &mut FlatShard, d: Decision) -> FlatReply
-    ensures { λ r. ⌜ (now (s .exit) ≡ flatByCore (now (s .entry)) d .shard) × (r ≡ flatByCore (now (s .entry)) d .reply) ⌝ }
+fn encode_state(state: State) -> FlatState
+    ensures { λ r. ⌜ r ≡ encodedState state ⌝ }
 {
-    let c = s.state.rounds.core;
-    let a = flat::flat_core_call(c, d);
-    if a.deeper {
-        return rounds_in_place(s, d);
+    let rounds = state.rounds;
+    let table = state.table;
+    FlatState {
+        rounds: flat::encode_rounds(rounds),
+        table: flat::encode_table(table),
     }
-    s.state.rounds.core = a.core;
-    a.reply
 }
 
-// What is decided of the call before it is handled.
-fn decision_in_place(s: &mut FlatShard, call: FlatCall) -> Decision
-    ensures { λ r. ⌜ (now (s .exit) ≡ now (s .entry)) × (r ≡ flatDecision (now (s .entry)) call) ⌝ }
+fn decode_shard(f: FlatShard) -> Shard
+    ensures { λ r. ⌜ r ≡ decodedShard f ⌝ }
 {
-    let made = s.made;
-    let settings = s.settings;
-    let core = s.state.rounds.core;
-    twins::decision_in(made, settings, core, call)
+    let settings = f.settings;
+    let state = f.state;
+    Shard {
+        made: flat::decode_made(f.made, settings.mode),
+        settings: flat::decode_settings(settings),
+        state: decode_state(state),
+    }
 }
 
-// A call on the shard that is lent.
+// A refusal leaves the flat form as it was, number for number.
+fn flat_answer(f: FlatShard, a: Answer, outcome: Outcome) -> FlatAnswer
+    ensures { λ r. ⌜ r ≡ flatAnswer f a outcome ⌝ }
+{
+    let settings = f.settings;
+    let next = a.shard;
+    let state = next.state;
+    let reply = a.reply;
+    match outcome {
+        Outcome::Done => {
+            let shard = FlatShard {
+                made: f.made,
+                settings,
+                state: encode_state(state),
+            };
+            FlatAnswer {
+                shard,
+                reply: flat::encode_reply(reply),
+            }
+        }
+        Outcome::Refused(_) => FlatAnswer {
+            shard: f,
+            reply: flat::encode_reply(reply),
+        },
+    }
+}
+
+// A call, whole.
 #[no_mangle]
-pub extern "C" fn chanbook_shard_call(s: &mut FlatShard, call: FlatCall) -> FlatReply
-    ensures { λ r. ⌜ (now (s .exit) ≡ flatCall (now (s .entry)) call .shard) × (r ≡ flatCall (now (s .entry)) call .reply) ⌝ }
+pub extern "C" fn chanbook_shard_call(shard: FlatShard, call: FlatCall) -> FlatAnswer
+    ensures { λ r. ⌜ r ≡ flatCall shard call ⌝ }
 {
-    let d = decision_in_place(s, call);
-    core_in_place(s, d)
+    let settings = shard.settings;
+    let decoded = decode_shard(shard);
+    let a = decoded.call(flat::decode_call(settings.process_count, settings.my_pid, call));
+    let reply = a.reply;
+    let outcome = reply.outcome;
+    flat_answer(shard, a, outcome)
 }
 
-// The same call by value: by a copy of the whole state. It has a second use. Where a large function has one caller alone, it is compiled into that
-// one; were this not the second caller of `state_in_place`, each usual call would make room for copies of the state on the stack.
-#[no_mangle]
-pub extern "C" fn chanbook_shard_call_by_value(s: &mut FlatShard, call: FlatCall) -> FlatReply
-    ensures { λ r. ⌜ (now (s .exit) ≡ flatByState (now (s .entry)) (flatDecision (now (s .entry)) call) .shard) × (r ≡ flatByState (now (s .entry)) (flatDecision (now (s .entry)) call) .reply) ⌝ }
+fn flat_made(made: Outcome, mode: u64) -> u64
+    ensures { λ r. ⌜ r ≡ flatMade made mode ⌝ }
 {
-    let d = decision_in_place(s, call);
-    state_in_place(s, d)
+    if mode <= 5 {
+        return flat::encode_outcome(made);
+    }
+    1
 }
 
-// A shard begins in the place that is lent. The answer is 0, or 1 where the settings are outside the limits.
+// A shard as it begins. Settings outside the limits give one that is not made.
 #[no_mangle]
-pub extern "C" fn chanbook_shard_new(s: &mut FlatShard, settings: FlatSettings) -> u64
-    ensures { λ r. ⌜ (now (s .exit) ≡ flatNew settings .shard) × (r ≡ flatNew settings .made) ⌝ }
+pub extern "C" fn chanbook_shard_new(settings: FlatSettings) -> FlatShard
+    ensures { λ r. ⌜ r ≡ flatNew settings ⌝ }
 {
-    let old = *s;
-    let a = flat::flat_new(old, settings);
-    *s = a.shard;
-    a.made
+    let shard = Shard::new(flat::decode_settings(settings));
+    let made = shard.made;
+    let state = shard.state;
+    FlatShard {
+        made: flat_made(made, settings.mode),
+        settings,
+        state: encode_state(state),
+    }
 }

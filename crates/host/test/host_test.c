@@ -61,15 +61,15 @@ static int same_reply(const struct chanbook_reply *a, const struct chanbook_repl
         && same_outgoing(&a->third, &b->third) && same_commit(&a->commit, &b->commit) && a->served_count == b->served_count;
 }
 
-/* As a host makes the call, and by chanbook_shard_call on a copy. One reply is filled again and again. */
+/* As a host makes the call, and by value. One reply is filled again and again. */
 static struct chanbook_reply call_both_ways(struct chanbook_shard *s, struct chanbook_call c)
 {
     static struct chanbook_reply r;
-    struct chanbook_shard before = *s, copy = *s;
-    struct chanbook_reply expected = chanbook_shard_call(&copy, c);
+    struct chanbook_shard before = *s;
+    struct chanbook_answer expected = chanbook_shard_call(*s, c);
     chanbook_call(s, &c, &r);
-    require(same_reply(&r, &expected), "another reply in place");
-    require(memcmp(&copy, s, sizeof copy) == 0, "another shard in place");
+    require(same_reply(&r, &expected.reply), "another reply in place");
+    require(memcmp(&expected.shard, s, sizeof *s) == 0, "another shard in place");
     if (r.outcome != 0)
         require(memcmp(&before, s, sizeof before) == 0, "a refusal changed the shard");
     return r;
@@ -129,7 +129,8 @@ static void a_group_commits_and_reads(uint64_t mode)
     from = until = 0;
     for (uint64_t p = 0; p < MEMBERS; p++) {
         s.my_pid = p;
-        require(chanbook_shard_new(&shards[p], s) == 0, "settings refused");
+        shards[p] = chanbook_shard_new(s);
+        require(shards[p].made == 0, "settings refused");
         commits[p] = 0;
     }
     for (uint64_t slot = 0; slot < 2; slot++) {
@@ -172,14 +173,14 @@ static void shards_are_not_made(void)
 {
     struct chanbook_settings s = settings_of(6);
     struct chanbook_call c = {0};
-    struct chanbook_shard other;
-    memset(&other, 0x5a, sizeof other);
-    require(chanbook_shard_new(&other, s) == 1 && other.made == 1, "unknown mode: 1");
+    struct chanbook_shard other = chanbook_shard_new(s);
+    require(other.made == 1, "unknown mode: 1");
     memset(&other, 0xff, sizeof other);
     require(call_both_ways(&other, c).outcome == 1, "damaged shard: 1");
     s.mode = CHANBOOK_PAXOS;
     s.process_count = 65;
-    require(chanbook_shard_new(&other, s) == 1 && call_both_ways(&other, c).outcome == 1, "65 processes: 1");
+    other = chanbook_shard_new(s);
+    require(other.made == 1 && call_both_ways(&other, c).outcome == 1, "65 processes: 1");
 }
 
 int main(void)

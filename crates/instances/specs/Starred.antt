@@ -1,13 +1,13 @@
--- The marked instances of document 01, as rows of one table. A row has what a definition gives and what the document says that it gives.
--- One theorem, at the end, says that the two are equal in every row.
+-- The starred instances of document 01, as rows of one table. A row has what a definition gives and what the document says that it gives.
+-- One theorem, `every-row-holds` (proofs/Starred.antt), says that the two are equal in every row.
 -- Assumes nothing.
-use mathlib.Core.Path.{_≡_, refl}
+use mathlib.Core.Path.{_≡_}
 use mathlib.Core.Bool.{true, false}
 use mathlib.Core.List.{List, [], _∷_}
 use Prim.Native.Nat.{ℕ}
 use lib.ListN.{replicate}
-use Rattle.sets.specs.Sets.{contains, count, size, insert}
-use Rattle.tables.specs.Tables.{lookUp, store, every}
+use Rattle.sets.specs.Sets.{size}
+use Rattle.tables.specs.Tables.{lookUp}
 use Rattle.quorum.specs.Quorum.{rowOf}
 use Rattle.message.specs.declared.ConsensusMsg.{ConsensusMsg}
 use Rattle.message.specs.declared.ConsensusMsg.the-variants.{Prepare, Commit, ReadRequest, ReadResponse}
@@ -15,7 +15,7 @@ use Rattle.message.specs.declared.OptionalProcess.the-variants.{NoProcess}
 use Rattle.message.specs.declared.OptionalRound.the-variants.{NoRound, Round}
 use Rattle.message.specs.declared.OptionalValue.the-variants.{NoValue}
 use Rattle.message.specs.declared.PFMode.the-variants.{Paxos}
-use Rattle.message.specs.Rounds.{increment, roundOf, roundBefore, roundEqual, before, nextLeaderRound}
+use Rattle.message.specs.Rounds.{roundOf, before, nextLeaderRound}
 use Rattle.sets.specs.declared.OptionalSet.the-variants.{NoSet}
 use Rattle.message.specs.declared.Outcome.the-variants.{Done, Refused}
 use Rattle.message.specs.declared.Refusal.the-variants.{AcceptUnlikeHeld}
@@ -30,22 +30,16 @@ use Rattle.round_state.specs.declared.HeldPromise.the-variants.{Held}
 use Rattle.round_state.specs.declared.Member.{Member}
 use Rattle.round_state.specs.declared.PaxosState.{PaxosState}
 use Rattle.round_state.specs.declared.PaxosStep.{PaxosStep}
-use Rattle.round_state.specs.Paxos.{withSender, withOwn, heldAfterPromise, receivePromise, paxosProposeV, acceptFits, receiveAccept}
-use Rattle.fast_state.specs.Fast.{answersOf, changed, toVAfter, epaxosScoresAfter, swiftScoresAfter, noAnswers, preacceptedAfter, answeredBefore, scoreAfter, epaxosAnswered, isUnanswered, epaxosProposeV}
-use Rattle.fast_state.specs.Adopt.{better, bestBelow, lowestBest, adopted, valueIn, scoreIn, epaxosTryAdoptWith, epaxosTryAdopt}
+use Rattle.round_state.specs.Paxos.{receivePromise, receiveAccept}
+use Rattle.fast_state.specs.Fast.{answersOf, changed, noAnswers, epaxosAnswered, epaxosProposeV}
+use Rattle.fast_state.specs.Adopt.{lowestBest, epaxosTryAdoptAfter}
 use Rattle.fast_state.specs.RoundState.{newRoundState}
 use Rattle.read_tracker.specs.declared.Inserted.{Inserted}
-use Rattle.read_tracker.specs.Reads.{readId, newTracker, newTable, insert as insertRead, afterResponse, afterCommit}
-use Rattle.serving.specs.Serving.{keptByReady, servedByReady, keptByCommit, servedByCommit, atFront, receiveReady, commitSlot}
+use Rattle.read_tracker.specs.Reads.{readId, newTracker, newTable, insert as insertRead}
+use Rattle.serving.specs.Serving.{receiveReady, commitSlot}
 use Rattle.settings.specs.declared.Settings.{Settings}
-use Rattle.settings.specs.Settings.{countsFit, membersFit, committersFit, modeFits, withinLimits}
-use Rattle.propose.specs.Propose.{electing, mayPropose, proposePrepare, proposeClassic}
 use Rattle.steps.specs.Steps.{noMessages, oneMessage, toAll}
-use Rattle.delivery.specs.Admit.{otherLastValue, valueAwaited, ready, admit}
-use Rattle.consensus.specs.Answers.{committed}
-use Rattle.consensus.specs.Call.{newShard, proposing, propose, read, receive, dispatch, unlessSpent, callWith, callOf}
-use Rattle.consensus.specs.Handle.{onCommit, onReadResponse, startRead, handle}
-use Rattle.delivery.specs.Limits.{msgNumbers, valueNumbers, processNumbers, numbersFit, msgProcesses, requesterBelow, processesFit}
+use Rattle.consensus.specs.Call.{newShard, callOf}
 use Rattle.calls.specs.declared.Call.the-variants.{Propose, StartRead, Receive}
 use Rattle.calls.specs.declared.OptionalCommit.the-variants.{NoCommit, Committed}
 use Rattle.calls.specs.declared.Reply.{Reply}
@@ -134,7 +128,7 @@ proposed =
 -- what is adopted when one more answer comes
 abbrev pub adopts : ℕ → ℕ → ℕ → Adoption
 adopts src proposer v =
-    epaxosTryAdopt lowestBest (replica 4) (answers src proposer v proposed) (proposed .«fast_proposer_to_v») (proposed .«epaxos_proposer_scores»)
+    epaxosTryAdoptAfter lowestBest (replica 4) (answers src proposer v proposed) (proposed .«fast_proposer_to_v») (proposed .«epaxos_proposer_scores»)
 
 -- 2 answers proposer 4: adopt 10 (scores 3 and 2)
 abbrev pub adoptsBest : Row
@@ -147,6 +141,12 @@ abbrev pub ownScore : Row
 ownScore = row (lookUp (answered 2 4 40 proposed .«epaxos_proposer_scores») 4) 2
 
 -- If instead of 2, 3 answers proposer 2 value 20: a tie, adopt 10
+abbrev pub tiedScore : Row
+tiedScore = row (lookUp (answered 3 2 20 proposed .«epaxos_proposer_scores») 0) 3
+
+abbrev pub tiedOtherScore : Row
+tiedOtherScore = row (lookUp (answered 3 2 20 proposed .«epaxos_proposer_scores») 2) 3
+
 abbrev pub adoptsLowest : Row
 adoptsLowest = row (adopts 3 2 20) (Adopt 10)
 
@@ -196,7 +196,8 @@ sendsToAll msg =
       «served_count» = 0;
     }
 
--- the proposal sends Prepare and never commits (proofs/GroupOfOne.antt of the crate group has "never")
+-- The first half of the instance: the proposal sends Prepare. The second half, "never commits", is `group-of-one` (crates/group/proofs/GroupOfOne.antt),
+-- since no finite row can say it.
 abbrev pub aloneProposes : Row
 aloneProposes = row (callOf alone (Propose 10) .reply) (sendsToAll (Prepare 0 (roundOf 0 0) (PaxosV NoRound 10)))
 
@@ -227,27 +228,6 @@ abbrev pub commitAfterRead : Row
 commitAfterRead =
     row (afterRead (Commit 0 10)) (record { outcome = Done; messages = noMessages; commit = Committed 0 10 false; «served_count» = 1 })
 
--- ---- settings (not marked in the document, and of the same kind): 64 processes are taken, 65 and 0 replicas refused
-
-abbrev pub mostProcesses : Row
-mostProcesses = row (withinLimits (group 64 64 0xffff_ffff_ffff_ffff 63)) true
-
-abbrev pub tooManyProcesses : Row
-tooManyProcesses = row (withinLimits (group 65 64 0xffff_ffff_ffff_ffff 63)) false
-
-abbrev pub noReplica : Row
-noReplica = row (withinLimits (group 5 0 0 0)) false
-
--- a live set of three with two replicas, a live process at the process count, a first leader there
-abbrev pub tooManyLive : Row
-tooManyLive = row (withinLimits (group 5 2 7 0)) false
-
-abbrev pub liveNoProcess : Row
-liveNoProcess = row (withinLimits (group 5 3 33 0)) false
-
-abbrev pub leaderNoProcess : Row
-leaderNoProcess = row (withinLimits (group 5 3 7 5)) false
-
 -- ---- the table
 
 abbrev pub starred : List Row
@@ -264,6 +244,8 @@ starred =
     ∷ adoptsBest
     ∷ otherScore
     ∷ ownScore
+    ∷ tiedScore
+    ∷ tiedOtherScore
     ∷ adoptsLowest
     ∷ readWaits
     ∷ responseServes
@@ -273,14 +255,4 @@ starred =
     ∷ aloneWaits
     ∷ responseAfterRead
     ∷ commitAfterRead
-    ∷ mostProcesses
-    ∷ tooManyProcesses
-    ∷ noReplica
-    ∷ tooManyLive
-    ∷ liveNoProcess
-    ∷ leaderNoProcess
     ∷ []
-
-pub every-row-holds : AllHold starred
-unfolding increment roundBefore roundEqual nextLeaderRound contains count size insert lookUp store every countsFit membersFit committersFit modeFits withinLimits withSender withOwn heldAfterPromise receivePromise acceptFits receiveAccept toVAfter epaxosScoresAfter swiftScoresAfter preacceptedAfter answeredBefore scoreAfter epaxosAnswered isUnanswered epaxosProposeV better bestBelow adopted valueIn scoreIn epaxosTryAdoptWith insertRead afterResponse afterCommit keptByReady servedByReady keptByCommit servedByCommit atFront receiveReady commitSlot newShard callWith unlessSpent dispatch propose proposing proposeClassic mayPropose electing proposePrepare paxosProposeV read startRead receive admit numbersFit processesFit ready otherLastValue valueAwaited msgNumbers valueNumbers processNumbers msgProcesses requesterBelow handle onReadResponse onCommit committed
-every-row-holds = (refl, (refl, (refl, (refl, (refl, (refl, (refl, (refl, (refl, (refl, (refl, (refl, (refl, (refl, (refl, (refl, (refl, (refl, (refl, (refl, (refl, (refl, (refl, (refl, (refl, (refl, (refl, tt)))))))))))))))))))))))))))

@@ -5,6 +5,5 @@ pub mod Rare
 pub mod Ask
 pub mod Then
 pub mod Look
-pub mod LookAt
 pub mod Types
 pub mod Runs

@@ -2,7 +2,7 @@
 --     pub fn handle_in_place(s: &mut S, x: X) -> O { let c = s.PATH; let a = handle(c, x); s.PATH = a.part; a.out }
 -- changes that part alone and copies no other. `handle(c: C, x: X) -> R` meets `r ≡ spec c x`. The contract is about the whole shard: the new
 -- shard and the result are `after` and `gives` at the old shard and x, where `set h (spec (get h) y .part) ≡ after h y` and
--- `spec (get h) y .out ≡ gives h y`. The part may be the whole shard, `itself`.
+-- `spec (get h) y .out ≡ gives h y`.
 --     handler              the outer function's MIR.        ended, clauses      its signature and its clauses.        lent-part      the law
 -- The walk: the borrow is opened, the part is copied out and passed to `handle`, the part of its answer is stored over the old one, and the
 -- borrow is closed.

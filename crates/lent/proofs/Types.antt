@@ -22,10 +22,6 @@ use Rattle.fast_state.proofs.FastState as Fa
 use Rattle.fast_state.proofs.FastState.Laws as Fa′
 use Rattle.read_tracker.proofs.ReadTable as Ta
 use Rattle.read_tracker.proofs.ReadTable.Laws as Ta′
-use Rattle.read_tracker.proofs.OpenRead as Op
-use Rattle.read_tracker.proofs.OpenRead.Laws as Op′
-use Rattle.read_tracker.proofs.ServedRead as Sv
-use Rattle.read_tracker.proofs.ServedRead.Laws as Sv′
 use Rattle.message.proofs.OptionalRound as Or
 use Rattle.message.proofs.OptionalRound.Laws as Or′
 use Rattle.settings.proofs.Settings as Se
@@ -85,12 +81,6 @@ outcome = of-enum Ou.the-type Ou′.the-laws tt Ou′.the-plain Ou′.the-copy O
 
 abbrev pub optional-round : Data
 optional-round = of-enum Or.the-type Or′.the-laws tt Or′.the-plain Or′.the-copy Or′.lowers
-
-abbrev pub open-read : Data
-open-read = of-struct Op.the-type Op′.the-laws Op′.the-plain Op′.the-copy Op′.lowers
-
-abbrev pub served-read : Data
-served-read = of-struct Sv.the-type Sv′.the-laws Sv′.the-plain Sv′.the-copy Sv′.lowers
 
 -- ---- answers
 

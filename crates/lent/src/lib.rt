@@ -4,16 +4,12 @@ ghost use mathlib.Core.Path.{_≡_};
 ghost use Rattle.calls.specs.Decision.{decisionOf};
 ghost use Rattle.consensus.specs.ByParts.{byState, byRounds, byCore};
 ghost use Rattle.consensus.specs.Call.{callOf};
-ghost use Rattle.lent.specs.Readers.{openReadAt, servedReadAt};
 use calls::Call;
 use calls::Decision;
 use calls::Reply;
 use consensus::Shard;
 use message::OptionalRound;
-use message::ReadId;
-use read_tracker::OpenRead;
 use read_tracker::ReadTable;
-use read_tracker::ServedRead;
 use steps::Core;
 
 // By a copy of the state: what touches the table of the reads.
@@ -89,35 +85,10 @@ fn open_count_of(core: Core) -> u64
     core.tracker.open_count
 }
 
-fn open_read_at(table: ReadTable, i: u64) -> OpenRead
-    ensures { λ r. ⌜ r ≡ openReadAt table i ⌝ }
+fn table_of(table: ReadTable) -> ReadTable
+    ensures { λ r. ⌜ r ≡ table ⌝ }
 {
-    if i < 128 {
-        let at = i as usize;
-        return table.reads[at];
-    }
-    OpenRead {
-        id: ReadId(0),
-        tag: 0,
-        arrival_slot: 0,
-        ready_count: 0,
-        local_ready: false,
-    }
-}
-
-fn served_read_at(table: ReadTable, i: u64) -> ServedRead
-    ensures { λ r. ⌜ r ≡ servedReadAt table i ⌝ }
-{
-    if i < 128 {
-        let at = i as usize;
-        return table.served[at];
-    }
-    ServedRead {
-        id: ReadId(0),
-        tag: 0,
-        waited_for: 0,
-        fast: false,
-    }
+    table
 }
 
 // The slot of a shard that is lent to be read.
@@ -144,18 +115,10 @@ pub fn open_reads(s: &Shard) -> u64
     open_count_of(c)
 }
 
-// Open read i.
-pub fn open_read(s: &Shard, i: u64) -> OpenRead
-    ensures { λ r. ⌜ r ≡ openReadAt (now (s .entry) .state .table) i ⌝ }
+// Its open reads, and those that the last call served.
+pub fn reads(s: &Shard) -> ReadTable
+    ensures { λ r. ⌜ r ≡ now (s .entry) .state .table ⌝ }
 {
     let c = s.state.table;
-    open_read_at(c, i)
-}
-
-// Read i of those that the last call served.
-pub fn served_read(s: &Shard, i: u64) -> ServedRead
-    ensures { λ r. ⌜ r ≡ servedReadAt (now (s .entry) .state .table) i ⌝ }
-{
-    let c = s.state.table;
-    served_read_at(c, i)
+    table_of(c)
 }

@@ -1,9 +1,9 @@
 -- Rounds are ordered, and are proposal numbers in the sense of *Paxos Made Simple*; no round comes before every round.
 -- Assumes nothing.
-use mathlib.Core.Path.{_≡_, refl, sym, ap, ap₂}
+use mathlib.Core.Path.{_≡_, refl, sym, ap, ap₂, _∙_}
 use mathlib.Core.Logic.{_⊎_, inl, inr}
 use mathlib.Core.Bool.{Bool, true, false, _&&_}
-use Prim.Native.Nat.{_<_}
+use Prim.Native.Nat.{ℕ, _<_}
 use native.Mathlib.Omega.{arith}
 use lib.Dec.{ltb, eqb}
 use borrow.Author.Tests.{lt-ltb, ltb-true, eqb-true, eq-eqb}
@@ -68,9 +68,12 @@ rounds-ordered = record {
   connected = λ a b p q. earlier-connected a b (λ l. not-both (before-round a b l) p) (λ l. not-both (before-round b a l) q);
 }
 
--- a round's proposer is its leader
-pub rounds-are-proposal-numbers : ProposalNumbers roundBefore (λ (r : PaxosRound). r .leader)
-rounds-are-proposal-numbers = record { ordered = rounds-ordered; disjoint = λ a b h e. h (ap (λ (r : PaxosRound). r .leader) e) }
+-- the rounds of a process are those that it leads
+abbrev pub ownRound : ℕ → PaxosRound → Bool
+ownRound p r = eqb (r .leader) p
+
+pub rounds-are-proposal-numbers : ProposalNumbers roundBefore ownRound
+rounds-are-proposal-numbers = record { ordered = rounds-ordered; disjoint = λ p q r e d. sym (eqb-true (r .leader) p e) ∙ eqb-true (r .leader) q d }
 
 transitive : (a b c : OptionalRound) → before a b ≡ true → before b c ≡ true → before a c ≡ true
 transitive NoRound NoRound c p q = absurd (not-both p refl)

@@ -4,7 +4,7 @@ use mathlib.Core.Bool.{Bool, true, false}
 use Rattle.message.specs.declared.PFMode.{PFMode}
 use Rattle.message.specs.declared.PFMode.the-variants.{Paxos, MultiPaxos, MultiPaxos3P, EPaxos, Pando, SwiftPaxos}
 
--- a leader is there from the start of each slot
+-- is_multi_paxos: a leader is there from the start of each slot
 abbrev pub isMultiPaxos : PFMode → Bool
 isMultiPaxos Paxos = false
 isMultiPaxos MultiPaxos = true
@@ -22,7 +22,7 @@ isSwiftPaxos EPaxos = false
 isSwiftPaxos Pando = false
 isSwiftPaxos SwiftPaxos = true
 
--- a slot can commit without an accept phase
+-- has_fast_path: a slot can commit before a majority has accepted
 abbrev pub hasFastPath : PFMode → Bool
 hasFastPath Paxos = false
 hasFastPath MultiPaxos = false

@@ -1,4 +1,4 @@
--- Promises, and what may be missing (document 01, "Round and held promise"; RoundV of the Rust's paxos_family/message.rs).
+-- Promises, and equality of what is optional (document 01, "Round and held promise"; RoundV of the Rust's paxos_family/message.rs).
 -- Assumes nothing.
 use Prim.Native.Nat.{ℕ}
 use mathlib.Core.Bool.{Bool, true, false}
@@ -21,6 +21,11 @@ valueOf (PaxosV round v) = v
 abbrev pub acceptRoundOf : RoundV → OptionalRound
 acceptRoundOf (FastV proposer v) = NoRound
 acceptRoundOf (PaxosV round v) = round
+
+-- the Rust's `matches!(value, Some(_))`
+abbrev pub hasValue : OptionalValue → Bool
+hasValue NoValue = false
+hasValue (Value v) = true
 
 -- equality of two optional values, as of a last value that came with a message and the own one
 abbrev pub sameValue : OptionalValue → OptionalValue → Bool

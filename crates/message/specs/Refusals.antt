@@ -25,7 +25,8 @@ refusalNumber Panic = 8
 refusalNumber AcceptUnlikeHeld = 9
 -- second fast answer from another process
 refusalNumber SecondFastAnswer = 10
--- a proposal that the Rust does not take
+-- proposal: not `can_propose`, round not starting, a promise held already, MultiPaxos by another than the leader, or another assertion of
+-- `propose`
 refusalNumber ProposalNotAllowed = 11
 -- 128 reads open, or ids spent
 refusalNumber NoRoomForRead = 12

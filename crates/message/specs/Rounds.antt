@@ -39,6 +39,7 @@ startingRound SwiftPaxos leader = NoRound
 unfoldable pub roundBefore : PaxosRound → PaxosRound → Bool
 roundBefore a b = ltb (a .«round_group») (b .«round_group») || (eqb (a .«round_group») (b .«round_group») && ltb (a .leader) (b .leader))
 
+-- both numbers are equal
 unfoldable pub roundEqual : PaxosRound → PaxosRound → Bool
 roundEqual a b = eqb (a .«round_group») (b .«round_group») && eqb (a .leader) (b .leader)
 
@@ -49,11 +50,17 @@ before NoRound (Round b) = true
 before (Round a) NoRound = false
 before (Round a) (Round b) = roundBefore a b
 
+-- equality of optional rounds
 abbrev pub equal : OptionalRound → OptionalRound → Bool
 equal NoRound NoRound = true
 equal NoRound (Round b) = false
 equal (Round a) NoRound = false
 equal (Round a) (Round b) = roundEqual a b
+
+-- Option::is_some
+abbrev pub isRound : OptionalRound → Bool
+isRound NoRound = false
+isRound (Round a) = true
 
 -- Option::unwrap_or_default
 abbrev pub unwrapOrDefault : OptionalRound → PaxosRound

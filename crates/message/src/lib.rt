@@ -1,10 +1,12 @@
-// Rounds, promises and messages: the Rust's message.rs of consensus and message.rs of paxos_family.
+// Modes, rounds, promises, messages and refusals: the Rust's message.rs of consensus and of paxos_family, PFModeSetting, and document 01's
+// table.
 ghost use mathlib.Core.Path.{_≡_};
+ghost use Prim.Native.Nat.{_-_};
 ghost use Rattle.message.specs.Modes.{isMultiPaxos, isSwiftPaxos, hasFastPath};
-ghost use Rattle.message.specs.Rounds.{increment, startingRound, nextLeaderRound, roundBefore, roundEqual, before, equal, unwrapOrDefault};
-ghost use Rattle.message.specs.Promises.{acceptRoundOf, valueOf, sameValue, isProcess};
+ghost use Rattle.message.specs.Rounds.{increment, startingRound, nextLeaderRound, roundBefore, roundEqual, before, equal, isRound, unwrapOrDefault};
+ghost use Rattle.message.specs.Promises.{acceptRoundOf, valueOf, hasValue, sameValue, isProcess};
 ghost use Rattle.message.specs.Refusals.{refusalNumber};
-ghost use Rattle.message.specs.Messages.{msgValue, msgSlot};
+ghost use Rattle.message.specs.Messages.{msgSlot};
 
 // The modes of the paxos family: the Rust's PFModeSetting, whose tables stand beside it in the settings.
 pub enum PFMode {
@@ -43,7 +45,7 @@ impl PFMode {
         }
     }
 
-    // Whether the mode has a fast route at all.
+    // Whether a slot can commit before a majority has accepted.
     pub fn has_fast_path(self) -> bool
         ensures { λ r. ⌜ r ≡ hasFastPath self ⌝ }
     {
@@ -181,6 +183,16 @@ pub fn increment(n: u64) -> u64
     if n < 18446744073709551615 { n + 1 } else { n }
 }
 
+// a minus b, or 0.
+pub fn saturating_sub(a: u64, b: u64) -> u64
+    ensures { λ r. ⌜ r ≡ a - b ⌝ }
+{
+    if b < a {
+        return a - b;
+    }
+    0
+}
+
 impl PaxosRound {
     pub const DEFAULT: PaxosRound = PaxosRound {
         round_group: 0,
@@ -205,7 +217,7 @@ impl PaxosRound {
         }
     }
 
-    // The first round of my_pid that does not come before this one.
+    // The first round of my_pid that does not come before this one. (The group of a round that a call may hold is not the largest number.)
     pub fn next_leader_round(self, my_pid: u64) -> PaxosRound
         ensures { λ r. ⌜ r ≡ nextLeaderRound self «my_pid» ⌝ }
     {
@@ -274,6 +286,15 @@ impl OptionalRound {
         }
     }
 
+    pub fn is_round(self) -> bool
+        ensures { λ r. ⌜ r ≡ isRound self ⌝ }
+    {
+        match self {
+            OptionalRound::NoRound => false,
+            OptionalRound::Round(_) => true,
+        }
+    }
+
     pub fn unwrap_or_default(self) -> PaxosRound
         ensures { λ r. ⌜ r ≡ unwrapOrDefault self ⌝ }
     {
@@ -305,6 +326,15 @@ impl RoundV {
 }
 
 impl OptionalValue {
+    pub fn is_some(self) -> bool
+        ensures { λ r. ⌜ r ≡ hasValue self ⌝ }
+    {
+        match self {
+            OptionalValue::NoValue => false,
+            OptionalValue::Value(_) => true,
+        }
+    }
+
     pub fn equals(self, other: OptionalValue) -> bool
         ensures { λ r. ⌜ r ≡ sameValue self other ⌝ }
     {
@@ -334,31 +364,6 @@ impl OptionalProcess {
 }
 
 impl ConsensusMsg {
-    // The value that the message names, if it names one.
-    pub fn get_v(self) -> OptionalValue
-        ensures { λ r. ⌜ r ≡ msgValue self ⌝ }
-    {
-        match self {
-            ConsensusMsg::Prepare {
-                slot: _,
-                round: _,
-                rv,
-            } => OptionalValue::Value(rv.get_v()),
-            ConsensusMsg::Accept {
-                slot: _,
-                round: _,
-                v,
-            } => OptionalValue::Value(v),
-            ConsensusMsg::ForwardRequest { v } => OptionalValue::Value(v),
-            ConsensusMsg::Commit { slot: _, v } => OptionalValue::Value(v),
-            ConsensusMsg::ReadRequest { id: _ } => OptionalValue::NoValue,
-            ConsensusMsg::ReadResponse {
-                id: _,
-                next_readable_slot: _,
-            } => OptionalValue::NoValue,
-        }
-    }
-
     // The slot that the message names, if it names one.
     pub fn get_slot(self) -> OptionalSlot
         ensures { λ r. ⌜ r ≡ msgSlot self ⌝ }

@@ -1,8 +1,8 @@
--- The rules of *Paxos Made Simple* (Leslie Lamport, 2001), section 2.2, in the paper's own words, over any type of proposal numbers and
+-- The rules of *Paxos Made Simple* (Leslie Lamport, 2001), in the paper's own words, over any type of proposal numbers and
 -- any type of values. Nothing of the engine stands here: other crates show where the engine follows these rules.
 -- Assumes nothing.
 use mathlib.Core.Path.{_≡_}
-use mathlib.Core.Bool.{Bool, true, false, cond}
+use mathlib.Core.Bool.{Bool, true, false, cond, not}
 use mathlib.Core.List.{List, [], _∷_}
 use mathlib.Core.Option.{Option, none, some}
 use Prim.Native.Nat.{ℕ}
@@ -16,10 +16,10 @@ pub record Ordered {A : Type 0} (before : A → A → Bool) : Type 0 where
   pub connected : (a b : A) → before a b ≡ false → before b a ≡ false → a ≡ b
 
 -- "Different proposers choose their numbers from disjoint sets of numbers, so two different proposers never issue a proposal with the
--- same number": each number has one proposer.
-pub record ProposalNumbers {Number : Type 0} (before : Number → Number → Bool) (proposer : Number → ℕ) : Type 0 where
+-- same number": `own p n` says that n is in the set of p.
+pub record ProposalNumbers {Number : Type 0} (before : Number → Number → Bool) (own : ℕ → Number → Bool) : Type 0 where
   pub ordered : Ordered before
-  pub disjoint : (a b : Number) → (proposer a ≡ proposer b → ⊥) → a ≡ b → ⊥
+  pub disjoint : (p q : ℕ) (n : Number) → own p n ≡ true → own q n ≡ true → p ≡ q
 
 -- "a proposal consists of a proposal number and a value"
 pub record Proposal (Number Value : Type 0) : Type 0 where
@@ -64,7 +64,7 @@ module _ {Number Value : Type 0} (before : Number → Number → Bool) where
   -- Phase 2 (b): "If an acceptor receives an accept request for a proposal numbered n, it accepts the proposal unless it has already
   -- responded to a prepare request having a number greater than n."
   unfoldable pub accepts : Acceptor Number Value → Proposal Number Value → Bool
-  accepts a p = cond (exceeded before (a .responded) (p .number)) false true
+  accepts a p = not (exceeded before (a .responded) (p .number))
 
   unfoldable pub accept : Acceptor Number Value → Proposal Number Value → Acceptor Number Value
   accept a p = cond (accepts a p) (record { responded = a .responded; accepted = higher (a .accepted) (some p) }) a

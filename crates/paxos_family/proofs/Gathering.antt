@@ -1,15 +1,15 @@
--- The delegate proposes only with the promise that completes a majority, and so once in a round: a further promise is counted, and
--- nothing is sent.
+-- The delegate proposes only with the promise that completes a majority, and not again with any promise that follows: a further promise is
+-- counted, and nothing is sent.
 -- Assumes nothing.
 use mathlib.Core.Path.{_≡_, refl, ap, _∙_}
 use mathlib.Core.Logic.{_⊎_, inl, inr}
-use mathlib.Core.Bool.{Bool, true, false, cond, not, _&&_}
+use mathlib.Core.Bool.{Bool, true, false, cond, not}
 use mathlib.Core.List.{List, [], _∷_}
 use Prim.Native.Nat.{ℕ, _≤_}
 use native.Mathlib.Omega.{arith}
 use lib.Dec.{leb}
 use borrow.Author.Tests.{leb-true, le-leb}
-use Rattle.basics.proofs.Tests.{either, fails}
+use Rattle.basics.proofs.Tests.{either, and-right}
 use Rattle.sets.specs.Sets.{size, isEmpty}
 use Rattle.sets.proofs.Laws.{size-within}
 use Rattle.message.specs.Modes.{isSwiftPaxos}
@@ -24,7 +24,7 @@ use Rattle.round_state.specs.Paxos.{getV, isPrepared, taken, refused, counted, 
 use Rattle.round_state.specs.declared.Member.{Member}
 use Rattle.round_state.specs.declared.PaxosState.{PaxosState}
 use Rattle.round_state.proofs.Counting.{counted-keeps}
-use Rattle.prepare.specs.Prepare.{broadcastAccept, afterOwnAccept, acceptPhase, gather}
+use Rattle.prepare.specs.Prepare.{broadcastAccept, afterOwnAccept, acceptPhase, withPromise, becomesPrepared, gather}
 use Rattle.steps.specs.Steps.{noMessages, withPaxos, leftFastPath, stays}
 use Rattle.steps.specs.declared.Asked.{Asked}
 use Rattle.steps.specs.declared.Core.{Core}
@@ -85,42 +85,48 @@ phase-prepared a round core = go (selfAccept (a .member) round (core .paxos) .ou
 -- ---- the promises of a round
 
 module _ (a : Asked) (round : PaxosRound) where
-  -- the core with the promise counted
-  abbrev pub promised : Heard → RoundV → Core → Core
-  promised h rv core = withPaxos (receivePromise (a .member) (h .src) rv (core .paxos) .state) core
-
-  -- a promise after the majority is counted, and nothing is sent
-  pub gather-again : (h : Heard) (rv : RoundV) (core : Core) → isPrepared (a .member) (core .paxos) ≡ true → gather a h round rv core ≡ stays (promised h rv core) noMessages
+  -- the promise that completes a majority starts the accept phase
+  pub gather-proposes : (h : Heard) (rv : RoundV) (core : Core) → becomesPrepared a core (withPromise a h rv core) ≡ true
+      → gather a h round rv core ≡ acceptPhase a round (withPromise a h rv core)
   unfolding gather
-  gather-again h rv core e = simp e
+  gather-proposes h rv core e = simp e
 
-  -- nor is anything sent before the majority
-  pub gather-waits : (h : Heard) (rv : RoundV) (core : Core) → isPrepared (a .member) (promised h rv core .paxos) ≡ false → gather a h round rv core ≡ stays (promised h rv core) noMessages
+  -- any other is counted, and nothing is sent
+  pub gather-waits : (h : Heard) (rv : RoundV) (core : Core) → becomesPrepared a core (withPromise a h rv core) ≡ false
+      → gather a h round rv core ≡ stays (withPromise a h rv core) noMessages
   unfolding gather
-  gather-waits h rv core e = go (either (isPrepared (a .member) (core .paxos)))
-    where
-      go : (isPrepared (a .member) (core .paxos) ≡ true) ⊎ (isPrepared (a .member) (core .paxos) ≡ false) → gather a h round rv core ≡ stays (promised h rv core) noMessages
-      go (inl d) = simp d
-      go (inr d) = simp (d, e)
+  gather-waits h rv core e = simp e
+
+  -- a promise after the majority completes none
+  prepared-before : (core promised : Core) → isPrepared (a .member) (core .paxos) ≡ true → becomesPrepared a core promised ≡ false
+  unfolding becomesPrepared
+  prepared-before core promised e = simp e
+
+  pub gather-again : (h : Heard) (rv : RoundV) (core : Core) → isPrepared (a .member) (core .paxos) ≡ true → gather a h round rv core ≡ stays (withPromise a h rv core) noMessages
+  gather-again h rv core e = gather-waits h rv core (prepared-before core (withPromise a h rv core) e)
 
   -- so it sends something only with the promise that completes a majority
   pub gather-completes : (h : Heard) (rv : RoundV) (core : Core) → (gather a h round rv core .messages ≡ noMessages → ⊥)
-      → (isPrepared (a .member) (core .paxos) ≡ false) × (isPrepared (a .member) (promised h rv core .paxos) ≡ true)
-  gather-completes h rv core sent =
-      (fails (λ e. sent (ap (λ (t : CoreStep). t .messages) (gather-again h rv core e))), go (either (isPrepared (a .member) (promised h rv core .paxos))))
+      → becomesPrepared a core (withPromise a h rv core) ≡ true
+  gather-completes h rv core sent = go (either (becomesPrepared a core (withPromise a h rv core)))
     where
-      go : (isPrepared (a .member) (promised h rv core .paxos) ≡ true) ⊎ (isPrepared (a .member) (promised h rv core .paxos) ≡ false)
-          → isPrepared (a .member) (promised h rv core .paxos) ≡ true
+      go : (becomesPrepared a core (withPromise a h rv core) ≡ true) ⊎ (becomesPrepared a core (withPromise a h rv core) ≡ false)
+          → becomesPrepared a core (withPromise a h rv core) ≡ true
       go (inl e) = e
       go (inr e) = absurd (sent (ap (λ (t : CoreStep). t .messages) (gather-waits h rv core e)))
 
+  -- with which a majority has prepared
+  prepared-after : (core promised : Core) → becomesPrepared a core promised ≡ true → isPrepared (a .member) (promised .paxos) ≡ true
+  unfolding becomesPrepared
+  prepared-after core promised e = and-right (not (isPrepared (a .member) (core .paxos))) (isPrepared (a .member) (promised .paxos)) e
+
   -- the prepared set of the core after a promise
-  gather-prepared : (h : Heard) (rv : RoundV) (core : Core) → gather a h round rv core .core .paxos .«prepared_set» ≡ promised h rv core .paxos .«prepared_set»
+  gather-prepared : (h : Heard) (rv : RoundV) (core : Core) → gather a h round rv core .core .paxos .«prepared_set» ≡ withPromise a h rv core .paxos .«prepared_set»
   unfolding gather
-  gather-prepared h rv core = go (not (isPrepared (a .member) (core .paxos)) && isPrepared (a .member) (promised h rv core .paxos))
+  gather-prepared h rv core = go (becomesPrepared a core (withPromise a h rv core))
     where
-      go : (t : Bool) → cond t (acceptPhase a round (promised h rv core)) (stays (promised h rv core) noMessages) .core .paxos .«prepared_set» ≡ promised h rv core .paxos .«prepared_set»
-      go true = phase-prepared a round (promised h rv core)
+      go : (t : Bool) → cond t (acceptPhase a round (withPromise a h rv core)) (stays (withPromise a h rv core) noMessages) .core .paxos .«prepared_set» ≡ withPromise a h rv core .paxos .«prepared_set»
+      go true = phase-prepared a round (withPromise a h rv core)
       go false = refl
 
   -- the core after some promises, one after the other
@@ -140,4 +146,4 @@ module _ (a : Asked) (round : PaxosRound) where
       → (more : List (Heard × RoundV)) (h′ : Heard) (rv′ : RoundV) → gather a h′ round rv′ (gathered (gather a h round rv core .core) more) .messages ≡ noMessages
   proposes-once h rv core sent =
       quiet (gather a h round rv core .core)
-      (ap (λ (x : ℕ). leb (a .member .quorums .majority) (size x)) (gather-prepared h rv core) ∙ gather-completes h rv core sent .1)
+      (ap (λ (x : ℕ). leb (a .member .quorums .majority) (size x)) (gather-prepared h rv core) ∙ prepared-after core (withPromise a h rv core) (gather-completes h rv core sent))

@@ -1,4 +1,5 @@
 pub mod Older
 pub mod Gathering
 pub mod Causes
+pub mod Clearing
 pub mod Paper

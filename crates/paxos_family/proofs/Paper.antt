@@ -4,7 +4,7 @@
 -- Assumes nothing.
 use mathlib.Core.Path.{_≡_, refl, sym, ap, subst, _∙_}
 use mathlib.Core.Logic.{_⊎_, inl, inr}
-use mathlib.Core.Bool.{Bool, true, false, cond, not, _&&_, _||_}
+use mathlib.Core.Bool.{Bool, true, false, cond, not, _||_}
 use mathlib.Core.List.{List, [], _∷_, _++_}
 use mathlib.Core.Option.{Option, none, some}
 use Prim.Native.Nat.{ℕ}
@@ -13,7 +13,7 @@ use Rattle.basics.proofs.Tests.{not-both, fails, of-both}
 use Rattle.sets.specs.Sets.{isEmpty}
 use Rattle.paxos.specs.PaxosMadeSimple.{Proposal, Acceptor, greater, exceeded, higher, responds, prepare, accepts, accept, highest, valueOr, choice}
 use Rattle.message.specs.Modes.{isSwiftPaxos}
-use Rattle.message.specs.Promises.{acceptRoundOf, valueOf}
+use Rattle.message.specs.Promises.{acceptRoundOf, valueOf, hasValue}
 use Rattle.message.specs.Rounds.{roundBefore, before}
 use Rattle.message.proofs.Order.{optional-rounds-ordered}
 use Rattle.message.specs.declared.ConsensusMsg.the-variants.{Prepare, Accept}
@@ -27,18 +27,18 @@ use Rattle.message.specs.declared.PaxosRound.{PaxosRound}
 use Rattle.message.specs.declared.Refusal.the-variants.{Panic, AcceptUnlikeHeld, SourceNotLive}
 use Rattle.message.specs.declared.RoundV.{RoundV}
 use Rattle.message.specs.declared.RoundV.the-variants.{FastV, PaxosV}
-use Rattle.round_state.specs.Paxos.{getV, isHeld, isPrepared, selfAccept, acceptOwn, gotoRound, heldAfterPromise, receivePromise, paxosProposeV, acceptFits, afterAccept, receiveAccept, paxosCanCommit, taken, refused}
+use Rattle.round_state.specs.Paxos.{getV, isHeld, selfAccept, acceptOwn, gotoRound, heldAfterPromise, receivePromise, paxosProposeV, acceptFits, afterAccept, receiveAccept, paxosCanCommit, taken, refused}
 use Rattle.round_state.specs.declared.HeldPromise.{HeldPromise}
 use Rattle.round_state.specs.declared.HeldPromise.the-variants.{NothingHeld, Held}
 use Rattle.round_state.specs.declared.PaxosState.{PaxosState}
 use Rattle.round_state.specs.declared.PaxosStep.{PaxosStep}
 use Rattle.round_state.proofs.Paper.{proposal, reported, heldProposal, afterPromises, reports, promises-highest, accept-paper}
-use Rattle.fast_state.specs.Fast.{hasValue}
 use Rattle.accept.specs.Accept.{isCommitter, answerAccept, tryCommit, commitMessages, answered, follower, accepted, afterAccepted, accepting}
 use Rattle.enter.specs.Enter.{inRound, isOlder, fromLive, enter}
-use Rattle.prepare.specs.Prepare.{holdFirst, answerPrepare, answersNothing, preparing, afterHeld, prepared, broadcastAccept, afterOwnAccept, acceptPhase, gather}
-use Rattle.paxos_family.specs.Process.{ifContinues, inPrepare, onPrepare, onAccept}
-use Rattle.steps.specs.Steps.{noMessages, oneMessage, sends, toAll, heldRv, heldV, withPaxos, leftFastPath, stays, continues, commits, refuses}
+use Rattle.prepare.specs.Prepare.{holdFirst, answerPrepare, answersNothing, preparing, afterHeld, prepared, offFastPath, broadcastAccept, afterOwnAccept, acceptPhase, withPromise, becomesPrepared, gather}
+use Rattle.paxos_family.proofs.Clearing.{in-round-held}
+use Rattle.paxos_family.specs.Process.{inPrepare, onPrepare, onAccept}
+use Rattle.steps.specs.Steps.{noMessages, oneMessage, sends, toAll, heldRv, heldV, withPaxos, leftFastPath, stays, continues, commits, refuses, goesOn, andThen}
 use Rattle.steps.specs.declared.Asked.{Asked}
 use Rattle.steps.specs.declared.Core.{Core}
 use Rattle.steps.specs.declared.CoreStep.{CoreStep}
@@ -90,12 +90,8 @@ older-prepare p round e =
 older-accept : (p : PaxosState) (round : PaxosRound) (v : ℕ) → before (Round round) (p .round) ≡ true → accept roundBefore (acceptorOf p) (proposal round v) ≡ acceptorOf p
 unfolding accept accepts
 older-accept p round v e =
-    ap (λ (t : Bool). cond (cond t false true) (record { responded = respondedOf (p .round); accepted = higher roundBefore (heldProposal (p .«max_rv»)) (some (proposal round v)) }) (acceptorOf p))
+    ap (λ (t : Bool). cond (not t) (record { responded = respondedOf (p .round); accepted = higher roundBefore (heldProposal (p .«max_rv»)) (some (proposal round v)) }) (acceptorOf p))
     (exceeded-older (p .round) round ∙ e)
-
-in-round-held : (round : PaxosRound) (core : Core) → inRound round core .paxos .«max_rv» ≡ core .paxos .«max_rv»
-unfolding inRound
-in-round-held round core = of-both (λ (c : Core). c .paxos .«max_rv» ≡ core .paxos .«max_rv») (before (core .paxos .round) (Round round)) refl refl
 
 in-round-not-older : (round : PaxosRound) (core : Core) → before (Round round) (core .paxos .round) ≡ false → before (Round round) (inRound round core .paxos .round) ≡ false
 unfolding inRound
@@ -115,10 +111,10 @@ Ends Continues = ⊥
 Ends (Commits v) = Unit {0}
 Ends (Refuses why) = Unit {0}
 
-ends-here : (rest step : CoreStep) → Ends (step .next) → ifContinues (step .next) rest step ≡ step
-ends-here rest step e = go (step .next) e
+ends-here : (step : CoreStep) (rest : Core → CoreStep) → Ends (step .next) → andThen step rest ≡ step
+ends-here step rest e = go (step .next) e
   where
-    go : (n : Next) → Ends n → ifContinues n rest step ≡ step
+    go : (n : Next) → Ends n → cond (goesOn n) (rest (step .core)) step ≡ step
     go Stays e = refl
     go Continues e = absurd e
     go (Commits v) e = refl
@@ -131,7 +127,7 @@ pub record Answered (a : Asked) (h : Heard) (round : PaxosRound) (acceptor : Acc
   pub answer : (step .messages ≡ noMessages)
       ⊎ ((rv : RoundV) × (step .messages ≡ oneMessage (sends a (step .core) (One (h .delegate)) (Prepare (step .core .slot) round rv))) × (reported rv ≡ acceptor .accepted))
 
-module _ (a : Asked) (h : Heard) (replica : a .member .replica ≡ true) (classic : isSwiftPaxos (a .mode) ≡ false) (live : h .«source_live» ≡ true) (slot : ℕ) (round : PaxosRound) (core : Core)
+module _ (a : Asked) (h : Heard) (replica : a .member .replica ≡ true) (live : h .«source_live» ≡ true) (slot : ℕ) (round : PaxosRound) (core : Core)
     (own : ltb slot (core .slot) ≡ false) where
   entering : enter a h slot round core ≡ cond (before (Round round) (core .paxos .round)) (stays core noMessages) (continues (inRound round core) noMessages)
   unfolding enter fromLive isOlder
@@ -202,7 +198,7 @@ module _ (a : Asked) (h : Heard) (replica : a .member .replica ≡ true) (classi
         → Answered a h round (prepare roundBefore (acceptorOf (core .paxos)) round) (onPrepare a h slot round rv core)
     unfolding onPrepare inPrepare
     prepare-handled free =
-        subst (λ (e : CoreStep). P (ifContinues (e .next) (inPrepare a h round rv (e .core)) e)) (sym entering) (go (before (Round round) (core .paxos .round)) refl)
+        subst (λ (e : CoreStep). P (andThen e (inPrepare a h round rv))) (sym entering) (go (before (Round round) (core .paxos .round)) refl)
       where
         P : CoreStep → Type 0
         P = Answered a h round (prepare roundBefore (acceptorOf (core .paxos)) round)
@@ -219,9 +215,9 @@ module _ (a : Asked) (h : Heard) (replica : a .member .replica ≡ true) (classi
         entry : Bool → CoreStep
         entry t = cond t (stays core noMessages) (continues c noMessages)
 
-        go : (t : Bool) → before (Round round) (core .paxos .round) ≡ t → P (ifContinues (entry t .next) (inPrepare a h round rv (entry t .core)) (entry t))
+        go : (t : Bool) → before (Round round) (core .paxos .round) ≡ t → P (andThen (entry t) (inPrepare a h round rv))
         go true e = record { ends = tt; leaves = sym (older-prepare (core .paxos) round e); answer = inl refl }
-        go false e = subst P (sym (ends-here (gather a h round rv (prepared a h round rv c .core)) (prepared a h round rv c) (later .ends))) later
+        go false e = subst P (sym (ends-here (prepared a h round rv c) (gather a h round rv) (later .ends))) later
 
   -- ---- Accept
 
@@ -253,7 +249,7 @@ module _ (a : Asked) (h : Heard) (replica : a .member .replica ≡ true) (classi
     unfolding accepting receiveAccept
     accepting-leaves c fits =
         ap (λ (t : Bool). after (cond t (taken p) (refused AcceptUnlikeHeld (c .paxos))) .core .paxos) fits
-        ∙ accepted-keeps (cond (isSwiftPaxos (a .mode)) (withPaxos p c) (leftFastPath (withPaxos p c)))
+        ∙ accepted-keeps (offFastPath a (withPaxos p c))
         ∙ of-both (λ (x : Core). x .paxos ≡ p) (isSwiftPaxos (a .mode)) {x = withPaxos p c} {y = leftFastPath (withPaxos p c)} refl refl
       where
         p : PaxosState
@@ -267,7 +263,7 @@ module _ (a : Asked) (h : Heard) (replica : a .member .replica ≡ true) (classi
         → acceptorOf (onAccept a h slot round v core .core .paxos) ≡ accept roundBefore (prepare roundBefore (acceptorOf (core .paxos)) round) (proposal round v)
     unfolding onAccept
     accept-handled fits =
-        subst (λ (e : CoreStep). P (ifContinues (e .next) (accepting a h round v (e .core)) e)) (sym entering) (go (before (Round round) (core .paxos .round)) refl)
+        subst (λ (e : CoreStep). P (andThen e (accepting a h round v))) (sym entering) (go (before (Round round) (core .paxos .round)) refl)
       where
         P : CoreStep → Type 0
         P step = acceptorOf (step .core .paxos) ≡ accept roundBefore (prepare roundBefore (acceptorOf (core .paxos)) round) (proposal round v)
@@ -278,7 +274,7 @@ module _ (a : Asked) (h : Heard) (replica : a .member .replica ≡ true) (classi
         entry : Bool → CoreStep
         entry t = cond t (stays core noMessages) (continues c noMessages)
 
-        go : (t : Bool) → before (Round round) (core .paxos .round) ≡ t → P (ifContinues (entry t .next) (accepting a h round v (entry t .core)) (entry t))
+        go : (t : Bool) → before (Round round) (core .paxos .round) ≡ t → P (andThen (entry t) (accepting a h round v))
         go true e =
             sym (older-accept (core .paxos) round v e)
             ∙ ap (λ (x : Acceptor PaxosRound ℕ). accept roundBefore x (proposal round v)) (sym (older-prepare (core .paxos) round e))
@@ -335,17 +331,17 @@ unfolding choice highest
 promises-choice old rvs =
     values-after (valueOf old) (Held old) rvs (own-value old) .1 ∙ ap (valueOr roundBefore (valueOf old)) (promises-highest (Held old) rvs)
 
-value-held : (held : HeldPromise) (v : ℕ) → getV held ≡ Value v → v ≡ heldV held
+pub value-held : (held : HeldPromise) (v : ℕ) → getV held ≡ Value v → v ≡ heldV held
 value-held NothingHeld v e = absurd (not-both refl (ap hasValue (sym e)))
 value-held (Held rv) v e = ap (valueIn 0) (sym e)
 
 -- The delegate sends nothing as it counts a promise, or an Accept of the paper's choice of those that it has counted, this one included.
 pub delegate-proposes : (a : Asked) (h : Heard) (round : PaxosRound) (rv old : RoundV) (rvs : List RoundV) (core : Core) → core .paxos .«max_rv» ≡ afterPromises (Held old) rvs
     → (gather a h round rv core .messages ≡ noMessages)
-    ⊎ ((c : Core) × (gather a h round rv core .messages ≡ oneMessage (sends a c toAll (Accept (core .slot) round (choice roundBefore (valueOf old) (reported old ∷ reports (rvs ++ (rv ∷ []))))))))
+    ⊎ (gather a h round rv core .messages ≡ oneMessage (sends a core toAll (Accept (core .slot) round (choice roundBefore (valueOf old) (reported old ∷ reports (rvs ++ (rv ∷ [])))))))
 unfolding gather acceptPhase broadcastAccept selfAccept acceptOwn receiveAccept receivePromise
 delegate-proposes a h round rv old rvs core e =
-    of-both (λ (s : CoreStep). Proposes (s .messages)) (not (isPrepared (a .member) (core .paxos)) && isPrepared (a .member) p)
+    of-both (λ (s : CoreStep). Proposes (s .messages)) (becomesPrepared a core (withPromise a h rv core))
     (of-both FromOwn (isEmpty (p .«accepted_set»)) (own (getV (p .«max_rv»)) refl) (inl refl)) (inl refl)
   where
     p : PaxosState
@@ -354,7 +350,7 @@ delegate-proposes a h round rv old rvs core e =
     Proposes : Messages → Type 0
     Proposes ms =
         (ms ≡ noMessages)
-        ⊎ ((c : Core) × (ms ≡ oneMessage (sends a c toAll (Accept (core .slot) round (choice roundBefore (valueOf old) (reported old ∷ reports (rvs ++ (rv ∷ []))))))))
+        ⊎ (ms ≡ oneMessage (sends a core toAll (Accept (core .slot) round (choice roundBefore (valueOf old) (reported old ∷ reports (rvs ++ (rv ∷ [])))))))
 
     FromOwn : PaxosStep → Type 0
     FromOwn st = Proposes (afterOwnAccept a round (withPaxos p core) (st .state) (st .outcome) .messages)
@@ -366,5 +362,5 @@ delegate-proposes a h round rv old rvs core e =
     own NoValue f = inl refl
     own (Value v) f =
         of-both FromOwn (acceptFits (p .«max_rv») round v)
-        (inr (withPaxos (afterAccept (a .member) (a .member .«my_pid») round v p) core, ap (λ (w : ℕ). oneMessage (sends a core toAll (Accept (core .slot) round w))) (value-held (p .«max_rv») v f ∙ chosen)))
+        (inr (ap (λ (w : ℕ). oneMessage (sends a core toAll (Accept (core .slot) round w))) (value-held (p .«max_rv») v f ∙ chosen)))
         (inl refl)

@@ -12,6 +12,7 @@ use Rattle.steps.specs.declared.Asked.{Asked}
 use Rattle.steps.specs.declared.Core.{Core}
 use Rattle.steps.specs.declared.Rounds.{Rounds}
 
+-- what commit_slot does to all but the fast half
 abbrev pub commitCore : Asked → ℕ → Core → Core
 commitCore a v core =
     record {
@@ -22,5 +23,6 @@ commitCore a v core =
       tracker = core .tracker;
     }
 
+-- commit_slot
 unfoldable pub commitSlot : Asked → ℕ → Rounds → Rounds
 commitSlot a v s = record { core = commitCore a v (s .core); fast = cond (hasFastPath (a .mode)) noAnswers (s .fast) }

@@ -1,9 +1,6 @@
 // The handlers of the paxos family: the Rust's paxos_family.rs. Prepare and Accept by mode, and the commit of a slot.
 ghost use mathlib.Core.Path.{_≡_};
-ghost use mathlib.Core.Bool.{not, _&&_};
-ghost use Rattle.paxos_family.specs.Process.{inPrepare, onPrepare, onAccept, processClassic, fastPrepared, fastPromised, swiftLeads, startsAccept, waits, fastAnswered, fastGather, inFastPrepare, onFastPrepare, inFastAccept, enteredAccept, onFastAccept, processChange, processFast};
-ghost use Rattle.prepare.specs.Prepare.{hasAccepted};
-ghost use Rattle.round_state.specs.Paxos.{isPrepared};
+ghost use Rattle.paxos_family.specs.Process.{inPrepare, onPrepare, onAccept, processClassic, fastPrepared, fastPromised, leadsRound, startsAccept, waits, fastAnswered, fastGather, inFastPrepare, onFastPrepare, replicaAccept, inFastAccept, onFastAccept, processChange, processFast};
 ghost use Rattle.paxos_family.specs.Commit.{commitCore, commitSlot};
 ghost use Rattle.fast_state.specs.Adopt.{lowestBest};
 use fast_state::FastAnswers;
@@ -17,24 +14,20 @@ use steps::ChangeStep;
 use steps::Core;
 use steps::CoreStep;
 use steps::Heard;
-use steps::Next;
 use steps::Rounds;
 use steps::RoundsStep;
 
+// A Prepare in the entered round: the delegate goes on and counts the promise.
 fn in_prepare(asked: Asked, heard: Heard, round: PaxosRound, rv: RoundV, core: Core) -> CoreStep
     ensures { λ r. ⌜ r ≡ inPrepare asked heard round rv core ⌝ }
 {
     let step = prepare::prepared(asked, heard, round, rv, core);
     let next = step.next;
-    match next {
-        Next::Stays => step,
-        Next::Continues => {
-            let core = step.core;
-            prepare::gather(asked, heard, round, rv, core)
-        }
-        Next::Commits(_) => step,
-        Next::Refuses(_) => step,
+    if next.goes_on() {
+        let core = step.core;
+        return prepare::gather(asked, heard, round, rv, core);
     }
+    step
 }
 
 fn on_prepare(
@@ -49,15 +42,11 @@ fn on_prepare(
 {
     let step = enter::enter(asked, heard, slot, round, core);
     let next = step.next;
-    match next {
-        Next::Stays => step,
-        Next::Continues => {
-            let core = step.core;
-            in_prepare(asked, heard, round, rv, core)
-        }
-        Next::Commits(_) => step,
-        Next::Refuses(_) => step,
+    if next.goes_on() {
+        let core = step.core;
+        return in_prepare(asked, heard, round, rv, core);
     }
+    step
 }
 
 fn on_accept(
@@ -72,15 +61,11 @@ fn on_accept(
 {
     let step = enter::enter(asked, heard, slot, round, core);
     let next = step.next;
-    match next {
-        Next::Stays => step,
-        Next::Continues => {
-            let core = step.core;
-            accept::accepting(asked, heard, round, v, core)
-        }
-        Next::Commits(_) => step,
-        Next::Refuses(_) => step,
+    if next.goes_on() {
+        let core = step.core;
+        return accept::accepting(asked, heard, round, v, core);
     }
+    step
 }
 
 // A message in the classic modes, which change the core alone. A ForwardRequest does nothing; Commit and reads are handled before.
@@ -107,7 +92,8 @@ pub fn process_classic(asked: Asked, heard: Heard, msg: ConsensusMsg, core: Core
     }
 }
 
-// A SwiftPaxos client, which is no replica, holds nothing and answers nobody: what it hears is an answer to its own proposal.
+// Of a Prepare a SwiftPaxos client, which is no replica, holds and answers nothing: the Rust goes to
+// process_answers_at_swift_paxos_client at once.
 fn fast_prepared(asked: Asked, heard: Heard, round: PaxosRound, rv: RoundV, core: Core) -> CoreStep
     ensures { λ r. ⌜ r ≡ fastPrepared asked heard round rv core ⌝ }
 {
@@ -117,29 +103,19 @@ fn fast_prepared(asked: Asked, heard: Heard, round: PaxosRound, rv: RoundV, core
     core.continues(steps::no_messages())
 }
 
+// Nor does a client count a promise.
 fn fast_promised(asked: Asked, heard: Heard, rv: RoundV, core: Core) -> Core
     ensures { λ r. ⌜ r ≡ fastPromised asked heard rv core ⌝ }
 {
-    let me = asked.member;
-    if me.replica {
-        let paxos = core.paxos;
-        let promised = promise_accept::receive_promise(paxos, me, heard.src, rv);
-        let state = promised.state;
-        return core.with_paxos(state);
+    if asked.member.replica {
+        return prepare::with_promise(asked, heard, rv, core);
     }
     core
 }
 
-fn has_accepted(core: Core) -> bool
-    ensures { λ r. ⌜ r ≡ hasAccepted core ⌝ }
-{
-    let paxos = core.paxos;
-    let held = paxos.max_rv;
-    prepare::is_round(held.get_last_accepted_round())
-}
-
-fn swift_leads(asked: Asked, round: PaxosRound) -> bool
-    ensures { λ r. ⌜ r ≡ swiftLeads asked round ⌝ }
+// Whether the member is a replica and leads the round.
+fn leads_round(asked: Asked, round: PaxosRound) -> bool
+    ensures { λ r. ⌜ r ≡ leadsRound asked round ⌝ }
 {
     let me = asked.member;
     if me.replica {
@@ -148,32 +124,19 @@ fn swift_leads(asked: Asked, round: PaxosRound) -> bool
     false
 }
 
-// A promise that completes the majority.
-fn becomes_prepared(asked: Asked, core: Core, promised: Core) -> bool
-    ensures { λ r. ⌜ r ≡ (not (isPrepared (asked .member) (core .paxos)) && isPrepared (asked .member) (promised .paxos)) ⌝ }
-{
-    let me = asked.member;
-    let old = core.paxos;
-    let new = promised.paxos;
-    if old.is_prepared(me) {
-        return false;
-    }
-    new.is_prepared(me)
-}
-
 // The leader of SwiftPaxos accepts at once, where nothing is accepted yet. In EPaxos, once a value is accepted, the promises count as in Paxos.
 fn starts_accept(asked: Asked, round: PaxosRound, core: Core, promised: Core) -> bool
     ensures { λ r. ⌜ r ≡ startsAccept asked round core promised ⌝ }
 {
     let mode = asked.mode;
     if mode.is_swift_paxos() {
-        if swift_leads(asked, round) {
-            return !has_accepted(promised);
+        if leads_round(asked, round) {
+            return !prepare::has_accepted(promised);
         }
         return false;
     }
-    if has_accepted(promised) {
-        return becomes_prepared(asked, core, promised);
+    if prepare::has_accepted(promised) {
+        return prepare::becomes_prepared(asked, core, promised);
     }
     false
 }
@@ -183,9 +146,9 @@ fn waits(asked: Asked, round: PaxosRound, promised: Core) -> bool
 {
     let mode = asked.mode;
     if mode.is_swift_paxos() {
-        return swift_leads(asked, round);
+        return leads_round(asked, round);
     }
-    has_accepted(promised)
+    prepare::has_accepted(promised)
 }
 
 // Any other promise is an answer on the fast path.
@@ -197,16 +160,33 @@ fn fast_answered(
     promised: Core,
     answers: FastAnswers,
     values: &[u64; 64],
-    epaxos: &[u64; 64],
-    swift: &[u64; 64],
+    epaxos_scores: &[u64; 64],
+    swift_scores: &[u64; 64],
 ) -> ChangeStep
-    ensures { λ r. ⌜ r ≡ fastAnswered lowestBest asked heard round rv promised answers (now (values .entry)) (now (epaxos .entry)) (now (swift .entry)) ⌝ }
+    ensures { λ r. ⌜ r ≡ fastAnswered lowestBest asked heard round rv promised answers (now (values .entry)) (now («epaxos_scores» .entry)) (now («swift_scores» .entry)) ⌝ }
 {
     let mode = asked.mode;
     if mode.is_swift_paxos() {
-        return swift_path::swift_client_prepare(asked, heard, round, rv, promised, answers, swift);
+        return swift_path::swift_client_prepare(
+            asked,
+            heard,
+            round,
+            rv,
+            promised,
+            answers,
+            swift_scores,
+        );
     }
-    epaxos_path::epaxos_answer(asked, heard, round, rv, promised, answers, values, epaxos)
+    epaxos_path::epaxos_answer(
+        asked,
+        heard,
+        round,
+        rv,
+        promised,
+        answers,
+        values,
+        epaxos_scores,
+    )
 }
 
 // The delegate counts a promise as its mode does.
@@ -218,10 +198,10 @@ fn fast_gather(
     core: Core,
     answers: FastAnswers,
     values: &[u64; 64],
-    epaxos: &[u64; 64],
-    swift: &[u64; 64],
+    epaxos_scores: &[u64; 64],
+    swift_scores: &[u64; 64],
 ) -> ChangeStep
-    ensures { λ r. ⌜ r ≡ fastGather lowestBest asked heard round rv core answers (now (values .entry)) (now (epaxos .entry)) (now (swift .entry)) ⌝ }
+    ensures { λ r. ⌜ r ≡ fastGather lowestBest asked heard round rv core answers (now (values .entry)) (now («epaxos_scores» .entry)) (now («swift_scores» .entry)) ⌝ }
 {
     let promised = fast_promised(asked, heard, rv, core);
     if starts_accept(asked, round, core, promised) {
@@ -238,8 +218,8 @@ fn fast_gather(
         promised,
         answers,
         values,
-        epaxos,
-        swift,
+        epaxos_scores,
+        swift_scores,
     )
 }
 
@@ -251,10 +231,10 @@ fn in_fast_prepare(
     core: Core,
     answers: FastAnswers,
     values: &[u64; 64],
-    epaxos: &[u64; 64],
-    swift: &[u64; 64],
+    epaxos_scores: &[u64; 64],
+    swift_scores: &[u64; 64],
 ) -> ChangeStep
-    ensures { λ r. ⌜ r ≡ inFastPrepare lowestBest asked heard round rv core answers (now (values .entry)) (now (epaxos .entry)) (now (swift .entry)) ⌝ }
+    ensures { λ r. ⌜ r ≡ inFastPrepare lowestBest asked heard round rv core answers (now (values .entry)) (now («epaxos_scores» .entry)) (now («swift_scores» .entry)) ⌝ }
 {
     let step = fast_prepared(asked, heard, round, rv, core);
     let next = step.next;
@@ -268,8 +248,8 @@ fn in_fast_prepare(
             core,
             answers,
             values,
-            epaxos,
-            swift,
+            epaxos_scores,
+            swift_scores,
         );
     }
     step.unchanged(answers)
@@ -284,10 +264,10 @@ fn on_fast_prepare(
     core: Core,
     answers: FastAnswers,
     values: &[u64; 64],
-    epaxos: &[u64; 64],
-    swift: &[u64; 64],
+    epaxos_scores: &[u64; 64],
+    swift_scores: &[u64; 64],
 ) -> ChangeStep
-    ensures { λ r. ⌜ r ≡ onFastPrepare lowestBest asked heard slot round rv core answers (now (values .entry)) (now (epaxos .entry)) (now (swift .entry)) ⌝ }
+    ensures { λ r. ⌜ r ≡ onFastPrepare lowestBest asked heard slot round rv core answers (now (values .entry)) (now («epaxos_scores» .entry)) (now («swift_scores» .entry)) ⌝ }
 {
     let step = enter::enter(asked, heard, slot, round, core);
     let next = step.next;
@@ -301,23 +281,23 @@ fn on_fast_prepare(
             core,
             answers,
             values,
-            epaxos,
-            swift,
+            epaxos_scores,
+            swift_scores,
         );
     }
     step.unchanged(answers)
 }
 
-fn in_fast_accept(
+fn replica_accept(
     asked: Asked,
     heard: Heard,
     round: PaxosRound,
     v: u64,
     core: Core,
     answers: FastAnswers,
-    swift: &[u64; 64],
+    swift_scores: &[u64; 64],
 ) -> ChangeStep
-    ensures { λ r. ⌜ r ≡ inFastAccept asked heard round v core answers (now (swift .entry)) ⌝ }
+    ensures { λ r. ⌜ r ≡ replicaAccept asked heard round v core answers (now («swift_scores» .entry)) ⌝ }
 {
     let step = accept::accepting(asked, heard, round, v, core);
     let next = step.next;
@@ -332,27 +312,27 @@ fn in_fast_accept(
             core,
             messages,
             answers,
-            swift,
+            swift_scores,
         );
     }
     step.unchanged(answers)
 }
 
-fn entered_accept(
+fn in_fast_accept(
     asked: Asked,
     heard: Heard,
     round: PaxosRound,
     v: u64,
     core: Core,
     answers: FastAnswers,
-    swift: &[u64; 64],
+    swift_scores: &[u64; 64],
 ) -> ChangeStep
-    ensures { λ r. ⌜ r ≡ enteredAccept asked heard round v core answers (now (swift .entry)) ⌝ }
+    ensures { λ r. ⌜ r ≡ inFastAccept asked heard round v core answers (now («swift_scores» .entry)) ⌝ }
 {
     if asked.member.replica {
-        return in_fast_accept(asked, heard, round, v, core, answers, swift);
+        return replica_accept(asked, heard, round, v, core, answers, swift_scores);
     }
-    swift_path::swift_client_accept(asked, heard, round, v, core, answers, swift)
+    swift_path::swift_client_accept(asked, heard, round, v, core, answers, swift_scores)
 }
 
 fn on_fast_accept(
@@ -363,15 +343,15 @@ fn on_fast_accept(
     v: u64,
     core: Core,
     answers: FastAnswers,
-    swift: &[u64; 64],
+    swift_scores: &[u64; 64],
 ) -> ChangeStep
-    ensures { λ r. ⌜ r ≡ onFastAccept asked heard slot round v core answers (now (swift .entry)) ⌝ }
+    ensures { λ r. ⌜ r ≡ onFastAccept asked heard slot round v core answers (now («swift_scores» .entry)) ⌝ }
 {
     let step = enter::enter(asked, heard, slot, round, core);
     let next = step.next;
     if next.goes_on() {
         let core = step.core;
-        return entered_accept(asked, heard, round, v, core, answers, swift);
+        return in_fast_accept(asked, heard, round, v, core, answers, swift_scores);
     }
     step.unchanged(answers)
 }
@@ -384,10 +364,10 @@ pub fn process_change(
     core: Core,
     answers: FastAnswers,
     values: &[u64; 64],
-    epaxos: &[u64; 64],
-    swift: &[u64; 64],
+    epaxos_scores: &[u64; 64],
+    swift_scores: &[u64; 64],
 ) -> ChangeStep
-    ensures { λ r. ⌜ r ≡ processChange lowestBest asked heard msg core answers (now (values .entry)) (now (epaxos .entry)) (now (swift .entry)) ⌝ }
+    ensures { λ r. ⌜ r ≡ processChange lowestBest asked heard msg core answers (now (values .entry)) (now («epaxos_scores» .entry)) (now («swift_scores» .entry)) ⌝ }
 {
     match msg {
         ConsensusMsg::Prepare { slot, round, rv } => on_fast_prepare(
@@ -399,11 +379,11 @@ pub fn process_change(
             core,
             answers,
             values,
-            epaxos,
-            swift,
+            epaxos_scores,
+            swift_scores,
         ),
         ConsensusMsg::Accept { slot, round, v } => {
-            on_fast_accept(asked, heard, slot, round, v, core, answers, swift)
+            on_fast_accept(asked, heard, slot, round, v, core, answers, swift_scores)
         },
         ConsensusMsg::ForwardRequest { v: _ } => core.stays_unchanged(answers),
         ConsensusMsg::Commit { slot: _, v: _ } => core.stays_unchanged(answers),
@@ -422,12 +402,22 @@ pub fn process_fast(asked: Asked, heard: Heard, msg: ConsensusMsg, s: Rounds) ->
     let core = s.core;
     let fast = s.fast;
     let values = fast.fast_proposer_to_v;
-    let epaxos = fast.epaxos_proposer_scores;
-    let swift = fast.swift_proposer_scores;
+    let epaxos_scores = fast.epaxos_proposer_scores;
+    let swift_scores = fast.swift_proposer_scores;
     let answers = fast.answers();
-    process_change(asked, heard, msg, core, answers, &values, &epaxos, &swift).change_rounds(fast)
+    process_change(
+        asked,
+        heard,
+        msg,
+        core,
+        answers,
+        &values,
+        &epaxos_scores,
+        &swift_scores,
+    ).change_rounds(fast)
 }
 
+// A commit, but for the fast half.
 pub fn commit_core(asked: Asked, v: u64, core: Core) -> Core
     ensures { λ r. ⌜ r ≡ commitCore asked v core ⌝ }
 {
@@ -444,7 +434,7 @@ pub fn commit_core(asked: Asked, v: u64, core: Core) -> Core
     }
 }
 
-// The value becomes the last one, and the next slot begins with nothing of a round. The fast half is clear already in the classic
+// The value becomes the last one, and the next slot begins in the starting round, with nothing held or counted. The fast half is clear already in the classic
 // modes, which never change it.
 pub fn commit_slot(asked: Asked, v: u64, s: Rounds) -> Rounds
     ensures { λ r. ⌜ r ≡ commitSlot asked v s ⌝ }

@@ -1,6 +1,6 @@
 // What a Prepare does: the promise that is held and answered, and the promises that the round's delegate gathers until it proposes a value.
 ghost use mathlib.Core.Path.{_≡_};
-ghost use Rattle.prepare.specs.Prepare.{holdFirst, mayAnswer, answerPrepare, leavesLeader, answersNothing, preparing, afterHeld, prepared, offFastPath, broadcastAccept, afterOwnAccept, acceptPhase, gather, isRound};
+ghost use Rattle.prepare.specs.Prepare.{holdFirst, mayAnswer, answerPrepare, leavesLeader, answersNothing, preparing, afterHeld, prepared, offFastPath, broadcastAccept, afterOwnAccept, acceptPhase, withPromise, becomesPrepared, gather, hasAccepted};
 use message::ConsensusMsg;
 use message::OptionalRound;
 use message::Outcome;
@@ -40,7 +40,7 @@ fn hold_first(asked: Asked, rv: RoundV, p: PaxosState) -> PaxosStep
         };
     }
     let me = asked.member;
-    promise_accept::paxos_propose_v(p, me, rv)
+    p.paxos_propose_v(me, rv)
 }
 
 fn answer_prepare(asked: Asked, heard: Heard, round: PaxosRound, core: Core) -> CoreStep
@@ -148,6 +148,7 @@ fn broadcast_accept(asked: Asked, round: PaxosRound, core: Core) -> CoreStep
     off_fast_path(asked, core).stays(steps::one_message(message))
 }
 
+// The own accept was taken or refused; one that was taken is told to all.
 pub fn after_own_accept(
     asked: Asked,
     round: PaxosRound,
@@ -169,36 +170,52 @@ pub fn accept_phase(asked: Asked, round: PaxosRound, core: Core) -> CoreStep
 {
     let paxos = core.paxos;
     let me = asked.member;
-    let step = promise_accept::self_accept(paxos, me, round);
+    let step = paxos.self_accept(me, round);
     let state = step.state;
     let outcome = step.outcome;
     after_own_accept(asked, round, core, state, outcome)
+}
+
+// The promise counted.
+pub fn with_promise(asked: Asked, heard: Heard, rv: RoundV, core: Core) -> Core
+    ensures { λ r. ⌜ r ≡ withPromise asked heard rv core ⌝ }
+{
+    let me = asked.member;
+    let paxos = core.paxos;
+    let promised = paxos.receive_promise(me, heard.src, rv);
+    let state = promised.state;
+    core.with_paxos(state)
+}
+
+// Whether a promise completes the majority, by the core before it and the core with it.
+pub fn becomes_prepared(asked: Asked, core: Core, promised: Core) -> bool
+    ensures { λ r. ⌜ r ≡ becomesPrepared asked core promised ⌝ }
+{
+    let me = asked.member;
+    let old = core.paxos;
+    let new = promised.paxos;
+    if old.is_prepared(me) {
+        return false;
+    }
+    new.is_prepared(me)
 }
 
 // The delegate counts the promise. The one that completes a majority starts the accept phase, and no later one does.
 pub fn gather(asked: Asked, heard: Heard, round: PaxosRound, rv: RoundV, core: Core) -> CoreStep
     ensures { λ r. ⌜ r ≡ gather asked heard round rv core ⌝ }
 {
-    let me = asked.member;
-    let paxos = core.paxos;
-    let promised = promise_accept::receive_promise(paxos, me, heard.src, rv);
-    let state = promised.state;
-    let counted = core.with_paxos(state);
-    if paxos.is_prepared(me) {
-        return counted.stays_silent();
+    let promised = with_promise(asked, heard, rv, core);
+    if becomes_prepared(asked, core, promised) {
+        return accept_phase(asked, round, promised);
     }
-    if state.is_prepared(me) {
-        return accept_phase(asked, round, counted);
-    }
-    counted.stays_silent()
+    promised.stays_silent()
 }
 
-// Whether there is a round: of what is held, whether it was accepted.
-pub fn is_round(round: OptionalRound) -> bool
-    ensures { λ r. ⌜ r ≡ isRound round ⌝ }
+// Whether what is held was accepted in some round.
+pub fn has_accepted(core: Core) -> bool
+    ensures { λ r. ⌜ r ≡ hasAccepted core ⌝ }
 {
-    match round {
-        OptionalRound::NoRound => false,
-        OptionalRound::Round(_) => true,
-    }
+    let paxos = core.paxos;
+    let held = paxos.max_rv;
+    held.get_last_accepted_round().is_round()
 }

@@ -14,6 +14,7 @@ use Rattle.steps.specs.declared.Asked.{Asked}
 use Rattle.steps.specs.declared.Core.{Core}
 use Rattle.steps.specs.declared.CoreStep.{CoreStep}
 
+-- what every failed assertion of the Rust's propose is here
 abbrev pub notAllowed : Core → CoreStep
 notAllowed core = refuses ProposalNotAllowed core
 
@@ -21,16 +22,16 @@ notAllowed core = refuses ProposalNotAllowed core
 unfoldable pub electing : Asked → ℕ
 electing a = cond (isSwiftPaxos (a .mode)) (a .«first_leader») (a .member .«my_pid»)
 
--- the round of the proposal
+-- the round of the proposal: next_leader_round
 abbrev pub proposalRound : Asked → Core → PaxosRound
 proposalRound a core = nextLeaderRound (unwrapOrDefault (core .paxos .round)) (electing a)
 
--- "MultiPaxos by another than the leader": there the proposal's round must be the starting round
-abbrev pub leadsIfMulti : Asked → Core → Bool
-leadsIfMulti a core = not (isMultiPaxos (a .mode)) || equal (Round (proposalRound a core)) (a .«starting_round»)
+-- `assert_eq!(is_multi_paxos(), Some(round) == starting_round)`: in the other modes the starting round is none, and no round is that
+abbrev pub roundAllowed : Asked → Core → Bool
+roundAllowed a core = not (isMultiPaxos (a .mode)) || equal (Round (proposalRound a core)) (a .«starting_round»)
 
--- nothing is held, can_propose, the round is the starting round
+-- nothing is held; can_propose; the round is the starting one; and in MultiPaxos it is one's own
 unfoldable pub mayPropose : Asked → Core → Bool
 mayPropose a core =
     cond (isHeld (core .paxos .«max_rv»)) false
-    (canPropose a && equal (core .paxos .round) (a .«starting_round») && leadsIfMulti a core)
+    (canPropose a && equal (core .paxos .round) (a .«starting_round») && roundAllowed a core)

@@ -1,6 +1,6 @@
 // Who may propose, and in which round.
 ghost use mathlib.Core.Path.{_≡_};
-ghost use Rattle.proposal.specs.Proposal.{notAllowed, electing, proposalRound, leadsIfMulti, mayPropose};
+ghost use Rattle.proposal.specs.Proposal.{notAllowed, electing, proposalRound, roundAllowed, mayPropose};
 use message::OptionalRound;
 use message::PaxosRound;
 use message::Refusal;
@@ -26,6 +26,7 @@ pub fn electing(asked: Asked) -> u64
     asked.member.my_pid
 }
 
+// The round that a proposal opens.
 pub fn proposal_round(asked: Asked, core: Core) -> PaxosRound
     ensures { λ r. ⌜ r ≡ proposalRound asked core ⌝ }
 {
@@ -36,9 +37,9 @@ pub fn proposal_round(asked: Asked, core: Core) -> PaxosRound
         .next_leader_round(electing(asked))
 }
 
-// In MultiPaxos only the leader from the start proposes.
-fn leads_if_multi(asked: Asked, core: Core) -> bool
-    ensures { λ r. ⌜ r ≡ leadsIfMulti asked core ⌝ }
+// In MultiPaxos only the leader from the start proposes; in the other modes every round is allowed.
+fn round_allowed(asked: Asked, core: Core) -> bool
+    ensures { λ r. ⌜ r ≡ roundAllowed asked core ⌝ }
 {
     let mode = asked.mode;
     if mode.is_multi_paxos() {
@@ -48,6 +49,7 @@ fn leads_if_multi(asked: Asked, core: Core) -> bool
     true
 }
 
+// Whether the Rust's propose would meet no failed assertion.
 pub fn may_propose(asked: Asked, core: Core) -> bool
     ensures { λ r. ⌜ r ≡ mayPropose asked core ⌝ }
 {
@@ -60,7 +62,7 @@ pub fn may_propose(asked: Asked, core: Core) -> bool
     }
     if enter::can_propose(asked) {
         if now_at.equals(starting) {
-            return leads_if_multi(asked, core);
+            return round_allowed(asked, core);
         }
         return false;
     }

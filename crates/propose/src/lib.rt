@@ -1,6 +1,6 @@
 // What a proposal does: the first step of the mode, a Prepare, an Accept, or a fast proposal.
 ghost use mathlib.Core.Path.{_≡_};
-ghost use Rattle.propose.specs.Propose.{afterPrepare, proposePrepare, afterAccept, afterOwnPromise, proposeAccept, proposeClassic, afterOwnAnswer, ownAnswer, leadsSwift, proposeChange, proposeFast};
+ghost use Rattle.propose.specs.Propose.{proposed, proposePrepare, afterOwnPromise, proposeAccept, proposeClassic, afterOwnAnswer, ownAnswer, leadsFromStart, proposeChange, proposeFast};
 use fast_state::FastAnswers;
 use fast_state::FastChange;
 use fast_state::FastStep;
@@ -21,24 +21,19 @@ use steps::CoreStep;
 use steps::Rounds;
 use steps::RoundsStep;
 
-fn after_prepare(
+// Where the own promise or the own accept is taken, the message of the proposal goes to all.
+fn proposed(
     asked: Asked,
-    round: PaxosRound,
-    rv: RoundV,
+    msg: ConsensusMsg,
     core: Core,
     p: PaxosState,
     outcome: Outcome,
 ) -> CoreStep
-    ensures { λ r. ⌜ r ≡ afterPrepare asked round rv core p outcome ⌝ }
+    ensures { λ r. ⌜ r ≡ proposed asked msg core p outcome ⌝ }
 {
     match outcome {
         Outcome::Done => {
-            let prepare = ConsensusMsg::Prepare {
-                slot: core.slot,
-                round,
-                rv,
-            };
-            let message = asked.sends(core, steps::to_all(), prepare);
+            let message = asked.sends(core, steps::to_all(), msg);
             core.with_paxos(p).stays(steps::one_message(message))
         }
         Outcome::Refused(_) => not_allowed(core),
@@ -52,36 +47,18 @@ fn propose_prepare(asked: Asked, round: PaxosRound, rv: RoundV, core: Core) -> C
     let me = asked.member;
     let paxos = core.paxos;
     let entered = paxos.goto_round(OptionalRound::Round(round));
-    let step = promise_accept::paxos_propose_v(entered, me, rv);
+    let step = entered.paxos_propose_v(me, rv);
     let state = step.state;
     let outcome = step.outcome;
-    after_prepare(asked, round, rv, core, state, outcome)
+    let prepare = ConsensusMsg::Prepare {
+        slot: core.slot,
+        round,
+        rv,
+    };
+    proposed(asked, prepare, core, state, outcome)
 }
 
-fn after_accept(
-    asked: Asked,
-    round: PaxosRound,
-    v: u64,
-    core: Core,
-    p: PaxosState,
-    outcome: Outcome,
-) -> CoreStep
-    ensures { λ r. ⌜ r ≡ afterAccept asked round v core p outcome ⌝ }
-{
-    match outcome {
-        Outcome::Done => {
-            let accept = ConsensusMsg::Accept {
-                slot: core.slot,
-                round,
-                v,
-            };
-            let message = asked.sends(core, steps::to_all(), accept);
-            core.with_paxos(p).stays(steps::one_message(message))
-        }
-        Outcome::Refused(_) => not_allowed(core),
-    }
-}
-
+// The own promise was taken or refused; one that was taken is followed by the own accept, and an Accept to all.
 fn after_own_promise(
     asked: Asked,
     round: PaxosRound,
@@ -95,10 +72,15 @@ fn after_own_promise(
     match outcome {
         Outcome::Done => {
             let me = asked.member;
-            let step = promise_accept::self_accept(p, me, round);
+            let step = p.self_accept(me, round);
             let state = step.state;
             let accepted = step.outcome;
-            after_accept(asked, round, v, core, state, accepted)
+            let accept = ConsensusMsg::Accept {
+                slot: core.slot,
+                round,
+                v,
+            };
+            proposed(asked, accept, core, state, accepted)
         }
         Outcome::Refused(_) => not_allowed(core),
     }
@@ -115,7 +97,7 @@ fn propose_accept(asked: Asked, round: PaxosRound, v: u64, core: Core) -> CoreSt
         v,
     };
     let entered = paxos.goto_round(OptionalRound::Round(round));
-    let step = promise_accept::paxos_propose_v(entered, me, rv);
+    let step = entered.paxos_propose_v(me, rv);
     let state = step.state;
     let outcome = step.outcome;
     after_own_promise(asked, round, v, core, state, outcome)
@@ -167,23 +149,23 @@ fn own_answer(
     asked: Asked,
     v: u64,
     answers: FastAnswers,
-    epaxos: &[u64; 64],
-    swift: &[u64; 64],
+    epaxos_scores: &[u64; 64],
+    swift_scores: &[u64; 64],
 ) -> FastStep
-    ensures { λ r. ⌜ r ≡ ownAnswer asked v answers (now (epaxos .entry)) (now (swift .entry)) ⌝ }
+    ensures { λ r. ⌜ r ≡ ownAnswer asked v answers (now («epaxos_scores» .entry)) (now («swift_scores» .entry)) ⌝ }
 {
     let me = asked.member;
     let mode = asked.mode;
     let quorum = asked.quorum;
     if mode.is_swift_paxos() {
-        return swift_state::swift_propose_v(answers, swift, me, v, quorum, false);
+        return swift_state::swift_propose_v(answers, swift_scores, me, v, quorum, false);
     }
-    epaxos_state::epaxos_propose_v(answers, epaxos, me, v)
+    epaxos_state::epaxos_propose_v(answers, epaxos_scores, me, v)
 }
 
 // The leader of SwiftPaxos accepts at once.
-fn leads_swift(asked: Asked) -> bool
-    ensures { λ r. ⌜ r ≡ leadsSwift asked ⌝ }
+fn leads_from_start(asked: Asked) -> bool
+    ensures { λ r. ⌜ r ≡ leadsFromStart asked ⌝ }
 {
     let mode = asked.mode;
     if mode.is_swift_paxos() {
@@ -198,17 +180,17 @@ pub fn propose_change(
     v: u64,
     core: Core,
     answers: FastAnswers,
-    epaxos: &[u64; 64],
-    swift: &[u64; 64],
+    epaxos_scores: &[u64; 64],
+    swift_scores: &[u64; 64],
 ) -> ChangeStep
-    ensures { λ r. ⌜ r ≡ proposeChange asked v core answers (now (epaxos .entry)) (now (swift .entry)) ⌝ }
+    ensures { λ r. ⌜ r ≡ proposeChange asked v core answers (now («epaxos_scores» .entry)) (now («swift_scores» .entry)) ⌝ }
 {
     if may_propose(asked, core) {
         let round = proposal_round(asked, core);
-        if leads_swift(asked) {
+        if leads_from_start(asked) {
             return propose_accept(asked, round, v, core).unchanged(answers);
         }
-        let step = own_answer(asked, v, answers, epaxos, swift);
+        let step = own_answer(asked, v, answers, epaxos_scores, swift_scores);
         let change = step.change;
         let outcome = step.outcome;
         return after_own_answer(asked, round, v, core, change, outcome);
@@ -222,7 +204,8 @@ pub fn propose_fast(asked: Asked, v: u64, s: Rounds) -> RoundsStep
 {
     let core = s.core;
     let fast = s.fast;
-    let epaxos = fast.epaxos_proposer_scores;
-    let swift = fast.swift_proposer_scores;
-    propose_change(asked, v, core, fast.answers(), &epaxos, &swift).change_rounds(fast)
+    let epaxos_scores = fast.epaxos_proposer_scores;
+    let swift_scores = fast.swift_proposer_scores;
+    let answers = fast.answers();
+    propose_change(asked, v, core, answers, &epaxos_scores, &swift_scores).change_rounds(fast)
 }

@@ -1,3 +1,3 @@
--- The table's test, and the laws of the quorums.
-pub mod Table
+-- The laws of the quorums, and the table's test.
 pub mod Rules
+pub mod Table

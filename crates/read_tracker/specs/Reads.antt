@@ -6,6 +6,7 @@ use mathlib.Core.List.{List}
 use lib.Dec.{ltb, leb}
 use lib.ListN.{take, set, replicate}
 use Rattle.message.specs.declared.ReadId.{ReadId}
+use Rattle.message.specs.declared.Refusal.the-variants.{NoRoomForRead}
 use Rattle.message.specs.Rounds.{increment}
 use Rattle.read_tracker.specs.declared.OpenRead.{OpenRead}
 use Rattle.read_tracker.specs.declared.ServedRead.{ServedRead}
@@ -39,7 +40,7 @@ newTable =
       served = replicate 128 (record { id = readId 0; tag = 0; «waited_for» = 0; fast = false });
     }
 
--- the number of places that hold open reads: never more than there are
+-- the number of places that hold open reads: at most 128, whatever the count says
 abbrev pub openPlaces : ReadTracker → ℕ
 openPlaces tracker = min (tracker .«open_count») 128
 
@@ -47,9 +48,9 @@ openPlaces tracker = min (tracker .«open_count») 128
 abbrev pub openReads : ReadTracker → ReadTable → List OpenRead
 openReads tracker table = take (openPlaces tracker) (table .reads)
 
--- insert where it is refused: nothing changes
+-- insert where it is refused, with 12: nothing changes
 abbrev pub refused : ReadTracker → ReadTable → Inserted
-refused tracker table = record { tracker = tracker; table = table; opened = Refused }
+refused tracker table = record { tracker = tracker; table = table; opened = Refused NoRoomForRead }
 
 -- the new read, under the next id, behind the open ones
 abbrev pub inserted : ReadTracker → ReadTable → ℕ → ℕ → Bool → Inserted
@@ -64,7 +65,7 @@ inserted tracker table tag arrival local =
       opened = Id (readId (tracker .«next_id»));
     }
 
--- insert, with refusal 12: 128 reads open, or ids spent (the last id is 2^63-1)
+-- insert, refused where there is no room: 128 reads open, or ids spent (the last id is 2^63-1)
 unfoldable pub insert : ReadTracker → ReadTable → ℕ → ℕ → Bool → Inserted
 insert tracker table tag arrival local =
     cond (leb 128 (tracker .«open_count»)) (refused tracker table)

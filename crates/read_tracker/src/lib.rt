@@ -1,10 +1,11 @@
-// The reads of a shard that are not served yet, in the Rust's read_tracker.rs: its table, a new read, and what one answer adds to a read.
+// The reads of a shard that are not served yet (the Rust's read_tracker.rs): their table, a new read, and what one answer adds to a read.
 // The Rust's map is a table of 128 places, the open reads in front, in the order of their ids.
 ghost use mathlib.Core.Path.{_≡_};
-ghost use Prim.Native.Nat.{_-_};
 ghost use Rattle.read_tracker.specs.Reads.{newTracker, newTable, newRead, insert, openPlaces, afterResponse, afterCommit, hasQuorum, serve};
 use message::ReadId;
+use message::Refusal;
 use message::increment;
+use message::saturating_sub;
 
 // A read that waits for its quorum: the Rust's ReadOnlyCommand with its id. The host keeps the command under the tag.
 pub struct OpenRead {
@@ -35,9 +36,9 @@ pub struct ReadTable {
     pub served: [ServedRead; 128],
 }
 
-// The id of a read that was taken. `Refused` is refusal 12.
+// What became of a new read: refused, or taken under an id.
 pub enum Opened {
-    Refused,
+    Refused(Refusal),
     Id(ReadId),
 }
 
@@ -90,16 +91,6 @@ impl ReadTracker {
         }
         128
     }
-}
-
-// a minus b, or 0.
-fn saturating_sub(a: u64, b: u64) -> u64
-    ensures { λ r. ⌜ r ≡ a - b ⌝ }
-{
-    if b < a {
-        return a - b;
-    }
-    0
 }
 
 impl OpenRead {
@@ -170,14 +161,14 @@ pub fn insert(
         return Inserted {
             tracker,
             table,
-            opened: Opened::Refused,
+            opened: Opened::Refused(Refusal::NoRoomForRead),
         };
     }
     if tracker.next_id > 9223372036854775807 {
         return Inserted {
             tracker,
             table,
-            opened: Opened::Refused,
+            opened: Opened::Refused(Refusal::NoRoomForRead),
         };
     }
     let id = ReadId(tracker.next_id);

@@ -3,7 +3,7 @@
 -- Assumes nothing.
 use mathlib.Core.Path.{_≡_, refl, sym, ap, _∙_}
 use mathlib.Core.Logic.{_⊎_, inl, inr}
-use mathlib.Core.Bool.{Bool, true, false, cond}
+use mathlib.Core.Bool.{Bool, true, false, cond, not}
 use mathlib.Core.List.{List, [], _∷_}
 use mathlib.Core.Option.{Option, none, some}
 use Prim.Native.Nat.{ℕ}
@@ -92,6 +92,6 @@ pub accept-paper : (held : HeldPromise) (round : PaxosRound) (v : ℕ) (a : Acce
     → accept roundBefore a (proposal round v) ≡ record { responded = a .responded; accepted = some (proposal round v) }
 unfolding accept accepts
 accept-paper held round v a own free fits =
-    ap (λ (t : Bool). cond (cond t false true) (record { responded = a .responded; accepted = higher roundBefore (a .accepted) (some (proposal round v)) }) a) free
+    ap (λ (t : Bool). cond (not t) (record { responded = a .responded; accepted = higher roundBefore (a .accepted) (some (proposal round v)) }) a) free
     ∙ ap (λ (p : Option (Proposal PaxosRound ℕ)). record { responded = a .responded; accepted = p })
     (ap (λ (p : Option (Proposal PaxosRound ℕ)). higher roundBefore p (some (proposal round v))) own ∙ sym (accept-higher held round v fits))

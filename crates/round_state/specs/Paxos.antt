@@ -36,6 +36,7 @@ abbrev pub getLastAcceptedRound : HeldPromise → OptionalRound
 getLastAcceptedRound NothingHeld = NoRound
 getLastAcceptedRound (Held rv) = acceptRoundOf rv
 
+-- max_rv.is_some()
 abbrev pub isHeld : HeldPromise → Bool
 isHeld NothingHeld = false
 isHeld (Held rv) = true
@@ -49,9 +50,11 @@ paxosCanCommit me s = leb (me .quorums .majority) (size (s .«accepted_set»))
 
 -- ---- a step of the state, and what it refuses; the state of a refused step is of no use, since the shard keeps its own
 
+-- the Rust changes the state
 abbrev pub taken : PaxosState → PaxosStep
 taken s = record { state = s; outcome = Done }
 
+-- the Rust panics
 abbrev pub refused : Refusal → PaxosState → PaxosStep
 refused why s = record { state = s; outcome = Refused why }
 
@@ -69,23 +72,28 @@ withOwn me set = cond (me .replica) (insert set (me .«my_pid»)) set
 abbrev pub counted : Member → ℕ → ℕ → ℕ
 counted me src set = withOwn me (withSender me src set)
 
+-- ---- another round, another held promise
+
+abbrev pub withRound : OptionalRound → PaxosState → PaxosState
+withRound round s = record { round = round; «max_rv» = s .«max_rv»; «prepared_set» = s .«prepared_set»; «accepted_set» = s .«accepted_set» }
+
+abbrev pub withHeld : HeldPromise → PaxosState → PaxosState
+withHeld held s = record { round = s .round; «max_rv» = held; «prepared_set» = s .«prepared_set»; «accepted_set» = s .«accepted_set» }
+
 -- ---- rounds
+
+-- next_round: "A new round clears both sets, not the held promise, not the fast answers", which are in the other half
+abbrev pub nextRound : PaxosState → PaxosState
+nextRound s = record { round = s .round; «max_rv» = s .«max_rv»; «prepared_set» = 0; «accepted_set» = 0 }
 
 -- goto_round of paxos_family.rs: the round, and then next_round
 abbrev pub gotoRound : OptionalRound → PaxosState → PaxosState
-gotoRound round s = record { round = round; «max_rv» = s .«max_rv»; «prepared_set» = 0; «accepted_set» = 0 }
+gotoRound round s = nextRound (withRound round s)
 
--- next_round: "A new round clears both sets, not the held promise"
-abbrev pub nextRound : PaxosState → PaxosState
-nextRound s = gotoRound (s .round) s
-
--- full_clear: "A commit clears everything", but for the round, which goto_round has set before
+-- full_clear: next_round, and nothing is held. "A commit clears everything"; the round is set by goto_round before, and the fast half is cleared
+-- beside this one
 abbrev pub fullClear : PaxosState → PaxosState
-fullClear s = record { round = s .round; «max_rv» = NothingHeld; «prepared_set» = 0; «accepted_set» = 0 }
-
--- is_clear
-unfoldable pub isClear : OptionalRound → PaxosState → Bool
-isClear starting s = cond (isHeld (s .«max_rv»)) false (equal (s .round) starting && isEmpty (s .«prepared_set») && isEmpty (s .«accepted_set»))
+fullClear s = withHeld NothingHeld (nextRound s)
 
 -- ---- promises
 
@@ -94,6 +102,7 @@ unfoldable pub heldAfterPromise : HeldPromise → RoundV → HeldPromise
 heldAfterPromise NothingHeld rv = Held rv
 heldAfterPromise (Held old) rv = cond (before (acceptRoundOf old) (acceptRoundOf rv)) (Held rv) (Held old)
 
+-- receive_promise
 unfoldable pub receivePromise : Member → ℕ → RoundV → PaxosState → Promised
 receivePromise me src rv s =
     record {
@@ -134,6 +143,7 @@ afterAccept me src round v s =
       «accepted_set» = counted me src (s .«accepted_set»);
     }
 
+-- receive_accept
 unfoldable pub receiveAccept : Member → ℕ → PaxosRound → ℕ → PaxosState → PaxosStep
 receiveAccept me src round v s =
     cond (acceptFits (s .«max_rv») round v) (taken (afterAccept me src round v s)) (refused AcceptUnlikeHeld s)
@@ -147,9 +157,6 @@ acceptOwn me round s (Value v) = receiveAccept me (me .«my_pid») round v s
 unfoldable pub selfAccept : Member → PaxosRound → PaxosState → PaxosStep
 selfAccept me round s = cond (isEmpty (s .«accepted_set»)) (acceptOwn me round s (getV (s .«max_rv»))) (refused AcceptUnlikeHeld s)
 
--- adopt_from_epaxos
-abbrev pub holding : RoundV → PaxosState → PaxosState
-holding rv s = record { round = s .round; «max_rv» = Held rv; «prepared_set» = s .«prepared_set»; «accepted_set» = s .«accepted_set» }
-
+-- adopt_from_epaxos: the adopted value is held, and accepted by oneself
 abbrev pub adoptFromEpaxos : Member → PaxosRound → ℕ → PaxosState → PaxosStep
-adoptFromEpaxos me round v s = selfAccept me round (holding (PaxosV NoRound v) s)
+adoptFromEpaxos me round v s = selfAccept me round (withHeld (Held (PaxosV NoRound v)) s)

@@ -1,11 +1,12 @@
-// The round state of the paxos family, first half: rounds, the held promise, and who is counted. With the crates promise_accept, fast_state,
-// epaxos_state and swift_state it is the Rust's round_state.rs. Each operation takes the state and hands back the next one.
+// The round state of the paxos family, first half: rounds, the held promise, and who is counted. With the crates fast_state, epaxos_state and
+// swift_state it is the Rust's round_state.rs. Each operation takes the state and hands back the next one.
 ghost use mathlib.Core.Path.{_≡_};
-ghost use Rattle.round_state.specs.Paxos.{getV, getLastAcceptedRound, isHeld, isPrepared, paxosCanCommit, withSender, withOwn, counted, gotoRound, nextRound, fullClear, isClear, heldAfterPromise, heldIs, acceptFits};
+ghost use Rattle.round_state.specs.Paxos.{getV, getLastAcceptedRound, isHeld, isPrepared, paxosCanCommit, taken, refused, withSender, withOwn, counted, withRound, withHeld, gotoRound, nextRound, fullClear, heldAfterPromise, receivePromise, paxosProposeV, heldIs, acceptFits, receiveAccept, acceptOwn, selfAccept, adoptFromEpaxos};
 use message::OptionalRound;
 use message::OptionalValue;
 use message::Outcome;
 use message::PaxosRound;
+use message::Refusal;
 use message::RoundV;
 use quorum::QuorumRow;
 
@@ -95,7 +96,7 @@ impl HeldPromise {
     }
 
     // Whether an accept is later than the last accepted round, or equal to what is held.
-    pub fn fits(self, round: PaxosRound, v: u64) -> bool
+    pub fn accept_fits(self, round: PaxosRound, v: u64) -> bool
         ensures { λ r. ⌜ r ≡ acceptFits self round v ⌝ }
     {
         if self.get_last_accepted_round()
@@ -149,6 +150,50 @@ impl Member {
 }
 
 impl PaxosState {
+    fn taken(self) -> PaxosStep
+        ensures { λ r. ⌜ r ≡ taken self ⌝ }
+    {
+        PaxosStep {
+            state: self,
+            outcome: Outcome::Done,
+        }
+    }
+
+    fn refused(self, why: Refusal) -> PaxosStep
+        ensures { λ r. ⌜ r ≡ refused why self ⌝ }
+    {
+        PaxosStep {
+            state: self,
+            outcome: Outcome::Refused(why),
+        }
+    }
+
+    // The state with another round, and with another promise held. Both are enums, and a store to a field that is an enum is not covered by the
+    // prover: the state is built anew here, and nowhere else.
+    fn with_round(self, round: OptionalRound) -> PaxosState
+        ensures { λ r. ⌜ r ≡ withRound round self ⌝ }
+    {
+        let max_rv = self.max_rv;
+        PaxosState {
+            round,
+            max_rv,
+            prepared_set: self.prepared_set,
+            accepted_set: self.accepted_set,
+        }
+    }
+
+    fn with_max_rv(self, max_rv: HeldPromise) -> PaxosState
+        ensures { λ r. ⌜ r ≡ withHeld «max_rv» self ⌝ }
+    {
+        let round = self.round;
+        PaxosState {
+            round,
+            max_rv,
+            prepared_set: self.prepared_set,
+            accepted_set: self.accepted_set,
+        }
+    }
+
     pub fn is_prepared(self, me: Member) -> bool
         ensures { λ r. ⌜ r ≡ isPrepared me self ⌝ }
     {
@@ -161,19 +206,6 @@ impl PaxosState {
         sets::size(self.accepted_set) >= me.quorums.majority
     }
 
-    // Another round, with nothing counted in it.
-    pub fn goto_round(self, round: OptionalRound) -> PaxosState
-        ensures { λ r. ⌜ r ≡ gotoRound round self ⌝ }
-    {
-        let max_rv = self.max_rv;
-        PaxosState {
-            round,
-            max_rv,
-            prepared_set: 0,
-            accepted_set: 0,
-        }
-    }
-
     // A new round clears both sets, not the held promise.
     pub fn next_round(mut self) -> PaxosState
         ensures { λ r. ⌜ r ≡ nextRound self ⌝ }
@@ -183,33 +215,89 @@ impl PaxosState {
         self
     }
 
+    // Another round, with nothing counted in it.
+    pub fn goto_round(self, round: OptionalRound) -> PaxosState
+        ensures { λ r. ⌜ r ≡ gotoRound round self ⌝ }
+    {
+        self.with_round(round).next_round()
+    }
+
     // A commit clears everything but the round, which is set before.
     pub fn full_clear(mut self) -> PaxosState
         ensures { λ r. ⌜ r ≡ fullClear self ⌝ }
     {
-        let round = self.round;
-        PaxosState {
-            round,
-            max_rv: HeldPromise::NothingHeld,
-            prepared_set: 0,
-            accepted_set: 0,
+        self = self.next_round();
+        self.with_max_rv(HeldPromise::NothingHeld)
+    }
+
+    pub fn receive_promise(mut self, me: Member, src: u64, rv: RoundV) -> Promised
+        ensures { λ r. ⌜ r ≡ receivePromise me src rv self ⌝ }
+    {
+        let held = self.max_rv;
+        self.prepared_set = me.counted(src, self.prepared_set);
+        let state = self.with_max_rv(held.after_promise(rv));
+        Promised { state }
+    }
+
+    // The promise for one's own proposal, where nothing is held and nothing prepared.
+    pub fn paxos_propose_v(self, me: Member, rv: RoundV) -> PaxosStep
+        ensures { λ r. ⌜ r ≡ paxosProposeV me rv self ⌝ }
+    {
+        let held = self.max_rv;
+        if held.is_held() {
+            return self.refused(Refusal::Panic);
+        }
+        if sets::is_empty(self.prepared_set) {
+            let promised = self.receive_promise(me, me.my_pid, rv);
+            let state = promised.state;
+            return state.taken();
+        }
+        self.refused(Refusal::Panic)
+    }
+
+    pub fn receive_accept(mut self, me: Member, src: u64, round: PaxosRound, v: u64) -> PaxosStep
+        ensures { λ r. ⌜ r ≡ receiveAccept me src round v self ⌝ }
+    {
+        let held = self.max_rv;
+        if held.accept_fits(round, v) {
+            let accepted = HeldPromise::Held(RoundV::PaxosV {
+                accept_round: OptionalRound::Round(round),
+                v,
+            });
+            self.accepted_set = me.counted(src, self.accepted_set);
+            return self.with_max_rv(accepted).taken();
+        }
+        self.refused(Refusal::AcceptUnlikeHeld)
+    }
+
+    fn accept_own(self, me: Member, round: PaxosRound, held: OptionalValue) -> PaxosStep
+        ensures { λ r. ⌜ r ≡ acceptOwn me round self held ⌝ }
+    {
+        match held {
+            OptionalValue::NoValue => self.refused(Refusal::Panic),
+            OptionalValue::Value(v) => self.receive_accept(me, me.my_pid, round, v),
         }
     }
 
-    pub fn is_clear(self, starting: OptionalRound) -> bool
-        ensures { λ r. ⌜ r ≡ isClear starting self ⌝ }
+    // One's own accept of the held value, where nothing is accepted yet.
+    pub fn self_accept(self, me: Member, round: PaxosRound) -> PaxosStep
+        ensures { λ r. ⌜ r ≡ selfAccept me round self ⌝ }
     {
         let held = self.max_rv;
-        let round = self.round;
-        if held.is_held() {
-            return false;
+        if sets::is_empty(self.accepted_set) {
+            return self.accept_own(me, round, held.get_v());
         }
-        if round.equals(starting) {
-            if sets::is_empty(self.prepared_set) {
-                return sets::is_empty(self.accepted_set);
-            }
-            return false;
-        }
-        false
+        self.refused(Refusal::AcceptUnlikeHeld)
+    }
+
+    // One's own accept of another value than the held one.
+    pub fn adopt_from_epaxos(self, me: Member, round: PaxosRound, v: u64) -> PaxosStep
+        ensures { λ r. ⌜ r ≡ adoptFromEpaxos me round v self ⌝ }
+    {
+        let adopted = HeldPromise::Held(RoundV::PaxosV {
+            accept_round: OptionalRound::NoRound,
+            v,
+        });
+        self.with_max_rv(adopted).self_accept(me, round)
     }
 }

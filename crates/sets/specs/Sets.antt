@@ -11,6 +11,7 @@ use lib.Bits.{bitOr}
 unfoldable pub contains : ℕ → ℕ → Bool
 contains s p = eqb (s / 2 ^ p % 2) 1
 
+-- 1 where it is true
 abbrev pub one : Bool → ℕ
 one true = 1
 one false = 0
@@ -28,10 +29,11 @@ size s = count (contains s) 64
 unfoldable pub insert : ℕ → ℕ → ℕ
 insert s p = cond (ltb p 64) (bitOr s (2 ^ p)) s
 
--- every process of s is below n: the law `fits-members` says so in these words
+-- every process of s is below n, and only then: `fits-members` and `members-fit` (proofs/Laws.antt)
 abbrev pub fits : ℕ → ℕ → Bool
 fits s n = ltb s (2 ^ n)
 
+-- no process is in s
 abbrev pub isEmpty : ℕ → Bool
 isEmpty s = eqb s 0
 

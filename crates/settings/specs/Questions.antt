@@ -1,4 +1,4 @@
--- What the engine asks of the settings (the Rust's ConsensusShard and PaxosFamilyShard: replica, delegate_or_leader, get_committer,
+-- What the engine asks of the settings (the Rust's ConsensusShard and PaxosFamilyShard: replica, the delegates, get_committer,
 -- starting_round).
 -- Assumes nothing.
 use mathlib.Core.Bool.{Bool, cond}
@@ -28,22 +28,29 @@ isReplica s = isLiveReplica s (s .«my_pid»)
 abbrev pub quorumsOf : Settings → QuorumRow
 quorumsOf s = rowOf (s .«replica_count»)
 
--- who gathers the promises of a leader's round: in Pando the leader's delegate, and else the leader
-unfoldable pub delegateOf : Settings → PFMode → ℕ → ℕ
-delegateOf s Paxos leader = leader
-delegateOf s MultiPaxos leader = leader
-delegateOf s MultiPaxos3P leader = leader
-delegateOf s EPaxos leader = leader
-delegateOf s Pando leader = lookUp (s .delegates) leader
-delegateOf s SwiftPaxos leader = leader
+-- the delegate of a leader: in Pando that of the table, and else the leader itself; delegate_or_leader is `gathererOf` of crates/calls
+unfoldable pub delegateIn : List ℕ → PFMode → ℕ → ℕ
+delegateIn delegates Paxos leader = leader
+delegateIn delegates MultiPaxos leader = leader
+delegateIn delegates MultiPaxos3P leader = leader
+delegateIn delegates EPaxos leader = leader
+delegateIn delegates Pando leader = lookUp delegates leader
+delegateIn delegates SwiftPaxos leader = leader
 
-unfoldable pub committerIn : List ℕ → OptionalProcess → OptionalProcess
-committerIn committers NoProcess = NoProcess
-committerIn committers (Process p) = Process (lookUp committers p)
+abbrev pub delegateOf : Settings → PFMode → ℕ → ℕ
+delegateOf s mode leader = delegateIn (s .delegates) mode leader
 
--- get_committer, with the requester that the host names for the value
-unfoldable pub committerOf : Settings → OptionalProcess → OptionalProcess
-committerOf s requester = cond (s .«has_committers») (committerIn (s .committers) requester) (cond (isSwiftPaxos (s .mode)) requester NoProcess)
+-- the committer of a requester, where there is a requester
+unfoldable pub committerFor : List ℕ → OptionalProcess → OptionalProcess
+committerFor committers NoProcess = NoProcess
+committerFor committers (Process p) = Process (lookUp committers p)
+
+-- get_committer, with the requester that the host names for the value; the table counts where the settings have committers
+unfoldable pub committerIn : Bool → List ℕ → PFMode → OptionalProcess → OptionalProcess
+committerIn given committers mode requester = cond given (committerFor committers requester) (cond (isSwiftPaxos mode) requester NoProcess)
+
+abbrev pub committerOf : Settings → OptionalProcess → OptionalProcess
+committerOf s requester = committerIn (s .«has_committers») (s .committers) (s .mode) requester
 
 abbrev pub startingRoundOf : Settings → OptionalRound
 startingRoundOf s = startingRound (s .mode) (s .«first_leader»)

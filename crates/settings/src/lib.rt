@@ -1,7 +1,7 @@
 // The settings of a group, as its host makes them for one member, their limits, and what the engine asks of them.
 ghost use mathlib.Core.Path.{_≡_};
 ghost use Rattle.settings.specs.Settings.{countsFit, membersFit, committersFit, quorumFits, modeFits, withinLimits};
-ghost use Rattle.settings.specs.Questions.{quorumsOf, isReplica, isLiveReplica, delegateOf, committerIn, committerOf, startingRoundOf};
+ghost use Rattle.settings.specs.Questions.{quorumsOf, isReplica, isLiveReplica, delegateIn, committerFor, committerIn, startingRoundOf};
 use message::OptionalProcess;
 use message::OptionalRound;
 use message::PFMode;
@@ -24,14 +24,46 @@ pub struct Settings {
     pub delegates: [u64; 64],
 }
 
-// The committer of a requester, where there is a requester.
-fn committer_of(committers: [u64; 64], requester: OptionalProcess) -> OptionalProcess
-    ensures { λ r. ⌜ r ≡ committerIn committers requester ⌝ }
+// The delegate of a leader: in Pando that of the table, and else the leader itself. The tables are lent, here and below, since a host keeps them in
+// memory of its own.
+pub fn delegate_in(delegates: &[u64; 64], mode: PFMode, leader: u64) -> u64
+    ensures { λ r. ⌜ r ≡ delegateIn (now (delegates .entry)) mode leader ⌝ }
+{
+    match mode {
+        PFMode::Paxos => leader,
+        PFMode::MultiPaxos => leader,
+        PFMode::MultiPaxos3P => leader,
+        PFMode::EPaxos => leader,
+        PFMode::Pando => tables::look_up_in(delegates, leader),
+        PFMode::SwiftPaxos => leader,
+    }
+}
+
+fn committer_for(committers: &[u64; 64], requester: OptionalProcess) -> OptionalProcess
+    ensures { λ r. ⌜ r ≡ committerFor (now (committers .entry)) requester ⌝ }
 {
     match requester {
         OptionalProcess::NoProcess => OptionalProcess::NoProcess,
-        OptionalProcess::Process(p) => OptionalProcess::Process(tables::look_up(committers, p)),
+        OptionalProcess::Process(p) => OptionalProcess::Process(tables::look_up_in(committers, p)),
     }
+}
+
+// The process that commits a value by the settings, from the value's requester.
+pub fn committer_in(
+    given: bool,
+    committers: &[u64; 64],
+    mode: PFMode,
+    requester: OptionalProcess,
+) -> OptionalProcess
+    ensures { λ r. ⌜ r ≡ committerIn given (now (committers .entry)) mode requester ⌝ }
+{
+    if given {
+        return committer_for(committers, requester);
+    }
+    if mode.is_swift_paxos() {
+        return requester;
+    }
+    OptionalProcess::NoProcess
 }
 
 fn quorum_fits(quorum: OptionalSet, count: u64) -> bool
@@ -136,38 +168,6 @@ impl Settings {
         ensures { λ r. ⌜ r ≡ quorumsOf self ⌝ }
     {
         quorum::row(self.replica_count)
-    }
-
-    // The process that gathers the promises of a round: in Pando the delegate of its leader, and else the leader.
-    pub fn delegate(self, round: PaxosRound) -> u64
-        ensures { λ r. ⌜ r ≡ delegateOf self (self .mode) (round .leader) ⌝ }
-    {
-        let mode = self.mode;
-        let delegates = self.delegates;
-        let leader = round.leader;
-        match mode {
-            PFMode::Paxos => leader,
-            PFMode::MultiPaxos => leader,
-            PFMode::MultiPaxos3P => leader,
-            PFMode::EPaxos => leader,
-            PFMode::Pando => tables::look_up(delegates, leader),
-            PFMode::SwiftPaxos => leader,
-        }
-    }
-
-    // The process that commits a value by the settings, from the value's requester.
-    pub fn committer(self, requester: OptionalProcess) -> OptionalProcess
-        ensures { λ r. ⌜ r ≡ committerOf self requester ⌝ }
-    {
-        let committers = self.committers;
-        if self.has_committers {
-            return committer_of(committers, requester);
-        }
-        let mode = self.mode;
-        if mode.is_swift_paxos() {
-            return requester;
-        }
-        OptionalProcess::NoProcess
     }
 
     // The round in which each slot starts.

@@ -9,9 +9,10 @@ use native.Mathlib.Nat.{le-of-suc-le-suc, lt-of-not-le, not-suc-le-zero}
 use native.Mathlib.Omega.{arith}
 use lib.Dec.{leb}
 use borrow.Author.Tests.{lt-ltb, le-ltb, le-leb, leb-true}
+use Rattle.basics.proofs.Tests.{and-left, and-right}
 use Rattle.sheet.specs.Text.{text}
 use Rattle.sheet_count.specs.Count.{firstLine, isLeadingDigit, isDigit, twoDigits, countOfLine, countAsked}
-use Rattle.sheet_count.proofs.Counting.{and-left, and-right, count-le}
+use Rattle.sheet_count.proofs.Counting.{count-le}
 
 line-taken : (n : ℕ) → 1 ≤ n → n ≤ 64 → countOfLine (text n) ≡ n
 unfolding countOfLine text

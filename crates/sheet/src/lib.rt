@@ -7,8 +7,8 @@ ghost use Rattle.sheet.specs.Text.{Put, text, field};
 ghost use Rattle.sheet.specs.Sheet.{lineOf, sheetOf};
 ghost use Rattle.sheet.specs.Answer.{answerOf, pageOf};
 
-// An answer: its text at the start of bytes, zeros after it, and the length of the text. The longest has a header
-// of 31 bytes and 64 lines of at most 13, which makes 863.
+// An answer: its text at the start of bytes, zeros after it, and the length of the text. A header
+// of 31 bytes and 64 lines of at most 13 are 863 bytes, so there is room enough.
 pub struct Page {
     pub bytes: [u8; 863],
     pub len: usize,

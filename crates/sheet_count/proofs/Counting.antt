@@ -8,6 +8,7 @@ use native.Mathlib.Omega.{arith}
 use lib.Dec.{eqb, leb}
 use lib.ListN.{getD}
 use borrow.Author.Tests.{eqb-true, leb-true, eq-eqb, ne-eqb, le-leb, lt-leb}
+use Rattle.basics.proofs.Tests.{and-right}
 use Rattle.sheet_count.specs.Count.{firstLine, isLeadingDigit, isDigit, twoDigits, countOfLine, countAsked, countOfBytes}
 
 -- a test between 0 and 0 plays no part
@@ -90,14 +91,6 @@ module _ (a b d : ℕ) where
     unfolding countOfBytes
     two-digits i j k l e m =
         simp (ne-eqb b 10 h, le-leb 49 a i, le-leb a 57 j, le-leb 48 b k, le-leb b 57 l, eq-eqb d 10 e, le-leb (twoDigits a b) 64 m)
-
-pub and-left : (p q : Bool) → (p && q) ≡ true → p ≡ true
-and-left true q e = refl
-and-left false q e = e
-
-pub and-right : (p q : Bool) → (p && q) ≡ true → q ≡ true
-and-right true q e = e
-and-right false q e = cc
 
 picked-le : (t : Bool) (n m : ℕ) → (t ≡ true → n ≤ m) → cond t n 0 ≤ m
 picked-le true n m h = h refl

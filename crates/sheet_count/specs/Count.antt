@@ -29,6 +29,7 @@ countOfLine (a ∷ []) = cond (isLeadingDigit a) (a - 48) 0
 countOfLine (a ∷ b ∷ []) = cond (isLeadingDigit a && isDigit b && leb (twoDigits a b) 64) (twoDigits a b) 0
 countOfLine (a ∷ b ∷ d ∷ rest) = 0
 
+-- the count that an input asks for: its first line is read
 unfoldable pub countAsked : List ℕ → ℕ
 countAsked s = countOfLine (firstLine s)
 

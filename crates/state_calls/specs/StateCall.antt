@@ -6,7 +6,6 @@ use Prim.Native.Nat.{ℕ}
 use Rattle.message.specs.declared.ConsensusMsg.{ConsensusMsg}
 use Rattle.message.specs.declared.ConsensusMsg.the-variants.{Prepare, Accept, ForwardRequest, Commit, ReadRequest, ReadResponse}
 use Rattle.message.specs.declared.ReadId.{ReadId}
-use Rattle.message.specs.declared.Refusal.the-variants.{NoRoomForRead}
 use Rattle.read_tracker.specs.Reads.{insert}
 use Rattle.serving.specs.Serving.{receiveReady, commitSlot}
 use Rattle.read_tracker.specs.declared.Inserted.{Inserted}
@@ -61,7 +60,7 @@ countResponse majority table a id fast = served a (receiveReady (a .rounds .core
 -- ---- a new read: start_read, with refusal 12
 
 abbrev pub afterInsert : Asked → Rounds → ReadTable → Inserted → Opened → StateAnswer
-afterInsert asked rounds old ins Refused = record { state = record { rounds = rounds; table = old }; reply = refusedReply NoRoomForRead }
+afterInsert asked rounds old ins (Refused why) = record { state = record { rounds = rounds; table = old }; reply = refusedReply why }
 afterInsert asked rounds old ins (Id id) =
     record {
       state =

@@ -10,7 +10,6 @@ use calls::Reply;
 use core_calls::CoreAnswer;
 use message::ConsensusMsg;
 use message::ReadId;
-use message::Refusal;
 use read_tracker::Inserted;
 use read_tracker::Opened;
 use read_tracker::ReadTable;
@@ -120,9 +119,9 @@ fn after_insert(
     ensures { λ r. ⌜ r ≡ afterInsert asked rounds old ins opened ⌝ }
 {
     match opened {
-        Opened::Refused => StateAnswer {
+        Opened::Refused(why) => StateAnswer {
             state: State { rounds, table: old },
-            reply: core_calls::refused_reply(Refusal::NoRoomForRead),
+            reply: core_calls::refused_reply(why),
         },
         Opened::Id(id) => {
             let core = rounds.core;

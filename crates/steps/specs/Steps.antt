@@ -14,7 +14,8 @@ use Rattle.message.specs.declared.RoundV.the-variants.{PaxosV}
 use Rattle.round_state.specs.declared.HeldPromise.{HeldPromise}
 use Rattle.round_state.specs.declared.HeldPromise.the-variants.{NothingHeld, Held}
 use Rattle.round_state.specs.declared.PaxosState.{PaxosState}
-use Rattle.fast_state.specs.Fast.{changed}
+use Rattle.fast_state.specs.Fast.{changed, unchanged}
+use Rattle.fast_state.specs.declared.FastAnswers.{FastAnswers}
 use Rattle.fast_state.specs.declared.FastChange.{FastChange}
 use Rattle.fast_state.specs.declared.FastState.{FastState}
 use Rattle.steps.specs.declared.Asked.{Asked}
@@ -42,7 +43,7 @@ oneMessage m = record { first = Send m; second = NoMessage; third = NoMessage }
 abbrev pub twoMessages : Outgoing → Outgoing → Messages
 twoMessages m n = record { first = Send m; second = Send n; third = NoMessage }
 
--- one message more, behind those that there are; no call sends more than three
+-- one message more, behind those that there are; no call sends more than two, and document 01 leaves room for three
 abbrev pub alsoBehind : OptionalMessage → OptionalMessage → OptionalMessage → Outgoing → Messages
 alsoBehind first NoMessage third m = record { first = first; second = Send m; third = third }
 alsoBehind first (Send b) third m = record { first = first; second = Send b; third = Send m }
@@ -107,9 +108,17 @@ goesOn Continues = true
 goesOn (Commits v) = false
 goesOn (Refuses why) = false
 
+-- the rest of the handler where it goes on from a step, and else the step
+abbrev pub andThen : CoreStep → (Core → CoreStep) → CoreStep
+andThen step rest = cond (goesOn (step .next)) (rest (step .core)) step
+
 -- a step of the core, and what changes in the fast half
 abbrev pub withChange : FastChange → CoreStep → ChangeStep
 withChange change step = record { core = step .core; messages = step .messages; next = step .next; change = change }
+
+-- the same in EPaxos and SwiftPaxos: where the handler ends with a step of the core, the fast half is as it was
+abbrev pub andThenChange : FastAnswers → CoreStep → (Core → ChangeStep) → ChangeStep
+andThenChange answers step rest = cond (goesOn (step .next)) (rest (step .core)) (withChange (unchanged answers) step)
 
 -- a step of the core, with the fast half as it is
 abbrev pub onRounds : FastState → CoreStep → RoundsStep

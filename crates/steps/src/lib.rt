@@ -22,7 +22,7 @@ use round_state::PaxosState;
 use sets::OptionalSet;
 
 // What every call may change: slot, last committed value, whether the slot has left the fast path, the first half of the round
-// state, and the count of the reads.
+// state, and the next read id with the number of open reads.
 pub struct Core {
     pub slot: u64,
     pub last_v: OptionalValue,
@@ -177,7 +177,7 @@ fn also_behind(
 }
 
 impl Messages {
-    // One message more, behind those that there are. No call sends more than three.
+    // One message more, behind those that there are. No call sends more than two; document 01 leaves room for three.
     pub fn also(self, m: Outgoing) -> Messages
         ensures { λ r. ⌜ r ≡ also self m ⌝ }
     {

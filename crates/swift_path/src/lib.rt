@@ -1,7 +1,7 @@
 // The fast path of SwiftPaxos: answers to a fast proposal and the commit that they bring, at a replica and at a client.
 ghost use mathlib.Core.Path.{_≡_};
 ghost use mathlib.Core.Bool.{_&&_};
-ghost use Rattle.swift_path.specs.Swift.{isFixed, swiftCommits, afterSwiftAnswer, swiftAnswer, swiftClientPrepare, afterClientAccept, clientAccept, fromLeader, acceptAnswer, afterAcceptAnswer, swiftAccept, swiftClientAccept, afterReplicaAnswer, swiftAnsweredAccept};
+ghost use Rattle.swift_path.specs.Swift.{isFixed, swiftCommits, afterSwiftAnswer, swiftAnswer, swiftClientPrepare, afterClientAccept, clientAccept, leaderAnswered, fromLeader, acceptAnswered, afterAcceptAnswer, swiftAccept, swiftClientAccept, afterReplicaAnswer, swiftAnsweredAccept};
 use fast_state::FastAnswers;
 use fast_state::FastStep;
 use message::Outcome;
@@ -95,6 +95,7 @@ fn swift_answer(
     }
 }
 
+// A Prepare at a client. One that is not the committer of the value drops it.
 pub fn swift_client_prepare(
     asked: Asked,
     heard: Heard,
@@ -140,7 +141,7 @@ fn client_accept(asked: Asked, heard: Heard, round: PaxosRound, v: u64, core: Co
 {
     let paxos = core.paxos;
     let me = asked.member;
-    let step = promise_accept::receive_accept(paxos, me, heard.src, round, v);
+    let step = paxos.receive_accept(me, heard.src, round, v);
     let state = step.state;
     let outcome = step.outcome;
     after_client_accept(asked, v, core, state, outcome)
@@ -152,8 +153,23 @@ fn from_leader(heard: Heard, round: PaxosRound) -> bool
     heard.src == round.leader
 }
 
-// The leader's accept is its answer on the fast path. An Accept of another is no answer.
-fn accept_answer(
+// The leader's Accept is its answer on the fast path, with oneself as the proposer.
+fn leader_answered(
+    asked: Asked,
+    heard: Heard,
+    v: u64,
+    answers: FastAnswers,
+    scores: &[u64; 64],
+) -> FastStep
+    ensures { λ r. ⌜ r ≡ leaderAnswered asked heard v answers (now (scores .entry)) ⌝ }
+{
+    let me = asked.member;
+    let quorum = asked.quorum;
+    swift_state::swift_answered(answers, scores, me, heard.src, me.my_pid, v, quorum, true)
+}
+
+// An Accept of another is no answer.
+fn accept_answered(
     asked: Asked,
     heard: Heard,
     round: PaxosRound,
@@ -161,21 +177,10 @@ fn accept_answer(
     answers: FastAnswers,
     scores: &[u64; 64],
 ) -> FastStep
-    ensures { λ r. ⌜ r ≡ acceptAnswer asked heard round v answers (now (scores .entry)) ⌝ }
+    ensures { λ r. ⌜ r ≡ acceptAnswered asked heard round v answers (now (scores .entry)) ⌝ }
 {
-    let me = asked.member;
-    let quorum = asked.quorum;
     if from_leader(heard, round) {
-        return swift_state::swift_answered(
-            answers,
-            scores,
-            me,
-            heard.src,
-            me.my_pid,
-            v,
-            quorum,
-            true,
-        );
+        return leader_answered(asked, heard, v, answers, scores);
     }
     answers.unchanged().taken()
 }
@@ -224,13 +229,14 @@ fn swift_accept(
 ) -> ChangeStep
     ensures { λ r. ⌜ r ≡ swiftAccept asked heard round v core answers (now (scores .entry)) ⌝ }
 {
-    let step = accept_answer(asked, heard, round, v, answers, scores);
+    let step = accept_answered(asked, heard, round, v, answers, scores);
     let change = step.change;
     let counted = change.answers;
     let outcome = step.outcome;
     after_accept_answer(asked, heard, round, v, core, counted, outcome).with_change(change)
 }
 
+// An Accept at a client. One that is not the committer of the value drops it.
 pub fn swift_client_accept(
     asked: Asked,
     heard: Heard,
@@ -272,7 +278,7 @@ fn after_replica_answer(
     }
 }
 
-// A replica that commits goes on from an Accept that it has answered.
+// A replica that is the committer has answered the leader's Accept, and counts it on the fast path.
 pub fn swift_answered_accept(
     asked: Asked,
     heard: Heard,
@@ -285,18 +291,7 @@ pub fn swift_answered_accept(
 ) -> ChangeStep
     ensures { λ r. ⌜ r ≡ swiftAnsweredAccept asked heard round v core messages answers (now (scores .entry)) ⌝ }
 {
-    let me = asked.member;
-    let quorum = asked.quorum;
-    let step = swift_state::swift_answered(
-        answers,
-        scores,
-        me,
-        heard.src,
-        me.my_pid,
-        v,
-        quorum,
-        true,
-    );
+    let step = leader_answered(asked, heard, v, answers, scores);
     let change = step.change;
     let counted = change.answers;
     let outcome = step.outcome;

@@ -10,7 +10,7 @@ use message::Refusal;
 use round_state::Member;
 use sets::OptionalSet;
 
-// A fixed quorum is a majority, and without one the fast quorum is needed.
+// With a fixed quorum a majority of preaccepts is enough, and without one the fast quorum is needed.
 fn swift_quorum(me: Member, fixed: bool) -> u64
     ensures { λ r. ⌜ r ≡ swiftQuorum me fixed ⌝ }
 {
@@ -50,7 +50,7 @@ fn swift_counted(
     ensures { λ r. ⌜ r ≡ swiftCounted me src proposer v leader answers (now (scores .entry)) ⌝ }
 {
     let answer = answers.swift_leader_answer;
-    let score = tables::read(scores, proposer);
+    let score = tables::look_up_in(scores, proposer);
     let counted = FastAnswers {
         fast_answer_set: sets::insert(answers.fast_answer_set, src),
         fast_preaccepted: fast_state::preaccepted_after(me, proposer, answers.fast_preaccepted),
@@ -125,7 +125,7 @@ pub fn swift_answered(
     ensures { λ r. ⌜ r ≡ swiftAnswered me src proposer v quorum leader answers (now (scores .entry)) ⌝ }
 {
     if sets::contains(answers.fast_answer_set, src) {
-        return answers.answered_before(me, src);
+        return answers.second_answer(me, src);
     }
     swift_first(answers, scores, me, src, proposer, v, quorum, leader)
 }
@@ -151,11 +151,11 @@ fn swift_unanswered(answers: FastAnswers, scores: &[u64; 64], me: Member) -> boo
     ensures { λ r. ⌜ r ≡ swiftUnanswered me answers (now (scores .entry)) ⌝ }
 {
     let answer = answers.swift_leader_answer;
-    if fast_state::has_value(answer) {
+    if answer.is_some() {
         return false;
     }
     if answers.is_unanswered() {
-        return tables::read(scores, me.my_pid) == 0;
+        return tables::look_up_in(scores, me.my_pid) == 0;
     }
     false
 }
@@ -180,7 +180,7 @@ pub fn swift_can_commit(answers: FastAnswers, me: Member, fixed: bool) -> bool
     ensures { λ r. ⌜ r ≡ swiftCanCommit me fixed answers ⌝ }
 {
     let answer = answers.swift_leader_answer;
-    if fast_state::has_value(answer) {
+    if answer.is_some() {
         if sets::size(answers.fast_proposers) == 1 {
             return answers.fast_preaccepted >= swift_quorum(me, fixed);
         }

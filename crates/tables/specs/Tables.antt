@@ -3,7 +3,7 @@
 use mathlib.Core.Bool.{Bool, true, cond, _&&_}
 use mathlib.Core.List.{List}
 use Prim.Native.Nat.{ℕ, zero, suc, min}
-use lib.Dec.{ltb, eqb}
+use lib.Dec.{ltb}
 use lib.ListN.{getD, set}
 
 -- the number of process p
@@ -19,10 +19,6 @@ unfoldable pub every : (ℕ → Bool) → List ℕ → ℕ → Bool
 every test table zero = true
 every test table (suc p) = every test table p && test (getD table p 0)
 
--- the number of each process below the bound is below it too
+-- the entry of each process below the bound is below it too
 abbrev pub allBelow : List ℕ → ℕ → Bool
 allBelow table bound = every (λ n. ltb n bound) table (min bound 64)
-
--- the number of every process is x
-abbrev pub allAre : List ℕ → ℕ → Bool
-allAre table x = every (λ n. eqb n x) table 64

@@ -2,8 +2,8 @@
 ghost use mathlib.Core.Path.{_≡_};
 ghost use mathlib.Core.Bool.{_&&_};
 ghost use Prim.Native.Nat.{min};
-ghost use lib.Dec.{eqb, ltb};
-ghost use Rattle.tables.specs.Tables.{lookUp, store, allBelow, allAre};
+ghost use lib.Dec.{ltb};
+ghost use Rattle.tables.specs.Tables.{lookUp, store, allBelow};
 
 // The number of process p. A number above 63 is no process, and has 0.
 pub fn look_up(table: [u64; 64], p: u64) -> u64
@@ -28,8 +28,8 @@ pub fn store(mut table: [u64; 64], p: u64, n: u64) -> [u64; 64]
     table
 }
 
-// The same of a table that is lent.
-pub fn read(table: &[u64; 64], p: u64) -> u64
+// The number of process p, in a table that is lent.
+pub fn look_up_in(table: &[u64; 64], p: u64) -> u64
     ensures { λ r. ⌜ r ≡ lookUp (now (table .entry)) p ⌝ }
 {
     if p < 64 {
@@ -40,7 +40,7 @@ pub fn read(table: &[u64; 64], p: u64) -> u64
 }
 
 // The number n for process p, in a table that is lent.
-pub fn put(table: &mut [u64; 64], p: u64, n: u64)
+pub fn store_in(table: &mut [u64; 64], p: u64, n: u64)
     ensures { λ _. ⌜ now (table .exit) ≡ store (now (table .entry)) p n ⌝ }
 {
     if p < 64 {
@@ -64,13 +64,7 @@ fn and_below(so_far: bool, entry: u64, bound: u64) -> bool
     if so_far { entry < bound } else { false }
 }
 
-fn and_equal(so_far: bool, entry: u64, x: u64) -> bool
-    ensures { λ r. ⌜ r ≡ («so_far» && eqb entry x) ⌝ }
-{
-    if so_far { entry == x } else { false }
-}
-
-// Whether the number of each process below the bound is below it too.
+// Whether the entry of each process below the bound is below it too.
 pub fn all_below(table: [u64; 64], bound: u64) -> bool
     ensures { λ r. ⌜ r ≡ allBelow table bound ⌝ }
 {
@@ -82,17 +76,4 @@ pub fn all_below(table: [u64; 64], bound: u64) -> bool
         p += 1;
     }
     below
-}
-
-// Whether the number of every process is x.
-pub fn all_are(table: [u64; 64], x: u64) -> bool
-    ensures { λ r. ⌜ r ≡ allAre table x ⌝ }
-{
-    let mut equal = true;
-    let mut p: usize = 0;
-    while p < 64 {
-        equal = and_equal(equal, table[p], x);
-        p += 1;
-    }
-    equal
 }

@@ -20,8 +20,8 @@ enum-known-committer c = search needs
 accept-to-requires-2 : tie.Need-accept-to-requires-2
 accept-to-requires-2 c κs = search needs
 
-tells-third-requires : tie.Need-tells-third-requires
-tells-third-requires c κs = search needs
+committer-hears-requires : tie.Need-committer-hears-requires
+committer-hears-requires c κs = search needs
 
 accept-to-requires-3 : tie.Need-accept-to-requires-3
 accept-to-requires-3 c κs = search needs
@@ -31,7 +31,7 @@ two-messages-requires c κs = search needs
 
 returns : tie.Need-returns
 unfolding answerAccept
-returns c = simp (c .before .before .before .before .before .before .committer .given .1, ← c .before .before .before .before .accept-to2 .ensures, ← c .before .before .before .tells-third .ensures, c .before .before .if1 .taken, ← c .before .accept-to3 .ensures, ← c .two-messages .ensures)
+returns c = simp (c .before .before .before .before .before .before .committer .given .1, ← c .before .before .before .before .accept-to2 .ensures, ← c .before .before .before .committer-hears .ensures, c .before .before .if1 .taken, ← c .before .accept-to3 .ensures, ← c .two-messages .ensures)
 
 one-message-requires-2 : tie.Need-one-message-requires-2
 one-message-requires-2 c κs = search needs
@@ -42,7 +42,7 @@ returns-2 c = simp (c .before .before .enum-told .given .1, ← c .before .accep
 
 returns-3 : tie.Need-returns-3
 unfolding answerAccept
-returns-3 c = simp (c .before .before .before .before .before .committer .given .1, ← c .before .before .before .accept-to2 .ensures, ← c .before .before .tells-third .ensures, c .before .if1 .left, ← c .one-message2 .ensures)
+returns-3 c = simp (c .before .before .before .before .before .committer .given .1, ← c .before .before .before .accept-to2 .ensures, ← c .before .before .committer-hears .ensures, c .before .if1 .left, ← c .one-message2 .ensures)
 
 pub answer-accept-spec : {M : Type 1} → statement M
 answer-accept-spec =
@@ -53,7 +53,7 @@ answer-accept-spec =
     one-message-requires
     enum-known-committer
     accept-to-requires-2
-    tells-third-requires
+    committer-hears-requires
     accept-to-requires-3
     two-messages-requires
     returns

@@ -4,11 +4,11 @@ use borrow.Author.Needs.{needs}
 use Rattle.arrays.proofs.put_rest.Statement.{statement}
 use Rattle.arrays.proofs.put_rest.Tie as tie
 
-freeze-commit-requires : tie.Need-freeze-commit-requires
-freeze-commit-requires c κs = search needs
+encode-commit-requires : tie.Need-encode-commit-requires
+encode-commit-requires c κs = search needs
 
 returns : tie.Need-returns
-returns c = simp (← c .before .freeze-commit .ensures)
+returns c = simp (← c .before .encode-commit .ensures)
 
 pub put-rest-spec : {M : Type 1} → statement M
-put-rest-spec = tie.close (tie.spec freeze-commit-requires returns)
+put-rest-spec = tie.close (tie.spec encode-commit-requires returns)

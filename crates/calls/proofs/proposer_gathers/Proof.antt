@@ -9,10 +9,10 @@ is-swift-paxos-requires : tie.Need-is-swift-paxos-requires
 is-swift-paxos-requires c κs = search needs
 
 returns : tie.Need-returns
-returns c = simp (← c .before .before .before .before .is-swift-paxos .ensures, c .before .before .before .if1 .taken, eq-eqb _ _ (c .if2 .taken))
+returns c = simp (← c .before .before .before .is-swift-paxos .ensures, c .before .before .if1 .taken, eq-eqb _ _ (c .if2 .taken))
 
 returns-2 : tie.Need-returns-2
-returns-2 c = simp (← c .before .before .before .before .is-swift-paxos .ensures, c .before .before .before .if1 .taken, ne-eqb _ _ (c .if2 .left))
+returns-2 c = simp (← c .before .before .before .is-swift-paxos .ensures, c .before .before .if1 .taken, ne-eqb _ _ (c .if2 .left))
 
 returns-3 : tie.Need-returns-3
 returns-3 c = search needs

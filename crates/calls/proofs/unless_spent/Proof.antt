@@ -1,7 +1,7 @@
 -- `calls::unless_spent` meets its contract.
 -- Assumes nothing.
 use borrow.Author.Needs.{needs}
-use borrow.Author.Tests.{lt-ltb, le-ltb, le-leb, lt-leb, eq-eqb, ne-eqb}
+use borrow.Author.Tests.{le-leb, lt-leb}
 use Rattle.calls.specs.Decision.{unlessSpent}
 use Rattle.calls.proofs.unless_spent.Statement.{statement}
 use Rattle.calls.proofs.unless_spent.Tie as tie

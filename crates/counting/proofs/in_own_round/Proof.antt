@@ -11,8 +11,8 @@ contains-requires c κs = search needs
 contains-requires-2 : tie.Need-contains-requires-2
 contains-requires-2 c κs = search needs
 
-thaw-round-requires : tie.Need-thaw-round-requires
-thaw-round-requires c κs = search needs
+decode-round-requires : tie.Need-decode-round-requires
+decode-round-requires c κs = search needs
 
 round-in-requires : tie.Need-round-in-requires
 round-in-requires c κs = search needs
@@ -22,11 +22,11 @@ before-requires c κs = search needs
 
 returns : tie.Need-returns
 unfolding inOwnRound
-returns c = simp (← c .before .before .before .before .before .before .before .contains .ensures, c .before .before .before .before .before .before .if1 .taken, ← c .before .before .before .before .before .contains2 .ensures, c .before .before .before .before .if2 .taken, ← c .before .before .before .thaw-round .ensures, ← c .before .before .round-in .ensures, ← c .before .before2 .ensures, c .if3 .taken)
+returns c = simp (← c .before .before .before .before .before .before .before .contains .ensures, c .before .before .before .before .before .before .if1 .taken, ← c .before .before .before .before .before .contains2 .ensures, c .before .before .before .before .if2 .taken, ← c .before .before .before .decode-round .ensures, ← c .before .before .round-in .ensures, ← c .before .before2 .ensures, c .if3 .taken)
 
 returns-2 : tie.Need-returns-2
 unfolding inOwnRound
-returns-2 c = simp (← c .before .before .before .before .before .before .before .contains .ensures, c .before .before .before .before .before .before .if1 .taken, ← c .before .before .before .before .before .contains2 .ensures, c .before .before .before .before .if2 .taken, ← c .before .before .before .thaw-round .ensures, ← c .before .before .round-in .ensures, ← c .before .before2 .ensures, c .if3 .left)
+returns-2 c = simp (← c .before .before .before .before .before .before .before .contains .ensures, c .before .before .before .before .before .before .if1 .taken, ← c .before .before .before .before .before .contains2 .ensures, c .before .before .before .before .if2 .taken, ← c .before .before .before .decode-round .ensures, ← c .before .before .round-in .ensures, ← c .before .before2 .ensures, c .if3 .left)
 
 returns-3 : tie.Need-returns-3
 unfolding inOwnRound
@@ -42,7 +42,7 @@ in-own-round-spec =
     (tie.spec
     contains-requires
     contains-requires-2
-    thaw-round-requires
+    decode-round-requires
     round-in-requires
     before-requires
     returns

@@ -16,7 +16,8 @@ refusal-requires c κs = search needs
 
 returns : tie.Need-returns
 returns c =
-    (refused (setupOf (now (c .before .before .before .args .setup))) (now (c .before .before .before .args .committers)) (now (c .before .before .before .args .delegates)) (now (c .before .before .before .args .core)) (tableOf (now (c .before .before .before .args .reads)) (now (c .before .before .before .args .served))) (callOf (now (c .before .before .before .args .call))) (written (now (c .before .before .before .args .first)) (now (c .before .before .before .args .second)) (now (c .before .before .before .args .third)) (now (c .before .before .before .args .rest))) (c .before .refusal .ensures) (ne-eqb _ _ (c .if1 .taken)), (λ h. refl, λ h. refl))
+    let a = c .before .before .before .args in
+    (refused (setupOf (now (a .setup))) (now (a .committers)) (now (a .delegates)) (now (a .core)) (tableOf (now (a .reads)) (now (a .served))) (callOf (now (a .call))) (written (now (a .first)) (now (a .second)) (now (a .third)) (now (a .rest))) (c .before .refusal .ensures) (ne-eqb _ _ (c .if1 .taken)), (λ h. refl, λ h. refl))
 
 setup-in-requires : tie.Need-setup-in-requires
 setup-in-requires c κs = search needs
@@ -28,25 +29,27 @@ open-read-requires : tie.Need-open-read-requires
 open-read-requires c κs = search needs
 
 returns-2 : tie.Need-returns-2
-returns-2 c = (
-  read-in (now (c .before .before .before .before .before .before .before .before .before .before .before .before .before .before .args .committers)) (now (c .before .before .before .before .before .before .before .before .before .before .before .before .before .before .args .delegates)) (now (c .before .before .before .before .before .before .before .before .before .before .before .before .before .before .args .core)) (tableOf (now (c .before .before .before .before .before .before .before .before .before .before .before .before .before .before .args .reads)) (now (c .before .before .before .before .before .before .before .before .before .before .before .before .before .before .args .served))) (written (now (c .before .before .before .before .before .before .before .before .before .before .before .before .before .before .args .first)) (now (c .before .before .before .before .before .before .before .before .before .before .before .before .before .before .args .second)) (now (c .before .before .before .before .before .before .before .before .before .before .before .before .before .before .args .third)) (now (c .before .before .before .before .before .before .before .before .before .before .before .before .before .before .args .rest))) (c .before .before .before .before .before .before .before .before .before .before .setup-in .ensures) (c .before .before .before .before .before .before .before .before .before .call-in .ensures)
-      (read-opened (c .before .before .before .before .before .before .before .before .before .before .setup-in .result) (now (c .before .before .before .before .before .before .before .before .before .before .before .before .before .before .args .committers)) (now (c .before .before .before .before .before .before .before .before .before .before .before .before .before .before .args .delegates)) (now (c .before .before .before .before .before .before .before .before .before .before .before .before .before .before .args .core)) (tableOf (now (c .before .before .before .before .before .before .before .before .before .before .before .before .before .before .args .reads)) (now (c .before .before .before .before .before .before .before .before .before .before .before .before .before .before .args .served))) (c .before .before .before .before .before .before .before .before .before .call-in .result) (written (now (c .before .before .before .before .before .before .before .before .before .before .before .before .before .before .args .first)) (now (c .before .before .before .before .before .before .before .before .before .before .before .before .before .before .args .second)) (now (c .before .before .before .before .before .before .before .before .before .before .before .before .before .before .args .third)) (now (c .before .before .before .before .before .before .before .before .before .before .before .before .before .before .args .rest)))
-      (read-back (coreOf (now (c .before .before .before .before .before .before .before .before .before .before .before .before .before .before .args .core))) (c .before .before .before .before .before .before .before .before .before .before .setup-in .ensures) (c .before .before .before .before .before .before .before .before .before .call-in .ensures) (c .before .before .before .before .before .before .before .before .before .before .before .before .refusal .ensures))
-      (eq-eqb _ _ (c .before .before .before .before .before .before .before .before .before .before .before .if1 .left)) (eq-eqb _ _ (c .before .before .before .before .before .before .before .if2 .taken)) (c .open-read .ensures .0)),
-  (c .open-read .ensures .1, λ h. refl),
-)
+returns-2 c =
+    let a = c .before .before .before .before .before .before .before .before .before .before .before .before .before .before .args in (
+      read-in (now (a .committers)) (now (a .delegates)) (now (a .core)) (tableOf (now (a .reads)) (now (a .served))) (written (now (a .first)) (now (a .second)) (now (a .third)) (now (a .rest))) (c .before .before .before .before .before .before .before .before .before .before .setup-in .ensures) (c .before .before .before .before .before .before .before .before .before .call-in .ensures)
+          (read-opened (c .before .before .before .before .before .before .before .before .before .before .setup-in .result) (now (a .committers)) (now (a .delegates)) (now (a .core)) (tableOf (now (a .reads)) (now (a .served))) (c .before .before .before .before .before .before .before .before .before .call-in .result) (written (now (a .first)) (now (a .second)) (now (a .third)) (now (a .rest)))
+          (read-back (coreOf (now (a .core))) (c .before .before .before .before .before .before .before .before .before .before .setup-in .ensures) (c .before .before .before .before .before .before .before .before .before .call-in .ensures) (c .before .before .before .before .before .before .before .before .before .before .before .before .refusal .ensures))
+          (eq-eqb _ _ (c .before .before .before .before .before .before .before .before .before .before .before .if1 .left)) (eq-eqb _ _ (c .before .before .before .before .before .before .before .if2 .taken)) (c .open-read .ensures .0)),
+      (c .open-read .ensures .1, λ h. refl),
+    )
 
 taken-requires : tie.Need-taken-requires
 taken-requires c κs = search needs
 
 returns-3 : tie.Need-returns-3
-returns-3 c = (
-  read-in (now (c .before .before .before .before .before .before .before .before .before .before .before .before .before .before .before .args .committers)) (now (c .before .before .before .before .before .before .before .before .before .before .before .before .before .before .before .args .delegates)) (now (c .before .before .before .before .before .before .before .before .before .before .before .before .before .before .before .args .core)) (tableOf (now (c .before .before .before .before .before .before .before .before .before .before .before .before .before .before .before .args .reads)) (now (c .before .before .before .before .before .before .before .before .before .before .before .before .before .before .before .args .served))) (written (now (c .before .before .before .before .before .before .before .before .before .before .before .before .before .before .before .args .first)) (now (c .before .before .before .before .before .before .before .before .before .before .before .before .before .before .before .args .second)) (now (c .before .before .before .before .before .before .before .before .before .before .before .before .before .before .before .args .third)) (now (c .before .before .before .before .before .before .before .before .before .before .before .before .before .before .before .args .rest))) (c .before .before .before .before .before .before .before .before .before .before .before .setup-in .ensures) (c .before .before .before .before .before .before .before .before .before .before .call-in .ensures)
-      (call-taken (c .before .before .before .before .before .before .before .before .before .before .before .setup-in .result) (now (c .before .before .before .before .before .before .before .before .before .before .before .before .before .before .before .args .committers)) (now (c .before .before .before .before .before .before .before .before .before .before .before .before .before .before .before .args .delegates)) (now (c .before .before .before .before .before .before .before .before .before .before .before .before .before .before .before .args .core)) (tableOf (now (c .before .before .before .before .before .before .before .before .before .before .before .before .before .before .before .args .reads)) (now (c .before .before .before .before .before .before .before .before .before .before .before .before .before .before .before .args .served))) (c .before .before .before .before .before .before .before .before .before .before .call-in .result) (written (now (c .before .before .before .before .before .before .before .before .before .before .before .before .before .before .before .args .first)) (now (c .before .before .before .before .before .before .before .before .before .before .before .before .before .before .before .args .second)) (now (c .before .before .before .before .before .before .before .before .before .before .before .before .before .before .before .args .third)) (now (c .before .before .before .before .before .before .before .before .before .before .before .before .before .before .before .args .rest)))
-      (read-back (coreOf (now (c .before .before .before .before .before .before .before .before .before .before .before .before .before .before .before .args .core))) (c .before .before .before .before .before .before .before .before .before .before .before .setup-in .ensures) (c .before .before .before .before .before .before .before .before .before .before .call-in .ensures) (c .before .before .before .before .before .before .before .before .before .before .before .before .before .refusal .ensures))
-      (eq-eqb _ _ (c .before .before .before .before .before .before .before .before .before .before .before .before .if1 .left)) (ne-eqb _ _ (c .before .before .before .before .before .before .before .before .if2 .left)) (c .taken .ensures .0)),
-  c .taken .ensures .1,
-)
+returns-3 c =
+    let a = c .before .before .before .before .before .before .before .before .before .before .before .before .before .before .before .args in (
+      read-in (now (a .committers)) (now (a .delegates)) (now (a .core)) (tableOf (now (a .reads)) (now (a .served))) (written (now (a .first)) (now (a .second)) (now (a .third)) (now (a .rest))) (c .before .before .before .before .before .before .before .before .before .before .before .setup-in .ensures) (c .before .before .before .before .before .before .before .before .before .before .call-in .ensures)
+          (call-taken (c .before .before .before .before .before .before .before .before .before .before .before .setup-in .result) (now (a .committers)) (now (a .delegates)) (now (a .core)) (tableOf (now (a .reads)) (now (a .served))) (c .before .before .before .before .before .before .before .before .before .before .call-in .result) (written (now (a .first)) (now (a .second)) (now (a .third)) (now (a .rest)))
+          (read-back (coreOf (now (a .core))) (c .before .before .before .before .before .before .before .before .before .before .before .setup-in .ensures) (c .before .before .before .before .before .before .before .before .before .before .call-in .ensures) (c .before .before .before .before .before .before .before .before .before .before .before .before .before .refusal .ensures))
+          (eq-eqb _ _ (c .before .before .before .before .before .before .before .before .before .before .before .before .if1 .left)) (ne-eqb _ _ (c .before .before .before .before .before .before .before .before .if2 .left)) (c .taken .ensures .0)),
+      c .taken .ensures .1,
+    )
 
 pub chanbook-direct-call-spec : {M : Type 1} → statement M
 chanbook-direct-call-spec =

@@ -11,8 +11,8 @@ use Rattle.direct.proofs.count_response.Tie as tie
 core-in-requires : tie.Need-core-in-requires
 core-in-requires c κs = search needs
 
-ruled-requires : tie.Need-ruled-requires
-ruled-requires c κs = search needs
+row-by-rule-requires : tie.Need-row-by-rule-requires
+row-by-rule-requires c κs = search needs
 
 is-yes-requires : tie.Need-is-yes-requires
 is-yes-requires c κs = search needs
@@ -34,14 +34,15 @@ put-served-requires c κs = search needs
 
 returns : tie.Need-returns
 returns c =
-    count-response (c .before .before .before .before .before .before .before .before .before .before .before .before .before .before .before .before .before .args .setup) (now (c .before .before .before .before .before .before .before .before .before .before .before .before .before .before .before .before .before .args .core)) (tableOf (now (c .before .before .before .before .before .before .before .before .before .before .before .before .before .before .before .before .before .args .reads)) (now (c .before .before .before .before .before .before .before .before .before .before .before .before .before .before .before .before .before .args .served))) (c .before .before .before .before .before .before .before .before .before .before .before .before .before .before .before .core-in .ensures) (c .before .before .before .before .before .before .before .before .before .before .before .before .before .before .ruled .ensures) (c .before .before .before .before .before .before .before .before .before .before .tracker-of .ensures) (c .before .before .before .before .before .before .before .before .before .before .before .before .before .before .before .before .before .args .f) (written (now (c .before .before .before .before .before .before .before .before .before .before .before .before .before .before .before .before .before .args .first)) (now (c .before .before .before .before .before .before .before .before .before .before .before .before .before .before .before .before .before .args .second)) (now (c .before .before .before .before .before .before .before .before .before .before .before .before .before .before .before .before .before .args .third)) (now (c .before .before .before .before .before .before .before .before .before .before .before .before .before .before .before .before .before .args .rest))) (c .before .before .before .before .before .before .before .before .before .before .before .before .before .is-yes .ensures) (c .before .before .before .before .before .before .before .before .before .receive-ready .ensures) (c .before .before .before .before .before .before .with-tracker .ensures) (c .before .before .before .before .before .put-core .ensures) (c .put-served .ensures)
+    let a = c .before .before .before .before .before .before .before .before .before .before .before .before .before .before .before .before .before .args in
+    count-response (a .setup) (now (a .core)) (tableOf (now (a .reads)) (now (a .served))) (c .before .before .before .before .before .before .before .before .before .before .before .before .before .before .before .core-in .ensures) (c .before .before .before .before .before .before .before .before .before .before .before .before .before .before .row-by-rule .ensures) (c .before .before .before .before .before .before .before .before .before .before .tracker-of .ensures) (a .f) (written (now (a .first)) (now (a .second)) (now (a .third)) (now (a .rest))) (c .before .before .before .before .before .before .before .before .before .before .before .before .before .is-yes .ensures) (c .before .before .before .before .before .before .before .before .before .receive-ready .ensures) (c .before .before .before .before .before .before .with-tracker .ensures) (c .before .before .before .before .before .put-core .ensures) (c .put-served .ensures)
 
 pub count-response-spec : {M : Type 1} → statement M
 count-response-spec =
     tie.close
     (tie.spec
     core-in-requires
-    ruled-requires
+    row-by-rule-requires
     is-yes-requires
     tracker-of-requires
     receive-ready-requires

@@ -6,7 +6,7 @@ use mathlib.Core.Path.{refl, sym, ap, _∙_}
 use Rattle.array_reads.specs.Rows.{tableOf}
 use Rattle.counting.specs.Counting.{counts}
 use Rattle.direct_core.specs.Handled.{written}
-use Rattle.twins.specs.declared.FlatCore.{FlatCore}
+use Rattle.flat.specs.declared.FlatCore.{FlatCore}
 use Rattle.direct.proofs.Steps.{older, only-counted, served-too, not-served}
 use Rattle.direct.proofs.handled.Statement.{statement}
 use Rattle.direct.proofs.handled.Tie as tie
@@ -18,12 +18,13 @@ put-served-requires : tie.Need-put-served-requires
 put-served-requires c κs = search needs
 
 returns : tie.Need-returns
-returns c = (
-  older (c .before .before .before .before .before .before .before .before .before .args .setup) (now (c .before .before .before .before .before .before .before .before .before .args .committers)) (now (c .before .before .before .before .before .before .before .before .before .args .delegates)) (now (c .before .before .before .before .before .before .before .before .before .args .core)) (tableOf (now (c .before .before .before .before .before .before .before .before .before .args .reads)) (now (c .before .before .before .before .before .before .before .before .before .args .served))) (c .before .before .before .before .before .before .before .before .before .args .f) (written (now (c .before .before .before .before .before .before .before .before .before .args .first)) (now (c .before .before .before .before .before .before .before .before .before .args .second)) (now (c .before .before .before .before .before .before .before .before .before .args .third)) (now (c .before .before .before .before .before .before .before .before .before .args .rest)))
-      (sym (c .before .before .before .before .before .before .is-older-in .ensures) ∙ c .before .before .before .before .before .if1 .taken)
-      (c .put-served .ensures),
-  (λ h. absurd (h refl), λ h. absurd (h refl)),
-)
+returns c =
+    let a = c .before .before .before .before .before .before .before .before .before .args in (
+      older (a .setup) (now (a .committers)) (now (a .delegates)) (now (a .core)) (tableOf (now (a .reads)) (now (a .served))) (a .f) (written (now (a .first)) (now (a .second)) (now (a .third)) (now (a .rest)))
+          (sym (c .before .before .before .before .before .before .is-older-in .ensures) ∙ c .before .before .before .before .before .if1 .taken)
+          (c .put-served .ensures),
+      (λ h. absurd (h refl), λ h. absurd (h refl)),
+    )
 
 core-in-requires : tie.Need-core-in-requires
 core-in-requires c κs = search needs
@@ -41,13 +42,14 @@ put-served-requires-2 : tie.Need-put-served-requires-2
 put-served-requires-2 c κs = search needs
 
 returns-2 : tie.Need-returns-2
-returns-2 c = (
-  only-counted (c .before .before .before .before .before .before .before .before .before .before .before .before .before .before .before .before .args .setup) (now (c .before .before .before .before .before .before .before .before .before .before .before .before .before .before .before .before .args .committers)) (now (c .before .before .before .before .before .before .before .before .before .before .before .before .before .before .before .before .args .delegates)) (now (c .before .before .before .before .before .before .before .before .before .before .before .before .before .before .before .before .args .core)) (tableOf (now (c .before .before .before .before .before .before .before .before .before .before .before .before .before .before .before .before .args .reads)) (now (c .before .before .before .before .before .before .before .before .before .before .before .before .before .before .before .before .args .served))) (c .before .before .before .before .before .before .before .before .before .before .before .before .before .before .before .before .args .f) (written (now (c .before .before .before .before .before .before .before .before .before .before .before .before .before .before .before .before .args .first)) (now (c .before .before .before .before .before .before .before .before .before .before .before .before .before .before .before .before .args .second)) (now (c .before .before .before .before .before .before .before .before .before .before .before .before .before .before .before .before .args .third)) (now (c .before .before .before .before .before .before .before .before .before .before .before .before .before .before .before .before .args .rest))) (c .before .before .before .before .before .before .before .before .before .before .core-in .ensures)
-      (sym (c .before .before .before .before .before .before .before .before .before .before .before .before .before .is-older-in .ensures) ∙ c .before .before .before .before .before .before .before .before .before .before .before .before .if1 .left)
-      (sym (c .before .before .before .before .before .before .before .before .before .counts .ensures ∙ ap (λ (x : FlatCore). counts (c .before .before .before .before .before .before .before .before .before .before .before .before .before .before .before .before .args .setup) (now (c .before .before .before .before .before .before .before .before .before .before .before .before .before .before .before .before .args .delegates)) x (c .before .before .before .before .before .before .before .before .before .before .before .before .before .before .before .before .args .f .message)) (c .before .before .before .before .before .before .before .before .before .before .core-in .ensures)) ∙ c .before .before .before .before .before .before .before .before .if2 .taken)
-      (c .before .before .before .before .before .before .with-counted .ensures) (c .before .before .before .before .before .put-core .ensures) (c .put-served2 .ensures),
-  (λ h. absurd (h refl), λ h. absurd (h refl)),
-)
+returns-2 c =
+    let a = c .before .before .before .before .before .before .before .before .before .before .before .before .before .before .before .before .args in (
+      only-counted (a .setup) (now (a .committers)) (now (a .delegates)) (now (a .core)) (tableOf (now (a .reads)) (now (a .served))) (a .f) (written (now (a .first)) (now (a .second)) (now (a .third)) (now (a .rest))) (c .before .before .before .before .before .before .before .before .before .before .core-in .ensures)
+          (sym (c .before .before .before .before .before .before .before .before .before .before .before .before .before .is-older-in .ensures) ∙ c .before .before .before .before .before .before .before .before .before .before .before .before .if1 .left)
+          (sym (c .before .before .before .before .before .before .before .before .before .counts .ensures ∙ ap (λ (x : FlatCore). counts (a .setup) (now (a .delegates)) x (a .f .message)) (c .before .before .before .before .before .before .before .before .before .before .core-in .ensures)) ∙ c .before .before .before .before .before .before .before .before .if2 .taken)
+          (c .before .before .before .before .before .before .with-counted .ensures) (c .before .before .before .before .before .put-core .ensures) (c .put-served2 .ensures),
+      (λ h. absurd (h refl), λ h. absurd (h refl)),
+    )
 
 handle-requires : tie.Need-handle-requires
 handle-requires c κs = search needs
@@ -56,22 +58,24 @@ serve-ready-requires : tie.Need-serve-ready-requires
 serve-ready-requires c κs = search needs
 
 returns-3 : tie.Need-returns-3
-returns-3 c = (
-  served-too (c .before .before .before .before .before .before .before .before .before .before .before .before .before .before .before .before .before .before .before .before .args .setup) (now (c .before .before .before .before .before .before .before .before .before .before .before .before .before .before .before .before .before .before .before .before .args .committers)) (now (c .before .before .before .before .before .before .before .before .before .before .before .before .before .before .before .before .before .before .before .before .args .delegates)) (now (c .before .before .before .before .before .before .before .before .before .before .before .before .before .before .before .before .before .before .before .before .args .core)) (tableOf (now (c .before .before .before .before .before .before .before .before .before .before .before .before .before .before .before .before .before .before .before .before .args .reads)) (now (c .before .before .before .before .before .before .before .before .before .before .before .before .before .before .before .before .before .before .before .before .args .served))) (c .before .before .before .before .before .before .before .before .before .before .before .before .before .before .before .before .before .before .before .before .args .f) (written (now (c .before .before .before .before .before .before .before .before .before .before .before .before .before .before .before .before .before .before .before .before .args .first)) (now (c .before .before .before .before .before .before .before .before .before .before .before .before .before .before .before .before .before .before .before .before .args .second)) (now (c .before .before .before .before .before .before .before .before .before .before .before .before .before .before .before .before .before .before .before .before .args .third)) (now (c .before .before .before .before .before .before .before .before .before .before .before .before .before .before .before .before .before .before .before .before .args .rest))) _
-      (sym (c .before .before .before .before .before .before .before .before .before .before .before .before .before .before .before .before .before .is-older-in .ensures) ∙ c .before .before .before .before .before .before .before .before .before .before .before .before .before .before .before .before .if1 .left)
-      (sym (c .before .before .before .before .before .before .before .before .before .before .before .before .before .counts .ensures ∙ ap (λ (x : FlatCore). counts (c .before .before .before .before .before .before .before .before .before .before .before .before .before .before .before .before .before .before .before .before .args .setup) (now (c .before .before .before .before .before .before .before .before .before .before .before .before .before .before .before .before .before .before .before .before .args .delegates)) x (c .before .before .before .before .before .before .before .before .before .before .before .before .before .before .before .before .before .before .before .before .args .f .message)) (c .before .before .before .before .before .before .before .before .before .before .before .before .before .before .core-in .ensures)) ∙ c .before .before .before .before .before .before .before .before .before .before .before .before .if2 .left)
-      (c .before .before .before .before .before .before .handle .ensures) (c .before .before .before .before .before .if3 .taken) (c .serve-ready .ensures),
-  (λ h. absurd (h refl), λ h. absurd (h refl)),
-)
+returns-3 c =
+    let a = c .before .before .before .before .before .before .before .before .before .before .before .before .before .before .before .before .before .before .before .before .args in (
+      served-too (a .setup) (now (a .committers)) (now (a .delegates)) (now (a .core)) (tableOf (now (a .reads)) (now (a .served))) (a .f) (written (now (a .first)) (now (a .second)) (now (a .third)) (now (a .rest))) _
+          (sym (c .before .before .before .before .before .before .before .before .before .before .before .before .before .before .before .before .before .is-older-in .ensures) ∙ c .before .before .before .before .before .before .before .before .before .before .before .before .before .before .before .before .if1 .left)
+          (sym (c .before .before .before .before .before .before .before .before .before .before .before .before .before .counts .ensures ∙ ap (λ (x : FlatCore). counts (a .setup) (now (a .delegates)) x (a .f .message)) (c .before .before .before .before .before .before .before .before .before .before .before .before .before .before .core-in .ensures)) ∙ c .before .before .before .before .before .before .before .before .before .before .before .before .if2 .left)
+          (c .before .before .before .before .before .before .handle .ensures) (c .before .before .before .before .before .if3 .taken) (c .serve-ready .ensures),
+      (λ h. absurd (h refl), λ h. absurd (h refl)),
+    )
 
 returns-4 : tie.Need-returns-4
-returns-4 c = (
-  not-served (c .before .before .before .before .before .before .before .before .before .before .before .before .before .before .before .args .setup) (now (c .before .before .before .before .before .before .before .before .before .before .before .before .before .before .before .args .committers)) (now (c .before .before .before .before .before .before .before .before .before .before .before .before .before .before .before .args .delegates)) (now (c .before .before .before .before .before .before .before .before .before .before .before .before .before .before .before .args .core)) (tableOf (now (c .before .before .before .before .before .before .before .before .before .before .before .before .before .before .before .args .reads)) (now (c .before .before .before .before .before .before .before .before .before .before .before .before .before .before .before .args .served))) (c .before .before .before .before .before .before .before .before .before .before .before .before .before .before .before .args .f) (written (now (c .before .before .before .before .before .before .before .before .before .before .before .before .before .before .before .args .first)) (now (c .before .before .before .before .before .before .before .before .before .before .before .before .before .before .before .args .second)) (now (c .before .before .before .before .before .before .before .before .before .before .before .before .before .before .before .args .third)) (now (c .before .before .before .before .before .before .before .before .before .before .before .before .before .before .before .args .rest))) _
-      (sym (c .before .before .before .before .before .before .before .before .before .before .before .before .is-older-in .ensures) ∙ c .before .before .before .before .before .before .before .before .before .before .before .if1 .left)
-      (sym (c .before .before .before .before .before .before .before .before .counts .ensures ∙ ap (λ (x : FlatCore). counts (c .before .before .before .before .before .before .before .before .before .before .before .before .before .before .before .args .setup) (now (c .before .before .before .before .before .before .before .before .before .before .before .before .before .before .before .args .delegates)) x (c .before .before .before .before .before .before .before .before .before .before .before .before .before .before .before .args .f .message)) (c .before .before .before .before .before .before .before .before .before .core-in .ensures)) ∙ c .before .before .before .before .before .before .before .if2 .left)
-      (c .before .handle .ensures) (c .if3 .left),
-  (λ h. refl, λ h. refl),
-)
+returns-4 c =
+    let a = c .before .before .before .before .before .before .before .before .before .before .before .before .before .before .before .args in (
+      not-served (a .setup) (now (a .committers)) (now (a .delegates)) (now (a .core)) (tableOf (now (a .reads)) (now (a .served))) (a .f) (written (now (a .first)) (now (a .second)) (now (a .third)) (now (a .rest))) _
+          (sym (c .before .before .before .before .before .before .before .before .before .before .before .before .is-older-in .ensures) ∙ c .before .before .before .before .before .before .before .before .before .before .before .if1 .left)
+          (sym (c .before .before .before .before .before .before .before .before .counts .ensures ∙ ap (λ (x : FlatCore). counts (a .setup) (now (a .delegates)) x (a .f .message)) (c .before .before .before .before .before .before .before .before .before .core-in .ensures)) ∙ c .before .before .before .before .before .before .before .if2 .left)
+          (c .before .handle .ensures) (c .if3 .left),
+      (λ h. refl, λ h. refl),
+    )
 
 pub handled-spec : {M : Type 1} → statement M
 handled-spec =

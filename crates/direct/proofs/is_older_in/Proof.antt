@@ -2,7 +2,7 @@
 -- Assumes nothing.
 use borrow.Author.Needs.{needs}
 use mathlib.Core.Path.{ap, _∙_}
-use Rattle.twins.specs.declared.FlatCore.{FlatCore}
+use Rattle.flat.specs.declared.FlatCore.{FlatCore}
 use Rattle.direct.specs.Direct.{isOlder}
 use Rattle.direct.proofs.is_older_in.Statement.{statement}
 use Rattle.direct.proofs.is_older_in.Tie as tie

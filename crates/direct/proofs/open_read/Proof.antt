@@ -15,14 +15,16 @@ core-in-requires c κs = search needs
 
 returns : tie.Need-returns
 returns c =
-    (open-full (c .before .before .before .before .args .setup) (openRows (now (c .before .before .before .before .args .reads))) (c .before .before .before .before .args .f) (written (now (c .before .before .before .before .args .first)) (now (c .before .before .before .before .args .second)) (now (c .before .before .before .before .args .third)) (now (c .before .before .before .before .args .rest))) (now (c .before .before .before .before .args .core)) (c .before .before .core-in .ensures) (le-leb _ _ (c .if1 .taken)), λ h. refl)
+    let a = c .before .before .before .before .args in
+    (open-full (a .setup) (openRows (now (a .reads))) (a .f) (written (now (a .first)) (now (a .second)) (now (a .third)) (now (a .rest))) (now (a .core)) (c .before .before .core-in .ensures) (le-leb _ _ (c .if1 .taken)), λ h. refl)
 
 returns-2 : tie.Need-returns-2
 returns-2 c =
-    (open-spent (c .before .before .before .before .before .before .args .setup) (openRows (now (c .before .before .before .before .before .before .args .reads))) (c .before .before .before .before .before .before .args .f) (written (now (c .before .before .before .before .before .before .args .first)) (now (c .before .before .before .before .before .before .args .second)) (now (c .before .before .before .before .before .before .args .third)) (now (c .before .before .before .before .before .before .args .rest))) (now (c .before .before .before .before .before .before .args .core)) (c .before .before .before .before .core-in .ensures) (lt-leb _ _ (c .before .before .if1 .left)) (lt-ltb _ _ (c .if2 .taken)), λ h. refl)
+    let a = c .before .before .before .before .before .before .args in
+    (open-spent (a .setup) (openRows (now (a .reads))) (a .f) (written (now (a .first)) (now (a .second)) (now (a .third)) (now (a .rest))) (now (a .core)) (c .before .before .before .before .core-in .ensures) (lt-leb _ _ (c .before .before .if1 .left)) (lt-ltb _ _ (c .if2 .taken)), λ h. refl)
 
-freeze-bool-requires : tie.Need-freeze-bool-requires
-freeze-bool-requires c κs = search needs
+encode-bool-requires : tie.Need-encode-bool-requires
+encode-bool-requires c κs = search needs
 
 insert-requires : tie.Need-insert-requires
 insert-requires c κs = search needs
@@ -39,8 +41,8 @@ put-core-requires c κs = search needs
 asked-of-requires : tie.Need-asked-of-requires
 asked-of-requires c κs = search needs
 
-thaw-core-requires : tie.Need-thaw-core-requires
-thaw-core-requires c κs = search needs
+decode-core-requires : tie.Need-decode-core-requires
+decode-core-requires c κs = search needs
 
 to-all-requires : tie.Need-to-all-requires
 to-all-requires c κs = search needs
@@ -52,11 +54,12 @@ put-sent-requires : tie.Need-put-sent-requires
 put-sent-requires c κs = search needs
 
 returns-3 : tie.Need-returns-3
-returns-3 c = (
-  open-done (c .before .before .before .before .before .before .before .before .before .before .before .before .before .before .before .before .before .before .before .before .before .before .before .args .setup) (openRows (now (c .before .before .before .before .before .before .before .before .before .before .before .before .before .before .before .before .before .before .before .before .before .before .before .args .reads))) (c .before .before .before .before .before .before .before .before .before .before .before .before .before .before .before .before .before .before .before .before .before .before .before .args .f) (written (now (c .before .before .before .before .before .before .before .before .before .before .before .before .before .before .before .before .before .before .before .before .before .before .before .args .first)) (now (c .before .before .before .before .before .before .before .before .before .before .before .before .before .before .before .before .before .before .before .before .before .before .before .args .second)) (now (c .before .before .before .before .before .before .before .before .before .before .before .before .before .before .before .before .before .before .before .before .before .before .before .args .third)) (now (c .before .before .before .before .before .before .before .before .before .before .before .before .before .before .before .before .before .before .before .before .before .before .before .args .rest))) (now (c .before .before .before .before .before .before .before .before .before .before .before .before .before .before .before .before .before .before .before .before .before .before .before .args .core)) (c .before .before .before .before .before .before .before .before .before .before .before .before .before .before .before .before .before .before .before .before .before .core-in .ensures) (lt-leb _ _ (c .before .before .before .before .before .before .before .before .before .before .before .before .before .before .before .before .before .before .before .if1 .left)) (le-ltb _ _ (c .before .before .before .before .before .before .before .before .before .before .before .before .before .before .before .before .before .if2 .left))
-      (opened-is (c .before .before .before .before .before .before .before .before .before .before .before .before .before .before .before .before .before .before .before .before .before .before .before .args .setup) (openRows (now (c .before .before .before .before .before .before .before .before .before .before .before .before .before .before .before .before .before .before .before .before .before .before .before .args .reads))) (c .before .before .before .before .before .before .before .before .before .before .before .before .before .before .before .before .before .before .before .before .before .before .before .args .f) (written (now (c .before .before .before .before .before .before .before .before .before .before .before .before .before .before .before .before .before .before .before .before .before .before .before .args .first)) (now (c .before .before .before .before .before .before .before .before .before .before .before .before .before .before .before .before .before .before .before .before .before .before .before .args .second)) (now (c .before .before .before .before .before .before .before .before .before .before .before .before .before .before .before .before .before .before .before .before .before .before .before .args .third)) (now (c .before .before .before .before .before .before .before .before .before .before .before .before .before .before .before .before .before .before .before .before .before .before .before .args .rest))) (c .before .before .before .before .before .before .before .before .before .before .before .before .before .before .before .before .before .before .before .before .before .core-in .result) (c .before .before .before .before .before .before .before .before .before .before .before .before .before .before .before .freeze-bool .ensures) (c .before .before .before .before .before .before .before .before .before .before .before .before .before .insert .ensures) (c .before .before .before .before .before .before .before .before .before .put-core .ensures) (c .before .before .before .before .before .before .before .before .asked-of .ensures) (c .before .before .before .before .before .before .before .thaw-core .ensures) (c .before .before .before .before .before .before .to-all .ensures) (c .before .before .before .before .before .sends .ensures) (c .put-sent .ensures)),
-  λ h. absurd (h refl),
-)
+returns-3 c =
+    let a = c .before .before .before .before .before .before .before .before .before .before .before .before .before .before .before .before .before .before .before .before .before .before .before .args in (
+      open-done (a .setup) (openRows (now (a .reads))) (a .f) (written (now (a .first)) (now (a .second)) (now (a .third)) (now (a .rest))) (now (a .core)) (c .before .before .before .before .before .before .before .before .before .before .before .before .before .before .before .before .before .before .before .before .before .core-in .ensures) (lt-leb _ _ (c .before .before .before .before .before .before .before .before .before .before .before .before .before .before .before .before .before .before .before .if1 .left)) (le-ltb _ _ (c .before .before .before .before .before .before .before .before .before .before .before .before .before .before .before .before .before .if2 .left))
+          (opened-is (a .setup) (openRows (now (a .reads))) (a .f) (written (now (a .first)) (now (a .second)) (now (a .third)) (now (a .rest))) (c .before .before .before .before .before .before .before .before .before .before .before .before .before .before .before .before .before .before .before .before .before .core-in .result) (c .before .before .before .before .before .before .before .before .before .before .before .before .before .before .before .encode-bool .ensures) (c .before .before .before .before .before .before .before .before .before .before .before .before .before .insert .ensures) (c .before .before .before .before .before .before .before .before .before .put-core .ensures) (c .before .before .before .before .before .before .before .before .asked-of .ensures) (c .before .before .before .before .before .before .before .decode-core .ensures) (c .before .before .before .before .before .before .to-all .ensures) (c .before .before .before .before .before .sends .ensures) (c .put-sent .ensures)),
+      λ h. absurd (h refl),
+    )
 
 pub open-read-spec : {M : Type 1} → statement M
 open-read-spec =
@@ -65,13 +68,13 @@ open-read-spec =
     core-in-requires
     returns
     returns-2
-    freeze-bool-requires
+    encode-bool-requires
     insert-requires
     add-next
     add-next-2
     put-core-requires
     asked-of-requires
-    thaw-core-requires
+    decode-core-requires
     to-all-requires
     sends-requires
     put-sent-requires

@@ -17,14 +17,16 @@ put-served-requires c κs = search needs
 
 returns : tie.Need-returns
 returns c =
-    none-open (c .before .before .before .before .before .before .before .before .before .args .setup) (now (c .before .before .before .before .before .before .before .before .before .args .core)) (tableOf (now (c .before .before .before .before .before .before .before .before .before .args .reads)) (now (c .before .before .before .before .before .before .before .before .before .args .served))) (c .before .before .before .before .before .before .before .before .before .args .f) (written (now (c .before .before .before .before .before .before .before .before .before .args .first)) (now (c .before .before .before .before .before .before .before .before .before .args .second)) (now (c .before .before .before .before .before .before .before .before .before .args .third)) (now (c .before .before .before .before .before .before .before .before .before .args .rest))) (c .before .before .before .before .before .before .before .core-in .ensures) (eq-eqb _ _ (c .before .before .before .before .before .if1 .taken)) (c .put-served .ensures)
+    let a = c .before .before .before .before .before .before .before .before .before .args in
+    none-open (a .setup) (now (a .core)) (tableOf (now (a .reads)) (now (a .served))) (a .f) (written (now (a .first)) (now (a .second)) (now (a .third)) (now (a .rest))) (c .before .before .before .before .before .before .before .core-in .ensures) (eq-eqb _ _ (c .before .before .before .before .before .if1 .taken)) (c .put-served .ensures)
 
 count-response-requires : tie.Need-count-response-requires
 count-response-requires c κs = search needs
 
 returns-2 : tie.Need-returns-2
 returns-2 c =
-    some-open (c .before .before .before .before .before .before .before .before .before .before .before .before .args .setup) (now (c .before .before .before .before .before .before .before .before .before .before .before .before .args .core)) (tableOf (now (c .before .before .before .before .before .before .before .before .before .before .before .before .args .reads)) (now (c .before .before .before .before .before .before .before .before .before .before .before .before .args .served))) (c .before .before .before .before .before .before .before .before .before .before .before .before .args .f) (written (now (c .before .before .before .before .before .before .before .before .before .before .before .before .args .first)) (now (c .before .before .before .before .before .before .before .before .before .before .before .before .args .second)) (now (c .before .before .before .before .before .before .before .before .before .before .before .before .args .third)) (now (c .before .before .before .before .before .before .before .before .before .before .before .before .args .rest))) (c .before .before .before .before .before .before .before .before .before .before .core-in .ensures) (ne-eqb _ _ (c .before .before .before .before .before .before .before .before .if1 .left)) (c .count-response .ensures)
+    let a = c .before .before .before .before .before .before .before .before .before .before .before .before .args in
+    some-open (a .setup) (now (a .core)) (tableOf (now (a .reads)) (now (a .served))) (a .f) (written (now (a .first)) (now (a .second)) (now (a .third)) (now (a .rest))) (c .before .before .before .before .before .before .before .before .before .before .core-in .ensures) (ne-eqb _ _ (c .before .before .before .before .before .before .before .before .if1 .left)) (c .count-response .ensures)
 
 pub response-spec : {M : Type 1} → statement M
 response-spec =

@@ -10,8 +10,8 @@ use Rattle.direct.proofs.serve_ready.Tie as tie
 core-in-requires : tie.Need-core-in-requires
 core-in-requires c κs = search needs
 
-ruled-requires : tie.Need-ruled-requires
-ruled-requires c κs = search needs
+row-by-rule-requires : tie.Need-row-by-rule-requires
+row-by-rule-requires c κs = search needs
 
 tracker-of-requires : tie.Need-tracker-of-requires
 tracker-of-requires c κs = search needs
@@ -30,14 +30,15 @@ element-write-rest c = search needs
 
 returns : tie.Need-returns
 returns c =
-    serve-ready (c .before .before .before .before .before .before .before .before .before .before .before .args .setup) (now (c .before .before .before .before .before .before .before .before .before .before .before .args .core)) (tableOf (now (c .before .before .before .before .before .before .before .before .before .before .before .args .reads)) (now (c .before .before .before .before .before .before .before .before .before .before .before .args .served))) (c .before .before .before .before .before .before .before .before .before .core-in .ensures) (c .before .before .before .before .before .before .before .before .ruled .ensures) (c .before .before .before .before .before .tracker-of .ensures) (now (c .before .before .before .before .before .before .before .before .before .before .before .args .rest)) (c .before .before .before .before .commit-slot .ensures) (c .before .with-tracker .ensures) (c .put-core .ensures)
+    let a = c .before .before .before .before .before .before .before .before .before .before .before .args in
+    serve-ready (a .setup) (now (a .core)) (tableOf (now (a .reads)) (now (a .served))) (c .before .before .before .before .before .before .before .before .before .core-in .ensures) (c .before .before .before .before .before .before .before .before .row-by-rule .ensures) (c .before .before .before .before .before .tracker-of .ensures) (now (a .rest)) (c .before .before .before .before .commit-slot .ensures) (c .before .with-tracker .ensures) (c .put-core .ensures)
 
 pub serve-ready-spec : {M : Type 1} → statement M
 serve-ready-spec =
     tie.close
     (tie.spec
     core-in-requires
-    ruled-requires
+    row-by-rule-requires
     tracker-of-requires
     commit-slot-requires
     with-tracker-requires

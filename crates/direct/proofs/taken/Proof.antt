@@ -16,24 +16,28 @@ response-requires : tie.Need-response-requires
 response-requires c κs = search needs
 
 returns : tie.Need-returns
-returns c = (response-taken (c .before .before .before .before .before .before .before .before .before .before .args .setup) (now (c .before .before .before .before .before .before .before .before .before .before .args .committers)) (now (c .before .before .before .before .before .before .before .before .before .before .args .delegates)) (now (c .before .before .before .before .before .before .before .before .before .before .args .core)) (tableOf (now (c .before .before .before .before .before .before .before .before .before .before .args .reads)) (now (c .before .before .before .before .before .before .before .before .before .before .args .served))) (c .before .before .before .before .before .before .before .before .before .before .args .f) (written (now (c .before .before .before .before .before .before .before .before .before .before .args .first)) (now (c .before .before .before .before .before .before .before .before .before .before .args .second)) (now (c .before .before .before .before .before .before .before .before .before .before .args .third)) (now (c .before .before .before .before .before .before .before .before .before .before .args .rest))) (sym (c .before .before .before .before .before .before .before .before .before .is-response .ensures) ∙ c .before .before .before .before .before .before .before .before .if1 .taken) (c .response .ensures), (λ h. absurd (h refl), λ h. absurd (h refl)))
+returns c =
+    let a = c .before .before .before .before .before .before .before .before .before .before .args in
+    (response-taken (a .setup) (now (a .committers)) (now (a .delegates)) (now (a .core)) (tableOf (now (a .reads)) (now (a .served))) (a .f) (written (now (a .first)) (now (a .second)) (now (a .third)) (now (a .rest))) (sym (c .before .before .before .before .before .before .before .before .before .is-response .ensures) ∙ c .before .before .before .before .before .before .before .before .if1 .taken) (c .response .ensures), (λ h. absurd (h refl), λ h. absurd (h refl)))
 
-for-slots-requires : tie.Need-for-slots-requires
-for-slots-requires c κs = search needs
+concerns-slot-requires : tie.Need-concerns-slot-requires
+concerns-slot-requires c κs = search needs
 
-for-slot-requires : tie.Need-for-slot-requires
-for-slot-requires c κs = search needs
+slot-call-requires : tie.Need-slot-call-requires
+slot-call-requires c κs = search needs
 
 returns-2 : tie.Need-returns-2
 returns-2 c =
-    (slot-taken (c .before .before .before .before .before .before .before .before .before .before .before .before .args .setup) (now (c .before .before .before .before .before .before .before .before .before .before .before .before .args .committers)) (now (c .before .before .before .before .before .before .before .before .before .before .before .before .args .delegates)) (now (c .before .before .before .before .before .before .before .before .before .before .before .before .args .core)) (tableOf (now (c .before .before .before .before .before .before .before .before .before .before .before .before .args .reads)) (now (c .before .before .before .before .before .before .before .before .before .before .before .before .args .served))) (c .before .before .before .before .before .before .before .before .before .before .before .before .args .f) (written (now (c .before .before .before .before .before .before .before .before .before .before .before .before .args .first)) (now (c .before .before .before .before .before .before .before .before .before .before .before .before .args .second)) (now (c .before .before .before .before .before .before .before .before .before .before .before .before .args .third)) (now (c .before .before .before .before .before .before .before .before .before .before .before .before .args .rest))) (sym (c .before .before .before .before .before .before .before .before .before .before .before .is-response .ensures) ∙ c .before .before .before .before .before .before .before .before .before .before .if1 .left) (sym (c .before .before .before .before .before .before .before .before .before .for-slots .ensures) ∙ c .before .before .before .before .before .before .before .before .if2 .taken) (c .for-slot .ensures .0), c .for-slot .ensures .1)
+    let a = c .before .before .before .before .before .before .before .before .before .before .before .before .args in
+    (slot-taken (a .setup) (now (a .committers)) (now (a .delegates)) (now (a .core)) (tableOf (now (a .reads)) (now (a .served))) (a .f) (written (now (a .first)) (now (a .second)) (now (a .third)) (now (a .rest))) (sym (c .before .before .before .before .before .before .before .before .before .before .before .is-response .ensures) ∙ c .before .before .before .before .before .before .before .before .before .before .if1 .left) (sym (c .before .before .before .before .before .before .before .before .before .concerns-slot .ensures) ∙ c .before .before .before .before .before .before .before .before .if2 .taken) (c .slot-call .ensures .0), c .slot-call .ensures .1)
 
 answer-request-requires : tie.Need-answer-request-requires
 answer-request-requires c κs = search needs
 
 returns-3 : tie.Need-returns-3
 returns-3 c =
-    (request-taken (c .before .before .before .before .before .before .before .before .before .before .before .args .setup) (now (c .before .before .before .before .before .before .before .before .before .before .before .args .committers)) (now (c .before .before .before .before .before .before .before .before .before .before .before .args .delegates)) (now (c .before .before .before .before .before .before .before .before .before .before .before .args .core)) (tableOf (now (c .before .before .before .before .before .before .before .before .before .before .before .args .reads)) (now (c .before .before .before .before .before .before .before .before .before .before .before .args .served))) (c .before .before .before .before .before .before .before .before .before .before .before .args .f) (written (now (c .before .before .before .before .before .before .before .before .before .before .before .args .first)) (now (c .before .before .before .before .before .before .before .before .before .before .before .args .second)) (now (c .before .before .before .before .before .before .before .before .before .before .before .args .third)) (now (c .before .before .before .before .before .before .before .before .before .before .before .args .rest))) (sym (c .before .before .before .before .before .before .before .before .before .before .is-response .ensures) ∙ c .before .before .before .before .before .before .before .before .before .if1 .left) (sym (c .before .before .before .before .before .before .before .before .for-slots .ensures) ∙ c .before .before .before .before .before .before .before .if2 .left) (c .answer-request .ensures), (λ h. refl, λ h. refl))
+    let a = c .before .before .before .before .before .before .before .before .before .before .before .args in
+    (request-taken (a .setup) (now (a .committers)) (now (a .delegates)) (now (a .core)) (tableOf (now (a .reads)) (now (a .served))) (a .f) (written (now (a .first)) (now (a .second)) (now (a .third)) (now (a .rest))) (sym (c .before .before .before .before .before .before .before .before .before .before .is-response .ensures) ∙ c .before .before .before .before .before .before .before .before .before .if1 .left) (sym (c .before .before .before .before .before .before .before .before .concerns-slot .ensures) ∙ c .before .before .before .before .before .before .before .if2 .left) (c .answer-request .ensures), (λ h. refl, λ h. refl))
 
 pub taken-spec : {M : Type 1} → statement M
 taken-spec =
@@ -42,8 +46,8 @@ taken-spec =
     is-response-requires
     response-requires
     returns
-    for-slots-requires
-    for-slot-requires
+    concerns-slot-requires
+    slot-call-requires
     returns-2
     answer-request-requires
     returns-3)

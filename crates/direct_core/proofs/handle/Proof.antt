@@ -4,7 +4,7 @@ use borrow.Author.Needs.{needs}
 use borrow.Author.Tests.{eq-eqb, ne-eqb}
 use denote.Ref.{now}
 use mathlib.Core.Path.{ap, _∙_}
-use Rattle.twins.specs.Thaw.{thawedCore}
+use Rattle.flat.specs.Decode.{decodedCore}
 use Rattle.direct_core.specs.Handled.{written, handledBy}
 use Rattle.direct_core.proofs.Processed.{processed}
 use Rattle.direct_core.proofs.handle.Statement.{statement}
@@ -16,8 +16,8 @@ asked-of-requires c κs = search needs
 core-in-requires : tie.Need-core-in-requires
 core-in-requires c κs = search needs
 
-thaw-core-requires : tie.Need-thaw-core-requires
-thaw-core-requires c κs = search needs
+decode-core-requires : tie.Need-decode-core-requires
+decode-core-requires c κs = search needs
 
 core-on-commit-requires : tie.Need-core-on-commit-requires
 core-on-commit-requires c κs = search needs
@@ -27,7 +27,7 @@ put-answer-requires c κs = search needs
 
 returns : tie.Need-returns
 unfolding handledBy
-returns c = c .put-answer .ensures ∙ simp (c .before .before .before .before .before .before .core-on-commit .ensures, c .before .before .before .before .before .before .before .before .before .before .thaw-core .ensures, c .before .before .before .before .before .before .before .before .before .before .before .core-in .ensures, c .before .before .before .before .before .before .before .before .before .before .before .before .before .asked-of .ensures, eq-eqb _ _ (c .before .before .before .before .before .before .before .if1 .taken))
+returns c = c .put-answer .ensures ∙ simp (c .before .before .before .before .before .before .core-on-commit .ensures, c .before .before .before .before .before .before .before .before .before .before .decode-core .ensures, c .before .before .before .before .before .before .before .before .before .before .before .core-in .ensures, c .before .before .before .before .before .before .before .before .before .before .before .before .before .asked-of .ensures, eq-eqb _ _ (c .before .before .before .before .before .before .before .if1 .taken))
 
 heard-of-requires : tie.Need-heard-of-requires
 heard-of-requires c κs = search needs
@@ -35,8 +35,8 @@ heard-of-requires c κs = search needs
 is-yes-requires : tie.Need-is-yes-requires
 is-yes-requires c κs = search needs
 
-thaw-msg-requires : tie.Need-thaw-msg-requires
-thaw-msg-requires c κs = search needs
+decode-msg-requires : tie.Need-decode-msg-requires
+decode-msg-requires c κs = search needs
 
 process-classic-requires : tie.Need-process-classic-requires
 process-classic-requires c κs = search needs
@@ -46,13 +46,14 @@ put-processed-requires c κs = search needs
 
 returns-2 : tie.Need-returns-2
 returns-2 c =
-    processed (c .before .before .before .before .before .before .before .before .before .before .before .before .before .before .before .before .before .args .setup) (now (c .before .before .before .before .before .before .before .before .before .before .before .before .before .before .before .before .before .args .committers)) (now (c .before .before .before .before .before .before .before .before .before .before .before .before .before .before .before .before .before .args .delegates)) (now (c .before .before .before .before .before .before .before .before .before .before .before .before .before .before .before .before .before .args .core)) (c .before .before .before .before .before .before .before .before .before .before .before .before .before .before .before .before .before .args .f) (written (now (c .before .before .before .before .before .before .before .before .before .before .before .before .before .before .before .before .before .args .first)) (now (c .before .before .before .before .before .before .before .before .before .before .before .before .before .before .before .before .before .args .second)) (now (c .before .before .before .before .before .before .before .before .before .before .before .before .before .before .before .before .before .args .third)) (now (c .before .before .before .before .before .before .before .before .before .before .before .before .before .before .before .before .before .args .rest)))
+    let a = c .before .before .before .before .before .before .before .before .before .before .before .before .before .before .before .before .before .args in
+    processed (a .setup) (now (a .committers)) (now (a .delegates)) (now (a .core)) (a .f) (written (now (a .first)) (now (a .second)) (now (a .third)) (now (a .rest)))
     (ne-eqb _ _ (c .before .before .before .before .before .before .before .before .before .before .if1 .left))
     (c .before .before .before .before .before .before .before .before .before .before .before .before .before .before .before .before .asked-of .ensures)
     (c .before .before .before .before .before .before .before .before .before .heard-of .ensures)
     (c .before .before .before .before .before .before .before .before .is-yes .ensures)
-    (c .before .before .before .before .before .before .before .thaw-msg .ensures)
-    (c .before .before .before .before .before .before .before .before .before .before .before .before .before .thaw-core .ensures ∙ ap thawedCore (c .before .before .before .before .before .before .before .before .before .before .before .before .before .before .core-in .ensures))
+    (c .before .before .before .before .before .before .before .decode-msg .ensures)
+    (c .before .before .before .before .before .before .before .before .before .before .before .before .before .decode-core .ensures ∙ ap decodedCore (c .before .before .before .before .before .before .before .before .before .before .before .before .before .before .core-in .ensures))
     (c .before .before .before .before .before .before .process-classic .ensures)
     (c .put-processed .ensures)
 
@@ -62,13 +63,13 @@ handle-spec =
     (tie.spec
     asked-of-requires
     core-in-requires
-    thaw-core-requires
+    decode-core-requires
     core-on-commit-requires
     put-answer-requires
     returns
     heard-of-requires
     is-yes-requires
-    thaw-msg-requires
+    decode-msg-requires
     process-classic-requires
     put-processed-requires
     returns-2)

@@ -27,15 +27,15 @@ returns-2 c = simp (ne-eqb _ _ (c .before .before .before .before .if1 .left), e
 heard-of-requires : tie.Need-heard-of-requires
 heard-of-requires c κs = search needs
 
-thaw-msg-requires : tie.Need-thaw-msg-requires
-thaw-msg-requires c κs = search needs
+decode-msg-requires : tie.Need-decode-msg-requires
+decode-msg-requires c κs = search needs
 
 process-change-requires : tie.Need-process-change-requires
 process-change-requires c κs = search needs
 
 returns-3 : tie.Need-returns-3
 unfolding fastStep
-returns-3 c = c .process-change .ensures ∙ simp (ne-eqb _ _ (c .before .before .before .before .before .if1 .left), ne-eqb _ _ (c .before .before .before .if2 .left), c .before .before .heard-of .ensures, c .before .thaw-msg .ensures)
+returns-3 c = c .process-change .ensures ∙ simp (ne-eqb _ _ (c .before .before .before .before .before .if1 .left), ne-eqb _ _ (c .before .before .before .if2 .left), c .before .before .heard-of .ensures, c .before .decode-msg .ensures)
 
 pub fast-step-spec : {M : Type 1} → statement M
 fast-step-spec =
@@ -47,6 +47,6 @@ fast-step-spec =
     unchanged-requires
     returns-2
     heard-of-requires
-    thaw-msg-requires
+    decode-msg-requires
     process-change-requires
     returns-3)

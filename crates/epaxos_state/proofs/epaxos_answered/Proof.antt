@@ -8,12 +8,12 @@ use Rattle.epaxos_state.proofs.epaxos_answered.Tie as tie
 contains-requires : tie.Need-contains-requires
 contains-requires c κs = search needs
 
-answered-before-requires : tie.Need-answered-before-requires
-answered-before-requires c κs = search needs
+second-answer-requires : tie.Need-second-answer-requires
+second-answer-requires c κs = search needs
 
 returns : tie.Need-returns
 unfolding epaxosAnswered
-returns c = simp (← c .before .before .contains .ensures, c .before .if1 .taken, ← c .answered-before .ensures)
+returns c = simp (← c .before .before .contains .ensures, c .before .if1 .taken, ← c .second-answer .ensures)
 
 epaxos-counted-requires : tie.Need-epaxos-counted-requires
 epaxos-counted-requires c κs = search needs
@@ -30,7 +30,7 @@ epaxos-answered-spec =
     tie.close
     (tie.spec
     contains-requires
-    answered-before-requires
+    second-answer-requires
     returns
     epaxos-counted-requires
     taken-requires

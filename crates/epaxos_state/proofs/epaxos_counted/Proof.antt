@@ -4,8 +4,8 @@ use borrow.Author.Needs.{needs}
 use Rattle.epaxos_state.proofs.epaxos_counted.Statement.{statement}
 use Rattle.epaxos_state.proofs.epaxos_counted.Tie as tie
 
-read-requires : tie.Need-read-requires
-read-requires c κs = search needs
+look-up-in-requires : tie.Need-look-up-in-requires
+look-up-in-requires c κs = search needs
 
 insert-requires : tie.Need-insert-requires
 insert-requires c κs = search needs
@@ -20,13 +20,13 @@ score-after-requires : tie.Need-score-after-requires
 score-after-requires c κs = search needs
 
 returns : tie.Need-returns
-returns c = simp (← c .before .before .before .before .read .ensures, ← c .before .before .before .insert .ensures, ← c .before .before .preaccepted-after .ensures, ← c .before .insert2 .ensures, ← c .score-after .ensures)
+returns c = simp (← c .before .before .before .before .look-up-in .ensures, ← c .before .before .before .insert .ensures, ← c .before .before .preaccepted-after .ensures, ← c .before .insert2 .ensures, ← c .score-after .ensures)
 
 pub epaxos-counted-spec : {M : Type 1} → statement M
 epaxos-counted-spec =
     tie.close
     (tie.spec
-    read-requires
+    look-up-in-requires
     insert-requires
     preaccepted-after-requires
     insert-requires-2

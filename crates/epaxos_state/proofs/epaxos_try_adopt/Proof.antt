@@ -5,7 +5,7 @@ use Prim.Native.Nat.{ℕ}
 use Rattle.fast_state.specs.declared.Adoption.{Adoption}
 use Rattle.fast_state.specs.Adopt.{adopted}
 use Rattle.fast_state.specs.declared.Best.{Best}
-use Rattle.fast_state.specs.Adopt.{epaxosTryAdoptWith}
+use Rattle.fast_state.specs.Adopt.{epaxosTryAdopt}
 use borrow.Author.Needs.{needs}
 use borrow.Author.Tests.{lt-ltb, le-ltb}
 use Rattle.epaxos_state.proofs.epaxos_try_adopt.Statement.{statement}
@@ -18,14 +18,14 @@ size-requires : tie.Need-size-requires
 size-requires c κs = search needs
 
 returns : tie.Need-returns
-unfolding epaxosTryAdoptWith
+unfolding epaxosTryAdopt
 returns c = simp (← c .before .before .before .before .contains .ensures, c .before .before .before .if1 .taken, ← c .before .before .size .ensures, lt-ltb _ _ (c .if2 .taken))
 
 size-requires-2 : tie.Need-size-requires-2
 size-requires-2 c κs = search needs
 
 returns-2 : tie.Need-returns-2
-unfolding epaxosTryAdoptWith
+unfolding epaxosTryAdopt
 returns-2 c = simp (← c .before .before .before .before .before .before .contains .ensures, c .before .before .before .before .before .if1 .taken, ← c .before .before .before .before .size .ensures, le-ltb _ _ (c .before .before .if2 .left), ← c .before .size2 .ensures, lt-ltb _ _ (c .if3 .taken))
 
 best-requires : tie.Need-best-requires
@@ -38,11 +38,11 @@ of-best : (value : ℕ → ℕ) {a : Adoption} {b best : Best} → a ≡ adopted
 of-best value e d = e ∙ ap (λ (x : Best). adopted value (x .proposer)) d
 
 returns-3 : tie.Need-returns-3
-unfolding epaxosTryAdoptWith
+unfolding epaxosTryAdopt
 returns-3 c = simp (← c .before .before .before .before .before .before .before .before .contains .ensures, c .before .before .before .before .before .before .before .if1 .taken, ← c .before .before .before .before .before .before .size .ensures, le-ltb _ _ (c .before .before .before .before .if2 .left), ← c .before .before .before .size2 .ensures, le-ltb _ _ (c .before .before .if3 .left)) (of-best _ (c .adopted .ensures) (c .before .best .ensures))
 
 returns-4 : tie.Need-returns-4
-unfolding epaxosTryAdoptWith
+unfolding epaxosTryAdopt
 returns-4 c = simp (← c .before .contains .ensures, c .if1 .left)
 
 pub epaxos-try-adopt-spec : {M : Type 1} → statement M

@@ -8,8 +8,8 @@ use Rattle.epaxos_state.proofs.value_in.Tie as tie
 enum-told : tie.Need-enum-told
 enum-told c = search needs
 
-read-requires : tie.Need-read-requires
-read-requires c κs = search needs
+look-up-in-requires : tie.Need-look-up-in-requires
+look-up-in-requires c κs = search needs
 
 enum-known-entry : tie.Need-enum-known-entry
 enum-known-entry c = search needs
@@ -31,7 +31,7 @@ unless-changed-requires-3 c κs = search needs
 
 returns : tie.Need-returns
 unfolding valueIn
-returns c = simp (c .before .enum-told .given .1, ← c .read .ensures)
+returns c = simp (c .before .enum-told .given .1, ← c .look-up-in .ensures)
 
 returns-2 : tie.Need-returns-2
 unfolding valueIn
@@ -50,7 +50,7 @@ value-in-spec =
     tie.close
     (tie.spec
     enum-told
-    read-requires
+    look-up-in-requires
     enum-known-entry
     unless-changed-requires
     enum-known-entry-2

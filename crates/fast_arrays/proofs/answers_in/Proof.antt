@@ -19,11 +19,11 @@ element-copy-out-t8-2 c = search needs
 element-copy-out-t15 : tie.Need-element-copy-out-t15
 element-copy-out-t15 c = search needs
 
-thaw-value-requires : tie.Need-thaw-value-requires
-thaw-value-requires c κs = search needs
+decode-value-requires : tie.Need-decode-value-requires
+decode-value-requires c κs = search needs
 
 returns : tie.Need-returns
-returns c = simp (← c .thaw-value .ensures)
+returns c = simp (← c .decode-value .ensures)
 
 pub answers-in-spec : {M : Type 1} → statement M
 answers-in-spec =
@@ -34,5 +34,5 @@ answers-in-spec =
     element-copy-out-t5-2
     element-copy-out-t8-2
     element-copy-out-t15
-    thaw-value-requires
+    decode-value-requires
     returns)

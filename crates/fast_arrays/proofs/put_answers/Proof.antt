@@ -4,11 +4,11 @@ use borrow.Author.Needs.{needs}
 use Rattle.fast_arrays.proofs.put_answers.Statement.{statement}
 use Rattle.fast_arrays.proofs.put_answers.Tie as tie
 
-freeze-value-requires : tie.Need-freeze-value-requires
-freeze-value-requires c κs = search needs
+encode-value-requires : tie.Need-encode-value-requires
+encode-value-requires c κs = search needs
 
 returns : tie.Need-returns
-returns c = simp (← c .before .freeze-value .ensures)
+returns c = simp (← c .before .encode-value .ensures)
 
 pub put-answers-spec : {M : Type 1} → statement M
-put-answers-spec = tie.close (tie.spec freeze-value-requires returns)
+put-answers-spec = tie.close (tie.spec encode-value-requires returns)

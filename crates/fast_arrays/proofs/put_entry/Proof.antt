@@ -11,26 +11,26 @@ enum-told c = search needs
 enum-known-entry : tie.Need-enum-known-entry
 enum-known-entry c = search needs
 
-put-requires : tie.Need-put-requires
-put-requires c κs = search needs
+store-in-requires : tie.Need-store-in-requires
+store-in-requires c κs = search needs
 
 enum-known-entry-2 : tie.Need-enum-known-entry-2
 enum-known-entry-2 c = search needs
 
-put-requires-2 : tie.Need-put-requires-2
-put-requires-2 c κs = search needs
+store-in-requires-2 : tie.Need-store-in-requires-2
+store-in-requires-2 c κs = search needs
 
-put-requires-3 : tie.Need-put-requires-3
-put-requires-3 c κs = search needs
+store-in-requires-3 : tie.Need-store-in-requires-3
+store-in-requires-3 c κs = search needs
 
 enum-known-entry-3 : tie.Need-enum-known-entry-3
 enum-known-entry-3 c = search needs
 
-put-requires-4 : tie.Need-put-requires-4
-put-requires-4 c κs = search needs
+store-in-requires-4 : tie.Need-store-in-requires-4
+store-in-requires-4 c κs = search needs
 
-put-requires-5 : tie.Need-put-requires-5
-put-requires-5 c κs = search needs
+store-in-requires-5 : tie.Need-store-in-requires-5
+store-in-requires-5 c κs = search needs
 
 returns : tie.Need-returns
 unfolding toVAfter epaxosScoresAfter swiftScoresAfter
@@ -38,15 +38,15 @@ returns c = let e = c .enum-told .given .1 in (simp (e), simp (e), simp (e))
 
 returns-2 : tie.Need-returns-2
 unfolding toVAfter epaxosScoresAfter swiftScoresAfter
-returns-2 c = let e = c .before .before .before .entry .given .1 in (simp (e) (c .put .ensures), simp (e), simp (e))
+returns-2 c = let e = c .before .before .before .entry .given .1 in (simp (e) (c .store-in .ensures), simp (e), simp (e))
 
 returns-3 : tie.Need-returns-3
 unfolding toVAfter epaxosScoresAfter swiftScoresAfter
-returns-3 c = let e = c .before .before .before .before .before .entry2 .given .1 in (simp (e) (c .before .before .put2 .ensures), simp (e) (c .put3 .ensures), simp (e))
+returns-3 c = let e = c .before .before .before .before .before .entry2 .given .1 in (simp (e) (c .before .before .store-in2 .ensures), simp (e) (c .store-in3 .ensures), simp (e))
 
 returns-4 : tie.Need-returns-4
 unfolding toVAfter epaxosScoresAfter swiftScoresAfter
-returns-4 c = let e = c .before .before .before .before .before .entry3 .given .1 in (simp (e) (c .before .before .put4 .ensures), simp (e), simp (e) (c .put5 .ensures))
+returns-4 c = let e = c .before .before .before .before .before .entry3 .given .1 in (simp (e) (c .before .before .store-in4 .ensures), simp (e), simp (e) (c .store-in5 .ensures))
 
 pub put-entry-spec : {M : Type 1} → statement M
 put-entry-spec =
@@ -54,13 +54,13 @@ put-entry-spec =
     (tie.spec
     enum-told
     enum-known-entry
-    put-requires
+    store-in-requires
     enum-known-entry-2
-    put-requires-2
-    put-requires-3
+    store-in-requires-2
+    store-in-requires-3
     enum-known-entry-3
-    put-requires-4
-    put-requires-5
+    store-in-requires-4
+    store-in-requires-5
     returns
     returns-2
     returns-3

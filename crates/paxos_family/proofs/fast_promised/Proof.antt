@@ -5,20 +5,16 @@ use Rattle.paxos_family.specs.Process.{fastPromised}
 use Rattle.paxos_family.proofs.fast_promised.Statement.{statement}
 use Rattle.paxos_family.proofs.fast_promised.Tie as tie
 
-receive-promise-requires : tie.Need-receive-promise-requires
-receive-promise-requires c κs = search needs
-
-with-paxos-requires : tie.Need-with-paxos-requires
-with-paxos-requires c κs = search needs
+with-promise-requires : tie.Need-with-promise-requires
+with-promise-requires c κs = search needs
 
 returns : tie.Need-returns
 unfolding fastPromised
-returns c = simp (c .before .before .before .before .if1 .taken, ← c .before .before .receive-promise .ensures, ← c .with-paxos .ensures)
+returns c = simp (c .before .if1 .taken, ← c .with-promise .ensures)
 
 returns-2 : tie.Need-returns-2
 unfolding fastPromised
 returns-2 c = simp (c .if1 .left)
 
 pub fast-promised-spec : {M : Type 1} → statement M
-fast-promised-spec =
-    tie.close (tie.spec receive-promise-requires with-paxos-requires returns returns-2)
+fast-promised-spec = tie.close (tie.spec with-promise-requires returns returns-2)

@@ -5,33 +5,20 @@ use Rattle.paxos_family.specs.Process.{inFastAccept}
 use Rattle.paxos_family.proofs.in_fast_accept.Statement.{statement}
 use Rattle.paxos_family.proofs.in_fast_accept.Tie as tie
 
-accepting-requires : tie.Need-accepting-requires
-accepting-requires c κs = search needs
-
-goes-on-requires : tie.Need-goes-on-requires
-goes-on-requires c κs = search needs
-
-swift-answered-accept-requires : tie.Need-swift-answered-accept-requires
-swift-answered-accept-requires c κs = search needs
+replica-accept-requires : tie.Need-replica-accept-requires
+replica-accept-requires c κs = search needs
 
 returns : tie.Need-returns
 unfolding inFastAccept
-returns c = simp (← c .before .before .before .before .before .accepting .ensures, ← c .before .before .before .before .goes-on .ensures, c .before .before .before .if1 .taken, ← c .swift-answered-accept .ensures)
+returns c = simp (c .before .if1 .taken, ← c .replica-accept .ensures)
 
-unchanged-requires : tie.Need-unchanged-requires
-unchanged-requires c κs = search needs
+swift-client-accept-requires : tie.Need-swift-client-accept-requires
+swift-client-accept-requires c κs = search needs
 
 returns-2 : tie.Need-returns-2
 unfolding inFastAccept
-returns-2 c = simp (← c .before .before .before .accepting .ensures, ← c .before .before .goes-on .ensures, c .before .if1 .left, ← c .unchanged .ensures)
+returns-2 c = simp (c .before .if1 .left, ← c .swift-client-accept .ensures)
 
 pub in-fast-accept-spec : {M : Type 1} → statement M
 in-fast-accept-spec =
-    tie.close
-    (tie.spec
-    accepting-requires
-    goes-on-requires
-    swift-answered-accept-requires
-    returns
-    unchanged-requires
-    returns-2)
+    tie.close (tie.spec replica-accept-requires returns swift-client-accept-requires returns-2)

@@ -11,12 +11,12 @@ enter-requires c κs = search needs
 goes-on-requires : tie.Need-goes-on-requires
 goes-on-requires c κs = search needs
 
-entered-accept-requires : tie.Need-entered-accept-requires
-entered-accept-requires c κs = search needs
+in-fast-accept-requires : tie.Need-in-fast-accept-requires
+in-fast-accept-requires c κs = search needs
 
 returns : tie.Need-returns
 unfolding onFastAccept
-returns c = simp (← c .before .before .before .before .enter .ensures, ← c .before .before .before .goes-on .ensures, c .before .before .if1 .taken, ← c .entered-accept .ensures)
+returns c = simp (← c .before .before .before .before .enter .ensures, ← c .before .before .before .goes-on .ensures, c .before .before .if1 .taken, ← c .in-fast-accept .ensures)
 
 unchanged-requires : tie.Need-unchanged-requires
 unchanged-requires c κs = search needs
@@ -31,7 +31,7 @@ on-fast-accept-spec =
     (tie.spec
     enter-requires
     goes-on-requires
-    entered-accept-requires
+    in-fast-accept-requires
     returns
     unchanged-requires
     returns-2)

@@ -8,19 +8,19 @@ use Rattle.paxos_family.proofs.starts_accept.Tie as tie
 is-swift-paxos-requires : tie.Need-is-swift-paxos-requires
 is-swift-paxos-requires c κs = search needs
 
-swift-leads-requires : tie.Need-swift-leads-requires
-swift-leads-requires c κs = search needs
+leads-round-requires : tie.Need-leads-round-requires
+leads-round-requires c κs = search needs
 
 has-accepted-requires : tie.Need-has-accepted-requires
 has-accepted-requires c κs = search needs
 
 returns : tie.Need-returns
 unfolding startsAccept
-returns c = simp (← c .before .before .before .before .is-swift-paxos .ensures, c .before .before .before .if1 .taken, ← c .before .before .swift-leads .ensures, c .before .if2 .taken, ← c .has-accepted .ensures)
+returns c = simp (← c .before .before .before .before .is-swift-paxos .ensures, c .before .before .before .if1 .taken, ← c .before .before .leads-round .ensures, c .before .if2 .taken, ← c .has-accepted .ensures)
 
 returns-2 : tie.Need-returns-2
 unfolding startsAccept
-returns-2 c = simp (← c .before .before .before .is-swift-paxos .ensures, c .before .before .if1 .taken, ← c .before .swift-leads .ensures, c .if2 .left)
+returns-2 c = simp (← c .before .before .before .is-swift-paxos .ensures, c .before .before .if1 .taken, ← c .before .leads-round .ensures, c .if2 .left)
 
 has-accepted-requires-2 : tie.Need-has-accepted-requires-2
 has-accepted-requires-2 c κs = search needs
@@ -41,7 +41,7 @@ starts-accept-spec =
     tie.close
     (tie.spec
     is-swift-paxos-requires
-    swift-leads-requires
+    leads-round-requires
     has-accepted-requires
     returns
     returns-2

@@ -8,12 +8,12 @@ use Rattle.paxos_family.proofs.waits.Tie as tie
 is-swift-paxos-requires : tie.Need-is-swift-paxos-requires
 is-swift-paxos-requires c κs = search needs
 
-swift-leads-requires : tie.Need-swift-leads-requires
-swift-leads-requires c κs = search needs
+leads-round-requires : tie.Need-leads-round-requires
+leads-round-requires c κs = search needs
 
 returns : tie.Need-returns
 unfolding waits
-returns c = simp (← c .before .before .is-swift-paxos .ensures, c .before .if1 .taken, ← c .swift-leads .ensures)
+returns c = simp (← c .before .before .is-swift-paxos .ensures, c .before .if1 .taken, ← c .leads-round .ensures)
 
 has-accepted-requires : tie.Need-has-accepted-requires
 has-accepted-requires c κs = search needs
@@ -25,4 +25,4 @@ returns-2 c = simp (← c .before .before .is-swift-paxos .ensures, c .before .i
 pub waits-spec : {M : Type 1} → statement M
 waits-spec =
     tie.close
-    (tie.spec is-swift-paxos-requires swift-leads-requires returns has-accepted-requires returns-2)
+    (tie.spec is-swift-paxos-requires leads-round-requires returns has-accepted-requires returns-2)

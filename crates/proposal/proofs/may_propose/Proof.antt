@@ -18,12 +18,12 @@ can-propose-requires c κs = search needs
 equals-requires : tie.Need-equals-requires
 equals-requires c κs = search needs
 
-leads-if-multi-requires : tie.Need-leads-if-multi-requires
-leads-if-multi-requires c κs = search needs
+round-allowed-requires : tie.Need-round-allowed-requires
+round-allowed-requires c κs = search needs
 
 returns-2 : tie.Need-returns-2
 unfolding mayPropose
-returns-2 c = simp (← c .before .before .before .before .before .before .is-held .ensures, c .before .before .before .before .before .if1 .left, ← c .before .before .before .before .can-propose .ensures, c .before .before .before .if2 .taken, ← c .before .before .equals .ensures, c .before .if3 .taken, ← c .leads-if-multi .ensures)
+returns-2 c = simp (← c .before .before .before .before .before .before .is-held .ensures, c .before .before .before .before .before .if1 .left, ← c .before .before .before .before .can-propose .ensures, c .before .before .before .if2 .taken, ← c .before .before .equals .ensures, c .before .if3 .taken, ← c .round-allowed .ensures)
 
 returns-3 : tie.Need-returns-3
 unfolding mayPropose
@@ -41,7 +41,7 @@ may-propose-spec =
     returns
     can-propose-requires
     equals-requires
-    leads-if-multi-requires
+    round-allowed-requires
     returns-2
     returns-3
     returns-4)

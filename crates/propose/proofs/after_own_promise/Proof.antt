@@ -10,8 +10,8 @@ enum-told c = search needs
 self-accept-requires : tie.Need-self-accept-requires
 self-accept-requires c κs = search needs
 
-after-accept-requires : tie.Need-after-accept-requires
-after-accept-requires c κs = search needs
+proposed-requires : tie.Need-proposed-requires
+proposed-requires c κs = search needs
 
 enum-told-2 : tie.Need-enum-told-2
 enum-told-2 c = search needs
@@ -20,7 +20,7 @@ not-allowed-requires : tie.Need-not-allowed-requires
 not-allowed-requires c κs = search needs
 
 returns : tie.Need-returns
-returns c = simp (c .before .before .before .before .enum-told .given .1, ← c .before .before .self-accept .ensures, ← c .after-accept .ensures)
+returns c = simp (c .before .before .before .before .enum-told .given .1, ← c .before .before .self-accept .ensures, ← c .proposed .ensures)
 
 returns-2 : tie.Need-returns-2
 returns-2 c = simp (c .before .enum-told2 .given .1, ← c .not-allowed .ensures)
@@ -31,7 +31,7 @@ after-own-promise-spec =
     (tie.spec
     enum-told
     self-accept-requires
-    after-accept-requires
+    proposed-requires
     enum-told-2
     not-allowed-requires
     returns

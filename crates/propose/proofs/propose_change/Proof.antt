@@ -11,8 +11,8 @@ may-propose-requires c κs = search needs
 proposal-round-requires : tie.Need-proposal-round-requires
 proposal-round-requires c κs = search needs
 
-leads-swift-requires : tie.Need-leads-swift-requires
-leads-swift-requires c κs = search needs
+leads-from-start-requires : tie.Need-leads-from-start-requires
+leads-from-start-requires c κs = search needs
 
 propose-accept-requires : tie.Need-propose-accept-requires
 propose-accept-requires c κs = search needs
@@ -22,7 +22,7 @@ unchanged-requires c κs = search needs
 
 returns : tie.Need-returns
 unfolding proposeChange
-returns c = simp (← c .before .before .before .before .before .before .may-propose .ensures, c .before .before .before .before .before .if1 .taken, ← c .before .before .before .before .proposal-round .ensures, ← c .before .before .before .leads-swift .ensures, c .before .before .if2 .taken, ← c .before .propose-accept .ensures, ← c .unchanged .ensures)
+returns c = simp (← c .before .before .before .before .before .before .may-propose .ensures, c .before .before .before .before .before .if1 .taken, ← c .before .before .before .before .proposal-round .ensures, ← c .before .before .before .leads-from-start .ensures, c .before .before .if2 .taken, ← c .before .propose-accept .ensures, ← c .unchanged .ensures)
 
 own-answer-requires : tie.Need-own-answer-requires
 own-answer-requires c κs = search needs
@@ -32,7 +32,7 @@ after-own-answer-requires c κs = search needs
 
 returns-2 : tie.Need-returns-2
 unfolding proposeChange
-returns-2 c = simp (← c .before .before .before .before .before .before .before .may-propose .ensures, c .before .before .before .before .before .before .if1 .taken, ← c .before .before .before .before .before .proposal-round .ensures, ← c .before .before .before .before .leads-swift .ensures, c .before .before .before .if2 .left, ← c .before .before .own-answer .ensures, ← c .after-own-answer .ensures)
+returns-2 c = simp (← c .before .before .before .before .before .before .before .may-propose .ensures, c .before .before .before .before .before .before .if1 .taken, ← c .before .before .before .before .before .proposal-round .ensures, ← c .before .before .before .before .leads-from-start .ensures, c .before .before .before .if2 .left, ← c .before .before .own-answer .ensures, ← c .after-own-answer .ensures)
 
 not-allowed-requires : tie.Need-not-allowed-requires
 not-allowed-requires c κs = search needs
@@ -50,7 +50,7 @@ propose-change-spec =
     (tie.spec
     may-propose-requires
     proposal-round-requires
-    leads-swift-requires
+    leads-from-start-requires
     propose-accept-requires
     unchanged-requires
     returns

@@ -11,14 +11,13 @@ goto-round-requires c κs = search needs
 paxos-propose-v-requires : tie.Need-paxos-propose-v-requires
 paxos-propose-v-requires c κs = search needs
 
-after-prepare-requires : tie.Need-after-prepare-requires
-after-prepare-requires c κs = search needs
+proposed-requires : tie.Need-proposed-requires
+proposed-requires c κs = search needs
 
 returns : tie.Need-returns
 unfolding proposePrepare
-returns c = simp (← c .before .before .before .goto-round .ensures, ← c .before .before .paxos-propose-v .ensures, ← c .after-prepare .ensures)
+returns c = simp (← c .before .before .before .goto-round .ensures, ← c .before .before .paxos-propose-v .ensures, ← c .proposed .ensures)
 
 pub propose-prepare-spec : {M : Type 1} → statement M
 propose-prepare-spec =
-    tie.close
-    (tie.spec goto-round-requires paxos-propose-v-requires after-prepare-requires returns)
+    tie.close (tie.spec goto-round-requires paxos-propose-v-requires proposed-requires returns)

@@ -5,8 +5,8 @@ use Rattle.swift_path.specs.Swift.{swiftAccept}
 use Rattle.swift_path.proofs.swift_accept.Statement.{statement}
 use Rattle.swift_path.proofs.swift_accept.Tie as tie
 
-accept-answer-requires : tie.Need-accept-answer-requires
-accept-answer-requires c κs = search needs
+accept-answered-requires : tie.Need-accept-answered-requires
+accept-answered-requires c κs = search needs
 
 after-accept-answer-requires : tie.Need-after-accept-answer-requires
 after-accept-answer-requires c κs = search needs
@@ -16,9 +16,9 @@ with-change-requires c κs = search needs
 
 returns : tie.Need-returns
 unfolding swiftAccept
-returns c = simp (← c .before .before .before .before .accept-answer .ensures, ← c .before .after-accept-answer .ensures, ← c .with-change .ensures)
+returns c = simp (← c .before .before .before .before .accept-answered .ensures, ← c .before .after-accept-answer .ensures, ← c .with-change .ensures)
 
 pub swift-accept-spec : {M : Type 1} → statement M
 swift-accept-spec =
     tie.close
-    (tie.spec accept-answer-requires after-accept-answer-requires with-change-requires returns)
+    (tie.spec accept-answered-requires after-accept-answer-requires with-change-requires returns)

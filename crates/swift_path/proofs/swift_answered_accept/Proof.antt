@@ -5,8 +5,8 @@ use Rattle.swift_path.specs.Swift.{swiftAnsweredAccept}
 use Rattle.swift_path.proofs.swift_answered_accept.Statement.{statement}
 use Rattle.swift_path.proofs.swift_answered_accept.Tie as tie
 
-swift-answered-requires : tie.Need-swift-answered-requires
-swift-answered-requires c κs = search needs
+leader-answered-requires : tie.Need-leader-answered-requires
+leader-answered-requires c κs = search needs
 
 after-replica-answer-requires : tie.Need-after-replica-answer-requires
 after-replica-answer-requires c κs = search needs
@@ -16,9 +16,9 @@ with-change-requires c κs = search needs
 
 returns : tie.Need-returns
 unfolding swiftAnsweredAccept
-returns c = simp (c .before .before .before .before .swift-answered .ensures, c .before .after-replica-answer .ensures, c .with-change .ensures)
+returns c = simp (← c .before .before .before .before .leader-answered .ensures, ← c .before .after-replica-answer .ensures, ← c .with-change .ensures)
 
 pub swift-answered-accept-spec : {M : Type 1} → statement M
 swift-answered-accept-spec =
     tie.close
-    (tie.spec swift-answered-requires after-replica-answer-requires with-change-requires returns)
+    (tie.spec leader-answered-requires after-replica-answer-requires with-change-requires returns)

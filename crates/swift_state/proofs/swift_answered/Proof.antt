@@ -8,12 +8,12 @@ use Rattle.swift_state.proofs.swift_answered.Tie as tie
 contains-requires : tie.Need-contains-requires
 contains-requires c κs = search needs
 
-answered-before-requires : tie.Need-answered-before-requires
-answered-before-requires c κs = search needs
+second-answer-requires : tie.Need-second-answer-requires
+second-answer-requires c κs = search needs
 
 returns : tie.Need-returns
 unfolding swiftAnswered
-returns c = simp (← c .before .before .contains .ensures, c .before .if1 .taken, ← c .answered-before .ensures)
+returns c = simp (← c .before .before .contains .ensures, c .before .if1 .taken, ← c .second-answer .ensures)
 
 swift-first-requires : tie.Need-swift-first-requires
 swift-first-requires c κs = search needs
@@ -25,4 +25,4 @@ returns-2 c = simp (← c .before .before .contains .ensures, c .before .if1 .le
 pub swift-answered-spec : {M : Type 1} → statement M
 swift-answered-spec =
     tie.close
-    (tie.spec contains-requires answered-before-requires returns swift-first-requires returns-2)
+    (tie.spec contains-requires second-answer-requires returns swift-first-requires returns-2)

@@ -6,8 +6,8 @@ use Rattle.fast_state.specs.Fast.{swiftCanCommit}
 use Rattle.swift_state.proofs.swift_can_commit.Statement.{statement}
 use Rattle.swift_state.proofs.swift_can_commit.Tie as tie
 
-has-value-requires : tie.Need-has-value-requires
-has-value-requires c κs = search needs
+is-some-requires : tie.Need-is-some-requires
+is-some-requires c κs = search needs
 
 size-requires : tie.Need-size-requires
 size-requires c κs = search needs
@@ -17,17 +17,17 @@ swift-quorum-requires c κs = search needs
 
 returns : tie.Need-returns
 unfolding swiftCanCommit
-returns c = simp (← c .before .before .before .before .before .has-value .ensures, c .before .before .before .before .if1 .taken, ← c .before .before .before .size .ensures, eq-eqb _ _ (c .before .before .if2 .taken), ← c .before .swift-quorum .ensures)
+returns c = simp (← c .before .before .before .before .before .is-some .ensures, c .before .before .before .before .if1 .taken, ← c .before .before .before .size .ensures, eq-eqb _ _ (c .before .before .if2 .taken), ← c .before .swift-quorum .ensures)
 
 returns-2 : tie.Need-returns-2
 unfolding swiftCanCommit
-returns-2 c = simp (← c .before .before .before .has-value .ensures, c .before .before .if1 .taken, ← c .before .size .ensures, ne-eqb _ _ (c .if2 .left))
+returns-2 c = simp (← c .before .before .before .is-some .ensures, c .before .before .if1 .taken, ← c .before .size .ensures, ne-eqb _ _ (c .if2 .left))
 
 returns-3 : tie.Need-returns-3
 unfolding swiftCanCommit
-returns-3 c = simp (← c .before .has-value .ensures, c .if1 .left)
+returns-3 c = simp (← c .before .is-some .ensures, c .if1 .left)
 
 pub swift-can-commit-spec : {M : Type 1} → statement M
 swift-can-commit-spec =
     tie.close
-    (tie.spec has-value-requires size-requires swift-quorum-requires returns returns-2 returns-3)
+    (tie.spec is-some-requires size-requires swift-quorum-requires returns returns-2 returns-3)

@@ -4,8 +4,8 @@ use borrow.Author.Needs.{needs}
 use Rattle.swift_state.proofs.swift_counted.Statement.{statement}
 use Rattle.swift_state.proofs.swift_counted.Tie as tie
 
-read-requires : tie.Need-read-requires
-read-requires c κs = search needs
+look-up-in-requires : tie.Need-look-up-in-requires
+look-up-in-requires c κs = search needs
 
 insert-requires : tie.Need-insert-requires
 insert-requires c κs = search needs
@@ -23,13 +23,13 @@ increment-requires : tie.Need-increment-requires
 increment-requires c κs = search needs
 
 returns : tie.Need-returns
-returns c = simp (← c .before .before .before .before .before .read .ensures, ← c .before .before .before .before .insert .ensures, ← c .before .before .before .preaccepted-after .ensures, ← c .before .before .insert2 .ensures, ← c .before .leader-answer-after .ensures, ← c .increment .ensures)
+returns c = simp (← c .before .before .before .before .before .look-up-in .ensures, ← c .before .before .before .before .insert .ensures, ← c .before .before .before .preaccepted-after .ensures, ← c .before .before .insert2 .ensures, ← c .before .leader-answer-after .ensures, ← c .increment .ensures)
 
 pub swift-counted-spec : {M : Type 1} → statement M
 swift-counted-spec =
     tie.close
     (tie.spec
-    read-requires
+    look-up-in-requires
     insert-requires
     preaccepted-after-requires
     insert-requires-2

@@ -1,0 +1,2 @@
+pub mod Shards
+pub mod Calls

@@ -1,3 +1,0 @@
-pub mod Tables
-mod Plain
-mod Refusals
