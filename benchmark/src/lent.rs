@@ -79,7 +79,7 @@ impl Prepared {
         for shard in &mut self.shards {
             let mut flat = *shard.flat();
             flat.state = self.before;
-            *shard = Shard::from_flat(Box::new(flat form));
+            *shard = Shard::from_flat(Box::new(flat));
         }
         time
     }

@@ -373,7 +373,7 @@ fn larger(a: u64, b: u64) -> u64
 }
 
 // The same row by its rule, for the calls of hosts over arrays: they read no table, since a constant table is built on the stack at each
-// look-up, and these calls ask for a quorum many times.
+// look-up.
 pub fn row_by_rule(n: u64) -> QuorumRow
     ensures { λ r. ⌜ r ≡ rowOf n ⌝ }
 {

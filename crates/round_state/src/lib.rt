@@ -149,6 +149,8 @@ impl Member {
     }
 }
 
+// `mut self` is the form that document 01 names for operations that hand back the next state. They build it anew and store to no field: the prover does
+// not cover a store to a field that is an enum, and where one field of a struct is stored to the compiler copies the whole.
 impl PaxosState {
     fn taken(self) -> PaxosStep
         ensures { λ r. ⌜ r ≡ taken self ⌝ }
@@ -168,32 +170,6 @@ impl PaxosState {
         }
     }
 
-    // The state with another round, and with another promise held. Both are enums, and a store to a field that is an enum is not covered by the
-    // prover: the state is built anew here, and nowhere else.
-    fn with_round(self, round: OptionalRound) -> PaxosState
-        ensures { λ r. ⌜ r ≡ withRound round self ⌝ }
-    {
-        let max_rv = self.max_rv;
-        PaxosState {
-            round,
-            max_rv,
-            prepared_set: self.prepared_set,
-            accepted_set: self.accepted_set,
-        }
-    }
-
-    fn with_max_rv(self, max_rv: HeldPromise) -> PaxosState
-        ensures { λ r. ⌜ r ≡ withHeld «max_rv» self ⌝ }
-    {
-        let round = self.round;
-        PaxosState {
-            round,
-            max_rv,
-            prepared_set: self.prepared_set,
-            accepted_set: self.accepted_set,
-        }
-    }
-
     pub fn is_prepared(self, me: Member) -> bool
         ensures { λ r. ⌜ r ≡ isPrepared me self ⌝ }
     {
@@ -210,32 +186,57 @@ impl PaxosState {
     pub fn next_round(mut self) -> PaxosState
         ensures { λ r. ⌜ r ≡ nextRound self ⌝ }
     {
-        self.prepared_set = 0;
-        self.accepted_set = 0;
-        self
+        let round = self.round;
+        let max_rv = self.max_rv;
+        PaxosState {
+            round,
+            max_rv,
+            prepared_set: 0,
+            accepted_set: 0,
+        }
     }
 
     // Another round, with nothing counted in it.
     pub fn goto_round(self, round: OptionalRound) -> PaxosState
         ensures { λ r. ⌜ r ≡ gotoRound round self ⌝ }
     {
-        self.with_round(round).next_round()
+        let held = self.max_rv;
+        let entered = PaxosState {
+            round,
+            max_rv: held,
+            prepared_set: self.prepared_set,
+            accepted_set: self.accepted_set,
+        };
+        entered.next_round()
     }
 
     // A commit clears everything but the round, which is set before.
     pub fn full_clear(mut self) -> PaxosState
         ensures { λ r. ⌜ r ≡ fullClear self ⌝ }
     {
-        self = self.next_round();
-        self.with_max_rv(HeldPromise::NothingHeld)
+        let cleared = self.next_round();
+        let round = cleared.round;
+        PaxosState {
+            round,
+            max_rv: HeldPromise::NothingHeld,
+            prepared_set: cleared.prepared_set,
+            accepted_set: cleared.accepted_set,
+        }
     }
 
     pub fn receive_promise(mut self, me: Member, src: u64, rv: RoundV) -> Promised
         ensures { λ r. ⌜ r ≡ receivePromise me src rv self ⌝ }
     {
+        let round = self.round;
         let held = self.max_rv;
-        self.prepared_set = me.counted(src, self.prepared_set);
-        let state = self.with_max_rv(held.after_promise(rv));
+        let max_rv = held.after_promise(rv);
+        let prepared_set = me.counted(src, self.prepared_set);
+        let state = PaxosState {
+            round,
+            max_rv,
+            prepared_set,
+            accepted_set: self.accepted_set,
+        };
         Promised { state }
     }
 
@@ -260,12 +261,18 @@ impl PaxosState {
     {
         let held = self.max_rv;
         if held.accept_fits(round, v) {
-            let accepted = HeldPromise::Held(RoundV::PaxosV {
-                accept_round: OptionalRound::Round(round),
-                v,
-            });
-            self.accepted_set = me.counted(src, self.accepted_set);
-            return self.with_max_rv(accepted).taken();
+            let round_now = self.round;
+            let accepted_set = me.counted(src, self.accepted_set);
+            let accepted = PaxosState {
+                round: round_now,
+                max_rv: HeldPromise::Held(RoundV::PaxosV {
+                    accept_round: OptionalRound::Round(round),
+                    v,
+                }),
+                prepared_set: self.prepared_set,
+                accepted_set,
+            };
+            return accepted.taken();
         }
         self.refused(Refusal::AcceptUnlikeHeld)
     }
@@ -294,10 +301,16 @@ impl PaxosState {
     pub fn adopt_from_epaxos(self, me: Member, round: PaxosRound, v: u64) -> PaxosStep
         ensures { λ r. ⌜ r ≡ adoptFromEpaxos me round v self ⌝ }
     {
-        let adopted = HeldPromise::Held(RoundV::PaxosV {
-            accept_round: OptionalRound::NoRound,
-            v,
-        });
-        self.with_max_rv(adopted).self_accept(me, round)
+        let round_now = self.round;
+        let holding = PaxosState {
+            round: round_now,
+            max_rv: HeldPromise::Held(RoundV::PaxosV {
+                accept_round: OptionalRound::NoRound,
+                v,
+            }),
+            prepared_set: self.prepared_set,
+            accepted_set: self.accepted_set,
+        };
+        holding.self_accept(me, round)
     }
 }

@@ -7,11 +7,8 @@ use Rattle.round_state.proofs.PaxosState.full_clear.Tie as tie
 next-round-requires : tie.Need-next-round-requires
 next-round-requires c κs = search needs
 
-with-max-rv-requires : tie.Need-with-max-rv-requires
-with-max-rv-requires c κs = search needs
-
 returns : tie.Need-returns
-returns c = simp (c .with-max-rv .ensures, c .before .next-round .ensures)
+returns c = simp (c .next-round .ensures)
 
 pub full-clear-spec : {M : Type 1} → statement M
-full-clear-spec = tie.close (tie.spec next-round-requires with-max-rv-requires returns)
+full-clear-spec = tie.close (tie.spec next-round-requires returns)

@@ -11,15 +11,12 @@ accept-fits-requires c κs = search needs
 counted-requires : tie.Need-counted-requires
 counted-requires c κs = search needs
 
-with-max-rv-requires : tie.Need-with-max-rv-requires
-with-max-rv-requires c κs = search needs
-
 taken-requires : tie.Need-taken-requires
 taken-requires c κs = search needs
 
 returns : tie.Need-returns
 unfolding receiveAccept
-returns c = simp (← c .before .before .before .before .accept-fits .ensures, c .before .before .before .if1 .taken, ← c .before .before .counted .ensures, ← c .before .with-max-rv .ensures, ← c .taken .ensures)
+returns c = simp (← c .before .before .before .accept-fits .ensures, c .before .before .if1 .taken, ← c .before .counted .ensures, ← c .taken .ensures)
 
 refused-requires : tie.Need-refused-requires
 refused-requires c κs = search needs
@@ -34,7 +31,6 @@ receive-accept-spec =
     (tie.spec
     accept-fits-requires
     counted-requires
-    with-max-rv-requires
     taken-requires
     returns
     refused-requires

@@ -5,19 +5,15 @@ use Rattle.round_state.specs.Paxos.{receivePromise}
 use Rattle.round_state.proofs.PaxosState.receive_promise.Statement.{statement}
 use Rattle.round_state.proofs.PaxosState.receive_promise.Tie as tie
 
-counted-requires : tie.Need-counted-requires
-counted-requires c κs = search needs
-
 after-promise-requires : tie.Need-after-promise-requires
 after-promise-requires c κs = search needs
 
-with-max-rv-requires : tie.Need-with-max-rv-requires
-with-max-rv-requires c κs = search needs
+counted-requires : tie.Need-counted-requires
+counted-requires c κs = search needs
 
 returns : tie.Need-returns
 unfolding receivePromise
-returns c = simp (← c .before .before .counted .ensures, ← c .before .after-promise .ensures, ← c .with-max-rv .ensures)
+returns c = simp (← c .before .after-promise .ensures, ← c .counted .ensures)
 
 pub receive-promise-spec : {M : Type 1} → statement M
-receive-promise-spec =
-    tie.close (tie.spec counted-requires after-promise-requires with-max-rv-requires returns)
+receive-promise-spec = tie.close (tie.spec after-promise-requires counted-requires returns)
