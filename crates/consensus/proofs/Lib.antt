@@ -1,3 +1,12 @@
 pub mod NoReads
 pub mod ByParts
+pub mod Admitted
+pub mod Handled
+pub mod HandledAccept
+pub mod HandledEPaxos
+pub mod HandledSwift
+pub mod Entered
+pub mod FirstCause
 pub mod Refusals
+pub mod Reading
+pub mod Held

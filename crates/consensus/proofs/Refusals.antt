@@ -1,224 +1,209 @@
--- Demand 1, of the definitions: a call is taken, or hands back a number alone and leaves the shard, and the number has its cause in document
--- 01. So 5 is given only where a slot is ahead, 6 only where a value that is not held is awaited or would be committed, and 12 only where the
--- table is full or ids are spent. A shard that is unmade or whose slot is spent refuses every call.
+-- Demand 1, of the definitions: a call is taken exactly where no cause of document 01 holds (specs/FirstCause.antt), and else hands back the number of the
+-- first cause alone and leaves the shard. A shard that is unmade or whose slot is spent refuses every call.
 -- Assumes nothing.
 use mathlib.Core.Path.{_≡_, refl, sym, ap, subst, _∙_}
 use mathlib.Core.Logic.{_⊎_, inl, inr}
 use mathlib.Core.Bool.{Bool, true, false, cond, not, _&&_}
-use Prim.Native.Nat.{ℕ, _<_}
+use mathlib.Core.List.{List, [], _∷_}
+use Prim.Native.Nat.{ℕ}
 use lib.Dec.{eqb, ltb, leb}
-use borrow.Author.Tests.{ltb-true}
-use Rattle.basics.proofs.Tests.{not-both, and-right, of-both}
-use Rattle.message.specs.Messages.{msgSlot}
-use Rattle.message.specs.Modes.{hasFastPath}
+use Rattle.basics.proofs.Tests.{not-both, of-both, and-left, and-right, and-both}
+use Rattle.message.specs.Refusals.{refusalNumber}
 use Rattle.message.specs.declared.ConsensusMsg.{ConsensusMsg}
 use Rattle.message.specs.declared.ConsensusMsg.the-variants.{Prepare, Accept, ForwardRequest, Commit, ReadRequest, ReadResponse}
-use Rattle.message.specs.declared.OptionalSlot.{OptionalSlot}
-use Rattle.message.specs.declared.OptionalSlot.the-variants.{NoSlot, Slot}
 use Rattle.message.specs.declared.Outcome.{Outcome}
 use Rattle.message.specs.declared.Outcome.the-variants.{Done, Refused}
+use Rattle.message.specs.declared.PFMode.{PFMode}
+use Rattle.message.specs.declared.PFMode.the-variants.{Paxos, MultiPaxos, MultiPaxos3P, EPaxos, Pando, SwiftPaxos}
 use Rattle.message.specs.declared.Refusal.{Refusal}
 use Rattle.message.specs.declared.Refusal.the-variants.{SettingsOutsideLimits, NumberTooLarge, NoSuchProcess, OtherLastValue, SlotAhead, ValueNotHeld, SourceNotLive, Panic, AcceptUnlikeHeld, SecondFastAnswer, ProposalNotAllowed, NoRoomForRead}
-use Rattle.fast_state.specs.Adopt.{Choice}
-use Rattle.read_tracker.specs.Reads.{insert, inserted, refused as notInserted}
-use Rattle.read_tracker.specs.declared.Inserted.{Inserted}
-use Rattle.settings.specs.Settings.{withinLimits}
+use Rattle.message.specs.declared.RoundV.{RoundV}
+use Rattle.message.specs.declared.RoundV.the-variants.{FastV, PaxosV}
 use Rattle.settings.specs.declared.Settings.{Settings}
-use Rattle.round_state.specs.Paxos.{isHeld}
-use Rattle.paxos_family.specs.Causes.{HandlingCause}
-use Rattle.steps.specs.declared.Asked.{Asked}
-use Rattle.steps.specs.declared.Core.{Core}
-use Rattle.steps.specs.declared.Heard.{Heard}
-use Rattle.steps.specs.declared.Next.{Next}
-use Rattle.steps.specs.declared.Next.the-variants.{Stays, Continues, Commits, Refuses}
+use Rattle.fast_state.specs.Adopt.{Choice}
 use Rattle.steps.specs.declared.Rounds.{Rounds}
-use Rattle.steps.specs.declared.RoundsStep.{RoundsStep}
-use Rattle.paxos_family.proofs.Causes.{Caused, GoodRounds, classic-caused, fast-caused, Allowed, propose-classic-allowed, propose-fast-allowed}
-use Rattle.delivery.specs.Admit.{isAhead, isOwnSlot, needsValue, otherLastValue, valueAwaited, ready, admit}
-use Rattle.consensus.specs.Answers.{refused, committed, finishAt}
-use Rattle.consensus.specs.Call.{newShard, proposing, propose, read, admitted, receive, dispatch, unlessSpent, ifMade, callWith}
-use Rattle.consensus.specs.Causes.{TakenOrRefused, Spent, ProposalCause, MessageCause, Cause}
-use Rattle.calls.specs.Asked.{askedOf, heardOf}
-use Rattle.consensus.specs.Handle.{onCommit, onReadRequest, onReadResponse, startRead, afterInsert, processed, processMessage, handle}
-use Rattle.delivery.specs.Limits.{isNumber, isSlot, numbersFit, processesFit}
-use Rattle.consensus.specs.declared.Answer.{Answer}
+use Rattle.delivery.specs.declared.Delivery.{Delivery}
 use Rattle.calls.specs.declared.Call.{Call}
 use Rattle.calls.specs.declared.Call.the-variants.{Propose, StartRead, Receive}
-use Rattle.delivery.specs.declared.Delivery.{Delivery}
+use Rattle.consensus.specs.Call.{callWith, newShard, dispatch, unlessSpent, ifMade}
+use Rattle.consensus.specs.FirstCause.{numberOf, quorumOutside, modeOutside, settingsCauses, admissionCauses, handlingCauses, causes, firstCause, unmade, ignored, allCauses, ByFirstCause}
+use Rattle.consensus.specs.Answers.{refused}
+use Rattle.consensus.specs.Panics.{Facts, preparePanics, acceptPanics}
+use Rattle.consensus.specs.Rows.{Row, then, NoneHolds, FirstHolds, firstOf}
 use Rattle.consensus.specs.declared.Shard.{Shard}
+use Rattle.consensus.proofs.FirstCause.{Gives, first-cause}
+use Rattle.settings.specs.Settings.{countsFit, membersFit, committersFit, quorumFits, modeFits, withinLimits}
+use Rattle.sets.specs.Sets.{size, fits}
+use Rattle.sets.specs.declared.OptionalSet.{OptionalSet}
+use Rattle.sets.specs.declared.OptionalSet.the-variants.{NoSet, Set}
+use Rattle.tables.specs.Tables.{allBelow}
+use Rattle.consensus.proofs.Admitted.{above-test, from-test, not-not}
 
-ahead-slot : (core : Core) (o : OptionalSlot) → isAhead core o ≡ true → (slot : ℕ) × (o ≡ Slot slot) × (core .slot < slot)
-ahead-slot core NoSlot e = absurd (not-both e refl)
-ahead-slot core (Slot slot) e = (slot, refl, ltb-true (core .slot) slot e)
+-- ---- a list of causes: none holds, or the first that does
 
-awaited-not-held : (own : ℕ) (core : Core) (d : Delivery) → valueAwaited own core d ≡ true → d .said .«value_held» ≡ false
-unfolding valueAwaited
-awaited-not-held own core d e =
-    go (d .said .«value_held»)
-    (and-right (isOwnSlot core (msgSlot (d .message .msg)) && needsValue own (d .message .msg)) (not (d .said .«value_held»)) e)
+none-or-first : (rows : List Row) → (NoneHolds rows × (firstOf rows ≡ 0)) ⊎ FirstHolds rows (firstOf rows)
+unfolding firstOf
+none-or-first [] = inl (tt, refl)
+none-or-first (row ∷ rows) = go (row .cause) refl (none-or-first rows)
   where
-    go : (t : Bool) → not t ≡ true → t ≡ false
-    go true f = sym f
-    go false f = refl
+    go : (t : Bool) → row .cause ≡ t → (NoneHolds rows × (firstOf rows ≡ 0)) ⊎ FirstHolds rows (firstOf rows)
+        → (((row .cause ≡ false) × NoneHolds rows) × (cond t (row .number) (firstOf rows) ≡ 0))
+        ⊎ (((row .cause ≡ true) × (row .number ≡ cond t (row .number) (firstOf rows))) ⊎ ((row .cause ≡ false) × FirstHolds rows (cond t (row .number) (firstOf rows))))
+    go true e r = inr (inl (e, refl))
+    go false e (inl (none, z)) = inl ((e, none), z)
+    go false e (inr r) = inr (inr (e, r))
+
+-- not both, and the first has one number
+not-none : (rows : List Row) (n : ℕ) → FirstHolds rows n → NoneHolds rows → ⊥
+not-none (row ∷ rows) n (inl (c, e)) (f, none) = not-both c f
+not-none (row ∷ rows) n (inr (c, first)) (f, none) = not-none rows n first none
+
+first-same : (rows : List Row) (m n : ℕ) → FirstHolds rows m → FirstHolds rows n → m ≡ n
+first-same (row ∷ rows) m n (inl (c, e)) (inl (d, f)) = sym e ∙ f
+first-same (row ∷ rows) m n (inl (c, e)) (inr (d, f)) = absurd (not-both c d)
+first-same (row ∷ rows) m n (inr (c, e)) (inl (d, f)) = absurd (not-both d c)
+first-same (row ∷ rows) m n (inr (c, e)) (inr (d, f)) = first-same rows m n e f
+
+-- each refusal has a number of its own
+refusalOf : ℕ → Refusal
+refusalOf n =
+    cond (eqb n 1) SettingsOutsideLimits
+    (cond (eqb n 2) NumberTooLarge
+    (cond (eqb n 3) NoSuchProcess
+    (cond (eqb n 4) OtherLastValue
+    (cond (eqb n 5) SlotAhead
+    (cond (eqb n 6) ValueNotHeld
+    (cond (eqb n 7) SourceNotLive
+    (cond (eqb n 8) Panic (cond (eqb n 9) AcceptUnlikeHeld (cond (eqb n 10) SecondFastAnswer (cond (eqb n 11) ProposalNotAllowed NoRoomForRead))))))))))
+
+refusal-of : (why : Refusal) → refusalOf (refusalNumber why) ≡ why
+unfolding refusalOf
+refusal-of SettingsOutsideLimits = refl
+refusal-of NumberTooLarge = refl
+refusal-of NoSuchProcess = refl
+refusal-of OtherLastValue = refl
+refusal-of SlotAhead = refl
+refusal-of ValueNotHeld = refl
+refusal-of SourceNotLive = refl
+refusal-of Panic = refl
+refusal-of AcceptUnlikeHeld = refl
+refusal-of SecondFastAnswer = refl
+refusal-of ProposalNotAllowed = refl
+refusal-of NoRoomForRead = refl
+
+same-refusal : (a b : Refusal) → refusalNumber a ≡ refusalNumber b → a ≡ b
+same-refusal a b e = sym (refusal-of a) ∙ ap refusalOf e ∙ refusal-of b
+
+-- every number of the list is above 0
+unfoldable numbered : List Row → Bool
+numbered [] = true
+numbered (row ∷ rows) = ltb 0 (row .number) && numbered rows
+
+numbered-then : (xs ys : List Row) → numbered xs ≡ true → numbered ys ≡ true → numbered (then xs ys) ≡ true
+unfolding numbered then
+numbered-then [] ys p q = q
+numbered-then (x ∷ xs) ys p q =
+    and-both (and-left (ltb 0 (x .number)) (numbered xs) p) (numbered-then xs ys (and-right (ltb 0 (x .number)) (numbered xs) p) q)
+
+abbrev Numbered : List Row → Type 0
+Numbered rows = numbered rows ≡ true
+
+module _ (choose : Choice) where
+  prepare-numbered : (m : PFMode) (f : Facts) (rv : RoundV) → Numbered (preparePanics choose m f rv)
+  unfolding numbered then
+  prepare-numbered Paxos f rv = refl
+  prepare-numbered MultiPaxos f rv = refl
+  prepare-numbered MultiPaxos3P f rv = refl
+  prepare-numbered Pando f rv = refl
+  prepare-numbered EPaxos f (FastV proposer v) = refl
+  prepare-numbered EPaxos f (PaxosV at v) = refl
+  prepare-numbered SwiftPaxos f (FastV proposer v) = of-both Numbered (f .replica) refl refl
+  prepare-numbered SwiftPaxos f (PaxosV at v) = of-both Numbered (f .replica) refl refl
+
+  accept-numbered : (m : PFMode) (f : Facts) (v : ℕ) → Numbered (acceptPanics m f v)
+  unfolding numbered then
+  accept-numbered Paxos f v = refl
+  accept-numbered MultiPaxos f v = refl
+  accept-numbered MultiPaxos3P f v = refl
+  accept-numbered Pando f v = refl
+  accept-numbered EPaxos f v = refl
+  accept-numbered SwiftPaxos f v = of-both Numbered (f .replica) refl refl
+
+  handling-numbered : (s : Settings) (rounds : Rounds) (d : Delivery) (m : ConsensusMsg) → Numbered (handlingCauses choose s rounds d m)
+  unfolding numbered
+  handling-numbered s rounds d (Prepare slot round rv) = of-both Numbered (ignored s rounds slot round) refl (prepare-numbered (s .mode) _ rv)
+  handling-numbered s rounds d (Accept slot round v) = of-both Numbered (ignored s rounds slot round) refl (accept-numbered (s .mode) _ v)
+  handling-numbered s rounds d (ForwardRequest v) = refl
+  handling-numbered s rounds d (Commit slot v) = refl
+  handling-numbered s rounds d (ReadRequest id) = refl
+  handling-numbered s rounds d (ReadResponse id next) = refl
+
+  causes-numbered : (shard : Shard) (c : Call) → Numbered (causes choose shard c)
+  unfolding numbered
+  causes-numbered shard (Propose v) = refl
+  causes-numbered shard (StartRead tag arrival) = refl
+  causes-numbered shard (Receive d) = numbered-then (admissionCauses shard d) _ refl (handling-numbered (shard .settings) (shard .state .rounds) d (d .message .msg))
+
+refusal-numbered : (why : Refusal) → ltb 0 (refusalNumber why) ≡ true
+refusal-numbered SettingsOutsideLimits = refl
+refusal-numbered NumberTooLarge = refl
+refusal-numbered NoSuchProcess = refl
+refusal-numbered OtherLastValue = refl
+refusal-numbered SlotAhead = refl
+refusal-numbered ValueNotHeld = refl
+refusal-numbered SourceNotLive = refl
+refusal-numbered Panic = refl
+refusal-numbered AcceptUnlikeHeld = refl
+refusal-numbered SecondFastAnswer = refl
+refusal-numbered ProposalNotAllowed = refl
+refusal-numbered NoRoomForRead = refl
+
+unmade-numbered : (o : Outcome) → Numbered (unmade o)
+unfolding numbered
+unmade-numbered Done = refl
+unmade-numbered (Refused why) = and-both (refusal-numbered why) refl
+
+-- a list of such numbers gives 0 only where none holds
+first-above : (rows : List Row) (n : ℕ) → Numbered rows → FirstHolds rows n → ltb 0 n ≡ true
+unfolding numbered
+first-above (row ∷ rows) n p (inl (c, e)) = ap (ltb 0) (sym e) ∙ and-left (ltb 0 (row .number)) (numbered rows) p
+first-above (row ∷ rows) n p (inr (c, r)) = first-above rows n (and-right (ltb 0 (row .number)) (numbered rows) p) r
+
+-- ---- every call
 
 module _ (choose : Choice) (shard : Shard) where
-  abbrev pub Ok : Call → Answer → Type 0
-  Ok c r = TakenOrRefused (Cause choose shard c) shard r
+  all-numbered : (c : Call) → Numbered (allCauses choose shard c)
+  unfolding numbered
+  all-numbered c = numbered-then (unmade (shard .made)) _ (unmade-numbered (shard .made)) (causes-numbered choose shard c)
 
-  abbrev asked : Asked
-  asked = askedOf (shard .settings)
-
-  abbrev rounds : Rounds
-  rounds = shard .state .rounds
-
-  -- ---- a proposal
-
-  proposing-allowed : (v : ℕ) → Allowed asked v rounds (proposing asked v rounds .next)
-  unfolding proposing
-  proposing-allowed v = of-both (λ (x : RoundsStep). Allowed asked v rounds (x .next)) (hasFastPath (asked .mode)) (propose-fast-allowed asked v rounds) (propose-classic-allowed asked v rounds)
-
-  proposal-ok : (v : ℕ) → Ok (Propose v) (propose shard v)
-  unfolding propose committed
-  proposal-ok v = go (isNumber v) refl
+  -- Every call on every shard, whatever stands in it, and whichever of the best proposers of EPaxos is chosen.
+  pub by-first-cause : (c : Call) → ByFirstCause choose shard c (callWith choose shard c)
+  unfolding firstCause
+  by-first-cause c = go (first-cause choose shard c) (none-or-first (allCauses choose shard c))
     where
-      step : RoundsStep
-      step = proposing asked v rounds
+      go : Gives shard (callWith choose shard c) (firstOf (allCauses choose shard c))
+          → (NoneHolds (allCauses choose shard c) × (firstOf (allCauses choose shard c) ≡ 0)) ⊎ FirstHolds (allCauses choose shard c) (firstOf (allCauses choose shard c))
+          → ByFirstCause choose shard c (callWith choose shard c)
+      go (inl (e, z)) (inl (none, _)) = inl (e, none)
+      go (inl (e, z)) (inr first) = absurd (not-both (first-above (allCauses choose shard c) _ (all-numbered c) first) (ap (ltb 0) z))
+      go (inr (why, e, n)) (inl (none, z)) = absurd (not-both (refusal-numbered why) (ap (ltb 0) (sym n ∙ z)))
+      go (inr (why, e, n)) (inr first) = inr (why, e, subst (FirstHolds (allCauses choose shard c)) n first)
 
-      ends : (n : Next) → Allowed asked v rounds n → Ok (Propose v) (finishAt shard asked true (step .rounds) (step .messages) n)
-      ends Stays g = inl refl
-      ends Continues g = inl refl
-      ends (Commits w) g = inl refl
-      ends (Refuses why) g = inr (why, refl, subst (ProposalCause shard v) (sym (g .0)) (g .1))
-
-      go : (t : Bool) → isNumber v ≡ t → Ok (Propose v) (cond t (finishAt shard asked true (step .rounds) (step .messages) (step .next)) (refused NumberTooLarge shard))
-      go true e = ends (step .next) (proposing-allowed v)
-      go false e = inr (NumberTooLarge, refl, inr e)
-
-  -- ---- a new read
-
-  read-ok : (tag arrival : ℕ) → Ok (StartRead tag arrival) (read shard tag arrival)
-  unfolding read startRead insert
-  read-ok tag arrival =
-      go (isNumber tag && isSlot arrival) (leb 128 (rounds .core .tracker .«open_count»)) (ltb 9223372036854775807 (rounds .core .tracker .«next_id»)) refl refl refl
+  -- So it is taken where no cause holds,
+  pub taken-where-none : (c : Call) → NoneHolds (allCauses choose shard c) → callWith choose shard c .reply .outcome ≡ Done
+  taken-where-none c none = go (by-first-cause c)
     where
-      none : Inserted
-      none = notInserted (rounds .core .tracker) (shard .state .table)
+      go : ByFirstCause choose shard c (callWith choose shard c) → callWith choose shard c .reply .outcome ≡ Done
+      go (inl (e, _)) = e
+      go (inr (why, e, first)) = absurd (not-none (allCauses choose shard c) (refusalNumber why) first none)
 
-      some : Inserted
-      some = inserted (rounds .core .tracker) (shard .state .table) tag arrival (not (isHeld (rounds .core .paxos .«max_rv»)))
-
-      go : (t full spent : Bool) → (isNumber tag && isSlot arrival) ≡ t → leb 128 (rounds .core .tracker .«open_count») ≡ full
-          → ltb 9223372036854775807 (rounds .core .tracker .«next_id») ≡ spent
-          → Ok (StartRead tag arrival) (cond t (afterInsert shard (cond full none (cond spent none some)) (cond full none (cond spent none some) .opened)) (refused NumberTooLarge shard))
-      go true true spent e f g = inr (NoRoomForRead, refl, inl f)
-      go true false true e f g = inr (NoRoomForRead, refl, inr g)
-      go true false false e f g = inl refl
-      go false full spent e f g = inr (NumberTooLarge, refl, inr e)
-
-  -- ---- a message
-
-  module _ (d : Delivery) where
-    abbrev heard : Heard
-    heard = heardOf (shard .settings) d
-
-    abbrev step : RoundsStep
-    step = processed choose asked heard (d .message .msg) rounds
-
-    processed-caused : GoodRounds asked heard (d .message .msg) rounds step
-    unfolding processed
-    processed-caused =
-        of-both (GoodRounds asked heard (d .message .msg) rounds) (hasFastPath (asked .mode)) (fast-caused asked heard rounds choose (d .message .msg))
-        (classic-caused asked heard rounds (d .message .msg))
-
-    in-handling : (why : Refusal) → HandlingCause asked heard (d .message .msg) rounds why → MessageCause choose shard d why
-    in-handling SettingsOutsideLimits g = g
-    in-handling NumberTooLarge g = absurd g
-    in-handling NoSuchProcess g = absurd g
-    in-handling OtherLastValue g = absurd g
-    in-handling SlotAhead g = absurd g
-    in-handling ValueNotHeld g = absurd g
-    in-handling SourceNotLive g = g
-    in-handling Panic g = g
-    in-handling AcceptUnlikeHeld g = g
-    in-handling SecondFastAnswer g = g
-    in-handling ProposalNotAllowed g = g
-    in-handling NoRoomForRead g = g
-
-    process-ok : Ok (Receive d) (processMessage choose shard d)
-    unfolding processMessage committed
-    process-ok = ends (step .next) (d .said .«value_held») refl refl processed-caused
-      where
-        ends : (n : Next) (held : Bool) → step .next ≡ n → d .said .«value_held» ≡ held → Caused (HandlingCause asked heard (d .message .msg) rounds) n
-            → Ok (Receive d) (finishAt shard asked held (step .rounds) (step .messages) n)
-        ends Stays held e f g = inl refl
-        ends Continues held e f g = inl refl
-        ends (Commits v) true e f g = inl refl
-        ends (Commits v) false e f g = inr (ValueNotHeld, refl, (f, inr (v, e)))
-        ends (Refuses why) held e f g = inr (why, refl, in-handling why g)
-
-    handle-ok : (m : ConsensusMsg) → Ok (Receive d) (handle choose shard d m)
-    unfolding handle onCommit onReadRequest onReadResponse committed
-    handle-ok (Prepare slot round rv) = process-ok
-    handle-ok (Accept slot round v) = process-ok
-    handle-ok (ForwardRequest v) = process-ok
-    handle-ok (Commit slot v) = of-both (Ok (Receive d)) (ltb slot (rounds .core .slot)) (inl refl) (inl refl)
-    handle-ok (ReadRequest id) = of-both (Ok (Receive d)) (eqb (d .message .src) (shard .settings .«my_pid»)) (inr (Panic, refl, tt)) (inl refl)
-    handle-ok (ReadResponse id next) = inl refl
-
-    receive-ok : Ok (Receive d) (receive choose shard d)
-    unfolding receive admit ready
-    receive-ok =
-        go (numbersFit d) (processesFit (shard .settings .«process_count») d) (isAhead (rounds .core) (msgSlot (d .message .msg))) (otherLastValue (rounds .core) d)
-        (valueAwaited (shard .settings .«my_pid») (rounds .core) d) refl refl refl refl refl
-      where
-        go : (numbers processes ahead other awaited : Bool) → numbersFit d ≡ numbers → processesFit (shard .settings .«process_count») d ≡ processes
-            → isAhead (rounds .core) (msgSlot (d .message .msg)) ≡ ahead → otherLastValue (rounds .core) d ≡ other
-            → valueAwaited (shard .settings .«my_pid») (rounds .core) d ≡ awaited
-            → Ok (Receive d)
-            (admitted choose shard d
-            (cond numbers
-            (cond processes (cond ahead (Refused SlotAhead) (cond other (Refused OtherLastValue) (cond awaited (Refused ValueNotHeld) Done))) (Refused NoSuchProcess))
-            (Refused NumberTooLarge)))
-        go false processes ahead other awaited n p a l w = inr (NumberTooLarge, refl, inr n)
-        go true false ahead other awaited n p a l w = inr (NoSuchProcess, refl, p)
-        go true true true other awaited n p a l w = inr (SlotAhead, refl, ahead-slot (rounds .core) (msgSlot (d .message .msg)) a)
-        go true true false true awaited n p a l w = inr (OtherLastValue, refl, l)
-        go true true false false true n p a l w = inr (ValueNotHeld, refl, (awaited-not-held (shard .settings .«my_pid») (rounds .core) d w, inl w))
-        go true true false false false n p a l w = handle-ok (d .message .msg)
-
-  -- ---- every call
-
-  dispatch-ok : (c : Call) → Ok c (dispatch choose shard c)
-  unfolding dispatch
-  dispatch-ok (Propose v) = proposal-ok v
-  dispatch-ok (StartRead tag arrival) = read-ok tag arrival
-  dispatch-ok (Receive d) = receive-ok d
-
-  spent-cause : (c : Call) → Spent shard → Cause choose shard c NumberTooLarge
-  spent-cause (Propose v) e = inl e
-  spent-cause (StartRead tag arrival) e = inl e
-  spent-cause (Receive d) e = inl e
-
-  unless-spent-ok : (c : Call) → Ok c (unlessSpent choose shard c)
-  unfolding unlessSpent
-  unless-spent-ok c = go (leb 9223372036854775807 (rounds .core .slot)) refl
+  -- and refused with each number where that is the first cause's.
+  pub refused-where-first : (c : Call) (why : Refusal) → FirstHolds (allCauses choose shard c) (refusalNumber why) → callWith choose shard c ≡ refused why shard
+  refused-where-first c why first = go (by-first-cause c)
     where
-      go : (t : Bool) → leb 9223372036854775807 (rounds .core .slot) ≡ t → Ok c (cond t (refused NumberTooLarge shard) (dispatch choose shard c))
-      go true e = inr (NumberTooLarge, refl, spent-cause c e)
-      go false e = dispatch-ok c
-
-  -- Every call on every shard, whatever stands in it.
-  pub taken-or-refused : (c : Call) → TakenOrRefused (λ (why : Refusal). (shard .made ≡ Refused why) ⊎ Cause choose shard c why) shard (callWith choose shard c)
-  unfolding callWith
-  taken-or-refused c = go (shard .made) refl
-    where
-      made-ok : {r : Answer} → Ok c r → TakenOrRefused (λ (why : Refusal). (shard .made ≡ Refused why) ⊎ Cause choose shard c why) shard r
-      made-ok (inl e) = inl e
-      made-ok (inr (why, e, cause)) = inr (why, e, inr cause)
-
-      go : (o : Outcome) → shard .made ≡ o → TakenOrRefused (λ (why : Refusal). (shard .made ≡ Refused why) ⊎ Cause choose shard c why) shard (ifMade choose shard c o)
-      go Done e = made-ok (unless-spent-ok c)
-      go (Refused why) e = inr (why, refl, inl e)
+      go : ByFirstCause choose shard c (callWith choose shard c) → callWith choose shard c ≡ refused why shard
+      go (inl (_, none)) = absurd (not-none (allCauses choose shard c) (refusalNumber why) first none)
+      go (inr (w, e, other)) = e ∙ ap (λ (x : Refusal). refused x shard) (same-refusal w why (first-same (allCauses choose shard c) (refusalNumber w) (refusalNumber why) other first))
 
   -- An unmade shard refuses every call with the number that it was marked with.
   pub unmade-refuses : (c : Call) (why : Refusal) → shard .made ≡ Refused why → callWith choose shard c ≡ refused why shard
@@ -226,9 +211,64 @@ module _ (choose : Choice) (shard : Shard) where
   unmade-refuses c why e = ap (ifMade choose shard c) e
 
   -- A spent slot refuses every call with 2.
-  pub spent-refuses : (c : Call) → shard .made ≡ Done → Spent shard → callWith choose shard c ≡ refused NumberTooLarge shard
+  pub spent-refuses : (c : Call) → shard .made ≡ Done → leb 9223372036854775807 (shard .state .rounds .core .slot) ≡ true → callWith choose shard c ≡ refused NumberTooLarge shard
   unfolding callWith unlessSpent
   spent-refuses c e f = ap (ifMade choose shard c) e ∙ ap (λ (t : Bool). cond t (refused NumberTooLarge shard) (dispatch choose shard c)) f
+
+-- ---- settings
+
+quorum-limits : (o : OptionalSet) (count : ℕ) → quorumFits o count ≡ not (quorumOutside o count)
+unfolding quorumFits
+quorum-limits NoSet count = refl
+quorum-limits (Set s) count = sym (not-not (fits s count))
+
+mode-limits : (s : Settings) (m : PFMode) → modeFits s m ≡ not (modeOutside s m)
+unfolding modeFits
+mode-limits s Paxos = refl
+mode-limits s MultiPaxos = refl
+mode-limits s MultiPaxos3P = refl
+mode-limits s EPaxos = refl
+mode-limits s Pando = sym (not-not (allBelow (s .delegates) (s .«process_count»)))
+mode-limits s SwiftPaxos = quorum-limits (s .quorum) (s .«process_count»)
+
+limits-table : (a b c d e f g h given below outside : Bool)
+    → numberOf (cond (a && b && c && d && (e && f && g && h) && cond given below true && not outside) Done (Refused SettingsOutsideLimits))
+    ≡ cond (not a) 1
+    (cond (not b) 1
+    (cond (not c) 1
+    (cond (not d) 1
+    (cond (not e) 1 (cond (not f) 1 (cond (not g) 1 (cond (not h) 1 (cond (given && not below) 1 (cond outside 1 0)))))))))
+limits-table false b c d e f g h given below outside = refl
+limits-table true false c d e f g h given below outside = refl
+limits-table true true false d e f g h given below outside = refl
+limits-table true true true false e f g h given below outside = refl
+limits-table true true true true false f g h given below outside = refl
+limits-table true true true true true false g h given below outside = refl
+limits-table true true true true true true false h given below outside = refl
+limits-table true true true true true true true false given below outside = refl
+limits-table true true true true true true true true true false outside = refl
+limits-table true true true true true true true true true true true = refl
+limits-table true true true true true true true true true true false = refl
+limits-table true true true true true true true true false below true = refl
+limits-table true true true true true true true true false below false = refl
+
+-- A new shard is marked with the number of the first cause in its settings, and that is 1; where none holds it is made.
+pub new-by-settings : (s : Settings) → numberOf (newShard s .made) ≡ firstOf (settingsCauses s)
+unfolding newShard withinLimits countsFit membersFit committersFit firstOf
+new-by-settings s =
+    simp (
+      above-test (s .«process_count») 1,
+      above-test 64 (s .«process_count»),
+      above-test (s .«replica_count») 1,
+      above-test (s .«process_count») (s .«replica_count»),
+      above-test (s .«replica_count») (size (s .«alive_replicas»)),
+      from-test (s .«process_count») (s .«my_pid»),
+      from-test (s .«process_count») (s .«first_leader»),
+      mode-limits s (s .mode),
+    )
+    (limits-table (leb 1 (s .«process_count»)) (leb (s .«process_count») 64) (leb 1 (s .«replica_count»)) (leb (s .«replica_count») (s .«process_count»))
+    (ltb (s .«my_pid») (s .«process_count»)) (ltb (s .«first_leader») (s .«process_count»)) (fits (s .«alive_replicas») (s .«process_count»))
+    (leb (size (s .«alive_replicas»)) (s .«replica_count»)) (s .«has_committers») (allBelow (s .committers) (s .«process_count»)) (modeOutside s (s .mode)))
 
 -- Settings outside the limits are marked with 1.
 pub unmade-outside : (s : Settings) → withinLimits s ≡ false → newShard s .made ≡ Refused SettingsOutsideLimits

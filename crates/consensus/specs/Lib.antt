@@ -1,5 +1,7 @@
 pub mod Answers
 pub mod Handle
 pub mod Call
-pub mod Causes
+pub mod Rows
+pub mod Panics
+pub mod FirstCause
 pub mod ByParts

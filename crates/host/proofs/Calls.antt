@@ -17,11 +17,11 @@ use Rattle.state_calls.specs.declared.State.{State}
 use Rattle.settings.specs.Settings.{withinLimits}
 use Rattle.consensus.specs.Answers.{withState}
 use Rattle.consensus.specs.Call.{newShard, callOf}
-use Rattle.consensus.specs.Causes.{TakenOrRefused, Cause}
+use Rattle.consensus.specs.FirstCause.{ByFirstCause}
 use Rattle.consensus.specs.declared.Answer.{Answer}
 use Rattle.calls.specs.declared.Call.{Call}
 use Rattle.consensus.specs.declared.Shard.{Shard}
-use Rattle.consensus.proofs.Refusals.{taken-or-refused}
+use Rattle.consensus.proofs.Refusals.{by-first-cause}
 use Rattle.consensus.proofs.ByParts.{by-parts}
 use Rattle.flat.specs.Encode.{encodedOutcome, encodedReply}
 use Rattle.flat.specs.Decode.{decodedMade, decodedSettings}
@@ -62,11 +62,11 @@ not-refused : {o : Outcome} {why : Refusal} → o ≡ Done → o ≡ Refused why
 not-refused p q = not-both (ap isDone p) (ap isDone q)
 
 pub refusal-leaves : (shard : Shard) (c : Call) (why : Refusal) → callOf shard c .reply .outcome ≡ Refused why → callOf shard c .shard ≡ shard
-refusal-leaves shard c why e = go (taken-or-refused lowestBest shard c)
+refusal-leaves shard c why e = go (by-first-cause lowestBest shard c)
   where
-    go : TakenOrRefused (λ (w : Refusal). (shard .made ≡ Refused w) ⊎ Cause lowestBest shard c w) shard (callOf shard c) → callOf shard c .shard ≡ shard
-    go (inl done) = absurd (not-refused done e)
-    go (inr (w, r, cause)) = ap (λ (a : Answer). a .shard) r
+    go : ByFirstCause lowestBest shard c (callOf shard c) → callOf shard c .shard ≡ shard
+    go (inl (done, none)) = absurd (not-refused done e)
+    go (inr (w, r, first)) = ap (λ (a : Answer). a .shard) r
 
 -- a call changes the state of a shard alone
 state-alone : (shard : Shard) (c : Call) → withState shard (callOf shard c .shard .state) ≡ callOf shard c .shard

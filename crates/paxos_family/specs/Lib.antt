@@ -1,3 +1,2 @@
 pub mod Process
 pub mod Commit
-pub mod Causes
