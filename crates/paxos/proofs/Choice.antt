@@ -4,11 +4,11 @@
 use mathlib.Core.Path.{_≡_, refl, sym, ap, subst, _∙_}
 use mathlib.Core.Logic.{_⊎_, inl, inr}
 use mathlib.Core.Bool.{Bool, true, false, cond}
-use mathlib.Core.List.{List, [], _∷_}
+use mathlib.Core.List.{List, [], _∷_, _++_}
 use mathlib.Core.Option.{Option, none, some}
 use Rattle.basics.specs.Lists.{In}
 use Rattle.basics.proofs.Tests.{either, not-both}
-use Rattle.paxos.specs.PaxosMadeSimple.{Ordered, Proposal, higher, highest}
+use Rattle.paxos.specs.PaxosMadeSimple.{Ordered, Proposal, higher, highest, valueOr, choice}
 
 -- the highest-numbered proposal so far is at least another one that was reported: there is one, and its number is not below the other's
 abbrev pub AtLeast : {Number Value : Type 0} → (Number → Number → Bool) → Option (Proposal Number Value) → Option (Proposal Number Value) → Type 0
@@ -103,3 +103,16 @@ module _ {Number Value : Type 0} (before : Number → Number → Bool) (o : Orde
       go (inr m) e = inr (inr m)
       go (inl d) (inl e) = inl (d ∙ e)
       go (inl d) (inr e) = inr (inl (d ∙ e))
+
+-- A proposer need keep no more of the responses than the highest-numbered proposal.
+module _ {Number Value : Type 0} (before : Number → Number → Bool) where
+  pub highest-kept : (best : Option (Proposal Number Value)) (rs ss : List (Option (Proposal Number Value)))
+      → highest before (highest before best rs) ss ≡ highest before best (rs ++ ss)
+  unfolding highest
+  highest-kept best [] ss = refl
+  highest-kept best (r ∷ rs) ss = highest-kept (higher before best r) rs ss
+
+  pub choice-kept : (own : Value) (rs ss : List (Option (Proposal Number Value)))
+      → choice before own (highest before none rs ∷ ss) ≡ choice before own (rs ++ ss)
+  unfolding choice highest
+  choice-kept own rs ss = ap (valueOr before own) (highest-kept none rs ss)

@@ -5,7 +5,8 @@ use mathlib.Core.Path.{_≡_}
 use mathlib.Core.Bool.{Bool, true, false, cond, not}
 use mathlib.Core.List.{List, [], _∷_}
 use mathlib.Core.Option.{Option, none, some}
-use Prim.Native.Nat.{ℕ}
+use Prim.Native.Nat.{ℕ, _+_}
+use lib.Dec.{ltb}
 
 -- ---- proposal numbers
 
@@ -25,6 +26,20 @@ pub record ProposalNumbers {Number : Type 0} (before : Number → Number → Boo
 pub record Proposal (Number Value : Type 0) : Type 0 where
   pub number : Number
   pub value : Value
+
+-- "a majority of acceptors": k of n are more than half
+unfoldable pub isMajority : ℕ → ℕ → Bool
+isMajority n k = ltb n (k + k)
+
+-- ---- messages
+
+-- Section 2.2: a proposer sends prepare requests and accept requests; an acceptor responds to a prepare request with a promise and "with the
+-- highest-numbered proposal (if any) that it has accepted". Section 2.3: an acceptor that accepts a proposal tells the learners.
+pub data Message (Number Value : Type 0) : Type 0 where
+  prepareRequest : Number → Message Number Value
+  promise : Number → Option (Proposal Number Value) → Message Number Value
+  acceptRequest : Proposal Number Value → Message Number Value
+  acceptance : Proposal Number Value → Message Number Value
 
 -- ---- the acceptor
 
@@ -61,6 +76,9 @@ module _ {Number Value : Type 0} (before : Number → Number → Bool) where
   unfoldable pub prepare : Acceptor Number Value → Number → Acceptor Number Value
   prepare a n = cond (responds a n) (record { responded = some n; accepted = a .accepted }) a
 
+  unfoldable pub response : Acceptor Number Value → Number → Option (Message Number Value)
+  response a n = cond (responds a n) (some (promise n (a .accepted))) none
+
   -- Phase 2 (b): "If an acceptor receives an accept request for a proposal numbered n, it accepts the proposal unless it has already
   -- responded to a prepare request having a number greater than n."
   unfoldable pub accepts : Acceptor Number Value → Proposal Number Value → Bool
@@ -68,6 +86,10 @@ module _ {Number Value : Type 0} (before : Number → Number → Bool) where
 
   unfoldable pub accept : Acceptor Number Value → Proposal Number Value → Acceptor Number Value
   accept a p = cond (accepts a p) (record { responded = a .responded; accepted = higher (a .accepted) (some p) }) a
+
+  -- Section 2.3: "have each acceptor, whenever it accepts a proposal, respond to all learners, sending them the proposal"
+  unfoldable pub announcement : Acceptor Number Value → Proposal Number Value → Option (Message Number Value)
+  announcement a p = cond (accepts a p) (some (acceptance p)) none
 
   -- ---- the proposer
 
@@ -84,3 +106,32 @@ module _ {Number Value : Type 0} (before : Number → Number → Bool) where
   -- highest-numbered proposal among the responses, or is any value if the responses reported no proposals"
   unfoldable pub choice : Value → List (Option (Proposal Number Value)) → Value
   choice own responses = valueOr own (highest none responses)
+
+-- a proposer in a number of its own, with the value that it would propose: how many acceptors have responded to its prepare request, and what
+-- they reported
+pub record Proposer (Number Value : Type 0) : Type 0 where
+  pub number : Number
+  pub own : Value
+  pub responders : ℕ
+  pub reports : List (Option (Proposal Number Value))
+
+module _ {Number Value : Type 0} (before : Number → Number → Bool) where
+  -- Phase 1 (a): "A proposer selects a proposal number n and sends a prepare request with number n to a majority of acceptors."
+  abbrev pub asks : Proposer Number Value → Message Number Value
+  asks p = prepareRequest (p .number)
+
+  -- its proposal
+  abbrev pub proposalOf : Proposer Number Value → Proposal Number Value
+  proposalOf p = record { number = p .number; value = choice before (p .own) (p .reports) }
+
+  -- Phase 2 (a): "If the proposer receives a response to its prepare requests (numbered n) from a majority of acceptors, then it sends an accept
+  -- request to each of those acceptors for a proposal numbered n with a value v"
+  unfoldable pub proposes : ℕ → Proposer Number Value → Option (Proposal Number Value)
+  proposes acceptors p = cond (isMajority acceptors (p .responders)) (some (proposalOf p)) none
+
+  -- ---- the learner
+
+  -- "To learn that a value has been chosen, a learner must find out that a proposal has been accepted by a majority of acceptors": k of them have
+  -- accepted p
+  unfoldable pub learns : ℕ → ℕ → Proposal Number Value → Option Value
+  learns acceptors k p = cond (isMajority acceptors k) (some (p .value)) none

@@ -1,0 +1,183 @@
+-- A replica in the terms of *Paxos Made Simple* (crates/paxos/specs/PaxosMadeSimple.antt), its messages, and the steps that it makes: each is a
+-- rule of the paper, with the engine's own ways named where they stand (DIFFERENCE; docs/DIFFERENCES.md, "The Rust and the paper").
+-- Assumes nothing.
+use mathlib.Core.Bool.{Bool, true, false, cond, _&&_, _||_}
+use mathlib.Core.List.{[], _∷_}
+use mathlib.Core.Option.{Option, none, some}
+use Prim.Native.Nat.{ℕ}
+use lib.Dec.{eqb}
+use Rattle.sets.specs.Sets.{insert, size}
+use Rattle.paxos.specs.PaxosMadeSimple.{Proposal, Acceptor, Message, Proposer, higher, responds, prepare, accept}
+use Rattle.paxos.specs.PaxosMadeSimple.Message.{prepareRequest, promise, acceptRequest, acceptance}
+use Rattle.message.specs.Promises.{valueOf}
+use Rattle.message.specs.Rounds.{roundBefore, roundEqual}
+use Rattle.message.specs.declared.ConsensusMsg.{ConsensusMsg}
+use Rattle.message.specs.declared.ConsensusMsg.the-variants.{Prepare, Accept}
+use Rattle.message.specs.declared.OptionalRound.{OptionalRound}
+use Rattle.message.specs.declared.OptionalRound.the-variants.{NoRound, Round}
+use Rattle.message.specs.declared.PaxosRound.{PaxosRound}
+use Rattle.message.specs.declared.RoundV.{RoundV}
+use Rattle.message.specs.declared.RoundV.the-variants.{FastV, PaxosV}
+use Rattle.round_state.specs.declared.HeldPromise.{HeldPromise}
+use Rattle.round_state.specs.declared.HeldPromise.the-variants.{NothingHeld, Held}
+use Rattle.round_state.specs.declared.PaxosState.{PaxosState}
+
+-- ---- a replica in the paper's terms
+
+-- One process is acceptor, proposer and learner (section 2.5). As an acceptor it is the paper's. As a proposer it remembers whose promises it has
+-- counted in the number that it last responded to, and as a learner whose acceptances. The highest-numbered proposal that was reported to the
+-- proposer is kept in the acceptor (DIFFERENCE: "the proposer's memory").
+-- DIFFERENCE ("what is promised"): every Prepare brings a value. `wish` is the one that is kept while no proposal is: the own one, or the first
+-- that came.
+pub record Replica : Type 0 where
+  pub acceptor : Acceptor PaxosRound ℕ
+  pub wish : Option RoundV
+  pub promised : ℕ
+  pub agreed : ℕ
+
+-- ---- the same in the engine's state
+
+-- the proposal that a Prepare reports as accepted, if it reports one
+abbrev pub reportOf : RoundV → Option (Proposal PaxosRound ℕ)
+reportOf (FastV proposer v) = none
+reportOf (PaxosV NoRound v) = none
+reportOf (PaxosV (Round n) v) = some (record { number = n; value = v })
+
+abbrev pub acceptedOf : HeldPromise → Option (Proposal PaxosRound ℕ)
+acceptedOf NothingHeld = none
+acceptedOf (Held rv) = reportOf rv
+
+abbrev pub wishOf : HeldPromise → Option RoundV
+wishOf NothingHeld = none
+wishOf (Held (FastV proposer v)) = some (FastV proposer v)
+wishOf (Held (PaxosV NoRound v)) = some (PaxosV NoRound v)
+wishOf (Held (PaxosV (Round n) v)) = none
+
+abbrev pub respondedOf : OptionalRound → Option PaxosRound
+respondedOf NoRound = none
+respondedOf (Round n) = some n
+
+abbrev pub replicaOf : PaxosState → Replica
+replicaOf p =
+    record {
+      acceptor = record { responded = respondedOf (p .round); accepted = acceptedOf (p .«max_rv») };
+      wish = wishOf (p .«max_rv»);
+      promised = p .«prepared_set»;
+      agreed = p .«accepted_set»;
+    }
+
+-- and back: the replica is the whole Paxos half of the round state (`state-back`)
+abbrev pub roundOf : Option PaxosRound → OptionalRound
+roundOf none = NoRound
+roundOf (some n) = Round n
+
+abbrev pub heldOf : Option (Proposal PaxosRound ℕ) → Option RoundV → HeldPromise
+heldOf (some p) wish = Held (PaxosV (Round (p .number)) (p .value))
+heldOf none none = NothingHeld
+heldOf none (some rv) = Held rv
+
+abbrev pub stateOf : Replica → PaxosState
+stateOf r =
+    record {
+      round = roundOf (r .acceptor .responded);
+      «max_rv» = heldOf (r .acceptor .accepted) (r .wish);
+      «prepared_set» = r .promised;
+      «accepted_set» = r .agreed;
+    }
+
+-- ---- messages
+
+-- what a Prepare brings: the proposal that is reported, or the wish; a replica that sends one has either
+abbrev pub brings : Option (Proposal PaxosRound ℕ) → Option RoundV → RoundV
+brings (some p) wish = PaxosV (Round (p .number)) (p .value)
+brings none (some rv) = rv
+brings none none = PaxosV NoRound 0
+
+-- "any value": that of the wish
+abbrev pub ownValue : Option RoundV → ℕ
+ownValue wish = valueOf (brings none wish)
+
+-- DIFFERENCE ("requests and answers"): a Prepare is a prepare request or a promise, an Accept is an accept request or an acceptance
+abbrev pub written : ℕ → Option RoundV → Message PaxosRound ℕ → ConsensusMsg
+written slot wish (prepareRequest n) = Prepare slot n (brings none wish)
+written slot wish (promise n report) = Prepare slot n (brings report wish)
+written slot wish (acceptRequest p) = Accept slot (p .number) (p .value)
+written slot wish (acceptance p) = Accept slot (p .number) (p .value)
+
+-- ---- steps of a replica
+
+-- The acceptor responds to a prepare request of the number n. What was counted belongs to a lower number, and is forgotten.
+unfoldable pub enters : PaxosRound → Replica → Replica
+enters n r =
+    cond (responds roundBefore (r .acceptor) n)
+    (record { acceptor = prepare roundBefore (r .acceptor) n; wish = r .wish; promised = 0; agreed = 0 })
+    r
+
+abbrev pub firstWish : Option RoundV → RoundV → Option RoundV
+firstWish none rv = some rv
+firstWish (some w) rv = some w
+
+abbrev pub unlessAccepted : Option (Proposal PaxosRound ℕ) → Option RoundV → Option RoundV
+unlessAccepted none wish = wish
+unlessAccepted (some p) wish = none
+
+-- a proposal is kept, or a wish
+abbrev pub isThere : {A : Type 0} → Option A → Bool
+isThere none = false
+isThere (some x) = true
+
+abbrev pub keepsSomething : Replica → Bool
+keepsSomething r = isThere (r .acceptor .accepted) || isThere (r .wish)
+
+-- a proposal with the number n was accepted
+abbrev pub acceptedIn : PaxosRound → Option (Proposal PaxosRound ℕ) → Bool
+acceptedIn n none = false
+acceptedIn n (some p) = roundEqual (p .number) n
+
+-- DIFFERENCE ("an accept request with the number of an accepted proposal and another value"): a proposal is accepted where its number is greater
+-- than that of the accepted one, or where it is the accepted one; any other is refused
+abbrev pub fits : Option (Proposal PaxosRound ℕ) → Proposal PaxosRound ℕ → Bool
+fits none p = true
+fits (some q) p = roundBefore (q .number) (p .number) || (roundEqual (q .number) (p .number) && eqb (q .value) (p .value))
+
+-- the proposer that a replica is in the number n; of the reports it keeps the highest-numbered alone, which changes no choice (`choice-kept`,
+-- crates/paxos/proofs/Choice.antt)
+abbrev pub proposerIn : PaxosRound → Replica → Proposer PaxosRound ℕ
+proposerIn n r = record { number = n; own = ownValue (r .wish); responders = size (r .promised); reports = r .acceptor .accepted ∷ [] }
+
+-- what it proposes now and did not propose before
+abbrev pub newly : Option (Proposal PaxosRound ℕ) → Option (Proposal PaxosRound ℕ) → Option (Proposal PaxosRound ℕ)
+newly (some p) now = none
+newly none now = now
+
+-- A set of processes with one more. The replica itself (me) is always counted with the other, since it promises and accepts as it hears
+-- (DIFFERENCE: "an answer to an accept request").
+abbrev pub alsoSelf : ℕ → ℕ → ℕ → ℕ
+alsoSelf me src set = insert (cond (eqb src me) set (insert set src)) me
+
+-- The proposer hears a promise of src: who has promised is counted, and the highest-numbered proposal is kept. DIFFERENCE ("the proposer's
+-- memory"): it is kept in the acceptor, as if it had been accepted.
+unfoldable pub hears : ℕ → ℕ → RoundV → Replica → Replica
+hears me src rv r =
+    record {
+      acceptor = record { responded = r .acceptor .responded; accepted = higher roundBefore (r .acceptor .accepted) (reportOf rv) };
+      wish = unlessAccepted (higher roundBefore (r .acceptor .accepted) (reportOf rv)) (firstWish (r .wish) rv);
+      promised = alsoSelf me src (r .promised);
+      agreed = r .agreed;
+    }
+
+-- the acceptor accepts, and who has accepted is counted
+unfoldable pub accepts : ℕ → ℕ → Proposal PaxosRound ℕ → Replica → Replica
+accepts me src p r =
+    record { acceptor = accept roundBefore (r .acceptor) p; wish = none; promised = r .promised; agreed = alsoSelf me src (r .agreed) }
+
+-- two numbers, or none
+abbrev pub sameNumber : Option PaxosRound → Option PaxosRound → Bool
+sameNumber none none = true
+sameNumber none (some m) = false
+sameNumber (some n) none = false
+sameNumber (some n) (some m) = roundEqual n m
+
+abbrev pub numberOr : PaxosRound → Option PaxosRound → PaxosRound
+numberOr n none = n
+numberOr n (some m) = m
