@@ -1,4 +1,4 @@
--- The group theorem of an engine whose every call is correct: the log of any legal list of calls meets the claim.
+-- The group theorem of an engine whose every call is correct: the log of any legal list of calls rules the claim.
 -- Assumes nothing.
 use Prim.Native.Nat.{ℕ, suc, _<_}
 use mathlib.Core.Path.{_≡_, refl, sym, _∙_, subst, ap}
@@ -7,7 +7,7 @@ use mathlib.Core.Logic.{_⊎_, inl, inr}
 use mathlib.Core.List.{List, [], _∷_}
 use lib.Dec.{eqb, eqb→eq}
 use native.Mathlib.Omega.{arith}
-use Rattle.agreement.specs.Voting.{Voters, QuorumsMeet, World, Consistent, Chosen}
+use Rattle.agreement.specs.Voting.{Voters, VotersRules, World, Consistent, Chosen}
 use Rattle.agreement.specs.Model.{View, Message, all, to, Decision, undecided, decided, initial}
 use Rattle.agreement.specs.Engine.{Kind, proposes, delivers, reads, Envelope, Answer, Sent, Event, proposal, committed, sentWith, withCommit, commitsBy, withProposal, Agrees, Claim, Engine, RunOf, step, WasSent, begin, runs, Legal}
 use Rattle.agreement.specs.Refinement.{meanings, seen}
@@ -15,6 +15,7 @@ use Rattle.basics.specs.Lists.{In}
 use Rattle.agreement.proofs.Tests.{by-test, neqb→ne}
 use Rattle.agreement.proofs.Voting.{chosen-agree, chosen-proposed}
 use Rattle.agreement.proofs.Growth.{Grows, chosen-stays, TrueView, others-keep}
+use Rattle.agreement.proofs.Answers.{no-answers-true}
 use Rattle.agreement.proofs.Handlers.{MessageTrue, OutgoingTrue, DecisionTrue, message-stays, Correct, NewProposal}
 use Rattle.agreement.proofs.Slots.{NextSlot, MovesOn}
 
@@ -53,9 +54,9 @@ event-stays : (g : Voters) (P : ℕ → ℕ → Type 0) (i : ℕ) (w w′ : Worl
 event-stays g P i w w′ x (proposal j s v) k = tt
 event-stays g P i w w′ x (committed j s v) k = chosen-stays g P i w w′ x s v k
 
-event-agrees : (g : Voters) → QuorumsMeet g → (w : World) → Consistent g w → (s v : ℕ) → Chosen g w s v → (e : Event) → EventTrue g w e → Agrees s v e
-event-agrees g meets w ok s v c (proposal j s′ v′) k = tt
-event-agrees g meets w ok s v c (committed j s′ v′) k = λ q. chosen-agree g meets w ok s v v′ c (subst (λ (t : ℕ). Chosen g w t v′) (sym q) k)
+event-agrees : (g : Voters) → VotersRules g → (w : World) → Consistent g w → (s v : ℕ) → Chosen g w s v → (e : Event) → EventTrue g w e → Agrees s v e
+event-agrees g rules w ok s v c (proposal j s′ v′) k = tt
+event-agrees g rules w ok s v c (committed j s′ v′) k = λ q. chosen-agree g rules w ok s v v′ c (subst (λ (t : ℕ). Chosen g w t v′) (sym q) k)
 
 -- a message that was sent is true
 abbrev SentTrue : {M : Type 0} → (M → Message) → Voters → World → Sent M → Type 0
@@ -90,11 +91,11 @@ module _ (i : ℕ) (l : List Event) where
     commit-proposals undecided s v h = proposals s v h
     commit-proposals (decided t u) s v h = let k = proposals s v h in (k .0, inr (k .1))
 
-    commit-claim : QuorumsMeet g → Consistent g w → Claim l → (d : Decision) (s s′ : ℕ) → DecisionTrue g w d → NextSlot s s′ d → s ≡ commitsBy i l
+    commit-claim : VotersRules g → Consistent g w → Claim l → (d : Decision) (s s′ : ℕ) → DecisionTrue g w d → NextSlot s s′ d → s ≡ commitsBy i l
         → Claim (withCommit i d l)
-    commit-claim meets ok claim undecided s s′ f m e = claim
-    commit-claim meets ok claim (decided t v) s s′ f m e =
-        (m .0 ∙ e, proposals t v (chosen-proposed g meets w ok t v f), (λ e h. event-agrees g meets w ok t v f e (events e h)), claim)
+    commit-claim rules ok claim undecided s s′ f m e = claim
+    commit-claim rules ok claim (decided t v) s s′ f m e =
+        (m .0 ∙ e, proposals t v (chosen-proposed g rules w ok t v f), (λ e h. event-agrees g rules w ok t v f e (events e h)), claim)
 
 -- the log l, continued by what a call proposes, where that was taken: what is proposed is found in it
 proposal-found : {M : Type 0} (x : View) (k : Kind M) (b : Bool) (i s u : ℕ) (l : List Event) → x .slot ≡ commitsBy i l
@@ -128,7 +129,7 @@ proposal-claim (proposes v) false i l c = c
 proposal-claim (delivers source m) b i l c = c
 proposal-claim reads b i l c = c
 
-module _ (g : Voters) (meets : QuorumsMeet g) (E : Engine) (sound : Sound g E) where
+module _ (g : Voters) (rules : VotersRules g) (E : Engine) (sound : Sound g E) where
   -- There is a world of which the views, the messages sent and the events of the log are true; what is proposed in it is in the log, each
   -- member's slot is its number of commits, and the claim holds so far.
   record Invariant (R : RunOf E) : Type 1 where
@@ -167,7 +168,7 @@ module _ (g : Voters) (meets : QuorumsMeet g) (E : Engine) (sound : Sound g E) w
         (λ t. subst (λ (k : ℕ). sound .view (r .shard) .slot ≡ commitsBy k (withCommit i (r .decision) l)) (sym (eqb→eq j i t))
         (commit-own-slot i l (r .decision) (x .slot) (sound .view (r .shard) .slot) moves (I .slots i below ∙ same-commits i)))
         (λ t. I .slots j below-j ∙ same-commits j ∙ sym (commit-other-slot i l (r .decision) j (neqb→ne j i t)));
-    claim = commit-claim i l g (made .world) events proposals meets (made .consistent) claim (r .decision) (x .slot) (sound .view (r .shard) .slot)
+    claim = commit-claim i l g (made .world) events proposals rules (made .consistent) claim (r .decision) (x .slot) (sound .view (r .shard) .slot)
         (made .decision) moves (I .slots i below ∙ same-commits i);
   }
     where
@@ -220,6 +221,12 @@ module _ (g : Voters) (meets : QuorumsMeet g) (E : Engine) (sound : Sound g E) w
       reached = λ m s r v h. absurd h;
       proposed = λ m s r v h. absurd h;
       delegateReached = λ m s r v h. absurd h;
+      firstOnce = λ m s c v c′ v′ h. absurd h;
+      firstLive = λ m s c v h. absurd h;
+      firstReached = λ m s c v h. absurd h;
+      firstProposed = λ m s c v h. absurd h;
+      firstOwner = λ m s p v h. absurd h;
+      ownRounds = λ t m s r h l. let z = rules .noStart t in let e = h .1 in absurd (omega arith);
     };
     views = λ i below. subst (TrueView g w0 i) (sym (sound .initial-view i below)) (record {
       at = (refl, refl);
@@ -229,6 +236,10 @@ module _ (g : Voters) (meets : QuorumsMeet g) (E : Engine) (sound : Sound g E) w
       heldBound = omega arith;
       heldVoted = λ l. absurd (omega arith);
       heldProposed = λ t. absurd t;
+      unheldFirst = λ t c v h. h;
+      heldFirst = λ t. absurd t;
+      heldStill = λ t z. absurd t;
+      answers = no-answers-true g w0 i 0;
       ownVotes = λ r v h. absurd h;
       promises = λ m t. absurd t;
       accepts = λ m t. absurd t;
@@ -243,13 +254,13 @@ module _ (g : Voters) (meets : QuorumsMeet g) (E : Engine) (sound : Sound g E) w
   }
     where
       w0 : World
-      w0 = record { Votes = λ m s r v. ⊥; Reached = λ m s r. (s ≡ 0) × (r ≡ g .start); Proposed = λ s v. ⊥ }
+      w0 = record { Votes = λ m s r v. ⊥; Reached = λ m s r. (s ≡ 0) × (r ≡ g .start); First = λ m s c v. ⊥; Proposed = λ s v. ⊥ }
 
   runs-keep : (cs : List (E .Call)) (R : RunOf E) → Invariant R → Legal E R cs → Invariant (runs E R cs)
   unfolding runs Legal
   runs-keep [] R I k = I
   runs-keep (c ∷ cs) R I k = runs-keep cs (step E R c) (step-keeps R I c (k .0) (k .1)) (k .2)
 
-  -- the log of any legal list of calls on new members meets the claim
+  -- the log of any legal list of calls on new members rules the claim
   pub group-claim : (cs : List (E .Call)) → Legal E (begin E) cs → Claim (runs E (begin E) cs .log)
   group-claim cs k = runs-keep cs (begin E) begin-holds k .claim

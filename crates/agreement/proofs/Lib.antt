@@ -1,6 +1,8 @@
 pub mod Tests
 pub mod Voting
 pub mod Growth
+pub mod Answers
+pub mod Adopting
 pub mod Moves
 pub mod Handlers
 pub mod Slots

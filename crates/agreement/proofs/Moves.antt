@@ -2,31 +2,14 @@
 -- Assumes nothing.
 use Prim.Native.Nat.{ℕ, suc, _≤_, _<_}
 use mathlib.Core.Path.{_≡_, refl, sym, _∙_, subst}
-use mathlib.Core.Bool.{Bool, true, not}
+use mathlib.Core.Bool.{not}
 use mathlib.Core.Logic.{_⊎_, inl, inr}
-use lib.Dec.{T, eqb}
+use lib.Dec.{T}
 use native.Mathlib.Omega.{arith}
-use borrow.Author.Tests.{eqb-true, eq-eqb}
-use Rattle.basics.proofs.Tests.{or-cases, or-left, or-right}
 use Rattle.agreement.specs.Voting.{Voters, World, NotAfter, Voted, Promise, Safe, Consistent}
-use Rattle.agreement.specs.Model.{View, add, joined, advanced, adopted, preparedBy, acceptedBy, voted}
-use Rattle.agreement.proofs.Tests.{is-true, passes}
-use Rattle.agreement.proofs.Growth.{NewVote, Grows, safe-stays, TrueView}
-
--- ---- sets with one member more
-
-add-case : (m : ℕ) (f : ℕ → Bool) (k : ℕ) → T (add m f k) → (k ≡ m) ⊎ T (f k)
-add-case m f k t = go (or-cases (eqb k m) (f k) (is-true (add m f k) t))
-  where
-    go : (eqb k m ≡ true) ⊎ (f k ≡ true) → (k ≡ m) ⊎ T (f k)
-    go (inl e) = inl (eqb-true k m e)
-    go (inr e) = inr (passes (f k) e)
-
-add-self : (m : ℕ) (f : ℕ → Bool) → T (add m f m)
-add-self m f = passes (add m f m) (or-left (f m) (eq-eqb m m refl))
-
-add-old : (m : ℕ) (f : ℕ → Bool) (k : ℕ) → T (f k) → T (add m f k)
-add-old m f k t = passes (add m f k) (or-right (eqb k m) (is-true (f k) t))
+use Rattle.agreement.specs.Model.{View, Answers, joined, advanced, adopted, preparedBy, acceptedBy, voted, withAnswers}
+use Rattle.agreement.proofs.Growth.{NewVote, NewPosition, Grows, promise-stays, safe-stays, TrueAnswers, answers-stay, TrueView}
+use Rattle.agreement.proofs.Answers.{add-case, add-self, add-old, no-answers-true}
 
 -- ---- the world with one fact more
 
@@ -45,6 +28,7 @@ abbrev pub addProposal : World → ℕ → ℕ → World
 addProposal w s v = record {
   Votes = w .Votes;
   Reached = w .Reached;
+  First = w .First;
   Proposed = λ s′ v′. (w .Proposed s′ v′) ⊎ ((s′ ≡ s) × (v′ ≡ v));
 }
 
@@ -53,6 +37,16 @@ abbrev pub addReached : World → ℕ → ℕ → ℕ → World
 addReached w i s r = record {
   Votes = w .Votes;
   Reached = λ m s′ r′. (w .Reached m s′ r′) ⊎ ((m ≡ i) × (s′ ≡ s) × (r′ ≡ r));
+  First = w .First;
+  Proposed = w .Proposed;
+}
+
+-- the world in which i held v first in s too, as proposed by c
+abbrev pub addFirst : World → ℕ → ℕ → ℕ → ℕ → World
+addFirst w i s c v = record {
+  Votes = w .Votes;
+  Reached = w .Reached;
+  First = λ m s′ c′ v′. (w .First m s′ c′ v′) ⊎ ((m ≡ i) × (s′ ≡ s) × (c′ ≡ c) × (v′ ≡ v));
   Proposed = w .Proposed;
 }
 
@@ -61,41 +55,139 @@ abbrev pub addVote : World → ℕ → ℕ → ℕ → ℕ → World
 addVote w i s r v = record {
   Votes = λ m s′ r′ v′. (w .Votes m s′ r′ v′) ⊎ ((m ≡ i) × (s′ ≡ s) × (r′ ≡ r) × (v′ ≡ v));
   Reached = w .Reached;
+  First = w .First;
   Proposed = w .Proposed;
 }
 
-pub addReached-grows : (g : Voters) (P : ℕ → ℕ → Type 0) (w : World) (i s r : ℕ) → Grows g P i w (addReached w i s r)
-addReached-grows g P w i s r = record {
+-- the position is not before one that i had reached
+abbrev pub Onward : World → ℕ → ℕ → ℕ → Type 0
+Onward w i s r = (s1 r1 : ℕ) → w .Reached i s1 r1 → NotAfter s1 r1 s r
+
+pub addReached-grows : (g : Voters) (P : ℕ → ℕ → Type 0) (w : World) (i s r : ℕ) → Onward w i s r → Grows g P i w (addReached w i s r)
+addReached-grows g P w i s r on = record {
   votes = λ m s r v h. h;
   reached = λ m s r h. inl h;
+  first = λ m s c v h. h;
   proposed = λ s v h. h;
   newVote = λ m s r v h. inl h;
   newReached = λ m s′ r′ h. go m s′ r′ h;
+  newFirst = λ m s c v h. inl h;
   newProposed = λ s v h. inl h;
 }
   where
-    go : (m s′ r′ : ℕ) → (w .Reached m s′ r′) ⊎ ((m ≡ i) × (s′ ≡ s) × (r′ ≡ r)) → (w .Reached m s′ r′) ⊎ (m ≡ i)
+    go : (m s′ r′ : ℕ) → (w .Reached m s′ r′) ⊎ ((m ≡ i) × (s′ ≡ s) × (r′ ≡ r)) → (w .Reached m s′ r′) ⊎ NewPosition w i m s′ r′
     go m s′ r′ (inl h) = inl h
-    go m s′ r′ (inr k) = inr (k .0)
+    go m s′ r′ (inr k) = inr (same-vote (λ m s r u. NewPosition w i m s r) m s′ r′ 0 i s r 0 (k .0, k .1, k .2, refl) (refl, on))
 
-pub addReached-consistent : (g : Voters) (w : World) (i s r : ℕ) → Consistent g w → Consistent g (addReached w i s r)
-addReached-consistent g w i s r ok = record {
+pub addReached-consistent : (g : Voters) (w : World) (i s r : ℕ) → Onward w i s r → (T (g .fastPath) → 1 ≤ r → r ≡ suc (g .delegate r))
+    → Consistent g w → Consistent g (addReached w i s r)
+addReached-consistent g w i s r on own ok = record {
   oneValue = ok .oneValue;
-  safe = λ m s′ r′ v h. safe-stays g nothing i w (addReached w i s r) (addReached-grows g nothing w i s r) s′ r′ v (ok .safe m s′ r′ v h);
+  safe = λ m s′ r′ v h. safe-stays g nothing i w (addReached w i s r) (addReached-grows g nothing w i s r on) s′ r′ v (ok .safe m s′ r′ v h);
   inRound = ok .inRound;
   live = ok .live;
   reached = λ m s′ r′ v h. inl (ok .reached m s′ r′ v h);
   proposed = ok .proposed;
   delegateReached = λ m s′ r′ v h. inl (ok .delegateReached m s′ r′ v h);
+  firstOnce = ok .firstOnce;
+  firstLive = ok .firstLive;
+  firstReached = λ m s′ c v h. let k = ok .firstReached m s′ c v h in (k .0, inl (k .1));
+  firstProposed = ok .firstProposed;
+  firstOwner = ok .firstOwner;
+  ownRounds = λ t m s′ r′ h l. ownRounds t m s′ r′ l h;
 }
+  where
+    ownRounds : T (g .fastPath) → (m s′ r′ : ℕ) → 1 ≤ r′ → (w .Reached m s′ r′) ⊎ ((m ≡ i) × (s′ ≡ s) × (r′ ≡ r)) → r′ ≡ suc (g .delegate r′)
+    ownRounds t m s′ r′ l (inl h) = ok .ownRounds t m s′ r′ h l
+    ownRounds t m s′ r′ l (inr k) = let e = k .2 in subst (λ (j : ℕ). j ≡ suc (g .delegate j)) (sym e) (own t (omega arith))
+
+pub addFirst-grows : (g : Voters) (P : ℕ → ℕ → Type 0) (w : World) (i s c v : ℕ) → Grows g P i w (addFirst w i s c v)
+addFirst-grows g P w i s c v = record {
+  votes = λ m s r v h. h;
+  reached = λ m s r h. h;
+  first = λ m s c v h. inl h;
+  proposed = λ s v h. h;
+  newVote = λ m s r v h. inl h;
+  newReached = λ m s r h. inl h;
+  newFirst = λ m s′ c′ v′ h. go m s′ c′ v′ h;
+  newProposed = λ s v h. inl h;
+}
+  where
+    go : (m s′ c′ v′ : ℕ) → (w .First m s′ c′ v′) ⊎ ((m ≡ i) × (s′ ≡ s) × (c′ ≡ c) × (v′ ≡ v)) → (w .First m s′ c′ v′) ⊎ (m ≡ i)
+    go m s′ c′ v′ (inl h) = inl h
+    go m s′ c′ v′ (inr k) = inr (k .0)
+
+-- what i may hold first: nothing was held before, i is live and has come to the slot, and v was proposed there, by the proposer named
+pub record MayHold (g : Voters) (w : World) (i s c v : ℕ) : Type 0 where
+  pub nothing-yet : (c′ v′ : ℕ) → w .First i s c′ v′ → ⊥
+  pub live : T (g .live i)
+  pub came : (r : ℕ) × w .Reached i s r
+  pub proposed : w .Proposed s v
+  pub owner : (q : ℕ) → c ≡ suc q → (w .First q s c v) ⊎ (q ≡ i)
+
+-- what is new in it
+abbrev ThisFirst : ℕ → ℕ → ℕ → ℕ → ℕ → ℕ → ℕ → ℕ → Type 0
+ThisFirst i s c v m s′ c′ v′ = (m ≡ i) × (s′ ≡ s) × (c′ ≡ c) × (v′ ≡ v)
+
+pub addFirst-consistent : (g : Voters) (w : World) (i s c v : ℕ) → MayHold g w i s c v → Consistent g w → Consistent g (addFirst w i s c v)
+addFirst-consistent g w i s c v may ok = record {
+  oneValue = ok .oneValue;
+  safe = λ m s′ r′ v′ h. safe-stays g nothing i w w⁺ (addFirst-grows g nothing w i s c v) s′ r′ v′ (ok .safe m s′ r′ v′ h);
+  inRound = ok .inRound;
+  live = ok .live;
+  reached = ok .reached;
+  proposed = ok .proposed;
+  delegateReached = ok .delegateReached;
+  firstOnce = λ m s′ c1 v1 c2 v2 h h′. firstOnce m s′ c1 v1 c2 v2 h h′;
+  firstLive = λ m s′ c′ v′ h. firstLive m s′ c′ v′ h;
+  firstReached = λ m s′ c′ v′ h. firstReached m s′ c′ v′ h;
+  firstProposed = λ m s′ c′ v′ h. firstProposed m s′ c′ v′ h;
+  firstOwner = λ m s′ q v′ h. firstOwner m s′ q v′ h;
+  ownRounds = ok .ownRounds;
+}
+  where
+    w⁺ : World
+    w⁺ = addFirst w i s c v
+
+    other-slot : (m s′ c1 v1 c2 v2 : ℕ) → w .First m s′ c1 v1 → ThisFirst i s c v m s′ c2 v2 → ⊥
+    other-slot m s′ c1 v1 c2 v2 h k =
+        may .nothing-yet c1 v1 (subst (λ (j : ℕ). w .First j s c1 v1) (k .0) (subst (λ (j : ℕ). w .First m j c1 v1) (k .1) h))
+
+    firstOnce : (m s′ c1 v1 c2 v2 : ℕ) → (w .First m s′ c1 v1) ⊎ ThisFirst i s c v m s′ c1 v1 → (w .First m s′ c2 v2) ⊎ ThisFirst i s c v m s′ c2 v2 → (c1 ≡ c2) × (v1 ≡ v2)
+    firstOnce m s′ c1 v1 c2 v2 (inl h) (inl h′) = ok .firstOnce m s′ c1 v1 c2 v2 h h′
+    firstOnce m s′ c1 v1 c2 v2 (inl h) (inr k) = absurd (other-slot m s′ c1 v1 c2 v2 h k)
+    firstOnce m s′ c1 v1 c2 v2 (inr k) (inl h) = absurd (other-slot m s′ c2 v2 c1 v1 h k)
+    firstOnce m s′ c1 v1 c2 v2 (inr k) (inr k′) = (k .2 ∙ sym (k′ .2), k .3 ∙ sym (k′ .3))
+
+    firstLive : (m s′ c′ v′ : ℕ) → (w .First m s′ c′ v′) ⊎ ThisFirst i s c v m s′ c′ v′ → T (g .live m)
+    firstLive m s′ c′ v′ (inl h) = ok .firstLive m s′ c′ v′ h
+    firstLive m s′ c′ v′ (inr k) = subst (λ (j : ℕ). T (g .live j)) (sym (k .0)) (may .live)
+
+    firstReached : (m s′ c′ v′ : ℕ) → (w .First m s′ c′ v′) ⊎ ThisFirst i s c v m s′ c′ v′ → (r : ℕ) × w .Reached m s′ r
+    firstReached m s′ c′ v′ (inl h) = ok .firstReached m s′ c′ v′ h
+    firstReached m s′ c′ v′ (inr k) = same-vote (λ m s c v. (r : ℕ) × w .Reached m s r) m s′ c′ v′ i s c v k (may .came)
+
+    firstProposed : (m s′ c′ v′ : ℕ) → (w .First m s′ c′ v′) ⊎ ThisFirst i s c v m s′ c′ v′ → w .Proposed s′ v′
+    firstProposed m s′ c′ v′ (inl h) = ok .firstProposed m s′ c′ v′ h
+    firstProposed m s′ c′ v′ (inr k) = same-vote (λ m s c v. w .Proposed s v) m s′ c′ v′ i s c v k (may .proposed)
+
+    owned : (m s′ q v′ : ℕ) → ThisFirst i s c v m s′ (suc q) v′ → (w .First q s c v) ⊎ (q ≡ i) → (w .First q s′ (suc q) v′) ⊎ ThisFirst i s c v q s′ (suc q) v′
+    owned m s′ q v′ k (inl h) = inl (same-vote (λ m s c v. w .First q s c v) m s′ (suc q) v′ i s c v k h)
+    owned m s′ q v′ k (inr e) = inr (e, k .1, k .2, k .3)
+
+    firstOwner : (m s′ q v′ : ℕ) → (w .First m s′ (suc q) v′) ⊎ ThisFirst i s c v m s′ (suc q) v′ → (w .First q s′ (suc q) v′) ⊎ ThisFirst i s c v q s′ (suc q) v′
+    firstOwner m s′ q v′ (inl h) = inl (ok .firstOwner m s′ q v′ h)
+    firstOwner m s′ q v′ (inr k) = owned m s′ q v′ k (may .owner q (sym (k .2)))
 
 pub addProposal-grows : (g : Voters) (P : ℕ → ℕ → Type 0) (w : World) (i s v : ℕ) → P s v → Grows g P i w (addProposal w s v)
 addProposal-grows g P w i s v p = record {
   votes = λ m s r v h. h;
   reached = λ m s r h. h;
+  first = λ m s c v h. h;
   proposed = λ s v h. inl h;
   newVote = λ m s r v h. inl h;
   newReached = λ m s r h. inl h;
+  newFirst = λ m s c v h. inl h;
   newProposed = λ s′ v′ h. go s′ v′ h;
 }
   where
@@ -106,12 +198,19 @@ addProposal-grows g P w i s v p = record {
 pub addProposal-consistent : (g : Voters) (w : World) (s v : ℕ) → Consistent g w → Consistent g (addProposal w s v)
 addProposal-consistent g w s v ok = record {
   oneValue = ok .oneValue;
-  safe = ok .safe;
+  safe = λ m s′ r′ v′ h. safe-stays g (λ s′ v′. (s′ ≡ s) × (v′ ≡ v)) 0 w (addProposal w s v)
+      (addProposal-grows g (λ s′ v′. (s′ ≡ s) × (v′ ≡ v)) w 0 s v (refl, refl)) s′ r′ v′ (ok .safe m s′ r′ v′ h);
   inRound = ok .inRound;
   live = ok .live;
   reached = ok .reached;
   proposed = λ m s′ r′ v′ h. inl (ok .proposed m s′ r′ v′ h);
   delegateReached = ok .delegateReached;
+  firstOnce = ok .firstOnce;
+  firstLive = ok .firstLive;
+  firstReached = ok .firstReached;
+  firstProposed = λ m s′ c v′ h. inl (ok .firstProposed m s′ c v′ h);
+  firstOwner = ok .firstOwner;
+  ownRounds = ok .ownRounds;
 }
 
 pub addProposal-true : (g : Voters) (w : World) (s v i : ℕ) (x : View) → TrueView g w i x → TrueView g (addProposal w s v) i x
@@ -123,6 +222,11 @@ addProposal-true g w s v i x o = record {
   heldBound = o .heldBound;
   heldVoted = o .heldVoted;
   heldProposed = λ t. inl (o .heldProposed t);
+  unheldFirst = o .unheldFirst;
+  heldFirst = o .heldFirst;
+  heldStill = o .heldStill;
+  answers = answers-stay g (λ s′ v′. (s′ ≡ s) × (v′ ≡ v)) i w (addProposal w s v)
+      (addProposal-grows g (λ s′ v′. (s′ ≡ s) × (v′ ≡ v)) w i s v (refl, refl)) i (x .slot) (x .answers) (o .answers);
   ownVotes = o .ownVotes;
   promises = o .promises;
   accepts = o .accepts;
@@ -135,6 +239,14 @@ MayVote g w i x v = Voted w (x .slot) (x .round) v
     ⊎ ((i ≡ g .delegate (x .round)) × ((m v′ : ℕ) → w .Votes m (x .slot) (x .round) v′ → ⊥) × Safe g w (x .slot) (x .round) v)
 
 module _ (g : Voters) (w : World) (ok : Consistent g w) (i : ℕ) (x : View) (o : TrueView g w i x) where
+  -- a later round is onward
+  pub later-onward : (r : ℕ) → x .round < r → Onward w i (x .slot) r
+  later-onward r lt s1 r1 h = let k = o .furthest s1 r1 h in (k .0, λ q. let z = k .1 q in omega arith)
+
+  -- so is the next slot
+  pub next-onward : Onward w i (suc (x .slot)) (g .start)
+  next-onward s1 r1 h = let k = o .furthest s1 r1 h .0 in (omega arith, λ q. absurd (omega arith))
+
   -- to a later round of the slot: both sets are emptied, what is held stays
   pub joined-true : (r : ℕ) → x .round < r → TrueView g (addReached w i (x .slot) r) i (joined r x)
   joined-true r lt = record {
@@ -145,6 +257,10 @@ module _ (g : Voters) (w : World) (ok : Consistent g w) (i : ℕ) (x : View) (o 
     heldBound = omega (arith, o .heldBound);
     heldVoted = o .heldVoted;
     heldProposed = o .heldProposed;
+    unheldFirst = o .unheldFirst;
+    heldFirst = λ t. let h = o .heldFirst t in let l = h .3 in (h .0, h .1, h .2, omega arith);
+    heldStill = o .heldStill;
+    answers = answers-stay g nothing i w (addReached w i (x .slot) r) (addReached-grows g nothing w i (x .slot) r (later-onward r lt)) i (x .slot) (x .answers) (o .answers);
     ownVotes = o .ownVotes;
     promises = λ m t. absurd t;
     accepts = λ m t. absurd t;
@@ -166,6 +282,10 @@ module _ (g : Voters) (w : World) (ok : Consistent g w) (i : ℕ) (x : View) (o 
     heldBound = o .heldBound;
     heldVoted = o .heldVoted;
     heldProposed = o .heldProposed;
+    unheldFirst = o .unheldFirst;
+    heldFirst = o .heldFirst;
+    heldStill = o .heldStill;
+    answers = o .answers;
     ownVotes = o .ownVotes;
     promises = λ m t. absurd t;
     accepts = λ m t. absurd t;
@@ -182,6 +302,11 @@ module _ (g : Voters) (w : World) (ok : Consistent g w) (i : ℕ) (x : View) (o 
     heldBound = omega arith;
     heldVoted = λ l. absurd (omega arith);
     heldProposed = λ t. absurd t;
+    unheldFirst = λ t c v h.
+        let there = ok .firstReached i (suc (x .slot)) c v h in let k = o .furthest (suc (x .slot)) (there .0) (there .1) .0 in omega arith;
+    heldFirst = λ t. absurd t;
+    heldStill = λ t z. absurd t;
+    answers = no-answers-true g (addReached w i (suc (x .slot)) (g .start)) i (suc (x .slot));
     ownVotes = λ r v h. let k = o .furthest (suc (x .slot)) r (ok .reached i (suc (x .slot)) r v h) .0 in absurd (omega arith);
     promises = λ m t. absurd t;
     accepts = λ m t. absurd t;
@@ -194,21 +319,55 @@ module _ (g : Voters) (w : World) (ok : Consistent g w) (i : ℕ) (x : View) (o 
       furthest s′ r′ (inl h) = let k = o .furthest s′ r′ h .0 in (omega arith, λ q. absurd (omega arith))
       furthest s′ r′ (inr k) = (omega (arith, k .1), λ q. omega (arith, k .2))
 
-  -- to hold what was accepted at a later round, or at none where nothing is held
-  pub adopted-true : (a v : ℕ) → x .heldRound ≤ a → a < x .round → (1 ≤ a → Voted w (x .slot) a v) → w .Proposed (x .slot) v → TrueView g w i (adopted a v x)
-  adopted-true a v le lt was-voted p = record {
+  -- to hold what was accepted at a later round, in place of what is held
+  pub adopted-true : (a c v : ℕ) → T (x .holds) → x .heldRound < a → a < x .round → Voted w (x .slot) a v → w .Proposed (x .slot) v → TrueView g w i (adopted a c v x)
+  adopted-true a c v holds le lt was-voted p = record {
     at = o .at;
     furthest = o .furthest;
     started = o .started;
     unheld = λ t. absurd t;
     heldBound = omega arith;
-    heldVoted = was-voted;
+    heldVoted = λ l. was-voted;
     heldProposed = λ t. p;
+    unheldFirst = λ t. absurd t;
+    heldFirst = λ t. o .heldFirst holds;
+    heldStill = λ t z. absurd (omega arith);
+    answers = o .answers;
     ownVotes = λ r v′ h. let k = o .ownVotes r v′ h in omega arith;
-    promises = λ m t. let b = o .promises m t in (b .0, b .1, λ r′ v′ h l. let k = b .2 r′ v′ h l in omega arith);
+    promises = λ m t. let b = o .promises m t in (b .0, b .1, (λ r′ v′ h l. let k = b .2 r′ v′ h l in omega arith), b .3);
     accepts = λ m t. let k = o .accepts m t .0 in absurd (omega arith);
     picked = o .picked;
   }
+
+  -- to hold something first: in the world f is its proposer
+  module _ (a c f v : ℕ) (unheld : T (not (x .holds))) (lt : a < x .round) (was-voted : 1 ≤ a → Voted w (x .slot) a v) (p : w .Proposed (x .slot) v)
+      (same : a ≡ 0 → c ≡ f) (early : f ≤ x .round) where
+    abbrev pub w¹ : World
+    w¹ = addFirst w i (x .slot) f v
+
+    pub held-true : TrueView g w¹ i (adopted a c v x)
+    held-true = record {
+      at = o .at;
+      furthest = o .furthest;
+      started = o .started;
+      unheld = λ t. absurd t;
+      heldBound = omega arith;
+      heldVoted = was-voted;
+      heldProposed = λ t. p;
+      unheldFirst = λ t. absurd t;
+      heldFirst = λ t. (f, v, inr (refl, refl, refl, refl), early);
+      heldStill = λ t z. inr (refl, refl, same z, refl);
+      answers = answers-stay g nothing i w w¹ (addFirst-grows g nothing w i (x .slot) f v) i (x .slot) (x .answers) (o .answers);
+      ownVotes = λ r v′ h. let k = o .ownVotes r v′ h in let z = o .unheld unheld in omega arith;
+      promises = λ m t. promise m (o .promises m t);
+      accepts = λ m t. let k = o .accepts m t .0 in let z = o .unheld unheld in absurd (omega arith);
+      picked = o .picked;
+    }
+      where
+        promise : (m : ℕ) → Promise g w m (x .slot) (x .round) (x .heldRound) → Promise g w¹ m (x .slot) (x .round) a
+        promise m q =
+            let b = promise-stays g nothing i w w¹ (addFirst-grows g nothing w i (x .slot) f v) m (x .slot) (x .round) (x .heldRound) q in
+            let z = o .unheld unheld in (b .0, b .1, (λ r′ v′ h l. let k = b .2 r′ v′ h l in omega arith), b .3)
 
   -- to count a promise
   pub preparedBy-true : (m : ℕ) → Promise g w m (x .slot) (x .round) (x .heldRound) → TrueView g w i (preparedBy m x)
@@ -220,6 +379,10 @@ module _ (g : Voters) (w : World) (ok : Consistent g w) (i : ℕ) (x : View) (o 
     heldBound = o .heldBound;
     heldVoted = o .heldVoted;
     heldProposed = o .heldProposed;
+    unheldFirst = o .unheldFirst;
+    heldFirst = o .heldFirst;
+    heldStill = o .heldStill;
+    answers = o .answers;
     ownVotes = o .ownVotes;
     promises = λ k t. go k (add-case m (x .prepared) k t);
     accepts = o .accepts;
@@ -231,8 +394,8 @@ module _ (g : Voters) (w : World) (ok : Consistent g w) (i : ℕ) (x : View) (o 
       go k (inr t) = o .promises k t
 
   -- the member's own promise
-  pub own-promise : T (g .live i) → Promise g w i (x .slot) (x .round) (x .heldRound)
-  own-promise l = (l, o .at, λ r′ v′ h lt. o .ownVotes r′ v′ h)
+  pub own-promise : T (g .live i) → T (x .holds) → Promise g w i (x .slot) (x .round) (x .heldRound)
+  own-promise l holds = (l, o .at, (λ r′ v′ h lt. o .ownVotes r′ v′ h), o .heldFirst holds)
 
   -- to count an accept
   pub acceptedBy-true : (m : ℕ) → x .heldRound ≡ x .round → w .Votes m (x .slot) (x .round) (x .heldValue) → TrueView g w i (acceptedBy m x)
@@ -244,6 +407,10 @@ module _ (g : Voters) (w : World) (ok : Consistent g w) (i : ℕ) (x : View) (o 
     heldBound = o .heldBound;
     heldVoted = o .heldVoted;
     heldProposed = o .heldProposed;
+    unheldFirst = o .unheldFirst;
+    heldFirst = o .heldFirst;
+    heldStill = o .heldStill;
+    answers = o .answers;
     ownVotes = o .ownVotes;
     promises = o .promises;
     accepts = λ k t. go k (add-case m (x .accepted) k t);
@@ -254,7 +421,27 @@ module _ (g : Voters) (w : World) (ok : Consistent g w) (i : ℕ) (x : View) (o 
       go k (inl q) = (e, subst (λ (j : ℕ). w .Votes j (x .slot) (x .round) (x .heldValue)) (sym q) b)
       go k (inr t) = o .accepts k t
 
-  module _ (v : ℕ) (live-i : T (g .live i)) (in-round : 1 ≤ x .round) (p : w .Proposed (x .slot) v) (f : MayVote g w i x v) where
+  -- to have other answers
+  pub withAnswers-true : (f : Answers) → TrueAnswers g w i (x .slot) f → TrueView g w i (withAnswers f x)
+  withAnswers-true f a = record {
+    at = o .at;
+    furthest = o .furthest;
+    started = o .started;
+    unheld = o .unheld;
+    heldBound = o .heldBound;
+    heldVoted = o .heldVoted;
+    heldProposed = o .heldProposed;
+    unheldFirst = o .unheldFirst;
+    heldFirst = o .heldFirst;
+    heldStill = o .heldStill;
+    answers = a;
+    ownVotes = o .ownVotes;
+    promises = o .promises;
+    accepts = o .accepts;
+    picked = o .picked;
+  }
+
+  module _ (v : ℕ) (live-i : T (g .live i)) (holds : T (x .holds)) (in-round : 1 ≤ x .round) (p : w .Proposed (x .slot) v) (f : MayVote g w i x v) where
     abbrev pub w⁺ : World
     w⁺ = addVote w i (x .slot) (x .round) v
 
@@ -269,9 +456,11 @@ module _ (g : Voters) (w : World) (ok : Consistent g w) (i : ℕ) (x : View) (o 
     vote-grows P = record {
       votes = λ m s r v h. inl h;
       reached = λ m s r h. h;
+      first = λ m s c v h. h;
       proposed = λ s v h. h;
       newVote = λ m s r u h. go m s r u h;
       newReached = λ m s r h. inl h;
+      newFirst = λ m s c v h. inl h;
       newProposed = λ s v h. inl h;
     }
       where
@@ -298,6 +487,12 @@ module _ (g : Voters) (w : World) (ok : Consistent g w) (i : ℕ) (x : View) (o 
       reached = λ m s r u h. reached m s r u h;
       proposed = λ m s r u h. proposed m s r u h;
       delegateReached = λ m s r u h. delegateReached m s r u h;
+      firstOnce = ok .firstOnce;
+      firstLive = ok .firstLive;
+      firstReached = ok .firstReached;
+      firstProposed = ok .firstProposed;
+      firstOwner = ok .firstOwner;
+      ownRounds = ok .ownRounds;
     }
       where
         oneValue : (m m′ s r u u′ : ℕ) → (w .Votes m s r u) ⊎ ThisVote m s r u → (w .Votes m′ s r u′) ⊎ ThisVote m′ s r u′ → u ≡ u′
@@ -347,8 +542,12 @@ module _ (g : Voters) (w : World) (ok : Consistent g w) (i : ℕ) (x : View) (o 
       heldBound = omega arith;
       heldVoted = λ l. (i, inr (refl, refl, refl, refl));
       heldProposed = λ t. p;
+      unheldFirst = λ t. absurd t;
+      heldFirst = λ t. o .heldFirst holds;
+      heldStill = λ t z. absurd (omega arith);
+      answers = answers-stay g nothing i w w⁺ (vote-grows nothing) i (x .slot) (x .answers) (o .answers);
       ownVotes = λ r u h. ownVotes r u h;
-      promises = λ m t. let b = o .promises m t in (b .0, b .1, λ r′ v′ h l. omega arith);
+      promises = λ m t. let b = o .promises m t in (b .0, b .1, (λ r′ v′ h l. omega arith), b .3);
       accepts = λ m t. accepts m (add-case i (x .accepted) m t);
       picked = λ m u h d. add-self i (x .accepted);
     }

@@ -1,12 +1,12 @@
 -- A call of the model hands back a commit exactly where it takes the member to its next slot, and the commit is of the member's slot.
 -- Assumes nothing.
-use Prim.Native.Nat.{ℕ, suc}
+use Prim.Native.Nat.{ℕ, suc, pred}
 use mathlib.Core.Path.{_≡_, refl}
 use mathlib.Core.Bool.{Bool, true, not, _&&_, _||_, cond}
 use mathlib.Core.List.{List, []}
 use lib.Dec.{eqb, ltb}
 use Rattle.sets.specs.Sets.{count}
-use Rattle.agreement.specs.Model.{View, Setup, Message, prepare, accept, commit, other, Outgoing, Host, Decision, undecided, decided, Outcome, joined, adopted, preparedBy, acceptedBy, voted, holdsBefore, enoughPrepared, enoughAccepted, enter, counted, picks, promised, onPrepare, commits, answers, afterAccept, onAccept, onCommit, onPropose, onMessage}
+use Rattle.agreement.specs.Model.{View, Setup, Message, prepare, accept, commit, other, Outgoing, Host, Decision, undecided, decided, Outcome, joined, adopted, preparedBy, acceptedBy, voted, withAnswer, withAnswers, holdsBefore, enoughPrepared, enoughAccepted, fastEnough, mayAdopt, isBest, enter, counted, casts, picks, adopts, decides, answering, gathers, promised, onPrepare, commits, replies, afterAccept, onAccept, onCommit, onPropose, onMessage}
 use Rattle.basics.proofs.Tests.{of-both}
 
 -- from slot s to s′: the same without a commit, and the next with a commit in s
@@ -30,19 +30,39 @@ module _ (S : Setup) (i : ℕ) (x : View) where
       let tell : Bool = not (eqb (h .requester) (suc i)) in
       of-both (MovesOn x) (eqb i (S .leader (y .round))) (commits-moves-on y [] true e)
       (of-both (MovesOn x) (eqb source (S .voters .delegate (y .round)))
-      (of-both (MovesOn x) (eqb c (suc i)) (commits-moves-on y (answers S i c y) tell e) e)
+      (of-both (MovesOn x) (eqb c (suc i)) (commits-moves-on y (replies S i c y) tell e) e)
       (of-both (MovesOn x) (eqb c (suc i)) (commits-moves-on y [] tell e) refl))
+
+  casts-moves-on : (v : ℕ) (y : View) → y .slot ≡ x .slot → MovesOn x (casts S i x v y)
+  unfolding casts
+  casts-moves-on v y e = of-both (MovesOn x) (y .accepted i) refl e
 
   picks-moves-on : (old y : View) → y .slot ≡ x .slot → MovesOn x (picks S i x old y)
   unfolding picks
   picks-moves-on old y e = of-both (MovesOn x) (ltb (count (old .prepared) (S .voters .count)) (S .voters .quorum) && enoughPrepared S y)
-      (of-both (MovesOn x) (y .accepted i) refl e) e
+      (casts-moves-on (y .heldValue) y e) e
 
-  promised-moves-on : (source a v : ℕ) (y : View) → y .slot ≡ x .slot → MovesOn x (promised S i source a v x y)
+  decides-moves-on : (v : ℕ) (h : Host) (y : View) → y .slot ≡ x .slot → MovesOn x (decides S i v h x y)
+  unfolding decides adopts
+  decides-moves-on v h y e = of-both (MovesOn x) (fastEnough S (y .answers)) (e, λ j. suc (e j))
+      (of-both (MovesOn x) (mayAdopt S (y .answers))
+      (of-both (MovesOn x) (eqb (h .adoptee) 0) e
+      (of-both (MovesOn x) (isBest S (pred (h .adoptee)) (y .answers) && enoughPrepared S y) (casts-moves-on (y .answers .values (pred (h .adoptee))) y e) refl))
+      e)
+
+  gathers-moves-on : (source c v : ℕ) (h : Host) (old y : View) → y .slot ≡ x .slot → MovesOn x (gathers S i source c v h x old y)
+  unfolding gathers answering
+  gathers-moves-on source c v h old y e = of-both (MovesOn x) (S .voters .fastPath && eqb (y .heldRound) 0)
+      (of-both (MovesOn x) (eqb c 0) refl
+      (of-both (MovesOn x) (y .answers .answered source) (of-both (MovesOn x) (eqb source i) (decides-moves-on v h y e) refl)
+      (decides-moves-on v h (withAnswers (withAnswer i source (pred c) v (y .answers)) y) e)))
+      (picks-moves-on old y e)
+
+  promised-moves-on : (source a c v : ℕ) (h : Host) (y : View) → y .slot ≡ x .slot → MovesOn x (promised S i source a c v h x y)
   unfolding promised counted
-  promised-moves-on source a v y e = of-both (MovesOn x) (eqb (S .voters .delegate (y .round)) i)
-      (of-both (λ (z : View). MovesOn x (picks S i x y (preparedBy i (preparedBy source z)))) (holdsBefore a y) {x = adopted a v y} {y = y}
-      (picks-moves-on y (preparedBy i (preparedBy source (adopted a v y))) e) (picks-moves-on y (preparedBy i (preparedBy source y)) e))
+  promised-moves-on source a c v h y e = of-both (MovesOn x) (eqb (S .voters .delegate (y .round)) i)
+      (of-both (λ (z : View). MovesOn x (gathers S i source c v h x y (preparedBy i (preparedBy source z)))) (holdsBefore a y) {x = adopted a c v y} {y = y}
+      (gathers-moves-on source c v h y (preparedBy i (preparedBy source (adopted a c v y))) e) (gathers-moves-on source c v h y (preparedBy i (preparedBy source y)) e))
       (of-both (MovesOn x) (eqb (y .heldRound) (y .round)) e e)
 
   enter-moves-on : (source s r : ℕ) (k : View → Outcome) → ((y : View) → y .slot ≡ x .slot → MovesOn x (k y)) → MovesOn x (enter S i x source s r k)
@@ -54,9 +74,9 @@ module _ (S : Setup) (i : ℕ) (x : View) where
 
   pub onMessage-moves-on : (source : ℕ) (h : Host) (c : Message) → MovesOn x (onMessage S i x source h c)
   unfolding onMessage onPrepare onAccept onCommit
-  onMessage-moves-on source h (prepare s r a v) = enter-moves-on source s r _ (λ y e.
-      of-both (λ (z : View). MovesOn x (promised S i source a v x z)) (y .holds) {x = y} {y = preparedBy i (adopted a v y)}
-      (promised-moves-on source a v y e) (promised-moves-on source a v (preparedBy i (adopted a v y)) e))
+  onMessage-moves-on source h (prepare s r a c v) = enter-moves-on source s r _ (λ y e.
+      of-both (λ (z : View). MovesOn x (promised S i source a c v h x z)) (y .holds) {x = y} {y = preparedBy i (adopted a c v y)}
+      (promised-moves-on source a c v h y e) (promised-moves-on source a c v h (preparedBy i (adopted a c v y)) e))
   onMessage-moves-on source h (accept s r v) = enter-moves-on source s r _ (λ y e.
       of-both (MovesOn x) (ltb (y .heldRound) (y .round) || (eqb (y .heldRound) (y .round) && eqb (y .heldValue) v)) (afterAccept-moves-on source h (acceptedBy source (voted i v y)) e) refl)
   onMessage-moves-on source h (commit s v) = of-both (MovesOn x) (ltb s (x .slot)) refl (of-both (MovesOn x) (eqb s (x .slot)) (refl, refl) refl)
@@ -65,4 +85,5 @@ module _ (S : Setup) (i : ℕ) (x : View) where
   pub onPropose-moves-on : (v : ℕ) → MovesOn x (onPropose S i x v)
   unfolding onPropose
   onPropose-moves-on v = of-both (MovesOn x) (S .voters .live i && (eqb (x .round) (S .voters .start) && not (x .holds)))
-      (of-both (MovesOn x) (S .startsLed) (of-both (MovesOn x) (eqb i (S .voters .delegate (x .round))) refl refl) refl) refl
+      (of-both (MovesOn x) (S .startsLed) (of-both (MovesOn x) (eqb i (S .voters .delegate (x .round))) refl refl)
+      (of-both (MovesOn x) (S .voters .fastPath) (of-both (MovesOn x) (eqb (count (x .answers .answered) (S .voters .count)) 0) refl refl) refl)) refl

@@ -1,19 +1,22 @@
 -- What is asked of an engine, in equations alone: each of its calls, seen as the model's, is the model's call, or has no part in the agreement.
 -- Assumes nothing.
-use Prim.Native.Nat.{ℕ, _≤_, _<_}
+use Prim.Native.Nat.{ℕ, suc, _≤_, _<_}
 use mathlib.Core.Path.{_≡_}
 use mathlib.Core.Bool.{not, cond}
 use mathlib.Core.Logic.{_⊎_}
 use mathlib.Core.List.{List, [], _∷_}
 use lib.Dec.{T}
+use Rattle.agreement.specs.Voting.{VotersRules}
 use Rattle.agreement.specs.Model.{View, Setup, Message, other, Outgoing, Host, undecided, Outcome, initial, refuse, onPropose, onMessage}
 use Rattle.agreement.specs.Engine.{Kind, proposes, delivers, reads, Envelope, Answer, Engine}
 
 -- what is asked of the settings: where slots start in a led round, it is a round; elsewhere a member proposes in a round after the
--- starting one
+-- starting one, on the fast path in that of its number; and the rules of the voters
 pub record SetupRules (S : Setup) : Type 0 where
   pub startsInRound : T (S .startsLed) → 1 ≤ S .voters .start
   pub ownRoundLater : T (not (S .startsLed)) → (i : ℕ) → S .voters .start < S .ownRound i
+  pub ownRoundFast : T (S .voters .fastPath) → (i : ℕ) → S .ownRound i ≡ suc i
+  pub voters : VotersRules (S .voters)
 
 -- the model's calls: member i is asked to propose a value, or is handed a message from a source
 pub data Call : Type 0 where

@@ -16,7 +16,7 @@ use Rattle.direct.specs.Direct.{Direct, direct}
 use Rattle.direct_core.specs.Handled.{Written, putReply, passedOn}
 use Rattle.direct_fast.specs.DirectFast.{FastDirect, fastHalfActs}
 use Rattle.fast_arrays.specs.FastArrays.{fastOf}
-use Rattle.group.specs.Claim.{memberSettings, begun, MemberCall, Entry, afterCall, entriesFrom, entries, Legal, Claim, Classic}
+use Rattle.group.specs.Claim.{memberSettings, begun, MemberCall, Entry, afterCall, entriesFrom, entries, Legal, Claim, NotSwift}
 use Rattle.group.proofs.Agreement.{agreement}
 use Rattle.host.proofs.Calls.{refusal-leaves, new-stands}
 use Rattle.host.specs.Calls.{flatNew}
@@ -142,7 +142,7 @@ host-run shards memories same past (c ∷ cs) = (
 )
 
 -- Demand 3 of hosts that lend arrays: what they are told over a legal list, on memory that stands for new shards, meets the claim.
-pub host-agreement : (s : Settings) → Classic (s .mode) → (memories : ℕ → Memory) → ((j : ℕ) → shardOf (memories j) ≡ begun s j) → (cs : List HostCall)
+pub host-agreement : (s : Settings) → NotSwift (s .mode) → (memories : ℕ → Memory) → ((j : ℕ) → shardOf (memories j) ≡ begun s j) → (cs : List HostCall)
     → Legal s (callsFrom memories cs) → (all : List Entry) × HostRun memories [] cs all × Claim all
 host-agreement s classic memories new cs legal =
     (entries s (callsFrom memories cs), host-run (begun s) memories new [] cs, agreement s classic (callsFrom memories cs) legal)

@@ -1,6 +1,6 @@
 -- Handling an Accept in the classic modes is the model's `onAccept`.
 -- Assumes nothing.
-use mathlib.Core.Path.{_≡_, refl, sym, ap, ap₂, _∙_}
+use mathlib.Core.Path.{_≡_, refl, sym, ap, ap₂, subst, _∙_}
 use mathlib.Core.Logic.{_⊎_, inl, inr}
 use mathlib.Core.Bool.{Bool, true, false, cond, not, _&&_, _||_}
 use mathlib.Core.List.{List, [], _∷_, _++_}
@@ -25,18 +25,20 @@ use Rattle.round_state.specs.declared.HeldPromise.the-variants.{NothingHeld, He
 use Rattle.settings.specs.Questions.{quorumsOf, delegateOf, committerOf, committerIn}
 use Rattle.settings.specs.declared.Settings.{Settings}
 use Rattle.accept.specs.Accept.{tellsCommitter, isCommitter, acceptTo, committerHears, answerAccept, commitMessage, tellsCommit, commitMessages, tryCommit, answered, follower, accepted, accepting}
-use Rattle.enter.specs.Enter.{inRound}
-use Rattle.paxos_family.specs.Process.{onAccept}
-use Rattle.steps.specs.Steps.{noMessages, oneMessage, twoMessages, also, heldV, withPaxos, leftFastPath, stays, commits, refuses}
+use Rattle.enter.specs.Enter.{inRound, enter}
+use Rattle.steps.specs.Steps.{noMessages, oneMessage, twoMessages, also, heldV, withPaxos, leftFastPath, stays, commits, refuses, goesOn}
 use Rattle.steps.specs.declared.Core.{Core}
+use Rattle.steps.specs.declared.CoreStep.{CoreStep}
 use Rattle.steps.specs.declared.Heard.{Heard}
 use Rattle.steps.specs.declared.Messages.{Messages}
+use Rattle.steps.specs.declared.Next.{Next}
+use Rattle.steps.specs.declared.Next.the-variants.{Stays, Continues, Commits, Refuses}
 use Rattle.steps.specs.declared.Outgoing.{Outgoing}
-use Rattle.agreement.specs.Model.{View, Outcome, Host, acceptedBy, voted, refuse, say}
+use Rattle.agreement.specs.Model.{View, Answers, Outcome, Host, acceptedBy, voted, refuse, say}
 use Rattle.agreement.specs.Model as model
 use Rattle.agreement.specs.Refinement.{meanings}
 use Rattle.group.specs.Claim.{memberSettings}
-use Rattle.group.proofs.View.{roundNumber, LeaderFits, leaderOf, leader-of, before-number, equal-number, processNumber, process-of, meaningOf, envelope, envelopes, viewOf, Leaders, setupOf, Follows}
+use Rattle.group.proofs.View.{roundNumber, LeaderFits, leaderOf, leader-of, before-number, equal-number, processNumber, process-of, meaningOf, envelope, envelopes, viewOf, Leaders, setupOf, SeenAs, Follows, thenIn}
 use Rattle.group.proofs.Entering.{add-other-way, counted-add, in-round-leaders, in-round-round, enter-follows}
 use Rattle.group.proofs.Preparing.{askedBy, follows-both}
 
@@ -85,10 +87,10 @@ committer-same s i p = refl
 eqb-swap : (a b : ℕ) → eqb b a ≡ eqb a b
 eqb-swap a b = same-test (λ e. eq-eqb a b (sym (eqb-true b a e))) (λ e. eq-eqb b a (sym (eqb-true a b e)))
 
-module _ (s : Settings) (i : ℕ) (classic : isSwiftPaxos (s .mode) ≡ false) (alive : contains (s .«alive_replicas») i ≡ true) (small : i < 64) (h : Heard) (src-small : h .src < 64) (by-requester : h .committer ≡ committerOf s (h .requester)) (round : PaxosRound) (below : round .leader < 64) where
+module _ (ans : Answers) (s : Settings) (i : ℕ) (classic : isSwiftPaxos (s .mode) ≡ false) (alive : contains (s .«alive_replicas») i ≡ true) (small : i < 64) (h : Heard) (src-small : h .src < 64) (by-requester : h .committer ≡ committerOf s (h .requester)) (round : PaxosRound) (below : round .leader < 64) where
   -- what the host says, as the model's host
   abbrev host : Host
-  host = record { allows = true; requester = processNumber (h .requester) }
+  host = record { allows = true; requester = processNumber (h .requester); adoptee = 0 }
 
   -- the committer as the model has it
   abbrev third : ℕ
@@ -101,7 +103,7 @@ module _ (s : Settings) (i : ℕ) (classic : isSwiftPaxos (s .mode) ≡ false) (
   unfolding isCommitter
   committer-number = is-committer-number (tellsCommitter (s .mode)) (h .committer) i ∙ ap (λ (c : ℕ). eqb c (suc i)) (sym third-number)
 
-  leader-number : (core : Core) → core .paxos .round ≡ Round round → leaderOf (viewOf core .round) ≡ round .leader
+  leader-number : (core : Core) → core .paxos .round ≡ Round round → leaderOf (viewOf ans core .round) ≡ round .leader
   leader-number core at = ap (λ (r : OptionalRound). leaderOf (roundNumber r)) at ∙ leader-of round below
 
   -- ---- the commit
@@ -123,7 +125,7 @@ module _ (s : Settings) (i : ℕ) (classic : isSwiftPaxos (s .mode) ≡ false) (
   commit-messages core ms app false e = ap (λ (t : Bool). meanings meaningOf (envelopes (cond t (also ms (commitMessage (askedBy s i) core (h .requester))) ms))) e
 
   try-commit-follows : (v : ℕ) (core : Core) (ms : Messages) → Appends ms → heldV (core .paxos .«max_rv») ≡ v → (tell : Bool) → tellsCommit (askedBy s i) h round ≡ tell
-      → Follows (setupOf s) (tryCommit (askedBy s i) h round v core ms) (model.commits (setupOf s) (viewOf core) (meanings meaningOf (envelopes ms)) tell)
+      → Follows (setupOf s) ans (tryCommit (askedBy s i) h round v core ms) (model.commits (setupOf s) (viewOf ans core) (meanings meaningOf (envelopes ms)) tell)
   unfolding model.commits size
   try-commit-follows v core ms app same tell e = go (either (leb (quorumsOf s .majority) (count (contains (core .paxos .«accepted_set»)) 64)))
     where
@@ -133,25 +135,25 @@ module _ (s : Settings) (i : ℕ) (classic : isSwiftPaxos (s .mode) ≡ false) (
       chosen : Outcome
       chosen =
           record {
-            view = model.advanced (setupOf s .voters .start) (viewOf core);
+            view = model.advanced (setupOf s .voters .start) (viewOf ans core);
             outgoing = cond tell (os ++ (record { destination = model.all; message = model.commit (core .slot) (heldV (core .paxos .«max_rv»)) } ∷ [])) os;
             decision = model.decided (core .slot) (heldV (core .paxos .«max_rv»));
             taken = true;
           }
 
       go : (leb (quorumsOf s .majority) (count (contains (core .paxos .«accepted_set»)) 64) ≡ true) ⊎ (leb (quorumsOf s .majority) (count (contains (core .paxos .«accepted_set»)) 64) ≡ false)
-          → Follows (setupOf s) (tryCommit (askedBy s i) h round v core ms) (cond (leb (quorumsOf s .majority) (count (contains (core .paxos .«accepted_set»)) 64)) chosen (say (viewOf core) os))
+          → Follows (setupOf s) ans (tryCommit (askedBy s i) h round v core ms) (cond (leb (quorumsOf s .majority) (count (contains (core .paxos .«accepted_set»)) 64)) chosen (say (viewOf ans core) os))
       go (inl f) =
-          follows-both (commit-full v core ms f) (ap (λ (t : Bool). cond t chosen (say (viewOf core) os)) f)
+          follows-both (commit-full v core ms f) (ap (λ (t : Bool). cond t chosen (say (viewOf ans core) os)) f)
           (record {
             seen-as =
                 ap₂
                 (λ (l : List model.Outgoing) (w : ℕ).
-                record { view = model.advanced (setupOf s .voters .start) (viewOf core); outgoing = l; decision = model.decided (core .slot) w; taken = true })
+                record { view = model.advanced (setupOf s .voters .start) (viewOf ans core); outgoing = l; decision = model.decided (core .slot) w; taken = true })
                 (commit-messages core ms app tell e)
                 (sym same);
           })
-      go (inr f) = follows-both (commit-waits v core ms f) (ap (λ (t : Bool). cond t chosen (say (viewOf core) os)) f) (record { seen-as = refl })
+      go (inr f) = follows-both (commit-waits v core ms f) (ap (λ (t : Bool). cond t chosen (say (viewOf ans core) os)) f) (record { seen-as = refl })
 
   -- ---- the answers to an Accept
 
@@ -238,8 +240,8 @@ module _ (s : Settings) (i : ℕ) (classic : isSwiftPaxos (s .mode) ≡ false) (
       go false = one-appends (acceptTo (askedBy s i) core round (round .leader))
 
   answers-model : (core : Core) → core .paxos .round ≡ Round round
-      → meanings meaningOf (envelopes (answerAccept (askedBy s i) round core (h .committer))) ≡ model.answers (setupOf s) i third (viewOf core)
-  unfolding model.answers
+      → meanings meaningOf (envelopes (answerAccept (askedBy s i) round core (h .committer))) ≡ model.replies (setupOf s) i third (viewOf ans core)
+  unfolding model.replies
   answers-model core at =
       answers-at core (h .committer) ∙ ap (λ (c : ℕ). answersAt core c (round .leader) (roundNumber (Round round))) (sym third-number)
       ∙ ap₂ (answersAt core third) (sym (leader-number core at)) (ap roundNumber (sym at))
@@ -260,7 +262,7 @@ module _ (s : Settings) (i : ℕ) (classic : isSwiftPaxos (s .mode) ≡ false) (
     pub value : heldV (core .paxos .«max_rv») ≡ v
 
   abbrev outcomeOf : View → Core → Outcome
-  outcomeOf x0 core = model.afterAccept (setupOf s) i (h .src) host x0 (viewOf core)
+  outcomeOf x0 core = model.afterAccept (setupOf s) i (h .src) host x0 (viewOf ans core)
 
   accepted-leader : (v : ℕ) (core : Core) → eqb i (round .leader) ≡ true → accepted (askedBy s i) h round v core ≡ tryCommit (askedBy s i) h round v core noMessages
   unfolding accepted
@@ -288,10 +290,10 @@ module _ (s : Settings) (i : ℕ) (classic : isSwiftPaxos (s .mode) ≡ false) (
 
   module _ (delegate-of : h .delegate ≡ delegateOf s (s .mode) (round .leader)) (x0 : View) (v : ℕ) (core : Core) (acc : Accepted v core) where
     abbrev leads : Bool
-    leads = eqb i (leaderOf (viewOf core .round))
+    leads = eqb i (leaderOf (viewOf ans core .round))
 
     abbrev answersIt : Bool
-    answersIt = eqb (h .src) (setupOf s .voters .delegate (viewOf core .round))
+    answersIt = eqb (h .src) (setupOf s .voters .delegate (viewOf ans core .round))
 
     leads-number : leads ≡ eqb i (round .leader)
     leads-number = ap (eqb i) (leader-number core (acc .at))
@@ -299,41 +301,41 @@ module _ (s : Settings) (i : ℕ) (classic : isSwiftPaxos (s .mode) ≡ false) (
     delegate-same : answersIt ≡ eqb (h .src) (h .delegate)
     delegate-same = ap (eqb (h .src)) (ap (delegateOf s (s .mode)) (leader-number core (acc .at)) ∙ sym delegate-of)
 
-    model-leader : leads ≡ true → outcomeOf x0 core ≡ model.commits (setupOf s) (viewOf core) [] true
+    model-leader : leads ≡ true → outcomeOf x0 core ≡ model.commits (setupOf s) (viewOf ans core) [] true
     unfolding model.afterAccept
     model-leader e = simp e
 
-    model-answered : leads ≡ false → answersIt ≡ true → eqb third (suc i) ≡ false → outcomeOf x0 core ≡ say (viewOf core) (model.answers (setupOf s) i third (viewOf core))
+    model-answered : leads ≡ false → answersIt ≡ true → eqb third (suc i) ≡ false → outcomeOf x0 core ≡ say (viewOf ans core) (model.replies (setupOf s) i third (viewOf ans core))
     unfolding model.afterAccept
     model-answered e d c = simp (e, d, c)
 
     model-committer : leads ≡ false → answersIt ≡ true → eqb third (suc i) ≡ true
-        → outcomeOf x0 core ≡ model.commits (setupOf s) (viewOf core) (model.answers (setupOf s) i third (viewOf core)) (not (eqb (host .requester) (suc i)))
+        → outcomeOf x0 core ≡ model.commits (setupOf s) (viewOf ans core) (model.replies (setupOf s) i third (viewOf ans core)) (not (eqb (host .requester) (suc i)))
     unfolding model.afterAccept
     model-committer e d c = simp (e, d, c)
 
-    model-other : leads ≡ false → answersIt ≡ false → eqb third (suc i) ≡ true → outcomeOf x0 core ≡ model.commits (setupOf s) (viewOf core) [] (not (eqb (host .requester) (suc i)))
+    model-other : leads ≡ false → answersIt ≡ false → eqb third (suc i) ≡ true → outcomeOf x0 core ≡ model.commits (setupOf s) (viewOf ans core) [] (not (eqb (host .requester) (suc i)))
     unfolding model.afterAccept
     model-other e d c = simp (e, d, c)
 
-    accepted-follows : Follows (setupOf s) (accepted (askedBy s i) h round v core) (outcomeOf x0 core)
+    accepted-follows : Follows (setupOf s) ans (accepted (askedBy s i) h round v core) (outcomeOf x0 core)
     accepted-follows = go (either (eqb i (round .leader))) (either (eqb (h .src) (h .delegate))) (either (isCommitter (askedBy s i) h))
       where
         third-is : (t : Bool) → isCommitter (askedBy s i) h ≡ t → eqb third (suc i) ≡ t
         third-is t e = sym committer-number ∙ e
 
         go : (eqb i (round .leader) ≡ true) ⊎ (eqb i (round .leader) ≡ false) → (eqb (h .src) (h .delegate) ≡ true) ⊎ (eqb (h .src) (h .delegate) ≡ false)
-            → (isCommitter (askedBy s i) h ≡ true) ⊎ (isCommitter (askedBy s i) h ≡ false) → Follows (setupOf s) (accepted (askedBy s i) h round v core) (outcomeOf x0 core)
+            → (isCommitter (askedBy s i) h ≡ true) ⊎ (isCommitter (askedBy s i) h ≡ false) → Follows (setupOf s) ans (accepted (askedBy s i) h round v core) (outcomeOf x0 core)
         go (inl e) d c =
             follows-both (accepted-leader v core e) (model-leader (leads-number ∙ e)) (try-commit-follows v core noMessages none-appends (acc .value) true (tells-leader e))
         go (inr e) (inl d) (inl c) =
             follows-both (accepted-committer v core e d c)
             (model-committer (leads-number ∙ e) (delegate-same ∙ d) (third-is true c)
-            ∙ ap (λ (os : List model.Outgoing). model.commits (setupOf s) (viewOf core) os (not (eqb (host .requester) (suc i)))) (sym (answers-model core (acc .at))))
+            ∙ ap (λ (os : List model.Outgoing). model.commits (setupOf s) (viewOf ans core) os (not (eqb (host .requester) (suc i)))) (sym (answers-model core (acc .at))))
             (try-commit-follows v core (answerAccept (askedBy s i) round core (h .committer)) (answer-appends core (h .committer)) (acc .value) (not (eqb (host .requester) (suc i))) (tells-other e))
         go (inr e) (inl d) (inr c) =
             follows-both (accepted-answered v core e d c) (model-answered (leads-number ∙ e) (delegate-same ∙ d) (third-is false c))
-            (record { seen-as = ap (say (viewOf core)) (answers-model core (acc .at)) })
+            (record { seen-as = ap (say (viewOf ans core)) (answers-model core (acc .at)) })
         go (inr e) (inr d) (inl c) =
             follows-both (accepted-other v core e d c) (model-other (leads-number ∙ e) (delegate-same ∙ d) (third-is true c))
             (try-commit-follows v core noMessages none-appends (acc .value) (not (eqb (host .requester) (suc i))) (tells-other e))
@@ -353,7 +355,7 @@ module _ (s : Settings) (i : ℕ) (classic : isSwiftPaxos (s .mode) ≡ false) (
   unfolding accepting receiveAccept
   accepting-unfit v core e = simp e
 
-  accepted-view : (v : ℕ) (core : Core) → core .paxos .round ≡ Round round → viewOf (acceptedCore v core) ≡ acceptedBy (h .src) (voted i v (viewOf core))
+  accepted-view : (v : ℕ) (core : Core) → core .paxos .round ≡ Round round → viewOf ans (acceptedCore v core) ≡ acceptedBy (h .src) (voted i v (viewOf ans core))
   accepted-view v core at =
       ap₂
       (λ (r : ℕ) (f : ℕ → Bool).
@@ -362,9 +364,11 @@ module _ (s : Settings) (i : ℕ) (classic : isSwiftPaxos (s .mode) ≡ false) (
         round = roundNumber (core .paxos .round);
         holds = true;
         heldRound = r;
+        heldProposer = 0;
         heldValue = v;
         prepared = contains (core .paxos .«prepared_set»);
         accepted = f;
+        answers = ans;
       })
       (ap roundNumber (sym at))
       (counted-add (askedBy s i .member) (h .src) (core .paxos .«accepted_set») alive small src-small ∙ add-other-way i (h .src) (contains (core .paxos .«accepted_set»)))
@@ -373,34 +377,48 @@ module _ (s : Settings) (i : ℕ) (classic : isSwiftPaxos (s .mode) ≡ false) (
   fitsModel v y = ltb (y .heldRound) (y .round) || (eqb (y .heldRound) (y .round) && eqb (y .heldValue) v)
 
   accepting-follows : h .delegate ≡ delegateOf s (s .mode) (round .leader) → (v : ℕ) (core : Core) → Leaders core → core .paxos .round ≡ Round round → (x0 : View)
-      → Follows (setupOf s) (accepting (askedBy s i) h round v core)
-      (cond (fitsModel v (viewOf core)) (model.afterAccept (setupOf s) i (h .src) host x0 (acceptedBy (h .src) (voted i v (viewOf core)))) (refuse x0))
+      → Follows (setupOf s) ans (accepting (askedBy s i) h round v core)
+      (cond (fitsModel v (viewOf ans core)) (model.afterAccept (setupOf s) i (h .src) host x0 (acceptedBy (h .src) (voted i v (viewOf ans core)))) (refuse x0))
   accepting-follows d v core ok at x0 = go (either (acceptFits (core .paxos .«max_rv») round v))
     where
-      same : acceptFits (core .paxos .«max_rv») round v ≡ fitsModel v (viewOf core)
+      same : acceptFits (core .paxos .«max_rv») round v ≡ fitsModel v (viewOf ans core)
       same =
           fits-number (core .paxos .«max_rv») round v (ok .in-held) below
-          ∙ ap (λ (r : ℕ). ltb (viewOf core .heldRound) r || (eqb (viewOf core .heldRound) r && eqb (viewOf core .heldValue) v)) (ap roundNumber (sym at))
+          ∙ ap (λ (r : ℕ). ltb (viewOf ans core .heldRound) r || (eqb (viewOf ans core .heldRound) r && eqb (viewOf ans core .heldValue) v)) (ap roundNumber (sym at))
 
       goal : Bool → Outcome
-      goal t = cond t (model.afterAccept (setupOf s) i (h .src) host x0 (acceptedBy (h .src) (voted i v (viewOf core)))) (refuse x0)
+      goal t = cond t (model.afterAccept (setupOf s) i (h .src) host x0 (acceptedBy (h .src) (voted i v (viewOf ans core)))) (refuse x0)
 
       go : (acceptFits (core .paxos .«max_rv») round v ≡ true) ⊎ (acceptFits (core .paxos .«max_rv») round v ≡ false)
-          → Follows (setupOf s) (accepting (askedBy s i) h round v core) (goal (fitsModel v (viewOf core)))
+          → Follows (setupOf s) ans (accepting (askedBy s i) h round v core) (goal (fitsModel v (viewOf ans core)))
       go (inl e) =
           follows-both (accepting-fits v core e)
           (ap goal (sym same ∙ e) ∙ ap (model.afterAccept (setupOf s) i (h .src) host x0) (sym (accepted-view v core at)))
           (accepted-follows d x0 v (acceptedCore v core) (record { at = at; value = refl }))
       go (inr e) = follows-both (accepting-unfit v core e) (ap goal (sym same ∙ e)) (record { seen-as = tt })
 
--- An Accept is the model's, with the host's requester.
-pub on-accept-follows : (s : Settings) (i : ℕ) → isSwiftPaxos (s .mode) ≡ false → i < 64 → (h : Heard) → h .src < 64 → (slot : ℕ) (round : PaxosRound) → round .leader < 64 → (v : ℕ)
-    → h .«source_live» ≡ contains (s .«alive_replicas») (h .src) → h .delegate ≡ delegateOf s (s .mode) (round .leader) → h .committer ≡ committerOf s (h .requester)
-    → (core : Core) → Leaders core → slot ≤ core .slot
-    → Follows (setupOf s) (onAccept (askedBy s i) h slot round v core)
-    (model.onAccept (setupOf s) i (viewOf core) (h .src) slot (roundNumber (Round round)) v (record { allows = true; requester = processNumber (h .requester) }))
-unfolding onAccept model.onAccept
-on-accept-follows s i classic small h src slot round below v live d c core ok le =
-    enter-follows s i classic core h slot round ok below live le (accepting (askedBy s i) h round v) _
-    (λ alive same no-older.
-    accepting-follows s i classic alive small h src c round below d v (inRound round core) (in-round-leaders round core ok below) (in-round-round round core no-older) (viewOf core))
+-- a step that is the model's does not go on
+pub ends : (S : model.Setup) (ans : Answers) (X : Type 0) (lift : CoreStep → X) (Fits : X → Outcome → Type 0) → ((step : CoreStep) (r : Outcome) → Follows S ans step r → Fits (lift step) r)
+    → (step : CoreStep) (r : Outcome) (rest : Core → X) → Follows S ans step r → Fits (thenIn lift step rest) r
+ends S ans X lift Fits lifted step r rest f = go (step .next) refl (f .seen-as)
+  where
+    go : (n : Next) → step .next ≡ n → SeenAs S ans (step .core) (step .messages) n r → Fits (thenIn lift step rest) r
+    go Stays e g = subst (λ (t : Bool). Fits (cond t (rest (step .core)) (lift step)) r) (ap (λ (n : Next). goesOn n) (sym e)) (lifted step r f)
+    go Continues e g = absurd g
+    go (Commits v) e g = subst (λ (t : Bool). Fits (cond t (rest (step .core)) (lift step)) r) (ap (λ (n : Next). goesOn n) (sym e)) (lifted step r f)
+    go (Refuses why) e g = subst (λ (t : Bool). Fits (cond t (rest (step .core)) (lift step)) r) (ap (λ (n : Next). goesOn n) (sym e)) (lifted step r f)
+
+-- An Accept is the model's, with the host's requester; X is what the handler makes of it, as in Entering.antt.
+module _ (ans : Answers) (s : Settings) (i : ℕ) (classic : isSwiftPaxos (s .mode) ≡ false) (small : i < 64) (h : Heard) (src : h .src < 64) (slot : ℕ) (round : PaxosRound) (below : round .leader < 64) (v : ℕ)
+    (live : h .«source_live» ≡ contains (s .«alive_replicas») (h .src)) (delegate-of : h .delegate ≡ delegateOf s (s .mode) (round .leader)) (by-requester : h .committer ≡ committerOf s (h .requester))
+    (X : Type 0) (lift : CoreStep → X) (Fits : X → Outcome → Type 0) (lifted : (step : CoreStep) (r : Outcome) → Follows (setupOf s) ans step r → Fits (lift step) r)
+    (rest : Core → X) (rest-follows : contains (s .«alive_replicas») i ≡ true → (core : Core) (r : Outcome) → Follows (setupOf s) ans (accepting (askedBy s i) h round v core) r → Fits (rest core) r) where
+  pub on-accept-follows : (core : Core) → Leaders core → slot ≤ core .slot
+      → Fits (thenIn lift (enter (askedBy s i) h slot round core) rest)
+      (model.onAccept (setupOf s) i (viewOf ans core) (h .src) slot (roundNumber (Round round)) v (record { allows = true; requester = processNumber (h .requester); adoptee = 0 }))
+  unfolding model.onAccept
+  on-accept-follows core ok le =
+      enter-follows ans s i classic core h slot round X lift Fits lifted ok below live le rest _
+      (λ alive same no-older.
+      rest-follows alive (inRound round core) _
+      (accepting-follows ans s i classic alive small h src by-requester round below delegate-of v (inRound round core) (in-round-leaders round core ok below) (in-round-round round core no-older) (viewOf ans core)))

@@ -1,10 +1,11 @@
--- Demand 3: in Paxos, MultiPaxos, MultiPaxos3P and Pando, with every settings, every legal list of calls meets the claim.
+-- Demand 3, with request E9: in every mode but SwiftPaxos, with every settings, every legal list of calls meets the claim, whichever of the
+-- best-scored proposers each adoption takes.
 -- Assumes nothing.
 use mathlib.Core.Path.{_≡_, refl, sym, ap, ap₂, subst, _∙_}
 use mathlib.Core.Logic.{_⊎_, inl, inr}
 use mathlib.Core.Bool.{Bool, true, false, cond, not, _&&_}
 use mathlib.Core.List.{List, [], _∷_}
-use Prim.Native.Nat.{ℕ, suc, _≤_, _<_}
+use Prim.Native.Nat.{ℕ, suc, _+_, _≤_, _<_}
 use native.Mathlib.Nat.{zero-lt-suc, le-trans, lt-of-lt-of-le}
 use native.Mathlib.Omega.{arith}
 use lib.Dec.{T, eqb, ltb, leb}
@@ -12,6 +13,7 @@ use borrow.Author.Tests.{lt-ltb}
 use Rattle.basics.proofs.Tests.{either, not-both}
 use Rattle.sets.specs.Sets.{contains, count, size, fits}
 use Rattle.sets.proofs.Counting.{count-le}
+use Rattle.sets.proofs.Laws.{fits-members}
 use Rattle.message.specs.Modes.{isMultiPaxos}
 use Rattle.message.specs.Rounds.{startingRound}
 use Rattle.message.specs.declared.ConsensusMessage.{ConsensusMessage}
@@ -24,9 +26,11 @@ use Rattle.message.specs.declared.Refusal.the-variants.{SettingsOutsideLimits}
 use Rattle.settings.specs.Settings.{countsFit, membersFit, committersFit, modeFits, withinLimits}
 use Rattle.settings.specs.declared.Settings.{Settings}
 use Rattle.settings.proofs.Limits.{within-counts, within-members}
-use Rattle.fast_state.specs.Adopt.{lowestBest}
+use Rattle.fast_state.specs.Adopt.{Choice, lowestBest}
+use Rattle.quorum.specs.Quorum.{rowOf}
+use Rattle.settings.specs.Questions.{quorumsOf, delegateOf, delegateIn}
 use Rattle.consensus.specs.Answers.{refused}
-use Rattle.consensus.specs.Call.{newShard, ifMade, callWith, callOf}
+use Rattle.consensus.specs.Call.{newShard, ifMade, callWith}
 use Rattle.consensus.specs.declared.Answer.{Answer}
 use Rattle.calls.specs.declared.Call.{Call}
 use Rattle.calls.specs.declared.Call.the-variants.{Propose, StartRead, Receive}
@@ -45,13 +49,15 @@ use Rattle.agreement.specs.Engine as engine
 use Rattle.agreement.specs.Model.{Setup}
 use Rattle.agreement.specs.Model as model
 use Rattle.agreement.specs.Refinement.{SetupRules, Refines, AsModel}
-use Rattle.agreement.specs.Voting.{QuorumsMeet}
+use Rattle.agreement.specs.Voting.{VotersRules}
 use Rattle.agreement.proofs.Refinement.{refines-claim}
-use Rattle.agreement.proofs.Voting.{majority-meets}
-use Rattle.group.specs.Claim.{memberSettings, begun, MemberCall, Entry, entryOf, afterCall, entriesFrom, entries, listed, messagesOf, SentTo, WasSent, MayStand, LegalFrom, Legal, At, plusCommit, slotAt, Proposed, Claim, Classic}
-use Rattle.group.proofs.Calls.{isDone, decisionOf, seenAnswer, engineOf, viewShard, refuse-as-model, kindOf, Valid, call-ok}
+use Rattle.agreement.proofs.Tests.{is-true}
+use Rattle.group.specs.Claim.{memberSettings, begun, MemberCall, Entry, entryOf, afterCall, entriesFrom, entries, listed, messagesOf, SentTo, WasSent, MayStand, LegalFrom, Legal, At, plusCommit, slotAt, Proposed, Claim, NotSwift}
+use Rattle.group.specs.Ties.{TieCall, tieEntryOf, afterTieCall, tieEntriesFrom, tieEntries, LegalTiesFrom, LegalTies}
+use Rattle.group.proofs.Calls.{isDone, decisionOf, seenAnswer, engineOf, viewShard, refuse-as-model, kindOf, no-answers-fit, begins-seen, Valid, call-ok}
 use Rattle.group.proofs.Proposing.{starting-fits}
-use Rattle.group.proofs.View.{roundNumber, no-member, meaningOf, destinationOf, envelope, envelopesOf, envelopes, setupOf}
+use Rattle.group.proofs.Ties.{lowest-picks-best}
+use Rattle.group.proofs.View.{roundNumber, leaderOf, isEPaxos, no-member, meaningOf, destinationOf, envelope, envelopesOf, envelopes, setupOf}
 
 -- ---- the setup of a group
 
@@ -71,18 +77,71 @@ own-round-later EPaxos l i t = zero-lt-suc i
 own-round-later Pando l i t = zero-lt-suc i
 own-round-later SwiftPaxos l i t = zero-lt-suc i
 
--- the setup with another quorum
-abbrev withQuorum : Settings → ℕ → Setup
-withQuorum s q =
+-- on the fast path
+
+no-start : (m : PFMode) (l : ℕ) → T (isEPaxos m) → roundNumber (startingRound m l) ≡ 0
+no-start Paxos l t = absurd t
+no-start MultiPaxos l t = absurd t
+no-start MultiPaxos3P l t = absurd t
+no-start EPaxos l t = refl
+no-start Pando l t = absurd t
+no-start SwiftPaxos l t = absurd t
+
+leads-own : (s : Settings) (m : PFMode) → T (isEPaxos m) → (p : ℕ) → p < 64 → delegateOf s m (leaderOf (suc p)) ≡ p
+unfolding delegateIn
+leads-own s Paxos t p l = absurd t
+leads-own s MultiPaxos t p l = absurd t
+leads-own s MultiPaxos3P t p l = absurd t
+leads-own s EPaxos t p l = omega arith
+leads-own s Pando t p l = absurd t
+leads-own s SwiftPaxos t p l = absurd t
+
+-- "EPaxos quorum max((3n−1)/4, majority)": it is a majority, and what it lacks of n is less than half a majority and one
+module _ (n : ℕ) (few : n ≤ 64) where
+  quorum-within : (b : Bool) → T b → rowOf n .majority ≤ cond b (rowOf n .epaxos) 65
+  quorum-within true t = omega arith
+  quorum-within false t = absurd t
+
+  quorum-enough : (b : Bool) → T b → n + n < cond b (rowOf n .epaxos) 65 + cond b (rowOf n .epaxos) 65 + rowOf n .majority + 2
+  quorum-enough true t = omega arith
+  quorum-enough false t = absurd t
+
+no-fast-quorum : (f : ℕ → Bool) (b : Bool) (q : ℕ) → T (not b) → count f 64 < cond b q 65
+no-fast-quorum f true q t = absurd t
+no-fast-quorum f false q t = let le = count-le f 64 in omega arith
+
+voters-rules : (s : Settings) → withinLimits (memberSettings s 0) ≡ true → VotersRules (setupOf s .voters)
+unfolding size
+voters-rules s limits =
+    let counts = within-counts (memberSettings s 0) limits in
+    let members = within-members (memberSettings s 0) limits in
+    let few : s .«replica_count» ≤ 64 = le-trans (counts .most-replicas) (counts .most-processes) in
     record {
-      voters =
-          record {
-            count = 64;
-            quorum = q;
-            start = setupOf s .voters .start;
-            live = setupOf s .voters .live;
-            delegate = setupOf s .voters .delegate;
-          };
+      replicas = s .«replica_count»;
+      few = members .live-size;
+      majority = omega arith;
+      below = λ t m l. lt-of-lt-of-le (fits-members (s .«alive_replicas») (s .«process_count») (members .live-fit) m (is-true (contains (s .«alive_replicas») m) l)) (counts .most-processes);
+      noStart = no-start (s .mode) (s .«first_leader»);
+      leads = leads-own s (s .mode);
+      fastLarge = quorum-within (s .«replica_count») few (isEPaxos (s .mode));
+      fastEnough = quorum-enough (s .«replica_count») few (isEPaxos (s .mode));
+      noFast = no-fast-quorum (contains (s .«alive_replicas»)) (isEPaxos (s .mode)) (quorumsOf s .epaxos);
+    }
+
+pub setup-rules : (s : Settings) → withinLimits (memberSettings s 0) ≡ true → SetupRules (setupOf s)
+setup-rules s limits =
+    record {
+      startsInRound = starts-in-round (s .mode) (s .«first_leader»);
+      ownRoundLater = λ t i. own-round-later (s .mode) (s .«first_leader») i t;
+      ownRoundFast = λ t i. refl;
+      voters = voters-rules s limits;
+    }
+
+-- a group that was not made has nobody who votes
+abbrev unmadeSetup : Settings → Setup
+unmadeSetup s =
+    record {
+      voters = record { count = 64; quorum = 65; fastPath = false; fastQuorum = 65; start = setupOf s .voters .start; live = model.empty; delegate = setupOf s .voters .delegate };
       leader = setupOf s .leader;
       ownRound = setupOf s .ownRound;
       startsLed = setupOf s .startsLed;
@@ -90,9 +149,25 @@ withQuorum s q =
       committer = setupOf s .committer;
     }
 
-pub setup-rules : (s : Settings) (q : ℕ) → SetupRules (withQuorum s q)
-setup-rules s q =
-    record { startsInRound = starts-in-round (s .mode) (s .«first_leader»); ownRoundLater = λ t i. own-round-later (s .mode) (s .«first_leader») i t }
+unmade-rules : (s : Settings) → SetupRules (unmadeSetup s)
+unmade-rules s =
+    let none : count model.empty 64 ≤ 64 = count-le model.empty 64 in
+    record {
+      startsInRound = starts-in-round (s .mode) (s .«first_leader»);
+      ownRoundLater = λ t i. own-round-later (s .mode) (s .«first_leader») i t;
+      ownRoundFast = λ t i. absurd t;
+      voters = record {
+        replicas = 64;
+        few = none;
+        majority = omega arith;
+        below = λ t. absurd t;
+        noStart = λ t. absurd t;
+        leads = λ t. absurd t;
+        fastLarge = λ t. absurd t;
+        fastEnough = λ t. absurd t;
+        noFast = λ t. omega arith;
+      };
+    }
 
 -- ---- settings within the limits, for one member or for all
 
@@ -119,26 +194,21 @@ limits-same s i l =
     (own ∙ sym first)
     (mode-same s i 0 (s .mode))
 
-live-quorums-meet : (s : Settings) → withinLimits (memberSettings s 0) ≡ true → QuorumsMeet (setupOf s .voters)
-unfolding size
-live-quorums-meet s limits =
-    let counts = within-counts (memberSettings s 0) limits in
-    let few : s .«replica_count» ≤ 64 = le-trans (counts .most-replicas) (counts .most-processes) in
-    let live : count (contains (s .«alive_replicas»)) 64 ≤ s .«replica_count» = within-members (memberSettings s 0) limits .live-size in
-    majority-meets (setupOf s .voters) (s .«replica_count») (omega arith) live
-
-no-quorum-meets : (s : Settings) → QuorumsMeet (withQuorum s 65 .voters)
-no-quorum-meets s f h fl hl cf ch = absurd (omega (arith, count-le f 64))
-
 -- ---- the engine refines the model
 
 begun-view : (s : Settings) (i : ℕ) → viewShard (begun s i) ≡ model.initial (setupOf s .voters .start)
 unfolding newShard
-begun-view s i =
-    ap
-    (λ (f : ℕ → Bool).
-    record { slot = 0; round = setupOf s .voters .start; holds = false; heldRound = 0; heldValue = 0; prepared = f; accepted = f })
-    no-member
+begun-view s i = λ z. record {
+  slot = 0;
+  round = setupOf s .voters .start;
+  holds = false;
+  heldRound = 0;
+  heldProposer = 0;
+  heldValue = 0;
+  prepared = no-member z;
+  accepted = no-member z;
+  answers = begins-seen (s .mode) z;
+}
 
 pub begun-valid : (s : Settings) (i : ℕ) → Valid s i (begun s i)
 unfolding newShard
@@ -146,6 +216,7 @@ begun-valid s i =
     record {
       own-settings = refl;
       within = λ e. within e;
+      fast-half = λ e. no-answers-fit;
       leaders = λ e. record { in-round = starting-fits (s .mode) (s .«first_leader») (first (within e)); in-held = tt };
     }
   where
@@ -159,7 +230,7 @@ begun-valid s i =
     first : withinLimits (memberSettings s i) ≡ true → s .«first_leader» < 64
     first e = lt-of-lt-of-le (within-members (memberSettings s i) e .leader-below) (within-counts (memberSettings s i) e .most-processes)
 
-made-refines : (s : Settings) → Classic (s .mode) → Refines (setupOf s) (engineOf s)
+made-refines : (s : Settings) → NotSwift (s .mode) → Refines (setupOf s) (engineOf s)
 made-refines s classic =
     record {
       view = viewShard;
@@ -167,19 +238,19 @@ made-refines s classic =
       Valid = Valid s;
       initial-view = λ i l. begun-view s i;
       initial-valid = λ i l. begun-valid s i;
-      answer-valid = λ c x v. call-ok s (c .member) classic x v (c .call) .valid;
-      answer-as-model = λ c x v. call-ok s (c .member) classic x v (c .call) .as-model;
+      answer-valid = λ c x v. call-ok s (c .member) classic (c .choose) (c .picks-best) x v (c .call) .valid;
+      answer-as-model = λ c x v. call-ok s (c .member) classic (c .choose) (c .picks-best) x v (c .call) .as-model;
     }
 
 -- a shard that was not made
 abbrev Unmade : Shard → Type 0
 Unmade shard = (why : Refusal) × (shard .made ≡ Refused why)
 
-unmade-call : (shard : Shard) (u : Unmade shard) (c : Call) → callOf shard c ≡ refused (u .0) shard
+unmade-call : (choose : Choice) (shard : Shard) (u : Unmade shard) (c : Call) → callWith choose shard c ≡ refused (u .0) shard
 unfolding callWith
-unmade-call shard u c = ap (ifMade lowestBest shard c) (u .1)
+unmade-call choose shard u c = ap (ifMade choose shard c) (u .1)
 
-unmade-refines : (s : Settings) → withinLimits (memberSettings s 0) ≡ false → Refines (withQuorum s 65) (engineOf s)
+unmade-refines : (s : Settings) → withinLimits (memberSettings s 0) ≡ false → Refines (unmadeSetup s) (engineOf s)
 unfolding newShard
 unmade-refines s outside =
     record {
@@ -188,22 +259,22 @@ unmade-refines s outside =
       Valid = λ i shard. Unmade shard;
       initial-view = λ i l. begun-view s i;
       initial-valid = λ i l. (SettingsOutsideLimits, ap (λ (t : Bool). cond t Done (Refused SettingsOutsideLimits)) (limits-same s i l ∙ outside));
-      answer-valid = λ c x u. subst (λ (r : Answer). Unmade (r .shard)) (sym (unmade-call x u (c .call))) u;
+      answer-valid = λ c x u. subst (λ (r : Answer). Unmade (r .shard)) (sym (unmade-call (c .choose) x u (c .call))) u;
       answer-as-model = λ c x u.
-          subst (λ (r : Answer). AsModel meaningOf (withQuorum s 65) (c .member) (viewShard x) (kindOf (c .call)) (seenAnswer r)) (sym (unmade-call x u (c .call)))
-          (refuse-as-model (withQuorum s 65) (c .member) (viewShard x) (kindOf (c .call)));
+          subst (λ (r : Answer). AsModel meaningOf (unmadeSetup s) (c .member) (viewShard x) (kindOf (c .call)) (seenAnswer r)) (sym (unmade-call (c .choose) x u (c .call)))
+          (refuse-as-model (unmadeSetup s) (c .member) (viewShard x) (kindOf (c .call)));
     }
 
 -- ---- the claim of the engine's log
 
-log-claim : (s : Settings) → Classic (s .mode) → (cs : List MemberCall) → engine.Legal (engineOf s) (engine.begin (engineOf s)) cs
+log-claim : (s : Settings) → NotSwift (s .mode) → (cs : List TieCall) → engine.Legal (engineOf s) (engine.begin (engineOf s)) cs
     → engine.Claim (engine.runs (engineOf s) (engine.begin (engineOf s)) cs .log)
 log-claim s classic cs legal = go (either (withinLimits (memberSettings s 0)))
   where
     go : (withinLimits (memberSettings s 0) ≡ true) ⊎ (withinLimits (memberSettings s 0) ≡ false)
         → engine.Claim (engine.runs (engineOf s) (engine.begin (engineOf s)) cs .log)
-    go (inl e) = refines-claim (setupOf s) (setup-rules s (setupOf s .voters .quorum)) (live-quorums-meet s e) (engineOf s) (made-refines s classic) cs legal
-    go (inr e) = refines-claim (withQuorum s 65) (setup-rules s 65) (no-quorum-meets s) (engineOf s) (unmade-refines s e) cs legal
+    go (inl e) = refines-claim (setupOf s) (setup-rules s e) (engineOf s) (made-refines s classic) cs legal
+    go (inr e) = refines-claim (unmadeSetup s) (unmade-rules s) (engineOf s) (unmade-refines s e) cs legal
 
 -- ---- from the entries of a run to the engine's log
 
@@ -219,11 +290,11 @@ logOf (e ∷ past) = engine.withCommit (e .member) (decisionOf (e .reply .commit
 abbrev runAt : (ℕ → Shard) → List Entry → engine.Run Shard ConsensusMessage
 runAt shards past = record { shards = shards; sent = sentOf past; log = logOf past }
 
-run-log : (s : Settings) (shards : ℕ → Shard) (past : List Entry) (cs : List MemberCall)
-    → engine.runs (engineOf s) (runAt shards past) cs .log ≡ logOf (entriesFrom shards past cs)
-unfolding entriesFrom engine.runs engine.step
+run-log : (s : Settings) (shards : ℕ → Shard) (past : List Entry) (cs : List TieCall)
+    → engine.runs (engineOf s) (runAt shards past) cs .log ≡ logOf (tieEntriesFrom shards past cs)
+unfolding tieEntriesFrom engine.runs engine.step
 run-log s shards past [] = refl
-run-log s shards past (c ∷ cs) = run-log s (afterCall shards c) (entryOf shards c ∷ past) cs
+run-log s shards past (c ∷ cs) = run-log s (afterTieCall shards c) (tieEntryOf shards c ∷ past) cs
 
 -- a message that an entry handed back was sent
 in-envelopes : (o : Outgoing) (ms : Messages) → In o (messagesOf ms) → In (envelope o) (envelopes ms)
@@ -281,10 +352,10 @@ was-sent past message member w = go (w .1 .destination) refl (w .6)
     go (All first) e t = inl (subst (λ (z : Destination). In (record { source = message .src; envelope = record { destination = destinationOf z; message = message } }) (sentOf past)) e sent)
 
 -- a legal list is one of the engine's
-legal-run : (s : Settings) (shards : ℕ → Shard) (past : List Entry) (cs : List MemberCall) → LegalFrom (s .«process_count») shards past cs → engine.Legal (engineOf s) (runAt shards past) cs
-unfolding LegalFrom engine.Legal engine.step
+legal-run : (s : Settings) (shards : ℕ → Shard) (past : List Entry) (cs : List TieCall) → LegalTiesFrom (s .«process_count») shards past cs → engine.Legal (engineOf s) (runAt shards past) cs
+unfolding LegalTiesFrom engine.Legal engine.step
 legal-run s shards past [] l = tt
-legal-run s shards past (c ∷ cs) l = (l .0, stand (c .call) (l .1), legal-run s (afterCall shards c) (entryOf shards c ∷ past) cs (l .2))
+legal-run s shards past (c ∷ cs) l = (l .0, stand (c .call) (l .1), legal-run s (afterTieCall shards c) (tieEntryOf shards c ∷ past) cs (l .2))
   where
     stand : (call : Call) → MayStand past (c .member) call → engine.WasSent (engineOf s) (runAt shards past) (c .member) (kindOf call)
     stand (Propose v) m = tt
@@ -428,7 +499,32 @@ claim-of run claim =
 
 -- ---- the theorem
 
--- In the four modes, with every settings, every legal list of calls meets the claim.
-pub agreement : (s : Settings) → Classic (s .mode) → (cs : List MemberCall) → Legal s cs → Claim (entries s cs)
+-- In every mode but SwiftPaxos, with every settings, every legal list of calls meets the claim, whichever of the best each adoption takes.
+pub agreement-ties : (s : Settings) → NotSwift (s .mode) → (cs : List TieCall) → LegalTies s cs → Claim (tieEntries s cs)
+agreement-ties s classic cs legal =
+    claim-of (tieEntries s cs) (subst engine.Claim (run-log s (begun s) [] cs) (log-claim s classic cs (legal-run s (begun s) [] cs legal)))
+
+-- ---- the engine's own choice
+
+-- a call with that choice
+abbrev withLowest : MemberCall → TieCall
+withLowest c = record { member = c .member; call = c .call; choose = lowestBest; picks-best = lowest-picks-best }
+
+abbrev allLowest : List MemberCall → List TieCall
+allLowest [] = []
+allLowest (c ∷ cs) = withLowest c ∷ allLowest cs
+
+same-entries : (shards : ℕ → Shard) (past : List Entry) (cs : List MemberCall) → tieEntriesFrom shards past (allLowest cs) ≡ entriesFrom shards past cs
+unfolding tieEntriesFrom entriesFrom
+same-entries shards past [] = refl
+same-entries shards past (c ∷ cs) = same-entries (afterCall shards c) (entryOf shards c ∷ past) cs
+
+same-legal : (n : ℕ) (shards : ℕ → Shard) (past : List Entry) (cs : List MemberCall) → LegalFrom n shards past cs → LegalTiesFrom n shards past (allLowest cs)
+unfolding LegalTiesFrom LegalFrom
+same-legal n shards past [] l = tt
+same-legal n shards past (c ∷ cs) l = (l .0, l .1, same-legal n (afterCall shards c) (entryOf shards c ∷ past) cs (l .2))
+
+-- In every mode but SwiftPaxos, with every settings, every legal list of calls on the engine meets the claim.
+pub agreement : (s : Settings) → NotSwift (s .mode) → (cs : List MemberCall) → Legal s cs → Claim (entries s cs)
 agreement s classic cs legal =
-    claim-of (entries s cs) (subst engine.Claim (run-log s (begun s) [] cs) (log-claim s classic cs (legal-run s (begun s) [] cs legal)))
+    subst Claim (same-entries (begun s) [] cs) (agreement-ties s classic (allLowest cs) (same-legal (s .«process_count») (begun s) [] cs legal))

@@ -1,9 +1,9 @@
 -- Each call on a shard of the group is the model's call, or is refused, or has no part in the agreement.
 -- Assumes nothing.
-use mathlib.Core.Path.{_≡_, refl, sym, ap, ap₂, subst, _∙_}
+use mathlib.Core.Path.{_≡_, refl, sym, ap, subst, fun-ext, _∙_}
 use mathlib.Core.Logic.{_⊎_, inl, inr}
 use mathlib.Core.Bool.{Bool, true, false, cond, not, _&&_}
-use Prim.Native.Nat.{ℕ, _≤_, _<_}
+use Prim.Native.Nat.{ℕ, zero, suc, _+_, _≤_, _<_}
 use native.Mathlib.Nat.{lt-of-lt-of-le}
 use native.Mathlib.Numerals.{add-one}
 use native.Mathlib.Omega.{arith}
@@ -11,8 +11,11 @@ use lib.Dec.{eqb, ltb, leb}
 use borrow.Author.Tests.{ltb-true, ltb-false, leb-false, eq-eqb}
 use Rattle.basics.proofs.Tests.{either, not-both, and-left, and-right}
 use Rattle.message.specs.Messages.{msgSlot}
-use Rattle.message.specs.Modes.{hasFastPath, isSwiftPaxos}
-use Rattle.message.specs.Promises.{acceptRoundOf}
+use lib.ListN.{getD, replicate, length-replicate}
+use Rattle.sets.specs.Sets.{size}
+use Rattle.tables.specs.Tables.{lookUp}
+use Rattle.message.specs.Modes.{hasFastPath, isMultiPaxos, isSwiftPaxos}
+use Rattle.message.specs.Promises.{valueOf, acceptRoundOf}
 use Rattle.message.proofs.NextLeader.{increment-next}
 use Rattle.message.specs.declared.ConsensusMessage.{ConsensusMessage}
 use Rattle.message.specs.declared.ConsensusMsg.{ConsensusMsg}
@@ -30,7 +33,9 @@ use Rattle.message.specs.declared.Refusal.{Refusal}
 use Rattle.message.specs.declared.Refusal.the-variants.{NumberTooLarge, NoSuchProcess, OtherLastValue, SlotAhead, ValueNotHeld, Panic}
 use Rattle.message.specs.declared.RoundV.{RoundV}
 use Rattle.message.specs.declared.RoundV.the-variants.{FastV, PaxosV}
-use Rattle.fast_state.specs.Adopt.{lowestBest}
+use Rattle.fast_state.specs.Adopt.{Choice}
+use Rattle.fast_state.specs.Fast.{answersOf, unchanged, changed, noAnswers}
+use Rattle.fast_state.specs.declared.FastState.{FastState}
 use Rattle.read_tracker.specs.declared.Opened.{Opened}
 use Rattle.read_tracker.specs.declared.Opened.the-variants.{Refused as NotOpened, Id}
 use Rattle.settings.specs.Questions.{delegateOf, startingRoundOf, delegateIn}
@@ -38,9 +43,11 @@ use Rattle.settings.specs.Settings.{withinLimits}
 use Rattle.settings.specs.declared.Settings.{Settings}
 use Rattle.settings.proofs.Limits.{within-counts, within-members}
 use Rattle.paxos_family.specs.Commit.{commitSlot}
-use Rattle.paxos_family.specs.Process.{onPrepare, onAccept, processClassic}
-use Rattle.propose.specs.Propose.{electing, proposeClassic}
-use Rattle.steps.specs.Steps.{noMessages, oneMessage, onRounds}
+use Rattle.accept.specs.Accept.{accepting}
+use Rattle.paxos_family.specs.Process.{onPrepare, onAccept, processClassic, onFastPrepare, onFastAccept, processChange, processFast}
+use Rattle.propose.specs.Propose.{electing, proposeClassic, proposeChange, proposeFast}
+use Rattle.steps.specs.Steps.{noMessages, oneMessage, stays, withChange, onRounds, changeRounds}
+use Rattle.steps.specs.declared.ChangeStep.{ChangeStep}
 use Rattle.steps.specs.declared.Core.{Core}
 use Rattle.steps.specs.declared.CoreStep.{CoreStep}
 use Rattle.steps.specs.declared.Destination.the-variants.{One}
@@ -52,7 +59,7 @@ use Rattle.steps.specs.declared.Rounds.{Rounds}
 use Rattle.steps.specs.declared.RoundsStep.{RoundsStep}
 use Rattle.delivery.specs.Admit.{isAhead, otherLastValue, valueAwaited, ready, admit}
 use Rattle.consensus.specs.Answers.{refused, sent, nothing, committed, finishAt, finish}
-use Rattle.consensus.specs.Call.{proposing, propose, read, admitted, receive, dispatch, unlessSpent, ifMade, callWith, callOf}
+use Rattle.consensus.specs.Call.{proposing, propose, read, admitted, receive, dispatch, unlessSpent, ifMade, callWith}
 use Rattle.calls.specs.Asked.{gathererOf, heardOf, gathererIn}
 use Rattle.core_calls.specs.CoreCall.{nextReadable}
 use Rattle.consensus.specs.Handle.{onCommit, onReadRequest, onReadResponse, afterInsert, readInserted, startRead, processed, processMessage, handle}
@@ -67,15 +74,19 @@ use Rattle.consensus.specs.declared.Shard.{Shard}
 use Rattle.state_calls.specs.declared.State.{State}
 use Rattle.agreement.specs.Engine.{Kind, proposes, delivers, reads, Engine}
 use Rattle.agreement.specs.Engine as engine
-use Rattle.agreement.specs.Model.{View, refuse, advanced}
+use Rattle.agreement.specs.Model.{View, Answers, quiet, refuse, advanced}
 use Rattle.agreement.specs.Model as model
 use Rattle.agreement.specs.Refinement.{meanings, seen, AsModel, outcome, deliver}
-use Rattle.group.specs.Claim.{memberSettings, begun, MemberCall, Classic}
-use Rattle.group.proofs.View.{roundNumber, LeaderFits, processNumber, no-member, meaningOf, envelopes, viewOf, Leaders, setupOf, SeenAs, Follows}
+use Rattle.group.specs.Claim.{memberSettings, begun, NotSwift}
+use Rattle.group.specs.Ties.{PicksBest, TieCall}
+use Rattle.group.proofs.View.{roundNumber, LeaderFits, processNumber, no-member, meaningOf, proposerOf, isEPaxos, answersIn, envelopes, viewOf, Leaders, setupOf, SeenAs, Follows}
 use Rattle.group.proofs.Preparing.{askedBy, on-prepare-follows}
 use Rattle.group.proofs.Accepting.{committer-same, on-accept-follows}
 use Rattle.group.proofs.Proposing.{starting-fits, electing-own, propose-follows}
-use Rattle.group.proofs.Keeping.{on-prepare-keeps, on-accept-keeps, propose-keeps}
+use Rattle.group.proofs.Keeping.{Keeps, on-prepare-keeps, on-accept-keeps, propose-keeps}
+use Rattle.group.proofs.Answering.{FastFits, unchanged-fits, FollowsChange, lifted, coreStepOf, hostFor, ProposerFits, host-allows}
+use Rattle.group.proofs.FastPath.{fast-prepare-follows, fast-accept-follows, fast-propose-follows}
+use Rattle.group.proofs.KeepingFast.{FastKeeps, on-fast-prepare-keeps, on-fast-accept-keeps, propose-fast-keeps}
 
 -- ---- the group as an engine
 
@@ -106,19 +117,23 @@ engineOf s =
     record {
       Shard = Shard;
       Message = ConsensusMessage;
-      Call = MemberCall;
+      Call = TieCall;
       size = s .«process_count»;
       member = λ c. c .member;
       kind = λ c. kindOf (c .call);
-      answer = λ shard c. answerFrom (callOf shard (c .call));
+      answer = λ shard c. answerFrom (callWith (c .choose) shard (c .call));
       initial = begun s;
     }
 
 abbrev pub coreOf : Shard → Core
 coreOf shard = shard .state .rounds .core
 
+-- the fast half as the model sees it: only EPaxos has one there
+abbrev pub answersFor : PFMode → FastState → Answers
+answersFor mode fast = cond (isEPaxos mode) (answersIn fast) model.noAnswers
+
 abbrev pub viewShard : Shard → View
-viewShard shard = viewOf (coreOf shard)
+viewShard shard = viewOf (answersFor (shard .settings .mode) (shard .state .rounds .fast)) (coreOf shard)
 
 abbrev pub seenAnswer : Answer → model.Outcome
 seenAnswer r = seen viewShard meaningOf (answerFrom r)
@@ -129,62 +144,142 @@ shardOf s i made state = record { made = made; settings = memberSettings s i; st
 
 -- ---- modes
 
-pub no-fast-path : (m : PFMode) → Classic m → hasFastPath m ≡ false
-no-fast-path Paxos c = refl
-no-fast-path MultiPaxos c = refl
-no-fast-path MultiPaxos3P c = refl
-no-fast-path EPaxos c = absurd c
-no-fast-path Pando c = refl
-no-fast-path SwiftPaxos c = absurd c
+-- a mode is classic, or EPaxos
+pub data ModeIs (m : PFMode) : Type 0 where
+  isClassic : hasFastPath m ≡ false → isEPaxos m ≡ false → ModeIs m
+  isFast : hasFastPath m ≡ true → isEPaxos m ≡ true → isMultiPaxos m ≡ false → ModeIs m
 
-pub not-swift : (m : PFMode) → Classic m → isSwiftPaxos m ≡ false
+pub mode-is : (m : PFMode) → NotSwift m → ModeIs m
+mode-is Paxos c = isClassic refl refl
+mode-is MultiPaxos c = isClassic refl refl
+mode-is MultiPaxos3P c = isClassic refl refl
+mode-is EPaxos c = isFast refl refl refl
+mode-is Pando c = isClassic refl refl
+mode-is SwiftPaxos c = absurd c
+
+pub not-swift : (m : PFMode) → NotSwift m → isSwiftPaxos m ≡ false
 not-swift Paxos c = refl
 not-swift MultiPaxos c = refl
 not-swift MultiPaxos3P c = refl
-not-swift EPaxos c = absurd c
+not-swift EPaxos c = refl
 not-swift Pando c = refl
 not-swift SwiftPaxos c = absurd c
+
+-- the fast half at the beginning of a slot
+replicated : (n a d p : ℕ) → p < n → getD (replicate n a) p d ≡ a
+replicated zero a d p l = absurd (omega arith)
+replicated (suc n) a d zero l = refl
+replicated (suc n) a d (suc p) l = replicated n a d p (omega arith)
+
+begins-with : (a p : ℕ) → cond (ltb p 64) (lookUp (replicate 64 a) p) a ≡ a
+unfolding lookUp
+begins-with a p = go (ltb p 64) refl
+  where
+    go : (t : Bool) → ltb p 64 ≡ t → cond t (cond (ltb p 64) (getD (replicate 64 a) p 0) 0) a ≡ a
+    go true e = ap (λ (t : Bool). cond t (getD (replicate 64 a) p 0) 0) e ∙ replicated 64 a 0 p (ltb-true p 64 e)
+    go false e = refl
+
+values-begin : (p : ℕ) → lookUp (replicate 64 0) p ≡ 0
+unfolding lookUp
+values-begin p = go (ltb p 64) refl
+  where
+    go : (t : Bool) → ltb p 64 ≡ t → _≡_ {A = ℕ} (cond t (getD (replicate 64 0) p 0) 0) 0
+    go true e = replicated 64 0 0 p (ltb-true p 64 e)
+    go false e = refl
+
+pub no-answers-seen : answersIn noAnswers ≡ model.noAnswers
+no-answers-seen = λ z. record {
+  answered = no-member z;
+  preaccepted = 0;
+  proposers = no-member z;
+  values = fun-ext values-begin z;
+  scores = fun-ext (begins-with 2) z;
+}
+
+pub no-answers-fit : FastFits noAnswers
+unfolding lookUp
+no-answers-fit = record { long-values = length-replicate {A = ℕ} 64 0; long-scores = length-replicate {A = ℕ} 64 2; few-preaccepted = omega arith; low-scores = low }
+  where
+    low : (p : ℕ) → cond (ltb p 64) (getD (replicate 64 2) p 0) 0 ≤ 2 + size 0
+    low p = go (ltb p 64) refl
+      where
+        go : (t : Bool) → ltb p 64 ≡ t → cond t (getD (replicate 64 2) p 0) 0 ≤ 2 + size 0
+        go true e = let z = replicated 64 2 0 p (ltb-true p 64 e) in omega arith
+        go false e = omega arith
+
+-- after a commit the fast half begins anew
+cleared-seen : (m : PFMode) (f : FastState) → answersFor m (cond (hasFastPath m) noAnswers f) ≡ model.noAnswers
+cleared-seen Paxos f = refl
+cleared-seen MultiPaxos f = refl
+cleared-seen MultiPaxos3P f = refl
+cleared-seen EPaxos f = no-answers-seen
+cleared-seen Pando f = refl
+cleared-seen SwiftPaxos f = refl
+
+pub begins-seen : (m : PFMode) → answersFor m noAnswers ≡ model.noAnswers
+begins-seen m = go (isEPaxos m)
+  where
+    go : (t : Bool) → cond t (answersIn noAnswers) model.noAnswers ≡ model.noAnswers
+    go true = no-answers-seen
+    go false = refl
+
+cleared-fits : (t : Bool) (f : FastState) → FastFits f → FastFits (cond t noAnswers f)
+cleared-fits true f ok = no-answers-fit
+cleared-fits false f ok = ok
 
 -- ---- refusals
 
 pub refuse-as-model : (S : model.Setup) (i : ℕ) (x : View) (k : Kind ConsensusMessage) → AsModel meaningOf S i x k (refuse x)
 unfolding outcome
-refuse-as-model S i x (proposes v) = (record { allows = false; requester = 0 }, refl)
-refuse-as-model S i x (delivers source c) = inl (record { allows = false; requester = 0 }, refl)
+refuse-as-model S i x (proposes v) = (record { allows = false; requester = 0; adoptee = 0 }, refl)
+refuse-as-model S i x (delivers source c) = inl (record { allows = false; requester = 0; adoptee = 0 }, refl)
 refuse-as-model S i x reads = (refl, refl, tt)
 
 -- ---- the end of a call
 
+abbrev coreStep : RoundsStep → CoreStep
+coreStep step = record { core = step .rounds .core; messages = step .messages; next = step .next }
+
+-- a step on the rounds is the model's, and keeps the slot, the leaders and the fast half to their bounds
+pub record StepOk (s : Settings) (slot : ℕ) (step : RoundsStep) (r : model.Outcome) : Type 0 where
+  pub follows : Follows (setupOf s) (answersFor (s .mode) (step .rounds .fast)) (coreStep step) r
+  pub same-slot : step .rounds .core .slot ≡ slot
+  pub leaders-fit : Leaders (step .rounds .core)
+  pub fast-fits : FastFits (step .rounds .fast)
+
 module _ (s : Settings) (i : ℕ) (made : Outcome) (state : State) where
   commit-seen : (v : ℕ) (rounds : Rounds) (ms : Messages) → rounds .core .slot < 9223372036854775807
       → seenAnswer (committed (shardOf s i made state) (askedBy s i) v rounds ms)
-      ≡ record { view = advanced (setupOf s .voters .start) (viewOf (rounds .core)); outgoing = meanings meaningOf (envelopes ms); decision = model.decided (rounds .core .slot) v; taken = true }
+      ≡ record { view = advanced (setupOf s .voters .start) (viewOf (answersFor (s .mode) (rounds .fast)) (rounds .core)); outgoing = meanings meaningOf (envelopes ms); decision = model.decided (rounds .core .slot) v; taken = true }
   unfolding committed commitSlot
-  commit-seen v rounds ms l =
-      ap₂
-      (λ (n : ℕ) (f : ℕ → Bool).
-      record {
-        view =
-            record { slot = n; round = roundNumber (startingRoundOf s); holds = false; heldRound = 0; heldValue = 0; prepared = f; accepted = f };
-        outgoing = meanings meaningOf (envelopes ms);
-        decision = model.decided (rounds .core .slot) v;
-        taken = true;
-      })
-      (increment-next (rounds .core .slot) (omega arith) ∙ add-one (rounds .core .slot))
-      no-member
+  commit-seen v rounds ms l = λ z. record {
+    view = record {
+      slot = (increment-next (rounds .core .slot) (omega arith) ∙ add-one (rounds .core .slot)) z;
+      round = roundNumber (startingRoundOf s);
+      holds = false;
+      heldRound = 0;
+      heldProposer = 0;
+      heldValue = 0;
+      prepared = no-member z;
+      accepted = no-member z;
+      answers = cleared-seen (s .mode) (rounds .fast) z;
+    };
+    outgoing = meanings meaningOf (envelopes ms);
+    decision = model.decided (rounds .core .slot) v;
+    taken = true;
+  }
 
-  finish-seen : (held : Bool) (step : CoreStep) (r : model.Outcome) → Follows (setupOf s) step r → step .core .slot < 9223372036854775807
-      → (seenAnswer (finish (shardOf s i made state) (askedBy s i) held (onRounds (state .rounds .fast) step)) ≡ r)
-      ⊎ (seenAnswer (finish (shardOf s i made state) (askedBy s i) held (onRounds (state .rounds .fast) step)) ≡ refuse (viewShard (shardOf s i made state)))
-  finish-seen held step r f l = go (step .next) held (f .seen-as)
+  finish-seen : (held : Bool) (step : RoundsStep) (r : model.Outcome) → StepOk s (state .rounds .core .slot) step r → state .rounds .core .slot < 9223372036854775807
+      → (seenAnswer (finish (shardOf s i made state) (askedBy s i) held step) ≡ r)
+      ⊎ (seenAnswer (finish (shardOf s i made state) (askedBy s i) held step) ≡ refuse (viewShard (shardOf s i made state)))
+  finish-seen held step r ok l = go (step .next) held (ok .follows .seen-as)
     where
-      go : (n : Next) (held : Bool) → SeenAs (setupOf s) (step .core) (step .messages) n r
-          → (seenAnswer (finishAt (shardOf s i made state) (askedBy s i) held (record { core = step .core; fast = state .rounds .fast }) (step .messages) n) ≡ r)
-          ⊎ (seenAnswer (finishAt (shardOf s i made state) (askedBy s i) held (record { core = step .core; fast = state .rounds .fast }) (step .messages) n)
-          ≡ refuse (viewShard (shardOf s i made state)))
+      go : (n : Next) (held : Bool) → SeenAs (setupOf s) (answersFor (s .mode) (step .rounds .fast)) (step .rounds .core) (step .messages) n r
+          → (seenAnswer (finishAt (shardOf s i made state) (askedBy s i) held (step .rounds) (step .messages) n) ≡ r)
+          ⊎ (seenAnswer (finishAt (shardOf s i made state) (askedBy s i) held (step .rounds) (step .messages) n) ≡ refuse (viewShard (shardOf s i made state)))
       go Stays held e = inl e
       go Continues held e = absurd e
-      go (Commits v) true e = inl (commit-seen v (record { core = step .core; fast = state .rounds .fast }) (step .messages) l ∙ e)
+      go (Commits v) true e = inl (commit-seen v (step .rounds) (step .messages) (subst (λ (n : ℕ). n < 9223372036854775807) (sym (ok .same-slot)) l) ∙ e)
       go (Commits v) false e = inr refl
       go (Refuses why) held e = inr refl
 
@@ -224,7 +319,7 @@ delegate-same s i EPaxos l = refl
 delegate-same s i Pando l = refl
 delegate-same s i SwiftPaxos l = refl
 
-module _ (s : Settings) (i : ℕ) (classic : Classic (s .mode)) (limits : withinLimits (memberSettings s i) ≡ true) where
+module _ (s : Settings) (i : ℕ) (classic : NotSwift (s .mode)) (choose : Choice) (picks-best : PicksBest choose) (limits : withinLimits (memberSettings s i) ≡ true) where
   few : s .«process_count» ≤ 64
   few = within-counts (memberSettings s i) limits .most-processes
 
@@ -243,6 +338,11 @@ module _ (s : Settings) (i : ℕ) (classic : Classic (s .mode)) (limits : within
   rv-fits (PaxosV NoRound v) e = tt
   rv-fits (PaxosV (Round round) v) e = below (round .leader) e
 
+  proposer-fits : (rv : RoundV) → rvProcesses (s .«process_count») rv ≡ true → ProposerFits rv
+  unfolding rvProcesses
+  proposer-fits (FastV proposer v) e = below proposer e
+  proposer-fits (PaxosV at v) e = tt
+
   source-small : (d : Delivery) → processesFit (s .«process_count») d ≡ true → d .message .src < 64
   unfolding processesFit
   source-small d e =
@@ -258,16 +358,17 @@ module _ (s : Settings) (i : ℕ) (classic : Classic (s .mode)) (limits : within
       (and-left (ltb (d .message .src) (s .«process_count») && msgProcesses (s .«process_count») (d .message .msg)) (requesterBelow (s .«process_count») (d .said .requester))
       (and-left (ltb (d .message .src) (s .«process_count») && msgProcesses (s .«process_count») (d .message .msg) && requesterBelow (s .«process_count») (d .said .requester)) (requesterBelow (s .«process_count») (d .«held_requester»)) e))
 
-  prepare-leader : (slot : ℕ) (round : PaxosRound) (rv : RoundV) → msgProcesses (s .«process_count») (Prepare slot round rv) ≡ true → (round .leader < 64) × LeaderFits (acceptRoundOf rv)
+  prepare-leader : (slot : ℕ) (round : PaxosRound) (rv : RoundV) → msgProcesses (s .«process_count») (Prepare slot round rv) ≡ true → (round .leader < 64) × LeaderFits (acceptRoundOf rv) × ProposerFits rv
   unfolding msgProcesses
   prepare-leader slot round rv e =
-      (below (round .leader) (and-left (ltb (round .leader) (s .«process_count»)) (rvProcesses (s .«process_count») rv) e), rv-fits rv (and-right (ltb (round .leader) (s .«process_count»)) (rvProcesses (s .«process_count») rv) e))
+      let named = and-right (ltb (round .leader) (s .«process_count»)) (rvProcesses (s .«process_count») rv) e in
+      (below (round .leader) (and-left (ltb (round .leader) (s .«process_count»)) (rvProcesses (s .«process_count») rv) e), rv-fits rv named, proposer-fits rv named)
 
   accept-leader : (slot : ℕ) (round : PaxosRound) (v : ℕ) → msgProcesses (s .«process_count») (Accept slot round v) ≡ true → round .leader < 64
   unfolding msgProcesses
   accept-leader slot round v e = below (round .leader) e
 
-  -- who gathers, in the classic modes
+  -- who gathers
   gatherer : (slot : ℕ) (round : PaxosRound) (rv : RoundV) → gathererOf (memberSettings s i) (Prepare slot round rv) ≡ delegateOf s (s .mode) (round .leader)
   unfolding gathererIn
   gatherer slot round (FastV proposer v) =
@@ -284,91 +385,194 @@ module _ (s : Settings) (i : ℕ) (classic : Classic (s .mode)) (limits : within
 
   -- ---- messages
 
-  module _ (made : Outcome) (state : State) (ok : Leaders (state .rounds .core)) (room : state .rounds .core .slot < 9223372036854775807) where
+  module _ (made : Outcome) (state : State) (ok : Leaders (state .rounds .core)) (fits : FastFits (state .rounds .fast)) (room : state .rounds .core .slot < 9223372036854775807) where
     abbrev shard : Shard
     shard = shardOf s i made state
 
     abbrev core : Core
     core = state .rounds .core
 
+    abbrev fastState : FastState
+    fastState = state .rounds .fast
+
     abbrev asModel : Kind ConsensusMessage → Answer → Type 0
     asModel k r = AsModel meaningOf (setupOf s) i (viewShard shard) k (seenAnswer r)
 
-    -- a step that follows the model ends as the model's call, or is refused
-    deliver-ends : (held : Bool) (source : ℕ) (message : ConsensusMessage) (host : model.Host) (step : CoreStep)
-        → Follows (setupOf s) step (outcome (setupOf s) (viewShard shard) (deliver i source (meaningOf message) host)) → step .core .slot ≡ core .slot
-        → asModel (delivers source message) (finish shard (askedBy s i) held (onRounds (state .rounds .fast) step))
-    deliver-ends held source message host step f e = go (finish-seen s i made state held step (outcome (setupOf s) (viewShard shard) (deliver i source (meaningOf message) host)) f (subst (λ (n : ℕ). n < 9223372036854775807) (sym e) room))
+    -- a step that is the model's ends as the model's call, or is refused
+    deliver-ends : (held : Bool) (source : ℕ) (message : ConsensusMessage) (host : model.Host) (step : RoundsStep)
+        → StepOk s (core .slot) step (outcome (setupOf s) (viewShard shard) (deliver i source (meaningOf message) host)) → asModel (delivers source message) (finish shard (askedBy s i) held step)
+    deliver-ends held source message host step f = go (finish-seen s i made state held step (outcome (setupOf s) (viewShard shard) (deliver i source (meaningOf message) host)) f room)
       where
         result : model.Outcome
-        result = seenAnswer (finish shard (askedBy s i) held (onRounds (state .rounds .fast) step))
+        result = seenAnswer (finish shard (askedBy s i) held step)
 
         go : (result ≡ outcome (setupOf s) (viewShard shard) (deliver i source (meaningOf message) host)) ⊎ (result ≡ refuse (viewShard shard))
             → AsModel meaningOf (setupOf s) i (viewShard shard) (delivers source message) result
         go (inl r) = inl (host, r)
         go (inr r) = subst (AsModel meaningOf (setupOf s) i (viewShard shard) (delivers source message)) (sym r) (refuse-as-model (setupOf s) i (viewShard shard) (delivers source message))
 
-    processed-classic : (d : Delivery) → processMessage lowestBest shard d
-        ≡ finish shard (askedBy s i) (d .said .«value_held») (onRounds (state .rounds .fast) (processClassic (askedBy s i) (heardOf (memberSettings s i) d) (d .message .msg) core))
-    unfolding processMessage processed
-    processed-classic d = simp (no-fast-path (s .mode) classic)
+    -- the step of the mode
+    processed-slow : (h : Heard) (m : ConsensusMsg) → hasFastPath (s .mode) ≡ false → processed choose (askedBy s i) h m (state .rounds) ≡ onRounds fastState (processClassic (askedBy s i) h m core)
+    unfolding processed
+    processed-slow h m e = simp e
 
-    on-prepare : (d : Delivery) (slot : ℕ) (round : PaxosRound) (rv : RoundV) → d .message .msg ≡ Prepare slot round rv → Admitted (s .«process_count») core d
-        → asModel (kindOf (Receive d)) (processMessage lowestBest shard d)
-    unfolding processClassic outcome model.onMessage
-    on-prepare d slot round rv e adm =
-        subst (asModel (delivers (d .message .src) (d .message)))
-        (sym (processed-classic d ∙ ap (λ (m : ConsensusMsg). finish shard (askedBy s i) (d .said .«value_held») (onRounds (state .rounds .fast) (processClassic (askedBy s i) h m core))) e))
-        (deliver-ends (d .said .«value_held») (d .message .src) (d .message) (record { allows = true; requester = 0 }) (onPrepare (askedBy s i) h slot round rv core)
-        (subst
-        (λ (m : ConsensusMsg).
-        Follows (setupOf s) (onPrepare (askedBy s i) h slot round rv core)
-        (outcome (setupOf s) (viewShard shard) (deliver i (d .message .src) (meaningOf (record { msg = m; src = d .message .src; «last_v» = d .message .«last_v» })) (record { allows = true; requester = 0 }))))
-        (sym e)
-        (on-prepare-follows s i (not-swift (s .mode) classic) own-small h (source-small d (adm .processes)) slot round (parts .0) rv (parts .1) refl (ap (gathererOf (memberSettings s i)) e ∙ gatherer slot round rv) core ok
-        (slot-of core slot (sym (ap (λ (m : ConsensusMsg). isAhead core (msgSlot m)) e) ∙ adm .not-ahead))))
-        (on-prepare-keeps (askedBy s i) h (core .slot) round (parts .0) slot rv core (refl, ok) (parts .1) .same-slot))
-      where
-        h : Heard
-        h = heardOf (memberSettings s i) d
+    processed-fast : (h : Heard) (m : ConsensusMsg) → hasFastPath (s .mode) ≡ true
+        → processed choose (askedBy s i) h m (state .rounds)
+        ≡ changeRounds fastState (processChange choose (askedBy s i) h m core (answersOf fastState) (fastState .«fast_proposer_to_v») (fastState .«epaxos_proposer_scores») (fastState .«swift_proposer_scores»))
+    unfolding processed processFast
+    processed-fast h m e = simp e
 
-        parts : (round .leader < 64) × LeaderFits (acceptRoundOf rv)
-        parts = prepare-leader slot round rv (sym (ap (msgProcesses (s .«process_count»)) e) ∙ message-small d (adm .processes))
+    -- the view without a fast half, and with one
+    slow-view : isEPaxos (s .mode) ≡ false → (f : FastState) → answersFor (s .mode) f ≡ model.noAnswers
+    slow-view e f = ap (λ (t : Bool). cond t (answersIn f) model.noAnswers) e
 
-    on-accept : (d : Delivery) (slot : ℕ) (round : PaxosRound) (v : ℕ) → d .message .msg ≡ Accept slot round v → Admitted (s .«process_count») core d
-        → asModel (kindOf (Receive d)) (processMessage lowestBest shard d)
-    unfolding processClassic outcome model.onMessage
-    on-accept d slot round v e adm =
-        subst (asModel (delivers (d .message .src) (d .message)))
-        (sym (processed-classic d ∙ ap (λ (m : ConsensusMsg). finish shard (askedBy s i) (d .said .«value_held») (onRounds (state .rounds .fast) (processClassic (askedBy s i) h m core))) e))
-        (deliver-ends (d .said .«value_held») (d .message .src) (d .message) host (onAccept (askedBy s i) h slot round v core)
-        (subst
-        (λ (m : ConsensusMsg).
-        Follows (setupOf s) (onAccept (askedBy s i) h slot round v core)
-        (outcome (setupOf s) (viewShard shard) (deliver i (d .message .src) (meaningOf (record { msg = m; src = d .message .src; «last_v» = d .message .«last_v» })) host)))
-        (sym e)
-        (on-accept-follows s i (not-swift (s .mode) classic) own-small h (source-small d (adm .processes)) slot round leader v refl (ap (gathererOf (memberSettings s i)) e ∙ accept-gatherer slot round v) (committer-same s i (d .said .requester)) core ok
-        (slot-of core slot (sym (ap (λ (m : ConsensusMsg). isAhead core (msgSlot m)) e) ∙ adm .not-ahead))))
-        (on-accept-keeps (askedBy s i) h (core .slot) round leader slot v core (refl, ok) .same-slot))
-      where
-        h : Heard
-        h = heardOf (memberSettings s i) d
+    fast-view : isEPaxos (s .mode) ≡ true → (f : FastState) → answersFor (s .mode) f ≡ answersIn f
+    fast-view e f = ap (λ (t : Bool). cond t (answersIn f) model.noAnswers) e
 
-        host : model.Host
-        host = record { allows = true; requester = processNumber (d .said .requester) }
+    -- a step of the classic modes, and one of EPaxos
+    slow-step : (step : CoreStep) (r : model.Outcome) → Follows (setupOf s) (answersFor (s .mode) fastState) step r → Keeps (core .slot) step → StepOk s (core .slot) (onRounds fastState step) r
+    slow-step step r f k = record { follows = record { seen-as = f .seen-as }; same-slot = k .same-slot; leaders-fit = k .leaders; fast-fits = fits }
 
-        leader : round .leader < 64
-        leader = accept-leader slot round v (sym (ap (msgProcesses (s .«process_count»)) e) ∙ message-small d (adm .processes))
+    fast-step : isEPaxos (s .mode) ≡ true → (cs : ChangeStep) (r : View → model.Outcome) → FollowsChange (setupOf s) fastState cs (r (viewOf (answersIn fastState) core)) → FastKeeps (core .slot) fastState cs
+        → StepOk s (core .slot) (changeRounds fastState cs) (r (viewShard shard))
+    fast-step e cs r f k =
+        record {
+          follows =
+              subst (λ (a : Answers). Follows (setupOf s) a (coreStepOf cs) (r (viewShard shard))) (sym (fast-view e (changed (cs .change) fastState)))
+              (subst (λ (a : Answers). Follows (setupOf s) (answersIn (changed (cs .change) fastState)) (coreStepOf cs) (r (viewOf a core))) (sym (fast-view e fastState)) (f .follows));
+          same-slot = k .kept .same-slot;
+          leaders-fit = k .kept .leaders;
+          fast-fits = k .fits;
+        }
 
-    -- a ForwardRequest does nothing
-    on-forward : (d : Delivery) (v : ℕ) → d .message .msg ≡ ForwardRequest v → asModel (kindOf (Receive d)) (processMessage lowestBest shard d)
-    unfolding processClassic
-    on-forward d v e =
-        subst (asModel (delivers (d .message .src) (d .message)))
-        (sym
-        (processed-classic d
-        ∙ ap (λ (m : ConsensusMsg). finish shard (askedBy s i) (d .said .«value_held») (onRounds (state .rounds .fast) (processClassic (askedBy s i) (heardOf (memberSettings s i) d) m core))) e))
-        (inr (refl, refl, tt))
+    module _ (d : Delivery) (adm : Admitted (s .«process_count») core d) where
+      abbrev h : Heard
+      h = heardOf (memberSettings s i) d
+
+      prepare-ok : (slot : ℕ) (round : PaxosRound) (rv : RoundV) → d .message .msg ≡ Prepare slot round rv
+          → (host : model.Host)
+          × StepOk s (core .slot) (processed choose (askedBy s i) h (Prepare slot round rv) (state .rounds))
+          (outcome (setupOf s) (viewShard shard) (deliver i (d .message .src) (model.prepare slot (roundNumber (Round round)) (roundNumber (acceptRoundOf rv)) (proposerOf rv) (valueOf rv)) host))
+      unfolding processClassic processChange outcome model.onMessage
+      prepare-ok slot round rv e = go (mode-is (s .mode) classic)
+        where
+          parts : (round .leader < 64) × LeaderFits (acceptRoundOf rv) × ProposerFits rv
+          parts = prepare-leader slot round rv (sym (ap (msgProcesses (s .«process_count»)) e) ∙ message-small d (adm .processes))
+
+          delegate-of : h .delegate ≡ delegateOf s (s .mode) (round .leader)
+          delegate-of = ap (gathererOf (memberSettings s i)) e ∙ gatherer slot round rv
+
+          le : slot ≤ core .slot
+          le = slot-of core slot (sym (ap (λ (m : ConsensusMsg). isAhead core (msgSlot m)) e) ∙ adm .not-ahead)
+
+          slow-host : model.Host
+          slow-host = record { allows = true; requester = 0; adoptee = 0 }
+
+          goal : model.Host → RoundsStep → Type 0
+          goal host step = StepOk s (core .slot) step (model.onPrepare (setupOf s) i (viewShard shard) (d .message .src) slot (roundNumber (Round round)) (roundNumber (acceptRoundOf rv)) (proposerOf rv) (valueOf rv) host)
+
+          go : ModeIs (s .mode)
+              → (host : model.Host) × StepOk s (core .slot) (processed choose (askedBy s i) h (Prepare slot round rv) (state .rounds))
+              (cond (host .allows) (model.onPrepare (setupOf s) i (viewShard shard) (d .message .src) slot (roundNumber (Round round)) (roundNumber (acceptRoundOf rv)) (proposerOf rv) (valueOf rv) host) (refuse (viewShard shard)))
+          go (isClassic no-fast no-epaxos) = (
+            slow-host,
+            subst (goal slow-host) (sym (processed-slow h (Prepare slot round rv) no-fast))
+                (slow-step (onPrepare (askedBy s i) h slot round rv core) _
+                (on-prepare-follows (answersFor (s .mode) fastState) s i (not-swift (s .mode) classic) no-epaxos own-small h (source-small d (adm .processes)) slot round (parts .0) rv (parts .1) refl delegate-of core ok le slow-host)
+                (on-prepare-keeps (askedBy s i) h (core .slot) round (parts .0) slot rv core (refl, ok) (parts .1))),
+          )
+          go (isFast has-fast epaxos single) = (
+            hostFor choose s i (d .message .src) fastState rv,
+            host-allows choose s i (d .message .src) fastState rv
+                (λ (b : Bool).
+                StepOk s (core .slot) (processed choose (askedBy s i) h (Prepare slot round rv) (state .rounds))
+                (cond b (model.onPrepare (setupOf s) i (viewShard shard) (d .message .src) slot (roundNumber (Round round)) (roundNumber (acceptRoundOf rv)) (proposerOf rv) (valueOf rv) (hostFor choose s i (d .message .src) fastState rv)) (refuse (viewShard shard))))
+                (subst (goal (hostFor choose s i (d .message .src) fastState rv)) (sym (processed-fast h (Prepare slot round rv) has-fast))
+                (fast-step epaxos
+                (onFastPrepare choose (askedBy s i) h slot round rv core (answersOf fastState) (fastState .«fast_proposer_to_v») (fastState .«epaxos_proposer_scores») (fastState .«swift_proposer_scores»))
+                (λ x. model.onPrepare (setupOf s) i x (d .message .src) slot (roundNumber (Round round)) (roundNumber (acceptRoundOf rv)) (proposerOf rv) (valueOf rv) (hostFor choose s i (d .message .src) fastState rv))
+                (fast-prepare-follows choose picks-best s i (not-swift (s .mode) classic) epaxos own-small fastState fits h (source-small d (adm .processes)) round (parts .0) slot rv (parts .1) (parts .2) refl delegate-of core ok le)
+                (on-fast-prepare-keeps s i (not-swift (s .mode) classic) epaxos own-small choose picks-best fastState fits (core .slot) h (source-small d (adm .processes)) round (parts .0) slot rv (parts .1) (parts .2) core (refl, ok)))),
+          )
+
+      accept-ok : (slot : ℕ) (round : PaxosRound) (v : ℕ) → d .message .msg ≡ Accept slot round v
+          → StepOk s (core .slot) (processed choose (askedBy s i) h (Accept slot round v) (state .rounds))
+          (outcome (setupOf s) (viewShard shard) (deliver i (d .message .src) (model.accept slot (roundNumber (Round round)) v) (record { allows = true; requester = processNumber (d .said .requester); adoptee = 0 })))
+      unfolding processClassic processChange outcome model.onMessage onAccept
+      accept-ok slot round v e = go (mode-is (s .mode) classic)
+        where
+          leader : round .leader < 64
+          leader = accept-leader slot round v (sym (ap (msgProcesses (s .«process_count»)) e) ∙ message-small d (adm .processes))
+
+          delegate-of : h .delegate ≡ delegateOf s (s .mode) (round .leader)
+          delegate-of = ap (gathererOf (memberSettings s i)) e ∙ accept-gatherer slot round v
+
+          le : slot ≤ core .slot
+          le = slot-of core slot (sym (ap (λ (m : ConsensusMsg). isAhead core (msgSlot m)) e) ∙ adm .not-ahead)
+
+          host : model.Host
+          host = record { allows = true; requester = processNumber (d .said .requester); adoptee = 0 }
+
+          goal : RoundsStep → Type 0
+          goal step = StepOk s (core .slot) step (model.onAccept (setupOf s) i (viewShard shard) (d .message .src) slot (roundNumber (Round round)) v host)
+
+          go : ModeIs (s .mode) → goal (processed choose (askedBy s i) h (Accept slot round v) (state .rounds))
+          go (isClassic no-fast no-epaxos) =
+              subst goal (sym (processed-slow h (Accept slot round v) no-fast))
+              (slow-step (onAccept (askedBy s i) h slot round v core) _
+              (on-accept-follows (answersFor (s .mode) fastState) s i (not-swift (s .mode) classic) own-small h (source-small d (adm .processes)) slot round leader v refl delegate-of (committer-same s i (d .said .requester))
+              CoreStep (λ t. t) (Follows (setupOf s) (answersFor (s .mode) fastState)) (λ step r f. f) (accepting (askedBy s i) h round v) (λ alive c r f. f) core ok le)
+              (on-accept-keeps (askedBy s i) h (core .slot) round leader slot v core (refl, ok)))
+          go (isFast has-fast epaxos single) =
+              subst goal (sym (processed-fast h (Accept slot round v) has-fast))
+              (fast-step epaxos (onFastAccept (askedBy s i) h slot round v core (answersOf fastState) (fastState .«swift_proposer_scores»))
+              (λ x. model.onAccept (setupOf s) i x (d .message .src) slot (roundNumber (Round round)) v host)
+              (fast-accept-follows choose picks-best s i (not-swift (s .mode) classic) epaxos own-small fastState fits h (source-small d (adm .processes)) round leader slot v refl delegate-of (committer-same s i (d .said .requester)) core ok le)
+              (on-fast-accept-keeps s i (not-swift (s .mode) classic) epaxos own-small choose picks-best fastState fits (core .slot) h (source-small d (adm .processes)) round leader slot v core (refl, ok)))
+
+      -- a ForwardRequest does nothing
+      forward-ok : (v : ℕ) → StepOk s (core .slot) (processed choose (askedBy s i) h (ForwardRequest v) (state .rounds)) (quiet (viewShard shard))
+      unfolding processClassic processChange
+      forward-ok v = go (mode-is (s .mode) classic)
+        where
+          idle : Keeps (core .slot) (stays core noMessages)
+          idle = record { same-slot = refl; leaders = ok }
+
+          goal : RoundsStep → Type 0
+          goal step = StepOk s (core .slot) step (quiet (viewShard shard))
+
+          go : ModeIs (s .mode) → goal (processed choose (askedBy s i) h (ForwardRequest v) (state .rounds))
+          go (isClassic no-fast no-epaxos) = subst goal (sym (processed-slow h (ForwardRequest v) no-fast)) (slow-step (stays core noMessages) (quiet (viewShard shard)) (record { seen-as = refl }) idle)
+          go (isFast has-fast epaxos single) =
+              subst goal (sym (processed-fast h (ForwardRequest v) has-fast))
+              (fast-step epaxos (withChange (unchanged (answersOf fastState)) (stays core noMessages)) quiet
+              (lifted (setupOf s) fastState (stays core noMessages) (quiet (viewOf (answersIn fastState) core)) (record { seen-as = refl }))
+              (record { kept = record { same-slot = refl; leaders = ok }; fits = unchanged-fits fastState fits }))
+
+      processed-step : (m : ConsensusMsg) → d .message .msg ≡ m
+          → processMessage choose shard d ≡ finish shard (askedBy s i) (d .said .«value_held») (processed choose (askedBy s i) h m (state .rounds))
+      unfolding processMessage
+      processed-step m e = ap (λ (m : ConsensusMsg). finish shard (askedBy s i) (d .said .«value_held») (processed choose (askedBy s i) h m (state .rounds))) e
+
+      on-prepare : (slot : ℕ) (round : PaxosRound) (rv : RoundV) → d .message .msg ≡ Prepare slot round rv → asModel (kindOf (Receive d)) (processMessage choose shard d)
+      on-prepare slot round rv e =
+          let k = prepare-ok slot round rv e in
+          subst (asModel (delivers (d .message .src) (d .message))) (sym (processed-step (Prepare slot round rv) e))
+          (subst (λ (m : ConsensusMsg). asModel (delivers (d .message .src) (record { msg = m; src = d .message .src; «last_v» = d .message .«last_v» })) (finish shard (askedBy s i) (d .said .«value_held») (processed choose (askedBy s i) h (Prepare slot round rv) (state .rounds)))) (sym e)
+          (deliver-ends (d .said .«value_held») (d .message .src) (record { msg = Prepare slot round rv; src = d .message .src; «last_v» = d .message .«last_v» }) (k .0) (processed choose (askedBy s i) h (Prepare slot round rv) (state .rounds)) (k .1)))
+
+      on-accept : (slot : ℕ) (round : PaxosRound) (v : ℕ) → d .message .msg ≡ Accept slot round v → asModel (kindOf (Receive d)) (processMessage choose shard d)
+      on-accept slot round v e =
+          subst (asModel (delivers (d .message .src) (d .message))) (sym (processed-step (Accept slot round v) e))
+          (subst (λ (m : ConsensusMsg). asModel (delivers (d .message .src) (record { msg = m; src = d .message .src; «last_v» = d .message .«last_v» })) (finish shard (askedBy s i) (d .said .«value_held») (processed choose (askedBy s i) h (Accept slot round v) (state .rounds)))) (sym e)
+          (deliver-ends (d .said .«value_held») (d .message .src) (record { msg = Accept slot round v; src = d .message .src; «last_v» = d .message .«last_v» }) (record { allows = true; requester = processNumber (d .said .requester); adoptee = 0 }) (processed choose (askedBy s i) h (Accept slot round v) (state .rounds)) (accept-ok slot round v e)))
+
+      on-forward : (v : ℕ) → d .message .msg ≡ ForwardRequest v → asModel (kindOf (Receive d)) (processMessage choose shard d)
+      unfolding outcome model.onMessage
+      on-forward v e =
+          subst (asModel (delivers (d .message .src) (d .message))) (sym (processed-step (ForwardRequest v) e))
+          (subst (λ (m : ConsensusMsg). asModel (delivers (d .message .src) (record { msg = m; src = d .message .src; «last_v» = d .message .«last_v» })) (finish shard (askedBy s i) (d .said .«value_held») (processed choose (askedBy s i) h (ForwardRequest v) (state .rounds)))) (sym e)
+          (deliver-ends (d .said .«value_held») (d .message .src) (record { msg = ForwardRequest v; src = d .message .src; «last_v» = d .message .«last_v» }) (record { allows = true; requester = 0; adoptee = 0 }) (processed choose (askedBy s i) h (ForwardRequest v) (state .rounds)) (forward-ok v)))
 
     commit-older : (slot v : ℕ) → ltb slot (core .slot) ≡ true → onCommit shard slot v ≡ nothing shard
     unfolding onCommit
@@ -384,7 +588,7 @@ module _ (s : Settings) (i : ℕ) (classic : Classic (s .mode)) (limits : within
     on-commit source last slot v le = go (either (ltb slot (core .slot)))
       where
         host : model.Host
-        host = record { allows = true; requester = 0 }
+        host = record { allows = true; requester = 0; adoptee = 0 }
 
         go : (ltb slot (core .slot) ≡ true) ⊎ (ltb slot (core .slot) ≡ false)
             → asModel (delivers source (record { msg = Commit slot v; src = source; «last_v» = last })) (onCommit shard slot v)
@@ -410,54 +614,75 @@ module _ (s : Settings) (i : ℕ) (classic : Classic (s .mode)) (limits : within
     unfolding onReadResponse
     on-read-response source message id fast = inr (refl, refl, tt)
 
-    handled : (d : Delivery) → Admitted (s .«process_count») core d → (m : ConsensusMsg) → d .message .msg ≡ m → asModel (kindOf (Receive d)) (handle lowestBest shard d m)
+    handled : (d : Delivery) → Admitted (s .«process_count») core d → (m : ConsensusMsg) → d .message .msg ≡ m → asModel (kindOf (Receive d)) (handle choose shard d m)
     unfolding handle
-    handled d adm (Prepare slot round rv) e = on-prepare d slot round rv e adm
-    handled d adm (Accept slot round v) e = on-accept d slot round v e adm
-    handled d adm (ForwardRequest v) e = on-forward d v e
+    handled d adm (Prepare slot round rv) e = on-prepare d adm slot round rv e
+    handled d adm (Accept slot round v) e = on-accept d adm slot round v e
+    handled d adm (ForwardRequest v) e = on-forward d adm v e
     handled d adm (Commit slot v) e =
         subst (λ (m : ConsensusMsg). asModel (delivers (d .message .src) (record { msg = m; src = d .message .src; «last_v» = d .message .«last_v» })) (onCommit shard slot v)) (sym e)
         (on-commit (d .message .src) (d .message .«last_v») slot v (slot-of core slot (sym (ap (λ (m : ConsensusMsg). isAhead core (msgSlot m)) e) ∙ adm .not-ahead)))
     handled d adm (ReadRequest id) e = on-read-request (d .message .src) (d .message) id
     handled d adm (ReadResponse id next) e = on-read-response (d .message .src) (d .message) id (d .said .fast)
 
-    received : (d : Delivery) → asModel (kindOf (Receive d)) (receive lowestBest shard d)
+    received : (d : Delivery) → asModel (kindOf (Receive d)) (receive choose shard d)
     unfolding receive
     received d = go (admit (s .«process_count») i core d) refl
       where
-        go : (o : Outcome) → admit (s .«process_count») i core d ≡ o → asModel (kindOf (Receive d)) (admitted lowestBest shard d o)
+        go : (o : Outcome) → admit (s .«process_count») i core d ≡ o → asModel (kindOf (Receive d)) (admitted choose shard d o)
         go Done e = handled d (admitted-facts (s .«process_count») i core d e) (d .message .msg) refl
         go (Refused why) e = refuse-as-model (setupOf s) i (viewShard shard) (kindOf (Receive d))
 
     -- ---- proposals
 
-    proposing-classic : (v : ℕ) → proposing (askedBy s i) v (state .rounds) ≡ onRounds (state .rounds .fast) (proposeClassic (askedBy s i) v core)
-    unfolding proposing
-    proposing-classic v = simp (no-fast-path (s .mode) classic)
-
     own-elected : electing (askedBy s i) < 64
-    own-elected = subst (λ (p : ℕ). p < 64) (sym (electing-own s i (not-swift (s .mode) classic) own-small leader-small 0 core ok)) own-small
+    own-elected = subst (λ (p : ℕ). p < 64) (sym (electing-own model.noAnswers s i (not-swift (s .mode) classic) own-small leader-small 0 core ok)) own-small
 
-    propose-ends : (v : ℕ) → asModel (proposes v) (finish shard (askedBy s i) true (onRounds (state .rounds .fast) (proposeClassic (askedBy s i) v core)))
+    proposing-slow : (v : ℕ) → hasFastPath (s .mode) ≡ false → proposing (askedBy s i) v (state .rounds) ≡ onRounds fastState (proposeClassic (askedBy s i) v core)
+    unfolding proposing
+    proposing-slow v e = simp e
+
+    proposing-fast : (v : ℕ) → hasFastPath (s .mode) ≡ true
+        → proposing (askedBy s i) v (state .rounds) ≡ changeRounds fastState (proposeChange (askedBy s i) v core (answersOf fastState) (fastState .«epaxos_proposer_scores») (fastState .«swift_proposer_scores»))
+    unfolding proposing proposeFast
+    proposing-fast v e = simp e
+
+    propose-ok : (v : ℕ) → StepOk s (core .slot) (proposing (askedBy s i) v (state .rounds)) (model.onPropose (setupOf s) i (viewShard shard) v)
+    propose-ok v = go (mode-is (s .mode) classic)
+      where
+        goal : RoundsStep → Type 0
+        goal step = StepOk s (core .slot) step (model.onPropose (setupOf s) i (viewShard shard) v)
+
+        go : ModeIs (s .mode) → goal (proposing (askedBy s i) v (state .rounds))
+        go (isClassic no-fast no-epaxos) =
+            subst goal (sym (proposing-slow v no-fast))
+            (slow-step (proposeClassic (askedBy s i) v core) _
+            (propose-follows (answersFor (s .mode) fastState) s i (not-swift (s .mode) classic) own-small leader-small v core ok no-epaxos)
+            (propose-keeps (askedBy s i) (core .slot) v core own-elected (refl, ok)))
+        go (isFast has-fast epaxos single) =
+            subst goal (sym (proposing-fast v has-fast))
+            (fast-step epaxos (proposeChange (askedBy s i) v core (answersOf fastState) (fastState .«epaxos_proposer_scores») (fastState .«swift_proposer_scores»))
+            (λ x. model.onPropose (setupOf s) i x v)
+            (fast-propose-follows choose picks-best s i (not-swift (s .mode) classic) epaxos own-small fastState fits leader-small v core ok single)
+            (propose-fast-keeps s i (not-swift (s .mode) classic) epaxos own-small choose picks-best fastState fits (core .slot) leader-small v core single own-elected (refl, ok)))
+
+    propose-ends : (v : ℕ) → asModel (proposes v) (finish shard (askedBy s i) true (proposing (askedBy s i) v (state .rounds)))
     unfolding outcome
-    propose-ends v =
-        go
-        (finish-seen s i made state true (proposeClassic (askedBy s i) v core) (model.onPropose (setupOf s) i (viewShard shard) v) (propose-follows s i (not-swift (s .mode) classic) own-small leader-small v core ok)
-        (subst (λ (n : ℕ). n < 9223372036854775807) (sym (propose-keeps (askedBy s i) (core .slot) v core own-elected (refl, ok) .same-slot)) room))
+    propose-ends v = go (finish-seen s i made state true (proposing (askedBy s i) v (state .rounds)) (model.onPropose (setupOf s) i (viewShard shard) v) (propose-ok v) room)
       where
         result : model.Outcome
-        result = seenAnswer (finish shard (askedBy s i) true (onRounds (state .rounds .fast) (proposeClassic (askedBy s i) v core)))
+        result = seenAnswer (finish shard (askedBy s i) true (proposing (askedBy s i) v (state .rounds)))
 
         go : (result ≡ model.onPropose (setupOf s) i (viewShard shard) v) ⊎ (result ≡ refuse (viewShard shard)) → AsModel meaningOf (setupOf s) i (viewShard shard) (proposes v) result
-        go (inl r) = (record { allows = true; requester = 0 }, r)
-        go (inr r) = (record { allows = false; requester = 0 }, r)
+        go (inl r) = (record { allows = true; requester = 0; adoptee = 0 }, r)
+        go (inr r) = (record { allows = false; requester = 0; adoptee = 0 }, r)
 
     proposal : (v : ℕ) → asModel (proposes v) (propose shard v)
     unfolding propose
     proposal v = go (isNumber v)
       where
         go : (t : Bool) → asModel (proposes v) (cond t (finish shard (askedBy s i) true (proposing (askedBy s i) v (state .rounds))) (refused NumberTooLarge shard))
-        go true = subst (λ (step : RoundsStep). asModel (proposes v) (finish shard (askedBy s i) true step)) (sym (proposing-classic v)) (propose-ends v)
+        go true = propose-ends v
         go false = refuse-as-model (setupOf s) i (viewShard shard) (proposes v)
 
     -- ---- reads
@@ -474,7 +699,7 @@ module _ (s : Settings) (i : ℕ) (classic : Classic (s .mode)) (limits : within
         go true = opened (readInserted shard tag arrival .opened)
         go false = (refl, refl, tt)
 
-    dispatched : (c : Call) → asModel (kindOf c) (dispatch lowestBest shard c)
+    dispatched : (c : Call) → asModel (kindOf c) (dispatch choose shard c)
     unfolding dispatch
     dispatched (Propose v) = proposal v
     dispatched (StartRead tag arrival) = new-read tag arrival
@@ -482,42 +707,39 @@ module _ (s : Settings) (i : ℕ) (classic : Classic (s .mode)) (limits : within
 
     -- ---- what the shard keeps
 
-    -- the settings, whether it was made, and that leaders are processes
+    -- the settings, whether it was made, that leaders are processes, and the bounds of the fast half
     pub record ShardKept (r : Answer) : Type 0 where
       pub same-settings : r .shard .settings ≡ memberSettings s i
       pub same-made : r .shard .made ≡ made
       pub leaders-kept : Leaders (coreOf (r .shard))
+      pub fast-kept : FastFits (r .shard .state .rounds .fast)
 
     refused-kept : (why : Refusal) → ShardKept (refused why shard)
-    refused-kept why = record { same-settings = refl; same-made = refl; leaders-kept = ok }
+    refused-kept why = record { same-settings = refl; same-made = refl; leaders-kept = ok; fast-kept = fits }
 
     started-kept : (rounds : Rounds) (v : ℕ) → Leaders (commitSlot (askedBy s i) v rounds .core)
     unfolding commitSlot
     started-kept rounds v = record { in-round = starting-fits (s .mode) (s .«first_leader») leader-small; in-held = tt }
 
-    committed-kept : (v : ℕ) (rounds : Rounds) (ms : Messages) → ShardKept (committed shard (askedBy s i) v rounds ms)
-    unfolding committed
-    committed-kept v rounds ms =
+    committed-kept : (v : ℕ) (rounds : Rounds) → FastFits (rounds .fast) → (ms : Messages) → ShardKept (committed shard (askedBy s i) v rounds ms)
+    unfolding committed commitSlot
+    committed-kept v rounds f ms =
         record {
           same-settings = refl;
           same-made = refl;
           leaders-kept = record { in-round = started-kept rounds v .in-round; in-held = started-kept rounds v .in-held };
+          fast-kept = cleared-fits (hasFastPath (s .mode)) (rounds .fast) f;
         }
 
-    finish-kept : (held : Bool) (step : CoreStep) → Leaders (step .core) → ShardKept (finish shard (askedBy s i) held (onRounds (state .rounds .fast) step))
-    finish-kept held step l = go (step .next) held
+    finish-kept : (held : Bool) (step : RoundsStep) (r : model.Outcome) → StepOk s (core .slot) step r → ShardKept (finish shard (askedBy s i) held step)
+    finish-kept held step r f = go (step .next) held
       where
-        go : (n : Next) (held : Bool) → ShardKept (finishAt shard (askedBy s i) held (record { core = step .core; fast = state .rounds .fast }) (step .messages) n)
-        go Stays held = record { same-settings = refl; same-made = refl; leaders-kept = l }
-        go Continues held = record { same-settings = refl; same-made = refl; leaders-kept = l }
-        go (Commits v) true = committed-kept v (record { core = step .core; fast = state .rounds .fast }) (step .messages)
+        go : (n : Next) (held : Bool) → ShardKept (finishAt shard (askedBy s i) held (step .rounds) (step .messages) n)
+        go Stays held = record { same-settings = refl; same-made = refl; leaders-kept = f .leaders-fit; fast-kept = f .fast-fits }
+        go Continues held = record { same-settings = refl; same-made = refl; leaders-kept = f .leaders-fit; fast-kept = f .fast-fits }
+        go (Commits v) true = committed-kept v (step .rounds) (f .fast-fits) (step .messages)
         go (Commits v) false = refused-kept ValueNotHeld
         go (Refuses why) held = refused-kept why
-
-    process-kept : (d : Delivery) (m : ConsensusMsg) → d .message .msg ≡ m → Leaders (processClassic (askedBy s i) (heardOf (memberSettings s i) d) m core .core) → ShardKept (processMessage lowestBest shard d)
-    process-kept d m e l =
-        subst ShardKept (sym (processed-classic d ∙ ap (λ (x : ConsensusMsg). finish shard (askedBy s i) (d .said .«value_held») (onRounds (state .rounds .fast) (processClassic (askedBy s i) (heardOf (memberSettings s i) d) x core))) e))
-        (finish-kept (d .said .«value_held») (processClassic (askedBy s i) (heardOf (memberSettings s i) d) m core) l)
 
     request-kept : (source : ℕ) (id : ReadId) → ShardKept (onReadRequest shard source id)
     unfolding onReadRequest
@@ -528,34 +750,34 @@ module _ (s : Settings) (i : ℕ) (classic : Classic (s .mode)) (limits : within
             (cond t (refused Panic shard)
             (sent shard (oneMessage (record { destination = One source; message = record { msg = ReadResponse id (nextReadable core); src = i; «last_v» = NoValue } }))))
         go true = refused-kept Panic
-        go false = record { same-settings = refl; same-made = refl; leaders-kept = ok }
+        go false = record { same-settings = refl; same-made = refl; leaders-kept = ok; fast-kept = fits }
 
     response-kept : (id : ReadId) (fast : Bool) → ShardKept (onReadResponse shard id fast)
     unfolding onReadResponse
-    response-kept id fast = record { same-settings = refl; same-made = refl; leaders-kept = record { in-round = ok .in-round; in-held = ok .in-held } }
+    response-kept id fast = record { same-settings = refl; same-made = refl; leaders-kept = record { in-round = ok .in-round; in-held = ok .in-held }; fast-kept = fits }
 
-    handled-kept : (d : Delivery) → Admitted (s .«process_count») core d → (m : ConsensusMsg) → d .message .msg ≡ m → ShardKept (handle lowestBest shard d m)
-    unfolding handle processClassic
+    handled-kept : (d : Delivery) → Admitted (s .«process_count») core d → (m : ConsensusMsg) → d .message .msg ≡ m → ShardKept (handle choose shard d m)
+    unfolding handle
     handled-kept d adm (Prepare slot round rv) e =
-        let parts = prepare-leader slot round rv (sym (ap (msgProcesses (s .«process_count»)) e) ∙ message-small d (adm .processes)) in
-        process-kept d (Prepare slot round rv) e (on-prepare-keeps (askedBy s i) (heardOf (memberSettings s i) d) (core .slot) round (parts .0) slot rv core (refl, ok) (parts .1) .leaders)
+        let k = prepare-ok d adm slot round rv e in
+        subst ShardKept (sym (processed-step d adm (Prepare slot round rv) e)) (finish-kept (d .said .«value_held») (processed choose (askedBy s i) (heardOf (memberSettings s i) d) (Prepare slot round rv) (state .rounds)) _ (k .1))
     handled-kept d adm (Accept slot round v) e =
-        let leader = accept-leader slot round v (sym (ap (msgProcesses (s .«process_count»)) e) ∙ message-small d (adm .processes)) in
-        process-kept d (Accept slot round v) e (on-accept-keeps (askedBy s i) (heardOf (memberSettings s i) d) (core .slot) round leader slot v core (refl, ok) .leaders)
-    handled-kept d adm (ForwardRequest v) e = process-kept d (ForwardRequest v) e ok
+        subst ShardKept (sym (processed-step d adm (Accept slot round v) e)) (finish-kept (d .said .«value_held») (processed choose (askedBy s i) (heardOf (memberSettings s i) d) (Accept slot round v) (state .rounds)) _ (accept-ok d adm slot round v e))
+    handled-kept d adm (ForwardRequest v) e =
+        subst ShardKept (sym (processed-step d adm (ForwardRequest v) e)) (finish-kept (d .said .«value_held») (processed choose (askedBy s i) (heardOf (memberSettings s i) d) (ForwardRequest v) (state .rounds)) _ (forward-ok d adm v))
     handled-kept d adm (Commit slot v) e = go (either (ltb slot (core .slot)))
       where
         go : (ltb slot (core .slot) ≡ true) ⊎ (ltb slot (core .slot) ≡ false) → ShardKept (onCommit shard slot v)
-        go (inl f) = subst ShardKept (sym (commit-older slot v f)) (record { same-settings = refl; same-made = refl; leaders-kept = ok })
-        go (inr f) = subst ShardKept (sym (commit-own slot v f)) (committed-kept v (state .rounds) noMessages)
+        go (inl f) = subst ShardKept (sym (commit-older slot v f)) (record { same-settings = refl; same-made = refl; leaders-kept = ok; fast-kept = fits })
+        go (inr f) = subst ShardKept (sym (commit-own slot v f)) (committed-kept v (state .rounds) fits noMessages)
     handled-kept d adm (ReadRequest id) e = request-kept (d .message .src) id
     handled-kept d adm (ReadResponse id next) e = response-kept id (d .said .fast)
 
-    received-kept : (d : Delivery) → ShardKept (receive lowestBest shard d)
+    received-kept : (d : Delivery) → ShardKept (receive choose shard d)
     unfolding receive
     received-kept d = go (admit (s .«process_count») i core d) refl
       where
-        go : (o : Outcome) → admit (s .«process_count») i core d ≡ o → ShardKept (admitted lowestBest shard d o)
+        go : (o : Outcome) → admit (s .«process_count») i core d ≡ o → ShardKept (admitted choose shard d o)
         go Done e = handled-kept d (admitted-facts (s .«process_count») i core d e) (d .message .msg) refl
         go (Refused why) e = refused-kept why
 
@@ -564,9 +786,7 @@ module _ (s : Settings) (i : ℕ) (classic : Classic (s .mode)) (limits : within
     proposal-kept v = go (isNumber v)
       where
         go : (t : Bool) → ShardKept (cond t (finish shard (askedBy s i) true (proposing (askedBy s i) v (state .rounds))) (refused NumberTooLarge shard))
-        go true =
-            subst (λ (step : RoundsStep). ShardKept (finish shard (askedBy s i) true step)) (sym (proposing-classic v))
-            (finish-kept true (proposeClassic (askedBy s i) v core) (propose-keeps (askedBy s i) (core .slot) v core own-elected (refl, ok) .leaders))
+        go true = finish-kept true (proposing (askedBy s i) v (state .rounds)) _ (propose-ok v)
         go false = refused-kept NumberTooLarge
 
     read-kept : (tag arrival : ℕ) → ShardKept (read shard tag arrival)
@@ -575,13 +795,13 @@ module _ (s : Settings) (i : ℕ) (classic : Classic (s .mode)) (limits : within
       where
         opened : (o : Opened) → ShardKept (afterInsert shard (readInserted shard tag arrival) o)
         opened (NotOpened why) = refused-kept why
-        opened (Id id) = record { same-settings = refl; same-made = refl; leaders-kept = record { in-round = ok .in-round; in-held = ok .in-held } }
+        opened (Id id) = record { same-settings = refl; same-made = refl; leaders-kept = record { in-round = ok .in-round; in-held = ok .in-held }; fast-kept = fits }
 
         go : (t : Bool) → ShardKept (cond t (afterInsert shard (readInserted shard tag arrival) (readInserted shard tag arrival .opened)) (refused NumberTooLarge shard))
         go true = opened (readInserted shard tag arrival .opened)
         go false = refused-kept NumberTooLarge
 
-    dispatched-kept : (c : Call) → ShardKept (dispatch lowestBest shard c)
+    dispatched-kept : (c : Call) → ShardKept (dispatch choose shard c)
     unfolding dispatch
     dispatched-kept (Propose v) = proposal-kept v
     dispatched-kept (StartRead tag arrival) = read-kept tag arrival
@@ -593,6 +813,7 @@ pub record Valid (s : Settings) (i : ℕ) (shard : Shard) : Type 0 where
   pub own-settings : shard .settings ≡ memberSettings s i
   pub within : shard .made ≡ Done → withinLimits (memberSettings s i) ≡ true
   pub leaders : shard .made ≡ Done → Leaders (coreOf shard)
+  pub fast-half : shard .made ≡ Done → FastFits (shard .state .rounds .fast)
 
 -- what is shown of each call on a shard: it is the model's, and the shard stays valid
 pub record CallOk (s : Settings) (i : ℕ) (shard : Shard) (k : Kind ConsensusMessage) (r : Answer) : Type 0 where
@@ -602,34 +823,34 @@ pub record CallOk (s : Settings) (i : ℕ) (shard : Shard) (k : Kind ConsensusMe
 refused-ok : (s : Settings) (i : ℕ) (shard : Shard) → Valid s i shard → (why : Refusal) (k : Kind ConsensusMessage) → CallOk s i shard k (refused why shard)
 refused-ok s i shard v why k = record { as-model = refuse-as-model (setupOf s) i (viewShard shard) k; valid = v }
 
-not-spent-ok : (s : Settings) (i : ℕ) → Classic (s .mode) → (made : Outcome) (state : State) → Valid s i (shardOf s i made state) → made ≡ Done → (c : Call)
-    → CallOk s i (shardOf s i made state) (kindOf c) (unlessSpent lowestBest (shardOf s i made state) c)
+not-spent-ok : (s : Settings) (i : ℕ) → NotSwift (s .mode) → (choose : Choice) → PicksBest choose → (made : Outcome) (state : State) → Valid s i (shardOf s i made state) → made ≡ Done → (c : Call)
+    → CallOk s i (shardOf s i made state) (kindOf c) (unlessSpent choose (shardOf s i made state) c)
 unfolding unlessSpent
-not-spent-ok s i classic made state valid done c = go (leb 9223372036854775807 (state .rounds .core .slot)) refl
+not-spent-ok s i classic choose picks-best made state valid done c = go (leb 9223372036854775807 (state .rounds .core .slot)) refl
   where
     limits : withinLimits (memberSettings s i) ≡ true
     limits = valid .within done
 
     go : (t : Bool) → leb 9223372036854775807 (state .rounds .core .slot) ≡ t
-        → CallOk s i (shardOf s i made state) (kindOf c) (cond t (refused NumberTooLarge (shardOf s i made state)) (dispatch lowestBest (shardOf s i made state) c))
+        → CallOk s i (shardOf s i made state) (kindOf c) (cond t (refused NumberTooLarge (shardOf s i made state)) (dispatch choose (shardOf s i made state) c))
     go true e = refused-ok s i (shardOf s i made state) valid NumberTooLarge (kindOf c)
     go false e =
         let room : state .rounds .core .slot < 9223372036854775807 = leb-false 9223372036854775807 (state .rounds .core .slot) e in
-        let kept = dispatched-kept s i classic limits made state (valid .leaders done) room c in
+        let kept = dispatched-kept s i classic choose picks-best limits made state (valid .leaders done) (valid .fast-half done) room c in
         record {
-          as-model = dispatched s i classic limits made state (valid .leaders done) room c;
-          valid = record { own-settings = kept .same-settings; within = λ d. limits; leaders = λ d. kept .leaders-kept };
+          as-model = dispatched s i classic choose picks-best limits made state (valid .leaders done) (valid .fast-half done) room c;
+          valid = record { own-settings = kept .same-settings; within = λ d. limits; leaders = λ d. kept .leaders-kept; fast-half = λ d. kept .fast-kept };
         }
 
 -- Each call is the model's, and the shard stays valid.
-pub call-ok : (s : Settings) (i : ℕ) → Classic (s .mode) → (shard : Shard) → Valid s i shard → (c : Call) → CallOk s i shard (kindOf c) (callOf shard c)
+pub call-ok : (s : Settings) (i : ℕ) → NotSwift (s .mode) → (choose : Choice) → PicksBest choose → (shard : Shard) → Valid s i shard → (c : Call) → CallOk s i shard (kindOf c) (callWith choose shard c)
 unfolding callWith
-call-ok s i classic shard valid c = go (shard .made) refl
+call-ok s i classic choose picks-best shard valid c = go (shard .made) refl
   where
-    go : (o : Outcome) → shard .made ≡ o → CallOk s i shard (kindOf c) (ifMade lowestBest shard c o)
+    go : (o : Outcome) → shard .made ≡ o → CallOk s i shard (kindOf c) (ifMade choose shard c o)
     go Done e =
-        subst (λ (x : Settings). (y : Valid s i (record { made = shard .made; settings = x; state = shard .state })) → CallOk s i (record { made = shard .made; settings = x; state = shard .state }) (kindOf c) (unlessSpent lowestBest (record { made = shard .made; settings = x; state = shard .state }) c))
+        subst (λ (x : Settings). (y : Valid s i (record { made = shard .made; settings = x; state = shard .state })) → CallOk s i (record { made = shard .made; settings = x; state = shard .state }) (kindOf c) (unlessSpent choose (record { made = shard .made; settings = x; state = shard .state }) c))
         (sym (valid .own-settings))
-        (λ y. not-spent-ok s i classic (shard .made) (shard .state) y e c)
+        (λ y. not-spent-ok s i classic choose picks-best (shard .made) (shard .state) y e c)
         valid
     go (Refused why) e = refused-ok s i shard valid why (kindOf c)

@@ -22,20 +22,20 @@ use Rattle.round_state.proofs.Counting.{with-sender-own, with-sender-other, wit
 use Rattle.settings.specs.declared.Settings.{Settings}
 use Rattle.calls.specs.Asked.{askedOf}
 use Rattle.enter.specs.Enter.{inRound, isOlder, fromLive, enter}
-use Rattle.steps.specs.Steps.{noMessages, heldV, withPaxos, stays, continues, refuses, andThen}
+use Rattle.steps.specs.Steps.{noMessages, heldRv, heldV, withPaxos, stays, continues, refuses}
 use Rattle.steps.specs.declared.Core.{Core}
 use Rattle.steps.specs.declared.CoreStep.{CoreStep}
 use Rattle.steps.specs.declared.Heard.{Heard}
-use Rattle.agreement.specs.Model.{View, Outcome, add, joined, quiet}
+use Rattle.agreement.specs.Model.{View, Answers, Outcome, add, joined, quiet}
 use Rattle.agreement.specs.Model as model
 use Rattle.group.specs.Claim.{memberSettings}
-use Rattle.group.proofs.View.{roundNumber, before-number, no-member, insert-add, viewOf, Leaders, setupOf, Follows}
+use Rattle.group.proofs.View.{roundNumber, before-number, no-member, insert-add, proposerOf, viewOf, Leaders, setupOf, Follows, thenIn}
 
 -- ---- views
 
 -- a later round
-pub goto-view : (round : OptionalRound) (core : Core) → viewOf (withPaxos (gotoRound round (core .paxos)) core) ≡ joined (roundNumber round) (viewOf core)
-goto-view round core =
+pub goto-view : (ans : Answers) (round : OptionalRound) (core : Core) → viewOf ans (withPaxos (gotoRound round (core .paxos)) core) ≡ joined (roundNumber round) (viewOf ans core)
+goto-view ans round core =
     ap
     (λ (f : ℕ → Bool).
     record {
@@ -43,21 +43,23 @@ goto-view round core =
       round = roundNumber round;
       holds = isHeld (core .paxos .«max_rv»);
       heldRound = roundNumber (getLastAcceptedRound (core .paxos .«max_rv»));
+      heldProposer = proposerOf (heldRv (core .paxos .«max_rv»));
       heldValue = heldV (core .paxos .«max_rv»);
       prepared = f;
       accepted = f;
+      answers = ans;
     })
     no-member
 
-pub in-round-view : (round : PaxosRound) (core : Core) → Leaders core → round .leader < 64
-    → viewOf (inRound round core)
-    ≡ cond (ltb (viewOf core .round) (roundNumber (Round round))) (joined (roundNumber (Round round)) (viewOf core)) (viewOf core)
+pub in-round-view : (ans : Answers) (round : PaxosRound) (core : Core) → Leaders core → round .leader < 64
+    → viewOf ans (inRound round core)
+    ≡ cond (ltb (viewOf ans core .round) (roundNumber (Round round))) (joined (roundNumber (Round round)) (viewOf ans core)) (viewOf ans core)
 unfolding inRound
-in-round-view round core ok l =
-    go (before (core .paxos .round) (Round round)) ∙ ap (λ (t : Bool). cond t (joined (roundNumber (Round round)) (viewOf core)) (viewOf core)) (before-number (core .paxos .round) (Round round) (ok .in-round) l)
+in-round-view ans round core ok l =
+    go (before (core .paxos .round) (Round round)) ∙ ap (λ (t : Bool). cond t (joined (roundNumber (Round round)) (viewOf ans core)) (viewOf ans core)) (before-number (core .paxos .round) (Round round) (ok .in-round) l)
   where
-    go : (t : Bool) → viewOf (cond t (withPaxos (gotoRound (Round round) (core .paxos)) core) core) ≡ cond t (joined (roundNumber (Round round)) (viewOf core)) (viewOf core)
-    go true = goto-view (Round round) core
+    go : (t : Bool) → viewOf ans (cond t (withPaxos (gotoRound (Round round) (core .paxos)) core) core) ≡ cond t (joined (roundNumber (Round round)) (viewOf ans core)) (viewOf ans core)
+    go true = goto-view ans (Round round) core
     go false = refl
 
 pub in-round-leaders : (round : PaxosRound) (core : Core) → Leaders core → round .leader < 64 → Leaders (inRound round core)
@@ -120,8 +122,8 @@ counted-add me src set r l k = ap contains (with-own-replica me src (withSender 
 
 -- ---- entering
 
-module _ (s : Settings) (i : ℕ) (classic : isSwiftPaxos (s .mode) ≡ false) (core : Core) (h : Heard) (slot : ℕ) (round : PaxosRound) where
-  enter-client : contains (s .«alive_replicas») i ≡ false → enter (askedOf (memberSettings s i)) h slot round core ≡ stays core noMessages
+module _ (ans : Answers) (s : Settings) (i : ℕ) (classic : isSwiftPaxos (s .mode) ≡ false) (core : Core) (h : Heard) (slot : ℕ) (round : PaxosRound) where
+  pub enter-client : contains (s .«alive_replicas») i ≡ false → enter (askedOf (memberSettings s i)) h slot round core ≡ stays core noMessages
   unfolding enter
   enter-client e = simp (e, classic)
 
@@ -140,7 +142,7 @@ module _ (s : Settings) (i : ℕ) (classic : isSwiftPaxos (s .mode) ≡ false) (
   enter-not-live e o l = simp (e, o, l, classic)
 
   older-number : Leaders core → round .leader < 64
-      → isOlder slot round core ≡ (ltb slot (core .slot) || ltb (roundNumber (Round round)) (viewOf core .round))
+      → isOlder slot round core ≡ (ltb slot (core .slot) || ltb (roundNumber (Round round)) (viewOf ans core .round))
   unfolding isOlder
   older-number ok l = ap (λ (t : Bool). ltb slot (core .slot) || t) (before-number (Round round) (core .paxos .round) l (ok .in-round))
 
@@ -154,53 +156,51 @@ module _ (s : Settings) (i : ℕ) (classic : isSwiftPaxos (s .mode) ≡ false) (
 
   -- the model's four cases
   model-client : (k : View → Outcome) → contains (s .«alive_replicas») i ≡ false
-      → model.enter (setupOf s) i (viewOf core) (h .src) slot (roundNumber (Round round)) k ≡ quiet (viewOf core)
+      → model.enter (setupOf s) i (viewOf ans core) (h .src) slot (roundNumber (Round round)) k ≡ quiet (viewOf ans core)
   unfolding model.enter
   model-client k e = simp e
 
   model-older : (k : View → Outcome) → contains (s .«alive_replicas») i ≡ true → Leaders core → round .leader < 64 → isOlder slot round core ≡ true
-      → model.enter (setupOf s) i (viewOf core) (h .src) slot (roundNumber (Round round)) k ≡ quiet (viewOf core)
+      → model.enter (setupOf s) i (viewOf ans core) (h .src) slot (roundNumber (Round round)) k ≡ quiet (viewOf ans core)
   unfolding model.enter
   model-older k e ok l o = let d = sym (older-number ok l) ∙ o in simp (e, d)
 
   model-live : (k : View → Outcome) → contains (s .«alive_replicas») i ≡ true → Leaders core → round .leader < 64 → isOlder slot round core ≡ false
       → slot ≡ core .slot → contains (s .«alive_replicas») (h .src) ≡ true
-      → model.enter (setupOf s) i (viewOf core) (h .src) slot (roundNumber (Round round)) k ≡ k (viewOf (inRound round core))
+      → model.enter (setupOf s) i (viewOf ans core) (h .src) slot (roundNumber (Round round)) k ≡ k (viewOf ans (inRound round core))
   unfolding model.enter
   model-live k e ok l o same v =
       let d = sym (older-number ok l) ∙ o in
       let q : eqb slot (core .slot) ≡ true = eq-eqb slot (core .slot) same in
-      simp (e, d, q, v) (ap k (sym (in-round-view round core ok l)))
+      simp (e, d, q, v) (ap k (sym (in-round-view ans round core ok l)))
 
-  -- entering is the model's, where the rest is
-  pub enter-follows : Leaders core → round .leader < 64 → h .«source_live» ≡ contains (s .«alive_replicas») (h .src) → slot ≤ core .slot
-      → (rest : Core → CoreStep) (k : View → Outcome)
-      → (contains (s .«alive_replicas») i ≡ true → slot ≡ core .slot → before (Round round) (core .paxos .round) ≡ false → Follows (setupOf s) (rest (inRound round core)) (k (viewOf (inRound round core))))
-      → Follows (setupOf s) (andThen (enter (askedOf (memberSettings s i)) h slot round core) rest)
-      (model.enter (setupOf s) i (viewOf core) (h .src) slot (roundNumber (Round round)) k)
-  enter-follows ok l live le rest k go-on = go (either (contains (s .«alive_replicas») i)) (either (isOlder slot round core)) (either (contains (s .«alive_replicas») (h .src)))
-    where
-      put : (step : CoreStep) (r : Outcome) → enter (askedOf (memberSettings s i)) h slot round core ≡ step
-          → model.enter (setupOf s) i (viewOf core) (h .src) slot (roundNumber (Round round)) k ≡ r → Follows (setupOf s) (andThen step rest) r
-          → Follows (setupOf s) (andThen (enter (askedOf (memberSettings s i)) h slot round core) rest)
-          (model.enter (setupOf s) i (viewOf core) (h .src) slot (roundNumber (Round round)) k)
-      put step r e d f =
-          subst (λ (o : Outcome). Follows (setupOf s) (andThen (enter (askedOf (memberSettings s i)) h slot round core) rest) o) (sym d)
-          (subst (λ (t : CoreStep). Follows (setupOf s) (andThen t rest) r) (sym e) f)
+  -- entering is the model's, where the rest is; X is what the handler makes, of which Fits says that it is the model's
+  module _ (X : Type 0) (lift : CoreStep → X) (Fits : X → Outcome → Type 0) (lifted : (step : CoreStep) (r : Outcome) → Follows (setupOf s) ans step r → Fits (lift step) r) where
+    pub enter-follows : Leaders core → round .leader < 64 → h .«source_live» ≡ contains (s .«alive_replicas») (h .src) → slot ≤ core .slot
+        → (rest : Core → X) (k : View → Outcome)
+        → (contains (s .«alive_replicas») i ≡ true → slot ≡ core .slot → before (Round round) (core .paxos .round) ≡ false → Fits (rest (inRound round core)) (k (viewOf ans (inRound round core))))
+        → Fits (thenIn lift (enter (askedOf (memberSettings s i)) h slot round core) rest)
+        (model.enter (setupOf s) i (viewOf ans core) (h .src) slot (roundNumber (Round round)) k)
+    enter-follows ok l live le rest k go-on = go (either (contains (s .«alive_replicas») i)) (either (isOlder slot round core)) (either (contains (s .«alive_replicas») (h .src)))
+      where
+        put : (step : CoreStep) (r : Outcome) → enter (askedOf (memberSettings s i)) h slot round core ≡ step
+            → model.enter (setupOf s) i (viewOf ans core) (h .src) slot (roundNumber (Round round)) k ≡ r → Fits (thenIn lift step rest) r
+            → Fits (thenIn lift (enter (askedOf (memberSettings s i)) h slot round core) rest)
+            (model.enter (setupOf s) i (viewOf ans core) (h .src) slot (roundNumber (Round round)) k)
+        put step r e d f =
+            subst (λ (o : Outcome). Fits (thenIn lift (enter (askedOf (memberSettings s i)) h slot round core) rest) o) (sym d)
+            (subst (λ (t : CoreStep). Fits (thenIn lift t rest) r) (sym e) f)
 
-      go : (contains (s .«alive_replicas») i ≡ true) ⊎ (contains (s .«alive_replicas») i ≡ false)
-          → (isOlder slot round core ≡ true) ⊎ (isOlder slot round core ≡ false)
-          → (contains (s .«alive_replicas») (h .src) ≡ true) ⊎ (contains (s .«alive_replicas») (h .src) ≡ false)
-          → Follows (setupOf s) (andThen (enter (askedOf (memberSettings s i)) h slot round core) rest)
-          (model.enter (setupOf s) i (viewOf core) (h .src) slot (roundNumber (Round round)) k)
-      go (inr e) o v = put (stays core noMessages) (quiet (viewOf core)) (enter-client e) (model-client k e) (record { seen-as = refl })
-      go (inl e) (inl o) v = put (stays core noMessages) (quiet (viewOf core)) (enter-older e o) (model-older k e ok l o) (record { seen-as = refl })
-      go (inl e) (inr o) (inr v) =
-          subst
-          (λ (t : CoreStep).
-          Follows (setupOf s) (andThen t rest) (model.enter (setupOf s) i (viewOf core) (h .src) slot (roundNumber (Round round)) k))
-          (sym (enter-not-live e o (live ∙ v)))
-          (record { seen-as = tt })
-      go (inl e) (inr o) (inl v) =
-          put (continues (inRound round core) noMessages) (k (viewOf (inRound round core))) (enter-live e o (live ∙ v)) (model-live k e ok l o (not-older le o .0) v)
-          (go-on e (not-older le o .0) (not-older le o .1))
+        go : (contains (s .«alive_replicas») i ≡ true) ⊎ (contains (s .«alive_replicas») i ≡ false)
+            → (isOlder slot round core ≡ true) ⊎ (isOlder slot round core ≡ false)
+            → (contains (s .«alive_replicas») (h .src) ≡ true) ⊎ (contains (s .«alive_replicas») (h .src) ≡ false)
+            → Fits (thenIn lift (enter (askedOf (memberSettings s i)) h slot round core) rest)
+            (model.enter (setupOf s) i (viewOf ans core) (h .src) slot (roundNumber (Round round)) k)
+        go (inr e) o v = put (stays core noMessages) (quiet (viewOf ans core)) (enter-client e) (model-client k e) (lifted (stays core noMessages) (quiet (viewOf ans core)) (record { seen-as = refl }))
+        go (inl e) (inl o) v = put (stays core noMessages) (quiet (viewOf ans core)) (enter-older e o) (model-older k e ok l o) (lifted (stays core noMessages) (quiet (viewOf ans core)) (record { seen-as = refl }))
+        go (inl e) (inr o) (inr v) =
+            put (refuses SourceNotLive core) (model.enter (setupOf s) i (viewOf ans core) (h .src) slot (roundNumber (Round round)) k) (enter-not-live e o (live ∙ v)) refl
+            (lifted (refuses SourceNotLive core) (model.enter (setupOf s) i (viewOf ans core) (h .src) slot (roundNumber (Round round)) k) (record { seen-as = tt }))
+        go (inl e) (inr o) (inl v) =
+            put (continues (inRound round core) noMessages) (k (viewOf ans (inRound round core))) (enter-live e o (live ∙ v)) (model-live k e ok l o (not-older le o .0) v)
+            (go-on e (not-older le o .0) (not-older le o .1))

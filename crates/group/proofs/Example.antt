@@ -2,7 +2,7 @@
 -- about something.
 -- Assumes nothing.
 use mathlib.Core.Path.{_≡_, refl}
-use mathlib.Core.Bool.{true, false}
+use mathlib.Core.Bool.{Bool, true, false}
 use mathlib.Core.List.{List, [], _∷_}
 use mathlib.Core.Logic.{inl, inr}
 use Prim.Native.Nat.{ℕ}
@@ -17,6 +17,7 @@ use Rattle.message.specs.declared.OptionalProcess.the-variants.{NoProcess}
 use Rattle.message.specs.declared.OptionalRound.the-variants.{NoRound}
 use Rattle.message.specs.declared.OptionalValue.{OptionalValue}
 use Rattle.message.specs.declared.OptionalValue.the-variants.{NoValue, Value}
+use Rattle.message.specs.declared.PFMode.{PFMode}
 use Rattle.message.specs.declared.PFMode.the-variants.{Paxos}
 use Rattle.message.specs.declared.RoundV.the-variants.{PaxosV}
 use Rattle.settings.specs.Settings.{countsFit, membersFit, committersFit, modeFits, withinLimits}
@@ -42,15 +43,16 @@ use Rattle.agreement.proofs.Tests.{neqb→ne}
 use Rattle.group.specs.Claim.{MemberCall, Entry, entriesFrom, entries, LegalFrom, Legal, Claim}
 use Rattle.group.proofs.Agreement.{agreement}
 
-abbrev three : Settings
-three =
+-- three members, all live, in a mode
+abbrev pub three : PFMode → Settings
+three mode =
     record {
       «process_count» = 3;
       «replica_count» = 3;
       «my_pid» = 0;
       «alive_replicas» = 7;
       «first_leader» = 0;
-      mode = Paxos;
+      mode = mode;
       quorum = NoSet;
       «has_committers» = false;
       committers = replicate 64 0;
@@ -58,10 +60,10 @@ three =
     }
 
 -- the calls: a proposal, and a message from a member, with the last value that this one has committed
-abbrev proposes : ℕ → ℕ → MemberCall
+abbrev pub proposes : ℕ → ℕ → MemberCall
 proposes member v = record { member = member; call = Propose v }
 
-abbrev hears : ℕ → ℕ → OptionalValue → ConsensusMsg → MemberCall
+abbrev pub hears : ℕ → ℕ → OptionalValue → ConsensusMsg → MemberCall
 hears member source last msg =
     record {
       member = member;
@@ -95,30 +97,31 @@ calls =
     ∷ []
 
 -- the member and the commit of each entry
-record MemberCommit : Type 0 where
-  member : ℕ
-  commit : OptionalCommit
+pub record MemberCommit : Type 0 where
+  pub member : ℕ
+  pub commit : OptionalCommit
 
-abbrev commitsOf : List Entry → List MemberCommit
+abbrev pub commitsOf : List Entry → List MemberCommit
 commitsOf [] = []
 commitsOf (e ∷ es) = record { member = e .member; commit = e .reply .commit } ∷ commitsOf es
 
-abbrev none : ℕ → MemberCommit
+abbrev pub none : ℕ → MemberCommit
 none i = record { member = i; commit = NoCommit }
 
-abbrev commits : ℕ → ℕ → ℕ → MemberCommit
-commits i slot v = record { member = i; commit = Committed slot v false }
+-- with the mark of the fast path
+abbrev pub commits : ℕ → ℕ → ℕ → Bool → MemberCommit
+commits i slot v fast = record { member = i; commit = Committed slot v fast }
 
-pub example-commits : commitsOf (entries three calls)
-    ≡ (commits 2 1 20 ∷ commits 0 1 20 ∷ commits 1 1 20 ∷ none 2 ∷ none 1 ∷ none 2 ∷ none 1 ∷ commits 2 0 10 ∷ commits 1 0 10 ∷ commits 0 0 10 ∷ none 1 ∷ none 0 ∷ none 1 ∷ none 0 ∷ [])
+pub example-commits : commitsOf (entries (three Paxos) calls)
+    ≡ (commits 2 1 20 false ∷ commits 0 1 20 false ∷ commits 1 1 20 false ∷ none 2 ∷ none 1 ∷ none 2 ∷ none 1 ∷ commits 2 0 10 false ∷ commits 1 0 10 false ∷ commits 0 0 10 false ∷ none 1 ∷ none 0 ∷ none 1 ∷ none 0 ∷ [])
 unfolding entriesFrom newShard callWith unlessSpent dispatch propose receive admit numbersFit processesFit ready otherLastValue valueAwaited roundNumbers rvNumbers msgNumbers valueNumbers processNumbers rvProcesses msgProcesses requesterBelow handle onCommit committed processMessage processed gathererIn proposing proposeClassic mayPropose electing proposePrepare processClassic onPrepare onAccept inPrepare enter fromLive isOlder inRound prepared holdFirst preparing answersNothing answerPrepare gather becomesPrepared acceptPhase broadcastAccept accepting accepted follower answered tryCommit isCommitter commitSlot paxosProposeV receivePromise heldAfterPromise receiveAccept acceptFits acceptOwn selfAccept withSender withOwn nextLeaderRound roundBefore roundEqual increment delegateIn withinLimits countsFit membersFit committersFit modeFits contains count size insert
 example-commits = refl
 
 -- a call that is of a member and may stand, before a legal list
-first : {A B C : Type 0} → A → B → C → A × B × C
+pub first : {A B C : Type 0} → A → B → C → A × B × C
 first below stands rest = (below, stands, rest)
 
-pub example-legal : Legal three calls
+pub example-legal : Legal (three Paxos) calls
 unfolding LegalFrom newShard callWith unlessSpent dispatch propose receive admit numbersFit processesFit ready otherLastValue valueAwaited roundNumbers rvNumbers msgNumbers valueNumbers processNumbers rvProcesses msgProcesses requesterBelow handle onCommit committed processMessage processed gathererIn proposing proposeClassic mayPropose electing proposePrepare processClassic onPrepare onAccept inPrepare enter fromLive isOlder inRound prepared holdFirst preparing answersNothing answerPrepare gather becomesPrepared acceptPhase broadcastAccept accepting accepted follower answered tryCommit commitMessages tellsCommit isCommitter answerAccept commitSlot paxosProposeV receivePromise heldAfterPromise receiveAccept acceptFits acceptOwn selfAccept withSender withOwn nextLeaderRound roundBefore roundEqual increment delegateIn committerIn committerFor withinLimits countsFit membersFit committersFit modeFits contains count size insert
 example-legal =
     first (lit< tt) tt
@@ -137,5 +140,5 @@ example-legal =
     (first (lit< tt) (_, _, inr (inl refl), refl, inl refl, refl, neqb→ne 1 2 tt) tt)))))))))))))
 
 -- and so the run meets the claim
-pub example-claim : Claim (entries three calls)
-example-claim = agreement three tt calls example-legal
+pub example-claim : Claim (entries (three Paxos) calls)
+example-claim = agreement (three Paxos) tt calls example-legal

@@ -47,11 +47,11 @@ pub record StateFits (p : PaxosState) : Type 0 where
 pub record StepFits (step : PaxosStep) : Type 0 where
   pub state-fits : StateFits (step .state)
 
-state-cond : (b : Bool) {x y : PaxosStep} → StepFits x → StepFits y → StepFits (cond b x y)
+pub state-cond : (b : Bool) {x y : PaxosStep} → StepFits x → StepFits y → StepFits (cond b x y)
 state-cond true f g = f
 state-cond false f g = g
 
-step-fits : {step : PaxosStep} → StateFits (step .state) → StepFits step
+pub step-fits : {step : PaxosStep} → StateFits (step .state) → StepFits step
 step-fits ok = record { state-fits = ok }
 
 held-fits : (held : HeldPromise) (rv : RoundV) → LeaderFits (getLastAcceptedRound held) → LeaderFits (acceptRoundOf rv) → LeaderFits (getLastAcceptedRound (heldAfterPromise held rv))
@@ -64,7 +64,7 @@ held-fits (Held old) rv ok fits = go (before (acceptRoundOf old) (acceptRoundOf 
     go false = ok
 
 module _ (me : Member) where
-  promise-fits : (src : ℕ) (rv : RoundV) (p : PaxosState) → StateFits p → LeaderFits (acceptRoundOf rv) → StateFits (receivePromise me src rv p .state)
+  pub promise-fits : (src : ℕ) (rv : RoundV) (p : PaxosState) → StateFits p → LeaderFits (acceptRoundOf rv) → StateFits (receivePromise me src rv p .state)
   unfolding receivePromise
   promise-fits src rv p ok fits = record { in-round = ok .in-round; in-held = held-fits (p .«max_rv») rv (ok .in-held) fits }
 
@@ -82,7 +82,7 @@ module _ (me : Member) where
   own-fits round p NoValue ok l = step-fits ok
   own-fits round p (Value v) ok l = accept-fits (me .«my_pid») round v p ok l
 
-  self-fits : (round : PaxosRound) (p : PaxosState) → StateFits p → round .leader < 64 → StepFits (selfAccept me round p)
+  pub self-fits : (round : PaxosRound) (p : PaxosState) → StateFits p → round .leader < 64 → StepFits (selfAccept me round p)
   unfolding selfAccept
   self-fits round p ok l = state-cond (isEmpty (p .«accepted_set»)) (own-fits round p (getV (p .«max_rv»)) ok l) (step-fits ok)
 
@@ -92,25 +92,25 @@ pub record Keeps (slot : ℕ) (step : CoreStep) : Type 0 where
   pub same-slot : step .core .slot ≡ slot
   pub leaders : Leaders (step .core)
 
-keeps-cond : {slot : ℕ} (b : Bool) {x y : CoreStep} → Keeps slot x → Keeps slot y → Keeps slot (cond b x y)
+pub keeps-cond : {slot : ℕ} (b : Bool) {x y : CoreStep} → Keeps slot x → Keeps slot y → Keeps slot (cond b x y)
 keeps-cond true f g = f
 keeps-cond false f g = g
 
 -- a core that keeps both
-abbrev Kept : ℕ → Core → Type 0
+abbrev pub Kept : ℕ → Core → Type 0
 Kept slot core = (core .slot ≡ slot) × Leaders core
 
-state-of : {core : Core} → Leaders core → StateFits (core .paxos)
+pub state-of : {core : Core} → Leaders core → StateFits (core .paxos)
 state-of ok = record { in-round = ok .in-round; in-held = ok .in-held }
 
-leaders-of : {core : Core} → StateFits (core .paxos) → Leaders core
+pub leaders-of : {core : Core} → StateFits (core .paxos) → Leaders core
 leaders-of ok = record { in-round = ok .in-round; in-held = ok .in-held }
 
-keeps : {slot : ℕ} {step : CoreStep} → Kept slot (step .core) → Keeps slot step
+pub keeps : {slot : ℕ} {step : CoreStep} → Kept slot (step .core) → Keeps slot step
 keeps k = record { same-slot = k .0; leaders = k .1 }
 
 module _ (a : Asked) (h : Heard) (n : ℕ) (round : PaxosRound) (below : round .leader < 64) where
-  enter-keeps : (slot : ℕ) (core : Core) → Kept n core → Keeps n (enter a h slot round core)
+  pub enter-keeps : (slot : ℕ) (core : Core) → Kept n core → Keeps n (enter a h slot round core)
   unfolding enter fromLive
   enter-keeps slot core k =
       keeps-cond (a .member .replica || isSwiftPaxos (a .mode))
@@ -132,7 +132,7 @@ module _ (a : Asked) (h : Heard) (n : ℕ) (round : PaxosRound) (below : round .
   unfolding holdFirst
   first-fits rv p ok fits = state-cond (isHeld (p .«max_rv»)) (step-fits ok) (propose-fits (a .member) rv p ok fits)
 
-  prepared-keeps : (rv : RoundV) (core : Core) → Kept n core → LeaderFits (acceptRoundOf rv) → Keeps n (prepared a h round rv core)
+  pub prepared-keeps : (rv : RoundV) (core : Core) → Kept n core → LeaderFits (acceptRoundOf rv) → Keeps n (prepared a h round rv core)
   unfolding prepared
   prepared-keeps rv core k fits =
       held-keeps core (holdFirst a rv (core .paxos) .state) (holdFirst a rv (core .paxos) .outcome) k (first-fits rv (core .paxos) (state-of (k .1)) fits .state-fits)
@@ -145,11 +145,11 @@ module _ (a : Asked) (h : Heard) (n : ℕ) (round : PaxosRound) (below : round .
       go true = k
       go false = (k .0, leaders-of (state-of (k .1)))
 
-  own-accept-keeps : (core : Core) (p : PaxosState) (o : Outcome) → Kept n core → StateFits p → Keeps n (afterOwnAccept a round core p o)
+  pub own-accept-keeps : (core : Core) (p : PaxosState) (o : Outcome) → Kept n core → StateFits p → Keeps n (afterOwnAccept a round core p o)
   own-accept-keeps core p Done k f = broadcast-keeps (withPaxos p core) (k .0, leaders-of f)
   own-accept-keeps core p (Refused why) k f = keeps k
 
-  phase-keeps : (core : Core) → Kept n core → Keeps n (acceptPhase a round core)
+  pub phase-keeps : (core : Core) → Kept n core → Keeps n (acceptPhase a round core)
   unfolding acceptPhase
   phase-keeps core k =
       own-accept-keeps core (selfAccept (a .member) round (core .paxos) .state) (selfAccept (a .member) round (core .paxos) .outcome) k (self-fits (a .member) round (core .paxos) (state-of (k .1)) below .state-fits)
@@ -194,7 +194,7 @@ module _ (a : Asked) (h : Heard) (n : ℕ) (round : PaxosRound) (below : round .
       go false = accepted-keeps v (leftFastPath (withPaxos p core)) (k .0, leaders-of f)
   after-accepted-keeps v core p (Refused why) k f = keeps k
 
-  accepting-keeps : (v : ℕ) (core : Core) → Kept n core → Keeps n (accepting a h round v core)
+  pub accepting-keeps : (v : ℕ) (core : Core) → Kept n core → Keeps n (accepting a h round v core)
   unfolding accepting
   accepting-keeps v core k =
       after-accepted-keeps v core (receiveAccept (a .member) (h .src) round v (core .paxos) .state) (receiveAccept (a .member) (h .src) round v (core .paxos) .outcome) k
@@ -216,13 +216,13 @@ module _ (a : Asked) (n : ℕ) (round : PaxosRound) (below : round .leader < 64)
   proposed-keeps msg core p Done k f = keeps (k .0, leaders-of f)
   proposed-keeps msg core p (Refused why) k f = keeps k
 
-  prepare-keeps : (core : Core) → Kept n core → Keeps n (proposePrepare a round (PaxosV NoRound v) core)
+  pub prepare-keeps : (rv : RoundV) → LeaderFits (acceptRoundOf rv) → (core : Core) → Kept n core → Keeps n (proposePrepare a round rv core)
   unfolding proposePrepare
-  prepare-keeps core k =
-      proposed-keeps (Prepare (core .slot) round (PaxosV NoRound v)) core (paxosProposeV (a .member) (PaxosV NoRound v) (gotoRound (Round round) (core .paxos)) .state)
-      (paxosProposeV (a .member) (PaxosV NoRound v) (gotoRound (Round round) (core .paxos)) .outcome)
+  prepare-keeps rv fits core k =
+      proposed-keeps (Prepare (core .slot) round rv) core (paxosProposeV (a .member) rv (gotoRound (Round round) (core .paxos)) .state)
+      (paxosProposeV (a .member) rv (gotoRound (Round round) (core .paxos)) .outcome)
       k
-      (propose-fits (a .member) (PaxosV NoRound v) (gotoRound (Round round) (core .paxos)) (goto-fits (core .paxos) (state-of (k .1))) tt .state-fits)
+      (propose-fits (a .member) rv (gotoRound (Round round) (core .paxos)) (goto-fits (core .paxos) (state-of (k .1))) fits .state-fits)
 
   own-promise-keeps : (core : Core) (p : PaxosState) (o : Outcome) → Kept n core → StateFits p → Keeps n (afterOwnPromise a round v core p o)
   own-promise-keeps core p Done k f =
@@ -240,4 +240,4 @@ module _ (a : Asked) (n : ℕ) (round : PaxosRound) (below : round .leader < 64)
 pub propose-keeps : (a : Asked) (n v : ℕ) (core : Core) → electing a < 64 → Kept n core → Keeps n (proposeClassic a v core)
 unfolding proposeClassic nextLeaderRound
 propose-keeps a n v core l k =
-    keeps-cond (mayPropose a core) (keeps-cond (isMultiPaxos (a .mode)) (accept-keeps a n (proposalRound a core) l v core k) (prepare-keeps a n (proposalRound a core) l v core k)) (keeps k)
+    keeps-cond (mayPropose a core) (keeps-cond (isMultiPaxos (a .mode)) (accept-keeps a n (proposalRound a core) l v core k) (prepare-keeps a n (proposalRound a core) l v (PaxosV NoRound v) tt core k)) (keeps k)

@@ -4,9 +4,14 @@ pub mod Preparing
 pub mod Accepting
 pub mod Proposing
 pub mod Keeping
+pub mod Answering
+pub mod FastPath
+pub mod KeepingFast
 pub mod Calls
+pub mod Ties
 pub mod Agreement
 pub mod Slots
 pub mod Example
+pub mod FastExample
 pub mod GroupOfOne
 pub mod Runs

@@ -31,16 +31,16 @@ use Rattle.enter.specs.Enter.{inRound}
 use Rattle.prepare.specs.Prepare.{holdFirst, answerPrepare, answersNothing, preparing, prepared, broadcastAccept, afterOwnAccept, acceptPhase, withPromise, becomesPrepared, gather}
 use Rattle.paxos_family.proofs.Gathering.{gather-proposes, gather-waits}
 use Rattle.paxos_family.specs.Process.{inPrepare, onPrepare}
-use Rattle.steps.specs.Steps.{noMessages, oneMessage, sends, toAll, heldRv, heldV, withPaxos, leftFastPath, stays, continues, refuses, andThen}
+use Rattle.steps.specs.Steps.{noMessages, oneMessage, sends, toAll, heldRv, heldV, withPaxos, leftFastPath, stays, continues, refuses}
 use Rattle.steps.specs.declared.Asked.{Asked}
 use Rattle.steps.specs.declared.Core.{Core}
 use Rattle.steps.specs.declared.CoreStep.{CoreStep}
 use Rattle.steps.specs.declared.Destination.the-variants.{One}
 use Rattle.steps.specs.declared.Heard.{Heard}
-use Rattle.agreement.specs.Model.{View, Outcome, add, adopted, preparedBy, voted, refuse, say, quiet}
+use Rattle.agreement.specs.Model.{View, Answers, Host, Outcome, add, adopted, preparedBy, voted, refuse, say, quiet}
 use Rattle.agreement.specs.Model as model
 use Rattle.group.specs.Claim.{memberSettings}
-use Rattle.group.proofs.View.{roundNumber, LeaderFits, leaderOf, leader-of, before-number, equal-number, viewOf, Leaders, setupOf, Follows}
+use Rattle.group.proofs.View.{roundNumber, LeaderFits, leaderOf, leader-of, before-number, equal-number, proposerOf, isEPaxos, viewOf, Leaders, setupOf, Follows, thenIn}
 use Rattle.group.proofs.Entering.{add-again, in-round-leaders, in-round-round, counted-add, enter-follows}
 
 -- ---- what is held
@@ -49,16 +49,18 @@ abbrev pub askedBy : Settings → ℕ → Asked
 askedBy s i = askedOf (memberSettings s i)
 
 -- the view with another promise held and another set prepared
-abbrev withHeld : Core → HeldPromise → (ℕ → Bool) → View
-withHeld core held f =
+abbrev withHeld : Answers → Core → HeldPromise → (ℕ → Bool) → View
+withHeld ans core held f =
     record {
       slot = core .slot;
       round = roundNumber (core .paxos .round);
       holds = isHeld held;
       heldRound = roundNumber (getLastAcceptedRound held);
+      heldProposer = proposerOf (heldRv held);
       heldValue = heldV held;
       prepared = f;
       accepted = contains (core .paxos .«accepted_set»);
+      answers = ans;
     }
 
 -- a promise replaces what is held where its accept round is later
@@ -78,9 +80,9 @@ nothing-held (Held rv) e = absurd (not-both refl e)
 
 -- the promise that is held reports what the view holds
 report : (held : HeldPromise) → isHeld held ≡ true
-    → (roundNumber (acceptRoundOf (heldRv held)) ≡ roundNumber (getLastAcceptedRound held)) × (valueOf (heldRv held) ≡ heldV held)
+    → roundNumber (acceptRoundOf (heldRv held)) ≡ roundNumber (getLastAcceptedRound held)
 report NothingHeld e = absurd (not-both e refl)
-report (Held rv) e = (refl, refl)
+report (Held rv) e = refl
 
 not-leb : (a b : ℕ) → not (leb a b) ≡ ltb b a
 not-leb a b = go (leb a b) refl
@@ -90,18 +92,18 @@ not-leb a b = go (leb a b) refl
     go false e = sym (lt-ltb b a (leb-false a b e))
 
 -- a step and an outcome, each put in another's place
-pub follows-both : {S : model.Setup} {step t : CoreStep} {r o : Outcome} → step ≡ t → r ≡ o → Follows S t o → Follows S step r
-follows-both {S} {step} {t} {r} {o} e d f = subst (λ (x : CoreStep). Follows S x r) (sym e) (subst (λ (x : Outcome). Follows S t x) (sym d) f)
+pub follows-both : {S : model.Setup} {ans : Answers} {step t : CoreStep} {r o : Outcome} → step ≡ t → r ≡ o → Follows S ans t o → Follows S ans step r
+follows-both {S} {ans} {step} {t} {r} {o} e d f = subst (λ (x : CoreStep). Follows S ans x r) (sym e) (subst (λ (x : Outcome). Follows S ans t x) (sym d) f)
 
 -- ---- the first promise that is held, and one's own accept
 
-module _ (s : Settings) (i : ℕ) (alive : contains (s .«alive_replicas») i ≡ true) (small : i < 64) where
+module _ (ans : Answers) (s : Settings) (i : ℕ) (alive : contains (s .«alive_replicas») i ≡ true) (small : i < 64) where
   pub first-view : (core : Core) (rv : RoundV) → isHeld (core .paxos .«max_rv») ≡ false
-      → viewOf (withPaxos (receivePromise (askedBy s i .member) i rv (core .paxos) .state) core)
-      ≡ preparedBy i (adopted (roundNumber (acceptRoundOf rv)) (valueOf rv) (viewOf core))
+      → viewOf ans (withPaxos (receivePromise (askedBy s i .member) i rv (core .paxos) .state) core)
+      ≡ preparedBy i (adopted (roundNumber (acceptRoundOf rv)) (proposerOf rv) (valueOf rv) (viewOf ans core))
   unfolding receivePromise heldAfterPromise
   first-view core rv none =
-      ap₂ (withHeld core) (ap (λ (m : HeldPromise). heldAfterPromise m rv) (nothing-held (core .paxos .«max_rv») none))
+      ap₂ (withHeld ans core) (ap (λ (m : HeldPromise). heldAfterPromise m rv) (nothing-held (core .paxos .«max_rv») none))
       (counted-add (askedBy s i .member) i (core .paxos .«prepared_set») alive small small ∙ add-again i (contains (core .paxos .«prepared_set»)))
 
   first-leaders : (core : Core) (rv : RoundV) → Leaders core → isHeld (core .paxos .«max_rv») ≡ false → LeaderFits (acceptRoundOf rv)
@@ -123,7 +125,7 @@ module _ (s : Settings) (i : ℕ) (alive : contains (s .«alive_replicas») i �
   first-round core rv = refl
 
   pub own-accept-view : (round : PaxosRound) (core : Core) (v : ℕ) → core .paxos .round ≡ Round round
-      → viewOf (withPaxos (afterAccept (askedBy s i .member) i round v (core .paxos)) core) ≡ voted i v (viewOf core)
+      → viewOf ans (withPaxos (afterAccept (askedBy s i .member) i round v (core .paxos)) core) ≡ voted i v (viewOf ans core)
   own-accept-view round core v at =
       ap₂
       (λ (r : ℕ) (f : ℕ → Bool).
@@ -132,14 +134,16 @@ module _ (s : Settings) (i : ℕ) (alive : contains (s .«alive_replicas») i �
         round = roundNumber (core .paxos .round);
         holds = true;
         heldRound = r;
+        heldProposer = 0;
         heldValue = v;
         prepared = contains (core .paxos .«prepared_set»);
         accepted = f;
+        answers = ans;
       })
       (ap roundNumber (sym at))
       (counted-add (askedBy s i .member) i (core .paxos .«accepted_set») alive small small ∙ add-again i (contains (core .paxos .«accepted_set»)))
 
-module _ (s : Settings) (i : ℕ) (classic : isSwiftPaxos (s .mode) ≡ false) (alive : contains (s .«alive_replicas») i ≡ true) (small : i < 64) (h : Heard) (src-small : h .src < 64) (round : PaxosRound) (below : round .leader < 64) where
+module _ (ans : Answers) (s : Settings) (i : ℕ) (classic : isSwiftPaxos (s .mode) ≡ false) (alive : contains (s .«alive_replicas») i ≡ true) (small : i < 64) (h : Heard) (src-small : h .src < 64) (round : PaxosRound) (below : round .leader < 64) (host : Host) where
   -- ---- the accept phase
 
   own-accept-state : (core : Core) → isHeld (core .paxos .«max_rv») ≡ true → isEmpty (core .paxos .«accepted_set») ≡ true
@@ -157,20 +161,20 @@ module _ (s : Settings) (i : ℕ) (classic : isSwiftPaxos (s .mode) ≡ false) (
   abbrev picked : View → Outcome
   picked x = say (voted i (x .heldValue) x) (record { destination = model.all; message = model.accept (x .slot) (x .round) (x .heldValue) } ∷ [])
 
-  broadcast-classic : (core : Core) → broadcastAccept (askedBy s i) round core
+  pub broadcast-classic : (core : Core) → broadcastAccept (askedBy s i) round core
       ≡ stays (leftFastPath core) (oneMessage (sends (askedBy s i) core toAll (Accept (core .slot) round (heldV (core .paxos .«max_rv»)))))
   unfolding broadcastAccept
   broadcast-classic core = simp classic
 
   broadcast-follows : (core : Core) → core .paxos .round ≡ Round round
-      → Follows (setupOf s) (broadcastAccept (askedBy s i) round (withPaxos (afterAccept (askedBy s i .member) i round (heldV (core .paxos .«max_rv»)) (core .paxos)) core))
-      (picked (viewOf core))
+      → Follows (setupOf s) ans (broadcastAccept (askedBy s i) round (withPaxos (afterAccept (askedBy s i .member) i round (heldV (core .paxos .«max_rv»)) (core .paxos)) core))
+      (picked (viewOf ans core))
   broadcast-follows core at =
-      subst (λ (t : CoreStep). Follows (setupOf s) t (picked (viewOf core))) (sym (broadcast-classic (withPaxos (afterAccept (askedBy s i .member) i round (heldV (core .paxos .«max_rv»)) (core .paxos)) core)))
+      subst (λ (t : CoreStep). Follows (setupOf s) ans t (picked (viewOf ans core))) (sym (broadcast-classic (withPaxos (afterAccept (askedBy s i .member) i round (heldV (core .paxos .«max_rv»)) (core .paxos)) core)))
       (record {
         seen-as =
             ap₂ (λ (x : View) (r : ℕ). say x (record { destination = model.all; message = model.accept (core .slot) r (heldV (core .paxos .«max_rv»)) } ∷ []))
-            (own-accept-view s i alive small round core (heldV (core .paxos .«max_rv»)) at)
+            (own-accept-view ans s i alive small round core (heldV (core .paxos .«max_rv»)) at)
             (ap roundNumber (sym at));
       })
 
@@ -188,17 +192,17 @@ module _ (s : Settings) (i : ℕ) (classic : isSwiftPaxos (s .mode) ≡ false) (
 
   -- the accept phase: the delegate accepts what it holds, unless something is accepted already
   phase-follows : (core : Core) → core .paxos .round ≡ Round round → isHeld (core .paxos .«max_rv») ≡ true → (x0 : View)
-      → Follows (setupOf s) (acceptPhase (askedBy s i) round core) (cond (viewOf core .accepted i) (refuse x0) (picked (viewOf core)))
+      → Follows (setupOf s) ans (acceptPhase (askedBy s i) round core) (cond (viewOf ans core .accepted i) (refuse x0) (picked (viewOf ans core)))
   phase-follows core at held x0 = go (either (isEmpty (core .paxos .«accepted_set»))) (either (acceptFits (core .paxos .«max_rv») round (heldV (core .paxos .«max_rv»))))
     where
       by-step : (step : PaxosStep) → selfAccept (askedBy s i .member) round (core .paxos) ≡ step
-          → Follows (setupOf s) (afterOwnAccept (askedBy s i) round core (step .state) (step .outcome)) (cond (viewOf core .accepted i) (refuse x0) (picked (viewOf core)))
-          → Follows (setupOf s) (acceptPhase (askedBy s i) round core) (cond (viewOf core .accepted i) (refuse x0) (picked (viewOf core)))
-      by-step step e f = subst (λ (t : CoreStep). Follows (setupOf s) t (cond (viewOf core .accepted i) (refuse x0) (picked (viewOf core)))) (sym (phase-of core step e)) f
+          → Follows (setupOf s) ans (afterOwnAccept (askedBy s i) round core (step .state) (step .outcome)) (cond (viewOf ans core .accepted i) (refuse x0) (picked (viewOf ans core)))
+          → Follows (setupOf s) ans (acceptPhase (askedBy s i) round core) (cond (viewOf ans core .accepted i) (refuse x0) (picked (viewOf ans core)))
+      by-step step e f = subst (λ (t : CoreStep). Follows (setupOf s) ans t (cond (viewOf ans core .accepted i) (refuse x0) (picked (viewOf ans core)))) (sym (phase-of core step e)) f
 
       go : (isEmpty (core .paxos .«accepted_set») ≡ true) ⊎ (isEmpty (core .paxos .«accepted_set») ≡ false)
           → (acceptFits (core .paxos .«max_rv») round (heldV (core .paxos .«max_rv»)) ≡ true) ⊎ (acceptFits (core .paxos .«max_rv») round (heldV (core .paxos .«max_rv»)) ≡ false)
-          → Follows (setupOf s) (acceptPhase (askedBy s i) round core) (cond (viewOf core .accepted i) (refuse x0) (picked (viewOf core)))
+          → Follows (setupOf s) ans (acceptPhase (askedBy s i) round core) (cond (viewOf ans core .accepted i) (refuse x0) (picked (viewOf ans core)))
       go (inr e) f = by-step (refused AcceptUnlikeHeld (core .paxos)) (self-accept-full core e) (record { seen-as = tt })
       go (inl e) (inr f) = by-step (refused AcceptUnlikeHeld (core .paxos)) (self-accept-fits core held e ∙ simp f) (record { seen-as = tt })
       go (inl e) (inl f) =
@@ -206,46 +210,46 @@ module _ (s : Settings) (i : ℕ) (classic : isSwiftPaxos (s .mode) ≡ false) (
           by-step (taken (afterAccept (askedBy s i .member) i round (heldV (core .paxos .«max_rv»)) (core .paxos))) (self-accept-fits core held e ∙ simp f)
           (subst
           (λ (t : Bool).
-          Follows (setupOf s) (broadcastAccept (askedBy s i) round (withPaxos (afterAccept (askedBy s i .member) i round (heldV (core .paxos .«max_rv»)) (core .paxos)) core))
-          (cond t (refuse x0) (picked (viewOf core))))
+          Follows (setupOf s) ans (broadcastAccept (askedBy s i) round (withPaxos (afterAccept (askedBy s i .member) i round (heldV (core .paxos .«max_rv»)) (core .paxos)) core))
+          (cond t (refuse x0) (picked (viewOf ans core))))
           (sym (ap (λ (x : ℕ). contains x i) none ∙ contains-empty i))
           (broadcast-follows core at))
 
   -- ---- the promise counted
 
-  promise-view : (core : Core) (rv : RoundV) → Leaders core → isHeld (core .paxos .«max_rv») ≡ true → LeaderFits (acceptRoundOf rv)
-      → viewOf (withPaxos (receivePromise (askedBy s i .member) (h .src) rv (core .paxos) .state) core)
-      ≡ model.counted (setupOf s) i (h .src) (roundNumber (acceptRoundOf rv)) (valueOf rv) (viewOf core)
+  pub promise-view : (core : Core) (rv : RoundV) → Leaders core → isHeld (core .paxos .«max_rv») ≡ true → LeaderFits (acceptRoundOf rv)
+      → viewOf ans (withPaxos (receivePromise (askedBy s i .member) (h .src) rv (core .paxos) .state) core)
+      ≡ model.counted (setupOf s) i (h .src) (roundNumber (acceptRoundOf rv)) (proposerOf rv) (valueOf rv) (viewOf ans core)
   unfolding receivePromise model.counted
   promise-view core rv ok held fits =
-      ap₂ (withHeld core) (promise-cond (core .paxos .«max_rv») rv held) (counted-add (askedBy s i .member) (h .src) (core .paxos .«prepared_set») alive small src-small)
+      ap₂ (withHeld ans core) (promise-cond (core .paxos .«max_rv») rv held) (counted-add (askedBy s i .member) (h .src) (core .paxos .«prepared_set») alive small src-small)
       ∙ go (before (getLastAcceptedRound (core .paxos .«max_rv»)) (acceptRoundOf rv))
       ∙ ap
       (λ (t : Bool).
-      preparedBy i (preparedBy (h .src) (cond t (adopted (roundNumber (acceptRoundOf rv)) (valueOf rv) (viewOf core)) (viewOf core))))
+      preparedBy i (preparedBy (h .src) (cond t (adopted (roundNumber (acceptRoundOf rv)) (proposerOf rv) (valueOf rv) (viewOf ans core)) (viewOf ans core))))
       (before-number (getLastAcceptedRound (core .paxos .«max_rv»)) (acceptRoundOf rv) (ok .in-held) fits)
     where
       go : (t : Bool)
-          → withHeld core (cond t (Held rv) (core .paxos .«max_rv»)) (add i (add (h .src) (contains (core .paxos .«prepared_set»))))
-          ≡ preparedBy i (preparedBy (h .src) (cond t (adopted (roundNumber (acceptRoundOf rv)) (valueOf rv) (viewOf core)) (viewOf core)))
+          → withHeld ans core (cond t (Held rv) (core .paxos .«max_rv»)) (add i (add (h .src) (contains (core .paxos .«prepared_set»))))
+          ≡ preparedBy i (preparedBy (h .src) (cond t (adopted (roundNumber (acceptRoundOf rv)) (proposerOf rv) (valueOf rv) (viewOf ans core)) (viewOf ans core)))
       go true = refl
       go false = refl
 
   completes-model : (core : Core) (rv : RoundV)
-      → (ltb (count (viewOf core .prepared) 64) (quorumsOf s .majority) && leb (quorumsOf s .majority) (count (viewOf (withPromise (askedBy s i) h rv core) .prepared) 64))
+      → (ltb (count (viewOf ans core .prepared) 64) (quorumsOf s .majority) && leb (quorumsOf s .majority) (count (viewOf ans (withPromise (askedBy s i) h rv core) .prepared) 64))
       ≡ becomesPrepared (askedBy s i) core (withPromise (askedBy s i) h rv core)
   unfolding becomesPrepared size
   completes-model core rv =
-      ap (λ (t : Bool). t && leb (quorumsOf s .majority) (count (viewOf (withPromise (askedBy s i) h rv core) .prepared) 64))
+      ap (λ (t : Bool). t && leb (quorumsOf s .majority) (count (viewOf ans (withPromise (askedBy s i) h rv core) .prepared) 64))
       (sym (not-leb (quorumsOf s .majority) (count (contains (core .paxos .«prepared_set»)) 64)))
 
   picks-completes : (core : Core) (rv : RoundV) (x0 : View) → becomesPrepared (askedBy s i) core (withPromise (askedBy s i) h rv core) ≡ true
-      → model.picks (setupOf s) i x0 (viewOf core) (viewOf (withPromise (askedBy s i) h rv core)) ≡ cond (viewOf (withPromise (askedBy s i) h rv core) .accepted i) (refuse x0) (picked (viewOf (withPromise (askedBy s i) h rv core)))
-  unfolding model.picks
+      → model.picks (setupOf s) i x0 (viewOf ans core) (viewOf ans (withPromise (askedBy s i) h rv core)) ≡ cond (viewOf ans (withPromise (askedBy s i) h rv core) .accepted i) (refuse x0) (picked (viewOf ans (withPromise (askedBy s i) h rv core)))
+  unfolding model.picks model.casts
   picks-completes core rv x0 e = let d = completes-model core rv ∙ e in simp d
 
   picks-waits : (core : Core) (rv : RoundV) (x0 : View) → becomesPrepared (askedBy s i) core (withPromise (askedBy s i) h rv core) ≡ false
-      → model.picks (setupOf s) i x0 (viewOf core) (viewOf (withPromise (askedBy s i) h rv core)) ≡ quiet (viewOf (withPromise (askedBy s i) h rv core))
+      → model.picks (setupOf s) i x0 (viewOf ans core) (viewOf ans (withPromise (askedBy s i) h rv core)) ≡ quiet (viewOf ans (withPromise (askedBy s i) h rv core))
   unfolding model.picks
   picks-waits core rv x0 e = let d = completes-model core rv ∙ e in simp d
 
@@ -256,19 +260,19 @@ module _ (s : Settings) (i : ℕ) (classic : isSwiftPaxos (s .mode) ≡ false) (
       go true = refl
       go false = e
 
-  gather-follows : (core : Core) (rv : RoundV) → Leaders core → core .paxos .round ≡ Round round → isHeld (core .paxos .«max_rv») ≡ true → LeaderFits (acceptRoundOf rv) → (x0 : View)
-      → Follows (setupOf s) (gather (askedBy s i) h round rv core)
-      (model.picks (setupOf s) i x0 (viewOf core) (model.counted (setupOf s) i (h .src) (roundNumber (acceptRoundOf rv)) (valueOf rv) (viewOf core)))
+  pub gather-follows : (core : Core) (rv : RoundV) → Leaders core → core .paxos .round ≡ Round round → isHeld (core .paxos .«max_rv») ≡ true → LeaderFits (acceptRoundOf rv) → (x0 : View)
+      → Follows (setupOf s) ans (gather (askedBy s i) h round rv core)
+      (model.picks (setupOf s) i x0 (viewOf ans core) (model.counted (setupOf s) i (h .src) (roundNumber (acceptRoundOf rv)) (proposerOf rv) (valueOf rv) (viewOf ans core)))
   unfolding receivePromise
   gather-follows core rv ok at held fits x0 =
       subst
       (λ (x : View).
-      Follows (setupOf s) (gather (askedBy s i) h round rv core) (model.picks (setupOf s) i x0 (viewOf core) x))
+      Follows (setupOf s) ans (gather (askedBy s i) h round rv core) (model.picks (setupOf s) i x0 (viewOf ans core) x))
       (promise-view core rv ok held fits)
       (go (either (becomesPrepared (askedBy s i) core (withPromise (askedBy s i) h rv core))))
     where
       go : (becomesPrepared (askedBy s i) core (withPromise (askedBy s i) h rv core) ≡ true) ⊎ (becomesPrepared (askedBy s i) core (withPromise (askedBy s i) h rv core) ≡ false)
-          → Follows (setupOf s) (gather (askedBy s i) h round rv core) (model.picks (setupOf s) i x0 (viewOf core) (viewOf (withPromise (askedBy s i) h rv core)))
+          → Follows (setupOf s) ans (gather (askedBy s i) h round rv core) (model.picks (setupOf s) i x0 (viewOf ans core) (viewOf ans (withPromise (askedBy s i) h rv core)))
       go (inl e) =
           follows-both (gather-proposes (askedBy s i) round h rv core e) (picks-completes core rv x0 e)
           (phase-follows (withPromise (askedBy s i) h rv core) at (held-promised (core .paxos .«max_rv») rv held) x0)
@@ -277,11 +281,11 @@ module _ (s : Settings) (i : ℕ) (classic : isSwiftPaxos (s .mode) ≡ false) (
   -- ---- the answer to a Prepare
 
   delegate-number : (core : Core) → core .paxos .round ≡ Round round → h .delegate ≡ delegateOf s (s .mode) (round .leader)
-      → setupOf s .voters .delegate (viewOf core .round) ≡ h .delegate
+      → setupOf s .voters .delegate (viewOf ans core .round) ≡ h .delegate
   delegate-number core at d = ap (λ (r : OptionalRound). delegateOf s (s .mode) (leaderOf (roundNumber r))) at ∙ ap (delegateOf s (s .mode)) (leader-of round below) ∙ sym d
 
   answers-nothing : (core : Core) → Leaders core → core .paxos .round ≡ Round round
-      → answersNothing (askedBy s i) h round core ≡ eqb (viewOf core .heldRound) (viewOf core .round)
+      → answersNothing (askedBy s i) h round core ≡ eqb (viewOf ans core .heldRound) (viewOf ans core .round)
   unfolding answersNothing
   answers-nothing core ok at =
       ap (λ (t : Bool). (t && eqb (h .delegate) (round .leader)) || equal (getLastAcceptedRound (core .paxos .«max_rv»)) (Round round)) classic
@@ -306,74 +310,25 @@ module _ (s : Settings) (i : ℕ) (classic : isSwiftPaxos (s .mode) ≡ false) (
 
   -- the three cases of the model
   abbrev promisedBy : Core → RoundV → View → Outcome
-  promisedBy core rv x0 = model.promised (setupOf s) i (h .src) (roundNumber (acceptRoundOf rv)) (valueOf rv) x0 (viewOf core)
+  promisedBy core rv x0 = model.promised (setupOf s) i (h .src) (roundNumber (acceptRoundOf rv)) (proposerOf rv) (valueOf rv) host x0 (viewOf ans core)
 
-  model-delegate : (core : Core) (rv : RoundV) (x0 : View) → eqb (setupOf s .voters .delegate (viewOf core .round)) i ≡ true
+  model-delegate : (core : Core) (rv : RoundV) (x0 : View) → eqb (setupOf s .voters .delegate (viewOf ans core .round)) i ≡ true
       → promisedBy core rv x0
-      ≡ model.picks (setupOf s) i x0 (viewOf core) (model.counted (setupOf s) i (h .src) (roundNumber (acceptRoundOf rv)) (valueOf rv) (viewOf core))
+      ≡ model.gathers (setupOf s) i (h .src) (proposerOf rv) (valueOf rv) host x0 (viewOf ans core) (model.counted (setupOf s) i (h .src) (roundNumber (acceptRoundOf rv)) (proposerOf rv) (valueOf rv) (viewOf ans core))
   unfolding model.promised
   model-delegate core rv x0 e = simp e
 
-  model-silent : (core : Core) (rv : RoundV) (x0 : View) → eqb (setupOf s .voters .delegate (viewOf core .round)) i ≡ false → eqb (viewOf core .heldRound) (viewOf core .round) ≡ true
-      → promisedBy core rv x0 ≡ quiet (viewOf core)
+  model-silent : (core : Core) (rv : RoundV) (x0 : View) → eqb (setupOf s .voters .delegate (viewOf ans core .round)) i ≡ false → eqb (viewOf ans core .heldRound) (viewOf ans core .round) ≡ true
+      → promisedBy core rv x0 ≡ quiet (viewOf ans core)
   unfolding model.promised
   model-silent core rv x0 e n = simp (e, n)
 
-  model-answer : (core : Core) (rv : RoundV) (x0 : View) → eqb (setupOf s .voters .delegate (viewOf core .round)) i ≡ false → eqb (viewOf core .heldRound) (viewOf core .round) ≡ false
+  model-answer : (core : Core) (rv : RoundV) (x0 : View) → eqb (setupOf s .voters .delegate (viewOf ans core .round)) i ≡ false → eqb (viewOf ans core .heldRound) (viewOf ans core .round) ≡ false
       → promisedBy core rv x0
-      ≡ say (viewOf core)
-      (record { destination = model.to (setupOf s .voters .delegate (viewOf core .round)); message = model.prepare (core .slot) (viewOf core .round) (viewOf core .heldRound) (viewOf core .heldValue) } ∷ [])
+      ≡ say (viewOf ans core)
+      (record { destination = model.to (setupOf s .voters .delegate (viewOf ans core .round)); message = model.prepare (core .slot) (viewOf ans core .round) (viewOf ans core .heldRound) (viewOf ans core .heldProposer) (viewOf ans core .heldValue) } ∷ [])
   unfolding model.promised
   model-answer core rv x0 e n = simp (e, n)
-
-  preparing-follows : (core : Core) (rv : RoundV) → Leaders core → core .paxos .round ≡ Round round → isHeld (core .paxos .«max_rv») ≡ true → LeaderFits (acceptRoundOf rv)
-      → h .delegate ≡ delegateOf s (s .mode) (round .leader) → (x0 : View)
-      → Follows (setupOf s) (andThen (preparing (askedBy s i) h round core) (gather (askedBy s i) h round rv)) (promisedBy core rv x0)
-  preparing-follows core rv ok at held fits d x0 = go (either (eqb (h .delegate) i)) (either (answersNothing (askedBy s i) h round core)) (either (eqb (h .delegate) (h .src) || not (eqb (h .delegate) (round .leader))))
-    where
-      dn : setupOf s .voters .delegate (viewOf core .round) ≡ h .delegate
-      dn = delegate-number core at d
-
-      same : (t : Bool) → eqb (h .delegate) i ≡ t → eqb (setupOf s .voters .delegate (viewOf core .round)) i ≡ t
-      same t e = ap (λ (p : ℕ). eqb p i) dn ∙ e
-
-      step : (t : CoreStep) (r : Outcome) → preparing (askedBy s i) h round core ≡ t → promisedBy core rv x0 ≡ r
-          → Follows (setupOf s) (andThen t (gather (askedBy s i) h round rv)) r
-          → Follows (setupOf s) (andThen (preparing (askedBy s i) h round core) (gather (askedBy s i) h round rv)) (promisedBy core rv x0)
-      step t r e f g = follows-both (ap (λ (z : CoreStep). andThen z (gather (askedBy s i) h round rv)) e) f g
-
-      go : (eqb (h .delegate) i ≡ true) ⊎ (eqb (h .delegate) i ≡ false)
-          → (answersNothing (askedBy s i) h round core ≡ true) ⊎ (answersNothing (askedBy s i) h round core ≡ false)
-          → ((eqb (h .delegate) (h .src) || not (eqb (h .delegate) (round .leader))) ≡ true) ⊎ ((eqb (h .delegate) (h .src) || not (eqb (h .delegate) (round .leader))) ≡ false)
-          → Follows (setupOf s) (andThen (preparing (askedBy s i) h round core) (gather (askedBy s i) h round rv)) (promisedBy core rv x0)
-      go (inl e) n k = step (continues core noMessages) _ (preparing-delegate core e) (model-delegate core rv x0 (same true e)) (gather-follows core rv ok at held fits x0)
-      go (inr e) (inl n) k =
-          step (stays core noMessages) (quiet (viewOf core)) (preparing-silent core e n) (model-silent core rv x0 (same false e) (sym (answers-nothing core ok at) ∙ n))
-          (record { seen-as = refl })
-      go (inr e) (inr n) (inr k) =
-          step (refuses Panic core) _ (preparing-answer core e n ∙ simp k) (model-answer core rv x0 (same false e) (sym (answers-nothing core ok at) ∙ n))
-          (record { seen-as = tt })
-      go (inr e) (inr n) (inl k) =
-          step (stays core (oneMessage (sends (askedBy s i) core (One (h .delegate)) (Prepare (core .slot) round (heldRv (core .paxos .«max_rv»)))))) _
-          (preparing-answer core e n ∙ simp k)
-          (model-answer core rv x0 (same false e) (sym (answers-nothing core ok at) ∙ n))
-          (record {
-            seen-as =
-                ap₂
-                (λ (p r : ℕ).
-                say (viewOf core)
-                (record { destination = model.to p; message = model.prepare (core .slot) r (roundNumber (acceptRoundOf (heldRv (core .paxos .«max_rv»)))) (valueOf (heldRv (core .paxos .«max_rv»))) } ∷ []))
-                (sym dn)
-                (ap roundNumber (sym at))
-                ∙ ap₂
-                (λ (a v : ℕ).
-                say (viewOf core)
-                (record { destination = model.to (setupOf s .voters .delegate (viewOf core .round)); message = model.prepare (core .slot) (viewOf core .round) a v } ∷ []))
-                (report (core .paxos .«max_rv») held .0)
-                (report (core .paxos .«max_rv») held .1);
-          })
-
-  -- ---- a Prepare in the round of the core
 
   prepared-held : (core : Core) (rv : RoundV) → isHeld (core .paxos .«max_rv») ≡ true → prepared (askedBy s i) h round rv core ≡ preparing (askedBy s i) h round core
   unfolding prepared holdFirst
@@ -389,42 +344,107 @@ module _ (s : Settings) (i : ℕ) (classic : isSwiftPaxos (s .mode) ≡ false) (
   unfolding prepared holdFirst paxosProposeV
   prepared-refused core rv e n = simp (e, n)
 
-  in-prepare-follows : (core : Core) (rv : RoundV) → Leaders core → core .paxos .round ≡ Round round → LeaderFits (acceptRoundOf rv)
-      → h .delegate ≡ delegateOf s (s .mode) (round .leader) → (x0 : View)
-      → Follows (setupOf s) (inPrepare (askedBy s i) h round rv core)
-      (model.promised (setupOf s) i (h .src) (roundNumber (acceptRoundOf rv)) (valueOf rv) x0
-      (cond (viewOf core .holds) (viewOf core) (preparedBy i (adopted (roundNumber (acceptRoundOf rv)) (valueOf rv) (viewOf core)))))
-  unfolding inPrepare
-  in-prepare-follows core rv ok at fits d x0 = go (either (isHeld (core .paxos .«max_rv»))) (either (isEmpty (core .paxos .«prepared_set»)))
-    where
-      first : Core
-      first = withPaxos (receivePromise (askedBy s i .member) i rv (core .paxos) .state) core
+  -- what the delegate makes of the promise, as the model does: `rest` is what the handler makes of it
+  module _ (X : Type 0) (lift : CoreStep → X) (Fits : X → Outcome → Type 0) (lifted : (step : CoreStep) (r : Outcome) → Follows (setupOf s) ans step r → Fits (lift step) r)
+      (rv : RoundV) (fits : LeaderFits (acceptRoundOf rv)) (delegate-of : h .delegate ≡ delegateOf s (s .mode) (round .leader)) (x0 : View) (rest : Core → X)
+      (rest-follows : (core : Core) → Leaders core → core .paxos .round ≡ Round round → isHeld (core .paxos .«max_rv») ≡ true
+      → Fits (rest core) (model.gathers (setupOf s) i (h .src) (proposerOf rv) (valueOf rv) host x0 (viewOf ans core)
+      (model.counted (setupOf s) i (h .src) (roundNumber (acceptRoundOf rv)) (proposerOf rv) (valueOf rv) (viewOf ans core)))) where
+    preparing-follows : (core : Core) → Leaders core → core .paxos .round ≡ Round round → isHeld (core .paxos .«max_rv») ≡ true
+        → Fits (thenIn lift (preparing (askedBy s i) h round core) rest) (promisedBy core rv x0)
+    preparing-follows core ok at held = go (either (eqb (h .delegate) i)) (either (answersNothing (askedBy s i) h round core)) (either (eqb (h .delegate) (h .src) || not (eqb (h .delegate) (round .leader))))
+      where
+        dn : setupOf s .voters .delegate (viewOf ans core .round) ≡ h .delegate
+        dn = delegate-number core at delegate-of
 
-      goal : View → Outcome
-      goal x = model.promised (setupOf s) i (h .src) (roundNumber (acceptRoundOf rv)) (valueOf rv) x0 x
+        same : (t : Bool) → eqb (h .delegate) i ≡ t → eqb (setupOf s .voters .delegate (viewOf ans core .round)) i ≡ t
+        same t e = ap (λ (p : ℕ). eqb p i) dn ∙ e
 
-      go : (isHeld (core .paxos .«max_rv») ≡ true) ⊎ (isHeld (core .paxos .«max_rv») ≡ false)
-          → (isEmpty (core .paxos .«prepared_set») ≡ true) ⊎ (isEmpty (core .paxos .«prepared_set») ≡ false)
-          → Follows (setupOf s) (andThen (prepared (askedBy s i) h round rv core) (gather (askedBy s i) h round rv))
-          (goal (cond (isHeld (core .paxos .«max_rv»)) (viewOf core) (preparedBy i (adopted (roundNumber (acceptRoundOf rv)) (valueOf rv) (viewOf core)))))
-      go (inl e) n =
-          follows-both (ap (λ (z : CoreStep). andThen z (gather (askedBy s i) h round rv)) (prepared-held core rv e))
-          (ap (λ (t : Bool). goal (cond t (viewOf core) (preparedBy i (adopted (roundNumber (acceptRoundOf rv)) (valueOf rv) (viewOf core))))) e)
-          (preparing-follows core rv ok at e fits d x0)
-      go (inr e) (inr n) =
-          follows-both (ap (λ (z : CoreStep). andThen z (gather (askedBy s i) h round rv)) (prepared-refused core rv e n)) refl (record { seen-as = tt })
-      go (inr e) (inl n) =
-          follows-both (ap (λ (z : CoreStep). andThen z (gather (askedBy s i) h round rv)) (prepared-first core rv e n))
-          (ap (λ (t : Bool). goal (cond t (viewOf core) (preparedBy i (adopted (roundNumber (acceptRoundOf rv)) (valueOf rv) (viewOf core))))) e ∙ ap goal (sym (first-view s i alive small core rv e)))
-          (preparing-follows first rv (first-leaders s i alive small core rv ok e fits) (first-round s i alive small core rv ∙ at) (first-held s i alive small core rv e) fits d x0)
+        step : (t : CoreStep) (r : Outcome) → preparing (askedBy s i) h round core ≡ t → promisedBy core rv x0 ≡ r
+            → Fits (thenIn lift t rest) r
+            → Fits (thenIn lift (preparing (askedBy s i) h round core) rest) (promisedBy core rv x0)
+        step t r e d f = subst (λ (z : CoreStep). Fits (thenIn lift z rest) (promisedBy core rv x0)) (sym e) (subst (Fits (thenIn lift t rest)) (sym d) f)
+
+        go : (eqb (h .delegate) i ≡ true) ⊎ (eqb (h .delegate) i ≡ false)
+            → (answersNothing (askedBy s i) h round core ≡ true) ⊎ (answersNothing (askedBy s i) h round core ≡ false)
+            → ((eqb (h .delegate) (h .src) || not (eqb (h .delegate) (round .leader))) ≡ true) ⊎ ((eqb (h .delegate) (h .src) || not (eqb (h .delegate) (round .leader))) ≡ false)
+            → Fits (thenIn lift (preparing (askedBy s i) h round core) rest) (promisedBy core rv x0)
+        go (inl e) n k = step (continues core noMessages) _ (preparing-delegate core e) (model-delegate core rv x0 (same true e)) (rest-follows core ok at held)
+        go (inr e) (inl n) k =
+            step (stays core noMessages) (quiet (viewOf ans core)) (preparing-silent core e n) (model-silent core rv x0 (same false e) (sym (answers-nothing core ok at) ∙ n))
+            (lifted (stays core noMessages) (quiet (viewOf ans core)) (record { seen-as = refl }))
+        go (inr e) (inr n) (inr k) =
+            step (refuses Panic core) (promisedBy core rv x0) (preparing-answer core e n ∙ simp k) refl (lifted (refuses Panic core) (promisedBy core rv x0) (record { seen-as = tt }))
+        go (inr e) (inr n) (inl k) =
+            step (stays core (oneMessage (sends (askedBy s i) core (One (h .delegate)) (Prepare (core .slot) round (heldRv (core .paxos .«max_rv»)))))) (promisedBy core rv x0)
+            (preparing-answer core e n ∙ simp k)
+            refl
+            (lifted (stays core (oneMessage (sends (askedBy s i) core (One (h .delegate)) (Prepare (core .slot) round (heldRv (core .paxos .«max_rv»)))))) (promisedBy core rv x0)
+            (record {
+              seen-as =
+                  ap₂
+                  (λ (p r : ℕ).
+                  say (viewOf ans core)
+                  (record { destination = model.to p; message = model.prepare (core .slot) r (roundNumber (acceptRoundOf (heldRv (core .paxos .«max_rv»)))) (viewOf ans core .heldProposer) (viewOf ans core .heldValue) } ∷ []))
+                  (sym dn)
+                  (ap roundNumber (sym at))
+                  ∙ ap
+                  (λ (a : ℕ).
+                  say (viewOf ans core)
+                  (record { destination = model.to (setupOf s .voters .delegate (viewOf ans core .round)); message = model.prepare (core .slot) (viewOf ans core .round) a (viewOf ans core .heldProposer) (viewOf ans core .heldValue) } ∷ []))
+                  (report (core .paxos .«max_rv») held)
+                  ∙ sym (model-answer core rv x0 (same false e) (sym (answers-nothing core ok at) ∙ n));
+            }))
+
+    -- ---- a Prepare in the round of the core
+
+    pub in-prepare-follows : (core : Core) → Leaders core → core .paxos .round ≡ Round round
+        → Fits (thenIn lift (prepared (askedBy s i) h round rv core) rest)
+        (model.promised (setupOf s) i (h .src) (roundNumber (acceptRoundOf rv)) (proposerOf rv) (valueOf rv) host x0
+        (cond (viewOf ans core .holds) (viewOf ans core) (preparedBy i (adopted (roundNumber (acceptRoundOf rv)) (proposerOf rv) (valueOf rv) (viewOf ans core)))))
+    in-prepare-follows core ok at = go (either (isHeld (core .paxos .«max_rv»))) (either (isEmpty (core .paxos .«prepared_set»)))
+      where
+        first : Core
+        first = withPaxos (receivePromise (askedBy s i .member) i rv (core .paxos) .state) core
+
+        goal : View → Outcome
+        goal x = model.promised (setupOf s) i (h .src) (roundNumber (acceptRoundOf rv)) (proposerOf rv) (valueOf rv) host x0 x
+
+        view : Bool → View
+        view t = cond t (viewOf ans core) (preparedBy i (adopted (roundNumber (acceptRoundOf rv)) (proposerOf rv) (valueOf rv) (viewOf ans core)))
+
+        put : (t : CoreStep) (r : Outcome) → prepared (askedBy s i) h round rv core ≡ t → goal (view (isHeld (core .paxos .«max_rv»))) ≡ r → Fits (thenIn lift t rest) r
+            → Fits (thenIn lift (prepared (askedBy s i) h round rv core) rest) (goal (view (isHeld (core .paxos .«max_rv»))))
+        put t r e d f = subst (λ (z : CoreStep). Fits (thenIn lift z rest) (goal (view (isHeld (core .paxos .«max_rv»))))) (sym e) (subst (Fits (thenIn lift t rest)) (sym d) f)
+
+        go : (isHeld (core .paxos .«max_rv») ≡ true) ⊎ (isHeld (core .paxos .«max_rv») ≡ false)
+            → (isEmpty (core .paxos .«prepared_set») ≡ true) ⊎ (isEmpty (core .paxos .«prepared_set») ≡ false)
+            → Fits (thenIn lift (prepared (askedBy s i) h round rv core) rest) (goal (view (isHeld (core .paxos .«max_rv»))))
+        go (inl e) n = put (preparing (askedBy s i) h round core) (goal (viewOf ans core)) (prepared-held core rv e) (ap (λ (t : Bool). goal (view t)) e) (preparing-follows core ok at e)
+        go (inr e) (inr n) =
+            put (refuses Panic core) (goal (view (isHeld (core .paxos .«max_rv»)))) (prepared-refused core rv e n) refl
+            (lifted (refuses Panic core) (goal (view (isHeld (core .paxos .«max_rv»)))) (record { seen-as = tt }))
+        go (inr e) (inl n) =
+            put (preparing (askedBy s i) h round first) (goal (viewOf ans first)) (prepared-first core rv e n)
+            (ap (λ (t : Bool). goal (view t)) e ∙ ap goal (sym (first-view ans s i alive small core rv e)))
+            (preparing-follows first (first-leaders ans s i alive small core rv ok e fits) (first-round ans s i alive small core rv ∙ at) (first-held ans s i alive small core rv e))
+
+  -- without a fast path the delegate picks what it holds
+  gathers-classic : isEPaxos (s .mode) ≡ false → (c v : ℕ) (x0 old x : View) → model.gathers (setupOf s) i (h .src) c v host x0 old x ≡ model.picks (setupOf s) i x0 old x
+  unfolding model.gathers
+  gathers-classic e c v x0 old x = simp e
 
 -- A Prepare is the model's.
-pub on-prepare-follows : (s : Settings) (i : ℕ) → isSwiftPaxos (s .mode) ≡ false → i < 64 → (h : Heard) → h .src < 64 → (slot : ℕ) (round : PaxosRound) → round .leader < 64 → (rv : RoundV) → LeaderFits (acceptRoundOf rv)
-    → h .«source_live» ≡ contains (s .«alive_replicas») (h .src) → h .delegate ≡ delegateOf s (s .mode) (round .leader) → (core : Core) → Leaders core → slot ≤ core .slot
-    → Follows (setupOf s) (onPrepare (askedBy s i) h slot round rv core)
-    (model.onPrepare (setupOf s) i (viewOf core) (h .src) slot (roundNumber (Round round)) (roundNumber (acceptRoundOf rv)) (valueOf rv))
-unfolding onPrepare model.onPrepare
-on-prepare-follows s i classic small h src slot round below rv fits live d core ok le =
-    enter-follows s i classic core h slot round ok below live le (inPrepare (askedBy s i) h round rv) _
+pub on-prepare-follows : (ans : Answers) (s : Settings) (i : ℕ) → isSwiftPaxos (s .mode) ≡ false → isEPaxos (s .mode) ≡ false → i < 64 → (h : Heard) → h .src < 64 → (slot : ℕ) (round : PaxosRound) → round .leader < 64 → (rv : RoundV) → LeaderFits (acceptRoundOf rv)
+    → h .«source_live» ≡ contains (s .«alive_replicas») (h .src) → h .delegate ≡ delegateOf s (s .mode) (round .leader) → (core : Core) → Leaders core → slot ≤ core .slot → (host : Host)
+    → Follows (setupOf s) ans (onPrepare (askedBy s i) h slot round rv core)
+    (model.onPrepare (setupOf s) i (viewOf ans core) (h .src) slot (roundNumber (Round round)) (roundNumber (acceptRoundOf rv)) (proposerOf rv) (valueOf rv) host)
+unfolding onPrepare model.onPrepare inPrepare
+on-prepare-follows ans s i classic slow small h src slot round below rv fits live d core ok le host =
+    enter-follows ans s i classic core h slot round CoreStep (λ t. t) (Follows (setupOf s) ans) (λ step r f. f) ok below live le (inPrepare (askedBy s i) h round rv) _
     (λ alive same no-older.
-    in-prepare-follows s i classic alive small h src round below (inRound round core) rv (in-round-leaders round core ok below) (in-round-round round core no-older) fits d (viewOf core))
+    in-prepare-follows ans s i classic alive small h src round below host CoreStep (λ t. t) (Follows (setupOf s) ans) (λ step r f. f) rv fits d (viewOf ans core) (gather (askedBy s i) h round rv)
+    (λ core1 ok1 at1 held1.
+    subst (Follows (setupOf s) ans (gather (askedBy s i) h round rv core1)) (sym (gathers-classic ans s i classic alive small h src round below host slow (proposerOf rv) (valueOf rv) (viewOf ans core) (viewOf ans core1) _))
+    (gather-follows ans s i classic alive small h src round below host core1 rv ok1 at1 held1 fits (viewOf ans core)))
+    (inRound round core) (in-round-leaders round core ok below) (in-round-round round core no-older))

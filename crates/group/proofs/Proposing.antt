@@ -10,6 +10,7 @@ use lib.Dec.{eqb, leb·zero}
 use borrow.Author.Tests.{eq-eqb}
 use Rattle.basics.proofs.Tests.{either, not-both, and-left, and-right, and-both, or-cases}
 use Rattle.sets.specs.Sets.{contains}
+use Rattle.message.specs.Promises.{valueOf, acceptRoundOf}
 use Rattle.message.specs.Modes.{isMultiPaxos, isSwiftPaxos}
 use Rattle.message.specs.Rounds.{increment, defaultRound, nextLeaderRound, startingRound, equal, unwrapOrDefault}
 use Rattle.message.proofs.Order.{equal-rounds}
@@ -30,9 +31,9 @@ use Rattle.settings.specs.declared.Settings.{Settings}
 use Rattle.propose.specs.Propose.{notAllowed, electing, proposalRound, mayPropose, proposed, proposePrepare, afterOwnPromise, proposeAccept, proposeClassic}
 use Rattle.steps.specs.Steps.{oneMessage, sends, toAll, withPaxos, stays}
 use Rattle.steps.specs.declared.Core.{Core}
-use Rattle.agreement.specs.Model.{View, joined, adopted, preparedBy, voted, say}
+use Rattle.agreement.specs.Model.{View, Answers, joined, adopted, preparedBy, voted, say}
 use Rattle.agreement.specs.Model as model
-use Rattle.group.proofs.View.{roundNumber, LeaderFits, leaderOf, leader-of, viewOf, Leaders, setupOf, Follows}
+use Rattle.group.proofs.View.{roundNumber, LeaderFits, leaderOf, leader-of, proposerOf, isEPaxos, viewOf, Leaders, setupOf, Follows}
 use Rattle.group.proofs.Entering.{goto-view}
 use Rattle.group.proofs.Preparing.{askedBy, nothing-held, follows-both, first-view, own-accept-view}
 
@@ -76,7 +77,7 @@ next-leader : (r : PaxosRound) (p : ℕ) → nextLeaderRound r p .leader ≡ p
 unfolding nextLeaderRound
 next-leader r p = refl
 
-module _ (s : Settings) (i : ℕ) (classic : isSwiftPaxos (s .mode) ≡ false) (small : i < 64) (first-small : s .«first_leader» < 64) (v : ℕ) (core : Core) (ok : Leaders core) where
+module _ (ans : Answers) (s : Settings) (i : ℕ) (classic : isSwiftPaxos (s .mode) ≡ false) (small : i < 64) (first-small : s .«first_leader» < 64) (v : ℕ) (core : Core) (ok : Leaders core) where
   pub electing-own : electing (askedBy s i) ≡ i
   unfolding electing
   electing-own = simp classic
@@ -88,7 +89,7 @@ module _ (s : Settings) (i : ℕ) (classic : isSwiftPaxos (s .mode) ≡ false) (
     pub starts : core .paxos .round ≡ startingRoundOf s
     pub led : isMultiPaxos (s .mode) ≡ true → Round (proposalRound (askedBy s i) core) ≡ startingRoundOf s
 
-  allowed : mayPropose (askedBy s i) core ≡ true → Allowed
+  pub allowed : mayPropose (askedBy s i) core ≡ true → Allowed
   unfolding mayPropose
   allowed e = go (isHeld (core .paxos .«max_rv»)) refl e
     where
@@ -133,14 +134,14 @@ module _ (s : Settings) (i : ℕ) (classic : isSwiftPaxos (s .mode) ≡ false) (
     none = nothing-held (core .paxos .«max_rv») (may .nothing)
 
     -- one's own promise, in the round r
-    abbrev promised : PaxosRound → RoundV → PaxosState
+    abbrev pub promised : PaxosRound → RoundV → PaxosState
     promised r rv = receivePromise (askedBy s i .member) i rv (gotoRound (Round r) (core .paxos)) .state
 
     propose-promise : (r : PaxosRound) (rv : RoundV) → paxosProposeV (askedBy s i .member) rv (gotoRound (Round r) (core .paxos)) ≡ taken (promised r rv)
     unfolding paxosProposeV
     propose-promise r rv = simp (may .nothing)
 
-    prepare-step : (r : PaxosRound) (rv : RoundV)
+    pub prepare-step : (r : PaxosRound) (rv : RoundV)
         → proposePrepare (askedBy s i) r rv core ≡ stays (withPaxos (promised r rv) core) (oneMessage (sends (askedBy s i) core toAll (Prepare (core .slot) r rv)))
     unfolding proposePrepare
     prepare-step r rv = ap (λ (t : PaxosStep). proposed (askedBy s i) (Prepare (core .slot) r rv) core (t .state) (t .outcome)) (propose-promise r rv)
@@ -159,69 +160,70 @@ module _ (s : Settings) (i : ℕ) (classic : isSwiftPaxos (s .mode) ≡ false) (
 
     -- ---- their views
 
-    promised-view : (r : PaxosRound) → viewOf (withPaxos (promised r (PaxosV NoRound v)) core) ≡ preparedBy i (adopted 0 v (joined (roundNumber (Round r)) (viewOf core)))
-    promised-view r =
-        first-view s i (may .alive) small (withPaxos (gotoRound (Round r) (core .paxos)) core) (PaxosV NoRound v) (may .nothing)
-        ∙ ap (λ (x : View). preparedBy i (adopted 0 v x)) (goto-view (Round r) core)
+    pub promised-view : (r : PaxosRound) (rv : RoundV) → viewOf ans (withPaxos (promised r rv) core)
+        ≡ preparedBy i (adopted (roundNumber (acceptRoundOf rv)) (proposerOf rv) (valueOf rv) (joined (roundNumber (Round r)) (viewOf ans core)))
+    promised-view r rv =
+        first-view ans s i (may .alive) small (withPaxos (gotoRound (Round r) (core .paxos)) core) rv (may .nothing)
+        ∙ ap (λ (x : View). preparedBy i (adopted (roundNumber (acceptRoundOf rv)) (proposerOf rv) (valueOf rv) x)) (goto-view ans (Round r) core)
 
     promised-round : (r : PaxosRound) → promised r (PaxosV NoRound v) .round ≡ Round r
     unfolding receivePromise
     promised-round r = refl
 
     accepted-view : (r : PaxosRound)
-        → viewOf (withPaxos (afterAccept (askedBy s i .member) i r v (promised r (PaxosV NoRound v))) core)
-        ≡ voted i v (preparedBy i (adopted 0 v (joined (roundNumber (Round r)) (viewOf core))))
+        → viewOf ans (withPaxos (afterAccept (askedBy s i .member) i r v (promised r (PaxosV NoRound v))) core)
+        ≡ voted i v (preparedBy i (adopted 0 0 v (joined (roundNumber (Round r)) (viewOf ans core))))
     accepted-view r =
-        own-accept-view s i (may .alive) small r (withPaxos (promised r (PaxosV NoRound v)) core) v (promised-round r) ∙ ap (voted i v) (promised-view r)
+        own-accept-view ans s i (may .alive) small r (withPaxos (promised r (PaxosV NoRound v)) core) v (promised-round r) ∙ ap (voted i v) (promised-view r (PaxosV NoRound v))
 
     -- ---- the model's proposal
 
-    started : eqb (viewOf core .round) (setupOf s .voters .start) ≡ true
-    started = eq-eqb (viewOf core .round) (setupOf s .voters .start) (ap roundNumber (may .starts))
+    started : eqb (viewOf ans core .round) (setupOf s .voters .start) ≡ true
+    started = eq-eqb (viewOf ans core .round) (setupOf s .voters .start) (ap roundNumber (may .starts))
 
-    may-model : (contains (s .«alive_replicas») i && (eqb (viewOf core .round) (setupOf s .voters .start) && not (viewOf core .holds))) ≡ true
+    pub may-model : (contains (s .«alive_replicas») i && (eqb (viewOf ans core .round) (setupOf s .voters .start) && not (viewOf ans core .holds))) ≡ true
     may-model = and-both (may .alive) (and-both started (ap not (may .nothing)))
 
-    model-led : isMultiPaxos (s .mode) ≡ true → eqb i (setupOf s .voters .delegate (viewOf core .round)) ≡ true
-        → model.onPropose (setupOf s) i (viewOf core) v
-        ≡ say (voted i v (preparedBy i (adopted 0 v (joined (viewOf core .round) (viewOf core))))) (record { destination = model.all; message = model.accept (core .slot) (viewOf core .round) v } ∷ [])
+    model-led : isMultiPaxos (s .mode) ≡ true → eqb i (setupOf s .voters .delegate (viewOf ans core .round)) ≡ true
+        → model.onPropose (setupOf s) i (viewOf ans core) v
+        ≡ say (voted i v (preparedBy i (adopted 0 0 v (joined (viewOf ans core .round) (viewOf ans core))))) (record { destination = model.all; message = model.accept (core .slot) (viewOf ans core .round) v } ∷ [])
     unfolding model.onPropose
     model-led m d = simp (may-model, m, d)
 
-    model-own : isMultiPaxos (s .mode) ≡ false
-        → model.onPropose (setupOf s) i (viewOf core) v
-        ≡ say (preparedBy i (adopted 0 v (joined (suc i) (viewOf core)))) (record { destination = model.all; message = model.prepare (core .slot) (suc i) 0 v } ∷ [])
+    model-own : isMultiPaxos (s .mode) ≡ false → isEPaxos (s .mode) ≡ false
+        → model.onPropose (setupOf s) i (viewOf ans core) v
+        ≡ say (preparedBy i (adopted 0 0 v (joined (suc i) (viewOf ans core)))) (record { destination = model.all; message = model.prepare (core .slot) (suc i) 0 0 v } ∷ [])
     unfolding model.onPropose
-    model-own m = simp (may-model, m)
+    model-own m slow = simp (may-model, m, slow)
 
-    abbrev round : PaxosRound
+    abbrev pub round : PaxosRound
     round = proposalRound (askedBy s i) core
 
     -- in MultiPaxos the proposal's round is that of the core, and oneself leads it
-    led-round : isMultiPaxos (s .mode) ≡ true → viewOf core .round ≡ roundNumber (Round round)
+    led-round : isMultiPaxos (s .mode) ≡ true → viewOf ans core .round ≡ roundNumber (Round round)
     led-round m = ap roundNumber (may .starts ∙ sym (may .led m))
 
-    led-own : isMultiPaxos (s .mode) ≡ true → eqb i (setupOf s .voters .delegate (viewOf core .round)) ≡ true
+    led-own : isMultiPaxos (s .mode) ≡ true → eqb i (setupOf s .voters .delegate (viewOf ans core .round)) ≡ true
     led-own m =
-        eq-eqb i (delegateOf s (s .mode) (leaderOf (viewOf core .round)))
-        (sym (leader-gathers s (s .mode) (leaderOf (viewOf core .round)) m ∙ ap leaderOf (led-round m) ∙ leader-of round (subst (λ (p : ℕ). p < 64) (sym own) small) ∙ own))
+        eq-eqb i (delegateOf s (s .mode) (leaderOf (viewOf ans core .round)))
+        (sym (leader-gathers s (s .mode) (leaderOf (viewOf ans core .round)) m ∙ ap leaderOf (led-round m) ∙ leader-of round (subst (λ (p : ℕ). p < 64) (sym own) small) ∙ own))
       where
         own : round .leader ≡ i
         own = next-leader (unwrapOrDefault (core .paxos .round)) (electing (askedBy s i)) ∙ electing-own
 
     -- elsewhere it is the first round of oneself
-    first-own : isMultiPaxos (s .mode) ≡ false → roundNumber (Round round) ≡ suc i
+    pub first-own : isMultiPaxos (s .mode) ≡ false → roundNumber (Round round) ≡ suc i
     first-own m =
         ap₂ (λ (r : OptionalRound) (p : ℕ). roundNumber (Round (nextLeaderRound (unwrapOrDefault r) p))) (may .starts ∙ no-start (s .mode) (s .«first_leader») m) electing-own
         ∙ own-round i
 
-    allowed-follows : Follows (setupOf s) (cond (isMultiPaxos (s .mode)) (proposeAccept (askedBy s i) round v core) (proposePrepare (askedBy s i) round (PaxosV NoRound v) core))
-        (model.onPropose (setupOf s) i (viewOf core) v)
-    allowed-follows = go (either (isMultiPaxos (s .mode)))
+    allowed-follows : isEPaxos (s .mode) ≡ false → Follows (setupOf s) ans (cond (isMultiPaxos (s .mode)) (proposeAccept (askedBy s i) round v core) (proposePrepare (askedBy s i) round (PaxosV NoRound v) core))
+        (model.onPropose (setupOf s) i (viewOf ans core) v)
+    allowed-follows slow = go (either (isMultiPaxos (s .mode)))
       where
         go : (isMultiPaxos (s .mode) ≡ true) ⊎ (isMultiPaxos (s .mode) ≡ false)
-            → Follows (setupOf s) (cond (isMultiPaxos (s .mode)) (proposeAccept (askedBy s i) round v core) (proposePrepare (askedBy s i) round (PaxosV NoRound v) core))
-            (model.onPropose (setupOf s) i (viewOf core) v)
+            → Follows (setupOf s) ans (cond (isMultiPaxos (s .mode)) (proposeAccept (askedBy s i) round v core) (proposePrepare (askedBy s i) round (PaxosV NoRound v) core))
+            (model.onPropose (setupOf s) i (viewOf ans core) v)
         go (inl m) =
             follows-both (ap (λ (t : Bool). cond t (proposeAccept (askedBy s i) round v core) (proposePrepare (askedBy s i) round (PaxosV NoRound v) core)) m ∙ accept-step round)
             (model-led m (led-own m))
@@ -230,18 +232,18 @@ module _ (s : Settings) (i : ℕ) (classic : isSwiftPaxos (s .mode) ≡ false) (
                   ap (λ (x : View). say x (record { destination = model.all; message = model.accept (core .slot) (roundNumber (Round round)) v } ∷ [])) (accepted-view round)
                   ∙ ap
                   (λ (r : ℕ).
-                  say (voted i v (preparedBy i (adopted 0 v (joined r (viewOf core))))) (record { destination = model.all; message = model.accept (core .slot) r v } ∷ []))
+                  say (voted i v (preparedBy i (adopted 0 0 v (joined r (viewOf ans core))))) (record { destination = model.all; message = model.accept (core .slot) r v } ∷ []))
                   (sym (led-round m));
             })
         go (inr m) =
             follows-both (ap (λ (t : Bool). cond t (proposeAccept (askedBy s i) round v core) (proposePrepare (askedBy s i) round (PaxosV NoRound v) core)) m ∙ prepare-step round (PaxosV NoRound v))
-            (model-own m)
+            (model-own m slow)
             (record {
               seen-as =
-                  ap (λ (x : View). say x (record { destination = model.all; message = model.prepare (core .slot) (roundNumber (Round round)) 0 v } ∷ [])) (promised-view round)
+                  ap (λ (x : View). say x (record { destination = model.all; message = model.prepare (core .slot) (roundNumber (Round round)) 0 0 v } ∷ [])) (promised-view round (PaxosV NoRound v))
                   ∙ ap
                   (λ (r : ℕ).
-                  say (preparedBy i (adopted 0 v (joined r (viewOf core)))) (record { destination = model.all; message = model.prepare (core .slot) r 0 v } ∷ []))
+                  say (preparedBy i (adopted 0 0 v (joined r (viewOf ans core)))) (record { destination = model.all; message = model.prepare (core .slot) r 0 0 v } ∷ []))
                   (first-own m);
             })
 
@@ -256,9 +258,9 @@ module _ (s : Settings) (i : ℕ) (classic : isSwiftPaxos (s .mode) ≡ false) (
   propose-refused e = simp e
 
   -- A proposal is the model's.
-  pub propose-follows : Follows (setupOf s) (proposeClassic (askedBy s i) v core) (model.onPropose (setupOf s) i (viewOf core) v)
-  propose-follows = go (either (mayPropose (askedBy s i) core))
+  pub propose-follows : isEPaxos (s .mode) ≡ false → Follows (setupOf s) ans (proposeClassic (askedBy s i) v core) (model.onPropose (setupOf s) i (viewOf ans core) v)
+  propose-follows slow = go (either (mayPropose (askedBy s i) core))
     where
-      go : (mayPropose (askedBy s i) core ≡ true) ⊎ (mayPropose (askedBy s i) core ≡ false) → Follows (setupOf s) (proposeClassic (askedBy s i) v core) (model.onPropose (setupOf s) i (viewOf core) v)
-      go (inl e) = follows-both (propose-allowed e) refl (allowed-follows (allowed e))
+      go : (mayPropose (askedBy s i) core ≡ true) ⊎ (mayPropose (askedBy s i) core ≡ false) → Follows (setupOf s) ans (proposeClassic (askedBy s i) v core) (model.onPropose (setupOf s) i (viewOf ans core) v)
+      go (inl e) = follows-both (propose-allowed e) refl (allowed-follows (allowed e) slow)
       go (inr e) = follows-both (propose-refused e) refl (record { seen-as = tt })

@@ -16,7 +16,7 @@ use Rattle.settings.specs.declared.Settings.{Settings}
 use Rattle.consensus.specs.Call.{callOf}
 use Rattle.calls.specs.declared.Call.{Call}
 use Rattle.consensus.specs.declared.Shard.{Shard}
-use Rattle.group.specs.Claim.{begun, MemberCall, Entry, entryOf, afterCall, entriesFrom, entries, LegalFrom, Legal, Claim, Classic}
+use Rattle.group.specs.Claim.{begun, MemberCall, Entry, entryOf, afterCall, entriesFrom, entries, LegalFrom, Legal, Claim, NotSwift}
 use Rattle.group.specs.Group.{newMembers, newGroup, shardAt, replaced, called, logFrom, logOf}
 use Rattle.group.specs.declared.Group.{Group}
 use Rattle.group.specs.declared.GroupAnswer.{GroupAnswer}
@@ -88,5 +88,5 @@ module _ (d : Shard) where
   log-is-run s few cs legal = run-same (s .«process_count») few (newGroup s) (begun s) (new-same s) [] cs legal
 
   -- Demand 3 of the code: what `Group::new` and `Group::call` hand back over a legal list meets the claim.
-  pub group-agreement : (s : Settings) → s .«process_count» ≤ 64 → Classic (s .mode) → (cs : List MemberCall) → Legal s cs → Claim (logOf d s cs)
+  pub group-agreement : (s : Settings) → s .«process_count» ≤ 64 → NotSwift (s .mode) → (cs : List MemberCall) → Legal s cs → Claim (logOf d s cs)
   group-agreement s few classic cs legal = subst Claim (sym (log-is-run s few cs legal)) (agreement s classic cs legal)

@@ -7,6 +7,7 @@ use mathlib.Core.List.{List, [], _∷_}
 use Prim.Native.Nat.{ℕ}
 use lib.Dec.{T, eqb, eqb→eq}
 use Rattle.settings.specs.declared.Settings.{Settings}
+use Rattle.fast_state.specs.Adopt.{lowestBest}
 use Rattle.consensus.specs.Call.{newShard, callOf}
 use Rattle.calls.specs.declared.OptionalCommit.{OptionalCommit}
 use Rattle.calls.specs.declared.OptionalCommit.the-variants.{NoCommit, Committed}
@@ -14,8 +15,9 @@ use Rattle.consensus.specs.declared.Shard.{Shard}
 use Rattle.agreement.proofs.Refinement.{as-model-moves-on}
 use Rattle.agreement.proofs.Slots.{NextSlot}
 use Rattle.agreement.proofs.Tests.{by-test}
-use Rattle.group.specs.Claim.{begun, MemberCall, Entry, entryOf, afterCall, entriesFrom, entries, plusCommit, slotAt, Classic}
-use Rattle.group.proofs.Agreement.{setup-rules, begun-valid}
+use Rattle.group.specs.Claim.{begun, MemberCall, Entry, entryOf, afterCall, entriesFrom, entries, plusCommit, slotAt, NotSwift}
+use Rattle.group.proofs.Agreement.{begun-valid}
+use Rattle.group.proofs.Ties.{lowest-picks-best}
 use Rattle.group.proofs.Calls.{kindOf, decisionOf, seenAnswer, viewShard, Valid, call-ok}
 use Rattle.group.proofs.View.{meaningOf, setupOf}
 
@@ -32,7 +34,7 @@ next-slot : (c : OptionalCommit) (slot slot′ : ℕ) → NextSlot slot slot′ 
 next-slot NoCommit slot slot′ m = m
 next-slot (Committed at v fast) slot slot′ m = m .1
 
-module _ (s : Settings) (classic : Classic (s .mode)) where
+module _ (s : Settings) (classic : NotSwift (s .mode)) where
   -- what a run keeps: every shard is valid, and its slot is the number of its member's commits
   record Counted (shards : ℕ → Shard) (past : List Entry) : Type 0 where
     valid : (i : ℕ) → Valid s i (shards i)
@@ -43,7 +45,7 @@ module _ (s : Settings) (classic : Classic (s .mode)) where
       record {
         valid = λ j.
             by-test (Valid s j) (eqb j (c .member)) (callOf old (c .call) .shard) (shards j)
-            (λ t. subst (λ (i : ℕ). Valid s i (callOf old (c .call) .shard)) (sym (eqb→eq j (c .member) t)) (call-ok s (c .member) classic old (k .valid (c .member)) (c .call) .valid))
+            (λ t. subst (λ (i : ℕ). Valid s i (callOf old (c .call) .shard)) (sym (eqb→eq j (c .member) t)) (call-ok s (c .member) classic lowestBest lowest-picks-best old (k .valid (c .member)) (c .call) .valid))
             (λ t. k .valid j);
         slots = λ j. go j (eqb j (c .member)) (eqb→eq j (c .member));
       }
@@ -57,8 +59,8 @@ module _ (s : Settings) (classic : Classic (s .mode)) where
       own : slotOf (callOf old (c .call) .shard) ≡ plusCommit commit (slotOf old)
       own =
           next-slot commit (slotOf old) (slotOf (callOf old (c .call) .shard))
-          (as-model-moves-on (setupOf s) (setup-rules s (setupOf s .voters .quorum)) (c .member) (viewShard old) meaningOf (kindOf (c .call)) (seenAnswer (callOf old (c .call)))
-          (call-ok s (c .member) classic old (k .valid (c .member)) (c .call) .as-model))
+          (as-model-moves-on (setupOf s) (c .member) (viewShard old) meaningOf (kindOf (c .call)) (seenAnswer (callOf old (c .call)))
+          (call-ok s (c .member) classic lowestBest lowest-picks-best old (k .valid (c .member)) (c .call) .as-model))
 
       go : (j : ℕ) (t : Bool) → (T t → j ≡ c .member)
           → slotOf (cond t (callOf old (c .call) .shard) (shards j)) ≡ cond t (plusCommit commit (slotAt j past)) (slotAt j past)

@@ -24,12 +24,18 @@ use Rattle.message.specs.declared.OptionalProcess.the-variants.{NoProcess, Proc
 use Rattle.message.specs.declared.OptionalRound.{OptionalRound}
 use Rattle.message.specs.declared.OptionalRound.the-variants.{NoRound, Round}
 use Rattle.message.specs.declared.PaxosRound.{PaxosRound}
+use Rattle.message.specs.declared.PFMode.{PFMode}
+use Rattle.message.specs.declared.PFMode.the-variants.{Paxos, MultiPaxos, MultiPaxos3P, EPaxos, Pando, SwiftPaxos}
+use Rattle.message.specs.declared.RoundV.{RoundV}
+use Rattle.message.specs.declared.RoundV.the-variants.{FastV, PaxosV}
+use Rattle.tables.specs.Tables.{lookUp}
+use Rattle.fast_state.specs.declared.FastState.{FastState}
 use Rattle.round_state.specs.Paxos.{getLastAcceptedRound, isHeld}
 use Rattle.settings.specs.Questions.{quorumsOf, delegateOf, committerOf, startingRoundOf}
 use Rattle.settings.specs.declared.Settings.{Settings}
 use Rattle.message.specs.Modes.{isMultiPaxos}
 use Rattle.accept.specs.Accept.{tellsCommitter}
-use Rattle.steps.specs.Steps.{heldV}
+use Rattle.steps.specs.Steps.{heldRv, heldV, goesOn}
 use Rattle.steps.specs.declared.Core.{Core}
 use Rattle.steps.specs.declared.CoreStep.{CoreStep}
 use Rattle.steps.specs.declared.Destination.{Destination}
@@ -41,7 +47,7 @@ use Rattle.steps.specs.declared.OptionalMessage.{OptionalMessage}
 use Rattle.steps.specs.declared.OptionalMessage.the-variants.{NoMessage, Send}
 use Rattle.steps.specs.declared.Outgoing.{Outgoing}
 use Rattle.agreement.specs.Engine.{Envelope}
-use Rattle.agreement.specs.Model.{View, Setup, Message, prepare, accept, commit, other, undecided, decided, Outcome, empty, add, advanced}
+use Rattle.agreement.specs.Model.{View, Answers, Setup, Message, prepare, accept, commit, other, undecided, decided, Outcome, empty, add, advanced}
 use Rattle.agreement.specs.Model as model
 use Rattle.agreement.specs.Refinement.{meanings}
 
@@ -126,11 +132,16 @@ insert-add s p l = fun-ext (λ q. contains-insert s p q l ∙ swap (contains s q
 
 -- ---- messages
 
+-- the proposer that a promise names, counted from 1
+abbrev pub proposerOf : RoundV → ℕ
+proposerOf (FastV proposer v) = suc proposer
+proposerOf (PaxosV at v) = 0
+
 abbrev pub meaningOf : ConsensusMessage → Message
 meaningOf m = meaningOfMsg (m .msg)
   where
     meaningOfMsg : ConsensusMsg → Message
-    meaningOfMsg (Prepare slot round rv) = prepare slot (roundNumber (Round round)) (roundNumber (acceptRoundOf rv)) (valueOf rv)
+    meaningOfMsg (Prepare slot round rv) = prepare slot (roundNumber (Round round)) (roundNumber (acceptRoundOf rv)) (proposerOf rv) (valueOf rv)
     meaningOfMsg (Accept slot round v) = accept slot (roundNumber (Round round)) v
     meaningOfMsg (ForwardRequest v) = other
     meaningOfMsg (Commit slot v) = commit slot v
@@ -154,16 +165,29 @@ envelopes ms = envelopesOf (ms .first) (envelopesOf (ms .second) (envelopesOf (m
 
 -- ---- the core as a view
 
-abbrev pub viewOf : Core → View
-viewOf core =
+-- the fast half as the model's answers; a process above 63 has the score of the beginning
+abbrev pub answersIn : FastState → Answers
+answersIn fast =
+    record {
+      answered = contains (fast .«fast_answer_set»);
+      preaccepted = fast .«fast_preaccepted»;
+      proposers = contains (fast .«fast_proposers»);
+      values = lookUp (fast .«fast_proposer_to_v»);
+      scores = λ p. cond (ltb p 64) (lookUp (fast .«epaxos_proposer_scores») p) 2;
+    }
+
+abbrev pub viewOf : Answers → Core → View
+viewOf ans core =
     record {
       slot = core .slot;
       round = roundNumber (core .paxos .round);
       holds = isHeld (core .paxos .«max_rv»);
       heldRound = roundNumber (getLastAcceptedRound (core .paxos .«max_rv»));
+      heldProposer = proposerOf (heldRv (core .paxos .«max_rv»));
       heldValue = heldV (core .paxos .«max_rv»);
       prepared = contains (core .paxos .«prepared_set»);
       accepted = contains (core .paxos .«accepted_set»);
+      answers = ans;
     }
 
 -- the leaders of its round and of its held accept round are processes
@@ -173,6 +197,14 @@ pub record Leaders (core : Core) : Type 0 where
 
 -- ---- the group as the model's setup
 
+abbrev pub isEPaxos : PFMode → Bool
+isEPaxos Paxos = false
+isEPaxos MultiPaxos = false
+isEPaxos MultiPaxos3P = false
+isEPaxos EPaxos = true
+isEPaxos Pando = false
+isEPaxos SwiftPaxos = false
+
 abbrev pub setupOf : Settings → Setup
 setupOf s =
     record {
@@ -180,6 +212,8 @@ setupOf s =
           record {
             count = 64;
             quorum = quorumsOf s .majority;
+            fastPath = isEPaxos (s .mode);
+            fastQuorum = cond (isEPaxos (s .mode)) (quorumsOf s .epaxos) 65;
             start = roundNumber (startingRoundOf s);
             live = contains (s .«alive_replicas»);
             delegate = λ r. delegateOf s (s .mode) (leaderOf r);
@@ -193,13 +227,19 @@ setupOf s =
 
 -- ---- a step as the model's outcome
 
--- what a step leaves is the outcome r, unless it is refused
-abbrev pub SeenAs : Setup → Core → Messages → Next → Outcome → Type 0
-SeenAs S core ms Stays r = record { view = viewOf core; outgoing = meanings meaningOf (envelopes ms); decision = undecided; taken = true } ≡ r
-SeenAs S core ms Continues r = ⊥
-SeenAs S core ms (Commits v) r =
-    record { view = advanced (S .voters .start) (viewOf core); outgoing = meanings meaningOf (envelopes ms); decision = decided (core .slot) v; taken = true } ≡ r
-SeenAs S core ms (Refuses why) r = Unit {0}
+-- what a step leaves is the outcome r, unless it is refused; ans is the fast half behind it
+abbrev pub SeenAs : Setup → Answers → Core → Messages → Next → Outcome → Type 0
+SeenAs S ans core ms Stays r = record { view = viewOf ans core; outgoing = meanings meaningOf (envelopes ms); decision = undecided; taken = true } ≡ r
+SeenAs S ans core ms Continues r = ⊥
+SeenAs S ans core ms (Commits v) r =
+    record { view = advanced (S .voters .start) (viewOf ans core); outgoing = meanings meaningOf (envelopes ms); decision = decided (core .slot) v; taken = true } ≡ r
+SeenAs S ans core ms (Refuses why) r = Unit {0}
 
-pub record Follows (S : Setup) (step : CoreStep) (r : Outcome) : Type 0 where
-  pub seen-as : SeenAs S (step .core) (step .messages) (step .next) r
+pub record Follows (S : Setup) (ans : Answers) (step : CoreStep) (r : Outcome) : Type 0 where
+  pub seen-as : SeenAs S ans (step .core) (step .messages) (step .next) r
+
+-- ---- chains of steps
+
+-- the rest of a handler where it goes on from a step, and else the step: `andThen`, and with another type of result `andThenChange`
+abbrev pub thenIn : {X : Type 0} → (CoreStep → X) → CoreStep → (Core → X) → X
+thenIn lift step rest = cond (goesOn (step .next)) (rest (step .core)) (lift step)

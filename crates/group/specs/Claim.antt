@@ -148,11 +148,11 @@ pub record Claim (run : List Entry) : Type 0 where
   pub proposed : (slot v : ℕ) (c : CommitAt slot v run) → Proposed slot v (c .entry ∷ c .earlier)
   pub own-slot : (slot v : ℕ) (c : CommitAt slot v run) → slot ≡ slotAt (c .entry .member) (c .earlier)
 
--- the four modes
-abbrev pub Classic : PFMode → Type 0
-Classic Paxos = Unit {0}
-Classic MultiPaxos = Unit {0}
-Classic MultiPaxos3P = Unit {0}
-Classic EPaxos = ⊥
-Classic Pando = Unit {0}
-Classic SwiftPaxos = ⊥
+-- the modes in which the claim holds: all but SwiftPaxos
+abbrev pub NotSwift : PFMode → Type 0
+NotSwift Paxos = Unit {0}
+NotSwift MultiPaxos = Unit {0}
+NotSwift MultiPaxos3P = Unit {0}
+NotSwift EPaxos = Unit {0}
+NotSwift Pando = Unit {0}
+NotSwift SwiftPaxos = ⊥

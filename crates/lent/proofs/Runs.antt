@@ -8,7 +8,7 @@ use lib.Dec.{eqb}
 use Rattle.settings.specs.declared.Settings.{Settings}
 use Rattle.calls.specs.declared.Reply.{Reply}
 use Rattle.consensus.specs.declared.Shard.{Shard}
-use Rattle.group.specs.Claim.{begun, Entry, afterCall, entriesFrom, Legal, Claim, Classic}
+use Rattle.group.specs.Claim.{begun, Entry, afterCall, entriesFrom, Legal, Claim, NotSwift}
 use Rattle.group.proofs.Agreement.{agreement}
 use Rattle.lent.specs.Runs.{LentCall, LentFrom, calls, keptFrom}
 
@@ -21,5 +21,5 @@ lent-is-run shards past (c ∷ cs) made =
     ∙ ap (λ (r : Reply). entriesFrom (afterCall shards (record { member = c .member; call = c .call })) (record { member = c .member; call = c .call; reply = r } ∷ past) (calls cs)) (made .0 .1)
 
 -- Demand 3 of shards that are lent: what calls in place hand back over a legal list, on shards that began new, meets the claim.
-pub lent-agreement : (s : Settings) → Classic (s .mode) → (cs : List LentCall) → LentFrom (begun s) cs → Legal s (calls cs) → Claim (keptFrom [] cs)
+pub lent-agreement : (s : Settings) → NotSwift (s .mode) → (cs : List LentCall) → LentFrom (begun s) cs → Legal s (calls cs) → Claim (keptFrom [] cs)
 lent-agreement s classic cs made legal = subst Claim (sym (lent-is-run (begun s) [] cs made)) (agreement s classic (calls cs) legal)
