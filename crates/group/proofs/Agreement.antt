@@ -17,6 +17,8 @@ use Rattle.sets.proofs.Laws.{fits-members}
 use Rattle.message.specs.Modes.{isMultiPaxos}
 use Rattle.message.specs.Rounds.{startingRound}
 use Rattle.message.specs.declared.ConsensusMessage.{ConsensusMessage}
+use Rattle.message.specs.declared.ConsensusMsg.{ConsensusMsg}
+use Rattle.message.specs.declared.ConsensusMsg.the-variants.{Prepare, Accept, ForwardRequest, Commit, ReadRequest, ReadResponse}
 use Rattle.message.specs.declared.Outcome.{Outcome}
 use Rattle.message.specs.declared.Outcome.the-variants.{Done, Refused}
 use Rattle.message.specs.declared.PFMode.{PFMode}
@@ -52,12 +54,12 @@ use Rattle.agreement.specs.Refinement.{SetupRules, Refines, AsModel}
 use Rattle.agreement.specs.Voting.{VotersRules}
 use Rattle.agreement.proofs.Refinement.{refines-claim}
 use Rattle.agreement.proofs.Tests.{is-true}
-use Rattle.group.specs.Claim.{memberSettings, begun, MemberCall, Entry, entryOf, afterCall, entriesFrom, entries, listed, messagesOf, SentTo, WasSent, MayStand, LegalFrom, Legal, At, plusCommit, slotAt, Proposed, Claim, NotSwift}
+use Rattle.group.specs.Claim.{memberSettings, begun, MemberCall, Entry, entryOf, afterCall, entriesFrom, entries, listed, messagesOf, Reaches, SentTo, WasSent, MayStand, LegalFrom, Legal, At, plusCommit, slotAt, Proposed, Claim, NotSwift}
 use Rattle.group.specs.Ties.{TieCall, tieEntryOf, afterTieCall, tieEntriesFrom, tieEntries, LegalTiesFrom, LegalTies}
 use Rattle.group.proofs.Calls.{isDone, decisionOf, seenAnswer, engineOf, viewShard, refuse-as-model, kindOf, no-answers-fit, begins-seen, Valid, call-ok}
 use Rattle.group.proofs.Proposing.{starting-fits}
 use Rattle.group.proofs.Ties.{lowest-picks-best}
-use Rattle.group.proofs.View.{roundNumber, leaderOf, isEPaxos, no-member, meaningOf, destinationOf, envelope, envelopesOf, envelopes, setupOf}
+use Rattle.group.proofs.View.{roundNumber, leaderOf, isEPaxos, no-member, meaningOf, reached, destinationOf, envelope, envelopesOf, envelopes, setupOf}
 
 -- ---- the setup of a group
 
@@ -331,25 +333,31 @@ in-sent e o (x ∷ past) (inl d) m =
     (in-own (envelope o) (e .member) (envelopes (e .reply .messages)) (sentOf past) (in-envelopes o (e .reply .messages) m))
 in-sent e o (x ∷ past) (inr h) m = in-sent-with (record { source = e .member; envelope = envelope o }) (x .member) (envelopes (x .reply .messages)) (sentOf past) (in-sent e o past h m)
 
-was-sent : (past : List Entry) (message : ConsensusMessage) (member : ℕ) → WasSent past message member
-    → In (record { source = message .src; envelope = record { destination = model.all; message = message } }) (sentOf past)
-    ⊎ In (record { source = message .src; envelope = record { destination = model.to member; message = message } }) (sentOf past)
-was-sent past message member w = go (w .1 .destination) refl (w .6)
+-- sent with that destination of the model
+abbrev SentAs : List Entry → ConsensusMessage → model.Destination → Type 0
+SentAs past message d = In (record { source = message .src; envelope = record { destination = d; message = message } }) (sentOf past)
+
+was-sent : (past : List Entry) (message : ConsensusMessage) (member : ℕ) → WasSent past message member → SentAs past message model.all ⊎ SentAs past message (model.to member)
+was-sent past message member w = by-kind (message .msg) sent (w .6)
   where
-    sent : In (record { source = message .src; envelope = record { destination = destinationOf (w .1 .destination); message = message } }) (sentOf past)
+    sent : SentAs past message (destinationOf (w .1 .destination) (message .msg))
     sent =
-        subst (λ (p : ℕ). In (record { source = p; envelope = record { destination = destinationOf (w .1 .destination); message = message } }) (sentOf past)) (w .3)
-        (subst (λ (m : ConsensusMessage). In (record { source = w .0 .member; envelope = record { destination = destinationOf (w .1 .destination); message = m } }) (sentOf past)) (w .5)
+        subst (λ (p : ℕ). In (record { source = p; envelope = record { destination = destinationOf (w .1 .destination) (message .msg); message = message } }) (sentOf past)) (w .3)
+        (subst (λ (m : ConsensusMessage). In (record { source = w .0 .member; envelope = record { destination = destinationOf (w .1 .destination) (m .msg); message = m } }) (sentOf past)) (w .5)
         (in-sent (w .0) (w .1) past (w .2) (w .4)))
 
-    go : (d : Destination) → w .1 .destination ≡ d → SentTo (message .src) d member
-        → In (record { source = message .src; envelope = record { destination = model.all; message = message } }) (sentOf past)
-        ⊎ In (record { source = message .src; envelope = record { destination = model.to member; message = message } }) (sentOf past)
-    go (One p) e t =
-        inr
-        (subst (λ (q : ℕ). In (record { source = message .src; envelope = record { destination = model.to q; message = message } }) (sentOf past)) t
-        (subst (λ (z : Destination). In (record { source = message .src; envelope = record { destination = destinationOf z; message = message } }) (sentOf past)) e sent))
-    go (All first) e t = inl (subst (λ (z : Destination). In (record { source = message .src; envelope = record { destination = destinationOf z; message = message } }) (sentOf past)) e sent)
+    by-destination : (d : Destination) → SentAs past message (reached d) → Reaches (message .src) d member → SentAs past message model.all ⊎ SentAs past message (model.to member)
+    by-destination (One p) h t = inr (subst (λ (q : ℕ). SentAs past message (model.to q)) t h)
+    by-destination (All first) h t = inl h
+
+    by-kind : (m : ConsensusMsg) → SentAs past message (destinationOf (w .1 .destination) m) → SentTo (message .src) (w .1 .destination) member m
+        → SentAs past message model.all ⊎ SentAs past message (model.to member)
+    by-kind (Prepare slot round rv) h t = by-destination (w .1 .destination) h t
+    by-kind (Accept slot round v) h t = by-destination (w .1 .destination) h t
+    by-kind (ForwardRequest v) h t = by-destination (w .1 .destination) h t
+    by-kind (Commit slot v) h t = inl h
+    by-kind (ReadRequest id) h t = by-destination (w .1 .destination) h t
+    by-kind (ReadResponse id next) h t = by-destination (w .1 .destination) h t
 
 -- a legal list is one of the engine's
 legal-run : (s : Settings) (shards : ℕ → Shard) (past : List Entry) (cs : List TieCall) → LegalTiesFrom (s .«process_count») shards past cs → engine.Legal (engineOf s) (runAt shards past) cs

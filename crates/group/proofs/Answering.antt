@@ -66,7 +66,7 @@ pub record FastFits (fast : FastState) : Type 0 where
   pub few-preaccepted : fast .«fast_preaccepted» ≤ size (fast .«fast_answer_set»)
   pub low-scores : (p : ℕ) → lookUp (fast .«epaxos_proposer_scores») p ≤ 2 + size (fast .«fast_answer_set»)
 
-size-bound : (s : ℕ) → size s ≤ 64
+pub size-bound : (s : ℕ) → size s ≤ 64
 unfolding size
 size-bound s = count-le (contains s) 64
 
@@ -75,7 +75,7 @@ unfolding lookUp
 nothing-outside q e t = simp e
 
 -- what is looked up after a store, for every number
-stored : (table : List ℕ) → length table ≡ 64 → (p n : ℕ) → p < 64 → (q : ℕ) → lookUp (store table p n) q ≡ cond (eqb q p) n (lookUp table q)
+pub stored : (table : List ℕ) → length table ≡ 64 → (p n : ℕ) → p < 64 → (q : ℕ) → lookUp (store table p n) q ≡ cond (eqb q p) n (lookUp table q)
 stored table long p n l q = go (either (ltb q 64))
   where
     go : (ltb q 64 ≡ true) ⊎ (ltb q 64 ≡ false) → lookUp (store table p n) q ≡ cond (eqb q p) n (lookUp table q)
@@ -84,7 +84,7 @@ stored table long p n l q = go (either (ltb q 64))
         let above : 64 ≤ q = ltb-false q 64 e in
         nothing-outside q e (store table p n) ∙ sym (ap (λ (t : Bool). cond t n (lookUp table q)) (ne-eqb q p (λ d. omega arith)) ∙ nothing-outside q e table)
 
-stored-length : (table : List ℕ) (p n : ℕ) → length (store table p n) ≡ length table
+pub stored-length : (table : List ℕ) (p n : ℕ) → length (store table p n) ≡ length table
 unfolding store
 stored-length table p n = go (ltb p 64)
   where

@@ -166,7 +166,7 @@ not-swift Pando c = refl
 not-swift SwiftPaxos c = absurd c
 
 -- the fast half at the beginning of a slot
-replicated : (n a d p : ℕ) → p < n → getD (replicate n a) p d ≡ a
+pub replicated : (n a d p : ℕ) → p < n → getD (replicate n a) p d ≡ a
 replicated zero a d p l = absurd (omega arith)
 replicated (suc n) a d zero l = refl
 replicated (suc n) a d (suc p) l = replicated n a d p (omega arith)
@@ -179,7 +179,7 @@ begins-with a p = go (ltb p 64) refl
     go true e = ap (λ (t : Bool). cond t (getD (replicate 64 a) p 0) 0) e ∙ replicated 64 a 0 p (ltb-true p 64 e)
     go false e = refl
 
-values-begin : (p : ℕ) → lookUp (replicate 64 0) p ≡ 0
+pub values-begin : (p : ℕ) → lookUp (replicate 64 0) p ≡ 0
 unfolding lookUp
 values-begin p = go (ltb p 64) refl
   where
@@ -285,7 +285,7 @@ module _ (s : Settings) (i : ℕ) (made : Outcome) (state : State) where
 
 -- ---- what is known of an admitted message
 
-admit-cond : (b : Bool) (o : Outcome) (why : Refusal) → cond b o (Refused why) ≡ Done → (b ≡ true) × (o ≡ Done)
+pub admit-cond : (b : Bool) (o : Outcome) (why : Refusal) → cond b o (Refused why) ≡ Done → (b ≡ true) × (o ≡ Done)
 admit-cond b o why e = go b refl e
   where
     go : (t : Bool) → b ≡ t → cond t o (Refused why) ≡ Done → (b ≡ true) × (o ≡ Done)

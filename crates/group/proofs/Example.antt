@@ -13,6 +13,7 @@ use Rattle.sets.specs.declared.OptionalSet.the-variants.{NoSet}
 use Rattle.message.specs.Rounds.{increment, roundOf, nextLeaderRound, roundBefore, roundEqual}
 use Rattle.message.specs.declared.ConsensusMsg.{ConsensusMsg}
 use Rattle.message.specs.declared.ConsensusMsg.the-variants.{Prepare, Accept, Commit}
+use Rattle.message.specs.declared.OptionalProcess.{OptionalProcess}
 use Rattle.message.specs.declared.OptionalProcess.the-variants.{NoProcess}
 use Rattle.message.specs.declared.OptionalRound.the-variants.{NoRound}
 use Rattle.message.specs.declared.OptionalValue.{OptionalValue}
@@ -43,9 +44,9 @@ use Rattle.agreement.proofs.Tests.{neqb→ne}
 use Rattle.group.specs.Claim.{MemberCall, Entry, entriesFrom, entries, LegalFrom, Legal, Claim}
 use Rattle.group.proofs.Agreement.{agreement}
 
--- three members, all live, in a mode
-abbrev pub three : PFMode → Settings
-three mode =
+-- three members, all live, in a mode; p is the committer of all, where there are committers, and the delegate of all
+abbrev pub threeWith : PFMode → Bool → ℕ → Settings
+threeWith mode committers p =
     record {
       «process_count» = 3;
       «replica_count» = 3;
@@ -54,27 +55,33 @@ three mode =
       «first_leader» = 0;
       mode = mode;
       quorum = NoSet;
-      «has_committers» = false;
-      committers = replicate 64 0;
-      delegates = replicate 64 0;
+      «has_committers» = committers;
+      committers = replicate 64 p;
+      delegates = replicate 64 p;
     }
 
--- the calls: a proposal, and a message from a member, with the last value that this one has committed
+abbrev pub three : PFMode → Settings
+three mode = threeWith mode false 0
+
+-- the calls: a proposal, and a message from a member, with the last value that this one has committed; the host names a requester or none
 abbrev pub proposes : ℕ → ℕ → MemberCall
 proposes member v = record { member = member; call = Propose v }
 
-abbrev pub hears : ℕ → ℕ → OptionalValue → ConsensusMsg → MemberCall
-hears member source last msg =
+abbrev pub hearsFor : OptionalProcess → ℕ → ℕ → OptionalValue → ConsensusMsg → MemberCall
+hearsFor requester member source last msg =
     record {
       member = member;
       call =
           Receive
           (record {
             message = record { msg = msg; src = source; «last_v» = last };
-            said = record { «value_held» = true; requester = NoProcess; fast = false };
+            said = record { «value_held» = true; requester = requester; fast = false };
             «held_requester» = NoProcess;
           });
     }
+
+abbrev pub hears : ℕ → ℕ → OptionalValue → ConsensusMsg → MemberCall
+hears = hearsFor NoProcess
 
 -- slot 0: member 0 proposes 10, members 0 and 1 prepare and accept it, and all commit it
 -- slot 1: member 1 proposes 20, members 1 and 2 prepare and accept it, and all commit it

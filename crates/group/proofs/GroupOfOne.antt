@@ -10,7 +10,7 @@ use native.Mathlib.Omega.{arith}
 use lib.Dec.{leb}
 use Rattle.message.specs.Modes.{hasFastPath, isMultiPaxos}
 use Rattle.message.specs.declared.ConsensusMsg.{ConsensusMsg}
-use Rattle.message.specs.declared.ConsensusMsg.the-variants.{Prepare, Accept}
+use Rattle.message.specs.declared.ConsensusMsg.the-variants.{Prepare, Accept, ForwardRequest, Commit, ReadRequest, ReadResponse}
 use Rattle.message.specs.declared.ConsensusMessage.{ConsensusMessage}
 use Rattle.message.specs.declared.OptionalRound.the-variants.{NoRound, Round}
 use Rattle.message.specs.declared.Outcome.{Outcome}
@@ -54,7 +54,7 @@ use Rattle.calls.specs.declared.Reply.{Reply}
 use Rattle.consensus.specs.declared.Shard.{Shard}
 use Rattle.basics.specs.Lists.{In}
 use Rattle.basics.proofs.Tests.{of-both}
-use Rattle.group.specs.Claim.{begun, MemberCall, Entry, entryOf, afterCall, entriesFrom, entries, messagesOf, SentTo, WasSent, MayStand, LegalFrom, Legal}
+use Rattle.group.specs.Claim.{begun, MemberCall, Entry, entryOf, afterCall, entriesFrom, entries, messagesOf, Reaches, SentTo, WasSent, MayStand, LegalFrom, Legal}
 
 -- ---- proposals and new reads, on any shard
 
@@ -174,14 +174,28 @@ message-to-all (x ∷ os) q o (inr h) = message-to-all os (q .1) o h
 -- so no message was sent to member 0
 nothing-sent : (past : List Entry) → RunToAll past → (m : ConsensusMessage) (member : ℕ) → member ≡ 0 → WasSent past m member → ⊥
 nothing-sent past q m member z w =
-    go (w .1 .destination) (message-to-all (messagesOf (w .0 .reply .messages)) (known .1 .0) (w .1) (w .4)) (w .6)
+    by-kind (m .msg) (w .6)
   where
     known : (w .0 .member ≡ 0) × CallToAll (w .0 .reply)
     known = entry-to-all past q (w .0) (w .2)
 
-    go : (d : Destination) → ToAll d → SentTo (m .src) d member → ⊥
-    go (One p) t h = t
-    go (All first) t h = h (sym (w .3) ∙ known .0 ∙ sym z)
+    own : m .src ≡ member
+    own = sym (w .3) ∙ known .0 ∙ sym z
+
+    by-destination : (d : Destination) → ToAll d → Reaches (m .src) d member → ⊥
+    by-destination (One p) t h = t
+    by-destination (All first) t h = h own
+
+    to-all : ToAll (w .1 .destination)
+    to-all = message-to-all (messagesOf (w .0 .reply .messages)) (known .1 .0) (w .1) (w .4)
+
+    by-kind : (msg : ConsensusMsg) → SentTo (m .src) (w .1 .destination) member msg → ⊥
+    by-kind (Prepare slot round rv) h = by-destination (w .1 .destination) to-all h
+    by-kind (Accept slot round v) h = by-destination (w .1 .destination) to-all h
+    by-kind (ForwardRequest v) h = by-destination (w .1 .destination) to-all h
+    by-kind (Commit slot v) h = h own
+    by-kind (ReadRequest id) h = by-destination (w .1 .destination) to-all h
+    by-kind (ReadResponse id next) h = by-destination (w .1 .destination) to-all h
 
 call-to-all : (past : List Entry) → RunToAll past → (shard : Shard) (member : ℕ) → member ≡ 0 → (c : Call) → MayStand past member c → CallToAll (callOf shard c .reply)
 unfolding callWith unlessSpent dispatch

@@ -11,7 +11,12 @@ pub mod Calls
 pub mod Ties
 pub mod Agreement
 pub mod Slots
+pub mod Sending
+pub mod StepBounds
+pub mod Invariants
 pub mod Example
 pub mod FastExample
+pub mod ModeExamples
+pub mod SwiftSets
 pub mod GroupOfOne
 pub mod Runs

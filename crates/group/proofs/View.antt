@@ -148,12 +148,21 @@ meaningOf m = meaningOfMsg (m .msg)
     meaningOfMsg (ReadRequest id) = other
     meaningOfMsg (ReadResponse id next) = other
 
-abbrev pub destinationOf : Destination → model.Destination
-destinationOf (One p) = model.to p
-destinationOf (All first) = model.all
+abbrev pub reached : Destination → model.Destination
+reached (One p) = model.to p
+reached (All first) = model.all
+
+-- "A Commit counts as sent to every other member"
+abbrev pub destinationOf : Destination → ConsensusMsg → model.Destination
+destinationOf d (Prepare slot round rv) = reached d
+destinationOf d (Accept slot round v) = reached d
+destinationOf d (ForwardRequest v) = reached d
+destinationOf d (Commit slot v) = model.all
+destinationOf d (ReadRequest id) = reached d
+destinationOf d (ReadResponse id next) = reached d
 
 abbrev pub envelope : Outgoing → Envelope ConsensusMessage
-envelope o = record { destination = destinationOf (o .destination); message = o .message }
+envelope o = record { destination = destinationOf (o .destination) (o .message .msg); message = o .message }
 
 abbrev pub envelopesOf : OptionalMessage → List (Envelope ConsensusMessage) → List (Envelope ConsensusMessage)
 envelopesOf NoMessage rest = rest

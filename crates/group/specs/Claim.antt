@@ -8,6 +8,8 @@ use mathlib.Core.List.{List, [], _∷_}
 use Prim.Native.Nat.{ℕ, suc, _<_}
 use lib.Dec.{eqb}
 use Rattle.message.specs.declared.ConsensusMessage.{ConsensusMessage}
+use Rattle.message.specs.declared.ConsensusMsg.{ConsensusMsg}
+use Rattle.message.specs.declared.ConsensusMsg.the-variants.{Prepare, Accept, ForwardRequest, Commit, ReadRequest, ReadResponse}
 use Rattle.message.specs.declared.Outcome.the-variants.{Done}
 use Rattle.message.specs.declared.PFMode.{PFMode}
 use Rattle.message.specs.declared.PFMode.the-variants.{Paxos, MultiPaxos, MultiPaxos3P, EPaxos, Pando, SwiftPaxos}
@@ -86,17 +88,25 @@ listed (Send o) rest = o ∷ rest
 abbrev pub messagesOf : Messages → List Outgoing
 messagesOf ms = listed (ms .first) (listed (ms .second) (listed (ms .third) []))
 
--- sent to the member: to it alone, or to all but the source. "A Commit counts as sent to every other member, the
--- first destination and the rest."
-abbrev pub SentTo : ℕ → Destination → ℕ → Type 0
-SentTo source (One p) member = p ≡ member
-SentTo source (All first) member = source ≡ member → ⊥
+-- the destination is the member alone, or all but the source
+abbrev pub Reaches : ℕ → Destination → ℕ → Type 0
+Reaches source (One p) member = p ≡ member
+Reaches source (All first) member = source ≡ member → ⊥
+
+-- sent to the member. "A Commit counts as sent to every other member, the first destination and the rest."
+abbrev pub SentTo : ℕ → Destination → ℕ → ConsensusMsg → Type 0
+SentTo source destination member (Prepare slot round rv) = Reaches source destination member
+SentTo source destination member (Accept slot round v) = Reaches source destination member
+SentTo source destination member (ForwardRequest v) = Reaches source destination member
+SentTo source destination member (Commit slot v) = source ≡ member → ⊥
+SentTo source destination member (ReadRequest id) = Reaches source destination member
+SentTo source destination member (ReadResponse id next) = Reaches source destination member
 
 -- "an earlier call of the list, on the member that the message gives as its source, handed it back, sent to the member now called"
 abbrev pub WasSent : List Entry → ConsensusMessage → ℕ → Type 0
 WasSent past message member =
     (e : Entry) × (o : Outgoing) × In e past × (e .member ≡ message .src) × In o (messagesOf (e .reply .messages)) × (o .message ≡ message)
-    × SentTo (message .src) (o .destination) member
+    × SentTo (message .src) (o .destination) member (message .msg)
 
 abbrev pub MayStand : List Entry → ℕ → Call → Type 0
 MayStand past member (Propose v) = Unit {0}
