@@ -33,7 +33,7 @@ module _ (S : Setup) (i : ℕ) (x : View) where
   pub as-model-moves-on : {M : Type 0} (meaning : M → Message) (k : Kind M) (r : Outcome) → AsModel meaning S i x k r → MovesOn x r
   as-model-moves-on meaning (proposes v) r e = subst (MovesOn x) (sym (e .1)) (propose-moves-on v (e .0))
   as-model-moves-on meaning (delivers source c) r (inl e) = subst (MovesOn x) (sym (e .1)) (deliver-moves-on source (meaning c) (e .0))
-  as-model-moves-on meaning (delivers source c) r (inr e) = idle-moves-on r (e .0) (e .1)
+  as-model-moves-on meaning (delivers source c) r (inr e) = idle-moves-on r (e .1) (e .2)
   as-model-moves-on meaning reads r e = idle-moves-on r (e .0) (e .1)
 
 -- ---- and is correct
@@ -64,7 +64,7 @@ module _ (S : Setup) (rules : SetupRules S) (i : ℕ) (x : View) where
         subst (Correct (S .voters) (NewlyProposed {M = M} x (delivers source c) (r .taken)) i w) (sym (e .1))
         (deliver-correct (NewlyProposed {M = M} x (delivers source c) (r .taken)) source (meaning c) (e .0) w ok o b)
     as-model-correct (delivers source c) r (inr e) w ok o b =
-        idle-correct (S .voters) (NewlyProposed {M = M} x (delivers source c) (r .taken)) i w ok x o r (e .0) (e .1) (e .2)
+        idle-correct (S .voters) (NewlyProposed {M = M} x (delivers source c) (r .taken)) i w ok x o r (e .1) (e .2) (e .3)
     as-model-correct reads r e w ok o b = idle-correct (S .voters) (NewlyProposed {M = M} x reads (r .taken)) i w ok x o r (e .0) (e .1) (e .2)
 
 refines-sound : (S : Setup) → SetupRules S → (E : Engine) → Refines S E → Sound (S .voters) E

@@ -41,12 +41,12 @@ abbrev pub OnlyOther : List Outgoing → Type 0
 OnlyOther [] = Unit {0}
 OnlyOther (o ∷ os) = (o .message ≡ other) × OnlyOther os
 
--- r is what the model makes of a call of the kind on view x, with some host; a delivery or a read may instead leave x as it is, commit
--- nothing and send only messages that have no part in the agreement
+-- r is what the model makes of a call of the kind on view x, with some host; a read, or the delivery of a message that has no part in the
+-- agreement, may instead leave x as it is, commit nothing and send only such messages
 abbrev pub AsModel : {M : Type 0} → (M → Message) → Setup → ℕ → View → Kind M → Outcome → Type 0
 AsModel meaning S i x (proposes v) r = (h : Host) × (r ≡ outcome S x (propose i v h))
 AsModel meaning S i x (delivers source c) r = ((h : Host) × (r ≡ outcome S x (deliver i source (meaning c) h)))
-    ⊎ ((r .view ≡ x) × (r .decision ≡ undecided) × OnlyOther (r .outgoing))
+    ⊎ ((meaning c ≡ other) × (r .view ≡ x) × (r .decision ≡ undecided) × OnlyOther (r .outgoing))
 AsModel meaning S i x reads r = (r .view ≡ x) × (r .decision ≡ undecided) × OnlyOther (r .outgoing)
 
 -- The engine refines the model: how its shards and messages are seen, what its shards keep to, that it begins as the model does and that

@@ -78,8 +78,9 @@ use Rattle.agreement.specs.Model.{View, Answers, quiet, refuse, advanced}
 use Rattle.agreement.specs.Model as model
 use Rattle.agreement.specs.Refinement.{meanings, seen, AsModel, outcome, deliver}
 use Rattle.group.specs.Claim.{memberSettings, begun, NotSwift}
+pub use Rattle.group.specs.Steps.{isDone}
 use Rattle.group.specs.Ties.{PicksBest, TieCall}
-use Rattle.group.proofs.View.{roundNumber, LeaderFits, processNumber, no-member, meaningOf, proposerOf, isEPaxos, answersIn, envelopes, viewOf, Leaders, setupOf, SeenAs, Follows}
+use Rattle.group.proofs.View.{roundNumber, LeaderFits, processNumber, no-member, meaningOf, meaning-is, proposerOf, isEPaxos, answersIn, envelopes, viewOf, Leaders, setupOf, SeenAs, Follows}
 use Rattle.group.proofs.Preparing.{askedBy, on-prepare-follows}
 use Rattle.group.proofs.Accepting.{committer-same, on-accept-follows}
 use Rattle.group.proofs.Proposing.{starting-fits, electing-own, propose-follows}
@@ -98,10 +99,6 @@ kindOf (Receive d) = delivers (d .message .src) (d .message)
 abbrev pub decisionOf : OptionalCommit → model.Decision
 decisionOf NoCommit = model.undecided
 decisionOf (Committed slot v fast) = model.decided slot v
-
-abbrev pub isDone : Outcome → Bool
-isDone Done = true
-isDone (Refused why) = false
 
 abbrev pub answerFrom : Answer → engine.Answer Shard ConsensusMessage
 answerFrom r =
@@ -599,20 +596,20 @@ module _ (s : Settings) (i : ℕ) (classic : NotSwift (s .mode)) (choose : Choic
             let q : eqb slot (core .slot) ≡ true = eq-eqb slot (core .slot) same in
             inl (host, ap seenAnswer (commit-own slot v e) ∙ commit-seen s i made state v (state .rounds) noMessages room ∙ simp (e, q))
 
-    on-read-request : (source : ℕ) (message : ConsensusMessage) (id : ReadId) → asModel (delivers source message) (onReadRequest shard source id)
+    on-read-request : (source : ℕ) (message : ConsensusMessage) (id : ReadId) → meaningOf message ≡ model.other → asModel (delivers source message) (onReadRequest shard source id)
     unfolding onReadRequest
-    on-read-request source message id = go (eqb source i)
+    on-read-request source message id no-part = go (eqb source i)
       where
         go : (t : Bool)
             → asModel (delivers source message)
             (cond t (refused Panic shard)
             (sent shard (oneMessage (record { destination = One source; message = record { msg = ReadResponse id (nextReadable core); src = i; «last_v» = NoValue } }))))
-        go true = inr (refl, refl, tt)
-        go false = inr (refl, refl, (refl, tt))
+        go true = inr (no-part, refl, refl, tt)
+        go false = inr (no-part, refl, refl, (refl, tt))
 
-    on-read-response : (source : ℕ) (message : ConsensusMessage) (id : ReadId) (fast : Bool) → asModel (delivers source message) (onReadResponse shard id fast)
+    on-read-response : (source : ℕ) (message : ConsensusMessage) (id : ReadId) (fast : Bool) → meaningOf message ≡ model.other → asModel (delivers source message) (onReadResponse shard id fast)
     unfolding onReadResponse
-    on-read-response source message id fast = inr (refl, refl, tt)
+    on-read-response source message id fast no-part = inr (no-part, refl, refl, tt)
 
     handled : (d : Delivery) → Admitted (s .«process_count») core d → (m : ConsensusMsg) → d .message .msg ≡ m → asModel (kindOf (Receive d)) (handle choose shard d m)
     unfolding handle
@@ -622,8 +619,8 @@ module _ (s : Settings) (i : ℕ) (classic : NotSwift (s .mode)) (choose : Choic
     handled d adm (Commit slot v) e =
         subst (λ (m : ConsensusMsg). asModel (delivers (d .message .src) (record { msg = m; src = d .message .src; «last_v» = d .message .«last_v» })) (onCommit shard slot v)) (sym e)
         (on-commit (d .message .src) (d .message .«last_v») slot v (slot-of core slot (sym (ap (λ (m : ConsensusMsg). isAhead core (msgSlot m)) e) ∙ adm .not-ahead)))
-    handled d adm (ReadRequest id) e = on-read-request (d .message .src) (d .message) id
-    handled d adm (ReadResponse id next) e = on-read-response (d .message .src) (d .message) id (d .said .fast)
+    handled d adm (ReadRequest id) e = on-read-request (d .message .src) (d .message) id (meaning-is (d .message) (ReadRequest id) e)
+    handled d adm (ReadResponse id next) e = on-read-response (d .message .src) (d .message) id (d .said .fast) (meaning-is (d .message) (ReadResponse id next) e)
 
     received : (d : Delivery) → asModel (kindOf (Receive d)) (receive choose shard d)
     unfolding receive

@@ -20,3 +20,4 @@ pub mod ModeExamples
 pub mod SwiftSets
 pub mod GroupOfOne
 pub mod Runs
+pub mod Steps

@@ -148,6 +148,10 @@ meaningOf m = meaningOfMsg (m .msg)
     meaningOfMsg (ReadRequest id) = other
     meaningOfMsg (ReadResponse id next) = other
 
+-- what a message means, by what is known of it
+pub meaning-is : (message : ConsensusMessage) (m : ConsensusMsg) → message .msg ≡ m → meaningOf message ≡ meaningOf (record { msg = m; src = message .src; «last_v» = message .«last_v» })
+meaning-is message m e = ap (λ (m : ConsensusMsg). meaningOf (record { msg = m; src = message .src; «last_v» = message .«last_v» })) e
+
 abbrev pub reached : Destination → model.Destination
 reached (One p) = model.to p
 reached (All first) = model.all

@@ -123,8 +123,8 @@ Legal s cs = LegalFrom (s .«process_count») (begun s) [] cs
 
 -- ---- the claim
 
--- the entry stands in the list, with those earlier than it
-abbrev pub At : Entry → List Entry → List Entry → Type 0
+-- the entry, or whatever the list is of, stands in the list, with those earlier than it
+abbrev pub At : {A : Type 0} → A → List A → List A → Type 0
 At e earlier [] = ⊥
 At e earlier (x ∷ xs) = ((e ≡ x) × (earlier ≡ xs)) ⊎ At e earlier xs
 

@@ -1,3 +1,4 @@
 pub mod Claim
 pub mod Group
 pub mod Ties
+pub mod Steps
