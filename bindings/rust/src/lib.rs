@@ -16,7 +16,7 @@
 //! - A member that stops gets no more calls, unless its shard is as its last call left it. A host that keeps shards over a restart stores the shard
 //!   before it sends what the call handed back: else the group has heard what the stored shard does not know.
 //!
-//! What the host says beside a message ([`Said`]) may be anything. Agreement holds of Paxos, MultiPaxos, MultiPaxos3P and Pando.
+//! What the host says beside a message ([`Said`]) may be anything. Agreement holds in every mode but SwiftPaxos.
 //!
 //! Nothing is claimed about progress. A member proposes once in a slot, and where another's proposal was heard it gets 11; in MultiPaxos nobody stands in
 //! for the first leader. A host that kept a lost message hands it in again, and proposes in a later slot what was not committed.

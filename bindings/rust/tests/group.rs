@@ -24,7 +24,7 @@ fn commits_a_thousand(mode: PFModeSetting, seed: u64) {
 }
 
 #[test]
-fn every_log_is_equal_in_the_four_modes() {
+fn every_log_is_equal_in_the_five_modes() {
     for mode in agreeing_modes() {
         for seed in 1..=3 {
             commits_a_thousand(mode.clone(), seed);

@@ -5,7 +5,8 @@
    Every field is a number. 0 is no and any other number yes: a host tests such a field for 0, never for 1. A field that is not given is 0 where the
    engine writes it.
    Whatever numbers stand in a shard or a call, the call is taken or answered with a refusal's number of document 01. A refused call leaves
-   every byte of the shard as it was. One thread at a time may hold a shard. */
+   every byte of the shard as it was. One thread at a time may hold a shard.
+   In every mode but SwiftPaxos no two members of a group commit different values in one slot, on the terms of docs/QUESTIONS.md. */
 #ifndef CHANBOOK_SHARD_H
 #define CHANBOOK_SHARD_H
 

@@ -136,14 +136,14 @@ fn next_of_five(step: u64) -> [u64; 64] {
     std::array::from_fn(|p| (p as u64 + step) % 5)
 }
 
-/// The four modes of which agreement is proved.
-pub fn agreeing_modes() -> [PFModeSetting; 4] {
+/// The five modes of which agreement is proved.
+pub fn agreeing_modes() -> [PFModeSetting; 5] {
     let delegates = next_of_five(1);
-    [PFModeSetting::Paxos, PFModeSetting::MultiPaxos, PFModeSetting::MultiPaxos3P, PFModeSetting::Pando { delegates }]
+    [PFModeSetting::Paxos, PFModeSetting::MultiPaxos, PFModeSetting::MultiPaxos3P, PFModeSetting::EPaxos, PFModeSetting::Pando { delegates }]
 }
 
 /// All six, SwiftPaxos with and without a fixed quorum.
 pub fn all_modes() -> Vec<PFModeSetting> {
-    let fast = [PFModeSetting::EPaxos, PFModeSetting::SwiftPaxos { quorum: None }, PFModeSetting::SwiftPaxos { quorum: Some(0b10111) }];
-    agreeing_modes().into_iter().chain(fast).collect()
+    let swift = [PFModeSetting::SwiftPaxos { quorum: None }, PFModeSetting::SwiftPaxos { quorum: Some(0b10111) }];
+    agreeing_modes().into_iter().chain(swift).collect()
 }
