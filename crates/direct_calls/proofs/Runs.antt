@@ -16,7 +16,8 @@ use Rattle.direct.specs.Direct.{Direct, direct}
 use Rattle.direct_core.specs.Handled.{Written, putReply, passedOn}
 use Rattle.direct_fast.specs.DirectFast.{FastDirect, fastHalfActs}
 use Rattle.fast_arrays.specs.FastArrays.{fastOf}
-use Rattle.group.specs.Claim.{memberSettings, begun, MemberCall, Entry, afterCall, entriesFrom, entries, Legal, Claim, NotSwift}
+use Rattle.fast_state.specs.Adopt.{lowestBest}
+use Rattle.group.specs.Claim.{memberSettings, begun, ours, MemberCall, Entry, afterCall, entriesFrom, entries, Legal, Claim, NotSwift}
 use Rattle.group.proofs.Agreement.{agreement}
 use Rattle.host.proofs.Calls.{refusal-leaves, new-stands}
 use Rattle.host.specs.Calls.{flatNew}
@@ -123,7 +124,7 @@ module _ (shards : ℕ → Shard) (memories : ℕ → Memory) (same : (j : ℕ) 
       subst (λ (s : Shard). Told (callOf s (memberCall .call) .reply) (callOf s (memberCall .call) .reply .outcome) (c .came) (hostCall (memories (c .member)) (c .call) (c .came)))
       (same (c .member)) (is-call .told)
 
-  next-same : (j : ℕ) → shardOf (memoriesAfter memories c j) ≡ afterCall shards memberCall j
+  next-same : (j : ℕ) → shardOf (memoriesAfter memories c j) ≡ afterCall lowestBest shards memberCall j
   next-same j = go (eqb j (c .member))
     where
       go : (t : Bool) → shardOf (cond t (hostCall (memories (c .member)) (c .call) (c .came) .memory) (memories j)) ≡ cond t (callOf (shards (c .member)) (memberCall .call) .shard) (shards j)
@@ -132,13 +133,13 @@ module _ (shards : ℕ → Shard) (memories : ℕ → Memory) (same : (j : ℕ) 
 
 -- the run of the claim is told to the hosts, call by call
 pub host-run : (shards : ℕ → Shard) (memories : ℕ → Memory) → ((j : ℕ) → shardOf (memories j) ≡ shards j) → (past : List Entry) (cs : List HostCall)
-    → HostRun memories past cs (entriesFrom shards past (callsFrom memories cs))
+    → HostRun memories past cs (entriesFrom ours shards past (callsFrom memories cs))
 unfolding HostRun entriesFrom callsFrom
 host-run shards memories same past [] = refl
 host-run shards memories same past (c ∷ cs) = (
   callOf (shards (c .member)) (callIn (memories (c .member)) (c .call)) .reply,
   told-of shards memories same c,
-  host-run (afterCall shards (memberCall shards memories same c)) (memoriesAfter memories c) (next-same shards memories same c) _ cs,
+  host-run (afterCall lowestBest shards (memberCall shards memories same c)) (memoriesAfter memories c) (next-same shards memories same c) _ cs,
 )
 
 -- Demand 3 of hosts that lend arrays: what they are told over a legal list, on memory that stands for new shards, meets the claim.

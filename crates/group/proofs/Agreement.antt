@@ -28,7 +28,7 @@ use Rattle.message.specs.declared.Refusal.the-variants.{SettingsOutsideLimits}
 use Rattle.settings.specs.Settings.{countsFit, membersFit, committersFit, modeFits, withinLimits}
 use Rattle.settings.specs.declared.Settings.{Settings}
 use Rattle.settings.proofs.Limits.{within-counts, within-members}
-use Rattle.fast_state.specs.Adopt.{Choice, lowestBest}
+use Rattle.fast_state.specs.Adopt.{Choice}
 use Rattle.quorum.specs.Quorum.{rowOf}
 use Rattle.settings.specs.Questions.{quorumsOf, delegateOf, delegateIn}
 use Rattle.consensus.specs.Answers.{refused}
@@ -54,9 +54,8 @@ use Rattle.agreement.specs.Refinement.{SetupRules, Refines, AsModel}
 use Rattle.agreement.specs.Voting.{VotersRules}
 use Rattle.agreement.proofs.Refinement.{refines-claim}
 use Rattle.agreement.proofs.Tests.{is-true}
-use Rattle.group.specs.Claim.{memberSettings, begun, MemberCall, Entry, entryOf, afterCall, entriesFrom, entries, listed, messagesOf, Reaches, SentTo, WasSent, MayStand, LegalFrom, Legal, At, plusCommit, slotAt, Proposed, Claim, NotSwift}
-use Rattle.group.specs.Ties.{TieCall, tieEntryOf, afterTieCall, tieEntriesFrom, tieEntries, LegalTiesFrom, LegalTies}
-use Rattle.group.proofs.Calls.{isDone, decisionOf, seenAnswer, engineOf, viewShard, refuse-as-model, kindOf, no-answers-fit, begins-seen, Valid, call-ok}
+use Rattle.group.specs.Claim.{memberSettings, begun, PicksBest, Choices, laterChoices, ours, MemberCall, Entry, entryOf, afterCall, entriesFrom, entriesWith, entries, listed, messagesOf, Reaches, SentTo, WasSent, MayStand, LegalFrom, LegalWith, Legal, At, plusCommit, slotAt, Proposed, Claim, NotSwift}
+use Rattle.group.proofs.Calls.{isDone, decisionOf, seenAnswer, ChosenCall, engineOf, viewShard, refuse-as-model, kindOf, no-answers-fit, begins-seen, Valid, call-ok}
 use Rattle.group.proofs.Proposing.{starting-fits}
 use Rattle.group.proofs.Ties.{lowest-picks-best}
 use Rattle.group.proofs.View.{roundNumber, leaderOf, isEPaxos, no-member, meaningOf, reached, destinationOf, envelope, envelopesOf, envelopes, setupOf}
@@ -240,8 +239,8 @@ made-refines s classic =
       Valid = Valid s;
       initial-view = λ i l. begun-view s i;
       initial-valid = λ i l. begun-valid s i;
-      answer-valid = λ c x v. call-ok s (c .member) classic (c .choose) (c .picks-best) x v (c .call) .valid;
-      answer-as-model = λ c x v. call-ok s (c .member) classic (c .choose) (c .picks-best) x v (c .call) .as-model;
+      answer-valid = λ c x v. call-ok s (c .of-member .member) classic (c .choose) (c .picks-best) x v (c .of-member .call) .valid;
+      answer-as-model = λ c x v. call-ok s (c .of-member .member) classic (c .choose) (c .picks-best) x v (c .of-member .call) .as-model;
     }
 
 -- a shard that was not made
@@ -261,15 +260,16 @@ unmade-refines s outside =
       Valid = λ i shard. Unmade shard;
       initial-view = λ i l. begun-view s i;
       initial-valid = λ i l. (SettingsOutsideLimits, ap (λ (t : Bool). cond t Done (Refused SettingsOutsideLimits)) (limits-same s i l ∙ outside));
-      answer-valid = λ c x u. subst (λ (r : Answer). Unmade (r .shard)) (sym (unmade-call (c .choose) x u (c .call))) u;
+      answer-valid = λ c x u. subst (λ (r : Answer). Unmade (r .shard)) (sym (unmade-call (c .choose) x u (c .of-member .call))) u;
       answer-as-model = λ c x u.
-          subst (λ (r : Answer). AsModel meaningOf (unmadeSetup s) (c .member) (viewShard x) (kindOf (c .call)) (seenAnswer r)) (sym (unmade-call (c .choose) x u (c .call)))
-          (refuse-as-model (unmadeSetup s) (c .member) (viewShard x) (kindOf (c .call)));
+          subst (λ (r : Answer). AsModel meaningOf (unmadeSetup s) (c .of-member .member) (viewShard x) (kindOf (c .of-member .call)) (seenAnswer r))
+          (sym (unmade-call (c .choose) x u (c .of-member .call)))
+          (refuse-as-model (unmadeSetup s) (c .of-member .member) (viewShard x) (kindOf (c .of-member .call)));
     }
 
 -- ---- the claim of the engine's log
 
-log-claim : (s : Settings) → NotSwift (s .mode) → (cs : List TieCall) → engine.Legal (engineOf s) (engine.begin (engineOf s)) cs
+log-claim : (s : Settings) → NotSwift (s .mode) → (cs : List ChosenCall) → engine.Legal (engineOf s) (engine.begin (engineOf s)) cs
     → engine.Claim (engine.runs (engineOf s) (engine.begin (engineOf s)) cs .log)
 log-claim s classic cs legal = go (either (withinLimits (memberSettings s 0)))
   where
@@ -292,11 +292,17 @@ logOf (e ∷ past) = engine.withCommit (e .member) (decisionOf (e .reply .commit
 abbrev runAt : (ℕ → Shard) → List Entry → engine.Run Shard ConsensusMessage
 runAt shards past = record { shards = shards; sent = sentOf past; log = logOf past }
 
-run-log : (s : Settings) (shards : ℕ → Shard) (past : List Entry) (cs : List TieCall)
-    → engine.runs (engineOf s) (runAt shards past) cs .log ≡ logOf (tieEntriesFrom shards past cs)
-unfolding tieEntriesFrom engine.runs engine.step
-run-log s shards past [] = refl
-run-log s shards past (c ∷ cs) = run-log s (afterTieCall shards c) (tieEntryOf shards c ∷ past) cs
+-- the calls of a list, each with the choice for its place
+abbrev chosen : (choices : Choices) → ((place : ℕ) → PicksBest (choices place)) → List MemberCall → List ChosenCall
+chosen choices best [] = []
+chosen choices best (c ∷ cs) = record { of-member = c; choose = choices 0; picks-best = best 0 } ∷ chosen (laterChoices choices) (λ place. best (suc place)) cs
+
+run-log : (s : Settings) (choices : Choices) (best : (place : ℕ) → PicksBest (choices place)) (shards : ℕ → Shard) (past : List Entry) (cs : List MemberCall)
+    → engine.runs (engineOf s) (runAt shards past) (chosen choices best cs) .log ≡ logOf (entriesFrom choices shards past cs)
+unfolding entriesFrom engine.runs engine.step
+run-log s choices best shards past [] = refl
+run-log s choices best shards past (c ∷ cs) =
+    run-log s (laterChoices choices) (λ place. best (suc place)) (afterCall (choices 0) shards c) (entryOf (choices 0) shards c ∷ past) cs
 
 -- a message that an entry handed back was sent
 in-envelopes : (o : Outgoing) (ms : Messages) → In o (messagesOf ms) → In (envelope o) (envelopes ms)
@@ -360,10 +366,15 @@ was-sent past message member w = by-kind (message .msg) sent (w .6)
     by-kind (ReadResponse id next) h t = by-destination (w .1 .destination) h t
 
 -- a legal list is one of the engine's
-legal-run : (s : Settings) (shards : ℕ → Shard) (past : List Entry) (cs : List TieCall) → LegalTiesFrom (s .«process_count») shards past cs → engine.Legal (engineOf s) (runAt shards past) cs
-unfolding LegalTiesFrom engine.Legal engine.step
-legal-run s shards past [] l = tt
-legal-run s shards past (c ∷ cs) l = (l .0, stand (c .call) (l .1), legal-run s (afterTieCall shards c) (tieEntryOf shards c ∷ past) cs (l .2))
+legal-run : (s : Settings) (choices : Choices) (best : (place : ℕ) → PicksBest (choices place)) (shards : ℕ → Shard) (past : List Entry) (cs : List MemberCall)
+    → LegalFrom (s .«process_count») choices shards past cs → engine.Legal (engineOf s) (runAt shards past) (chosen choices best cs)
+unfolding LegalFrom engine.Legal engine.step
+legal-run s choices best shards past [] l = tt
+legal-run s choices best shards past (c ∷ cs) l = (
+  l .0,
+  stand (c .call) (l .1),
+  legal-run s (laterChoices choices) (λ place. best (suc place)) (afterCall (choices 0) shards c) (entryOf (choices 0) shards c ∷ past) cs (l .2),
+)
   where
     stand : (call : Call) → MayStand past (c .member) call → engine.WasSent (engineOf s) (runAt shards past) (c .member) (kindOf call)
     stand (Propose v) m = tt
@@ -508,31 +519,13 @@ claim-of run claim =
 -- ---- the theorem
 
 -- In every mode but SwiftPaxos, with every settings, every legal list of calls meets the claim, whichever of the best each adoption takes.
-pub agreement-ties : (s : Settings) → NotSwift (s .mode) → (cs : List TieCall) → LegalTies s cs → Claim (tieEntries s cs)
-agreement-ties s classic cs legal =
-    claim-of (tieEntries s cs) (subst engine.Claim (run-log s (begun s) [] cs) (log-claim s classic cs (legal-run s (begun s) [] cs legal)))
+pub agreement-ties : (s : Settings) → NotSwift (s .mode) → (choices : Choices) → ((place : ℕ) → PicksBest (choices place)) → (cs : List MemberCall)
+    → LegalWith choices s cs → Claim (entriesWith choices s cs)
+agreement-ties s classic choices best cs legal =
+    claim-of (entriesWith choices s cs)
+    (subst engine.Claim (run-log s choices best (begun s) [] cs)
+    (log-claim s classic (chosen choices best cs) (legal-run s choices best (begun s) [] cs legal)))
 
--- ---- the engine's own choice
-
--- a call with that choice
-abbrev withLowest : MemberCall → TieCall
-withLowest c = record { member = c .member; call = c .call; choose = lowestBest; picks-best = lowest-picks-best }
-
-abbrev allLowest : List MemberCall → List TieCall
-allLowest [] = []
-allLowest (c ∷ cs) = withLowest c ∷ allLowest cs
-
-same-entries : (shards : ℕ → Shard) (past : List Entry) (cs : List MemberCall) → tieEntriesFrom shards past (allLowest cs) ≡ entriesFrom shards past cs
-unfolding tieEntriesFrom entriesFrom
-same-entries shards past [] = refl
-same-entries shards past (c ∷ cs) = same-entries (afterCall shards c) (entryOf shards c ∷ past) cs
-
-same-legal : (n : ℕ) (shards : ℕ → Shard) (past : List Entry) (cs : List MemberCall) → LegalFrom n shards past cs → LegalTiesFrom n shards past (allLowest cs)
-unfolding LegalTiesFrom LegalFrom
-same-legal n shards past [] l = tt
-same-legal n shards past (c ∷ cs) l = (l .0, l .1, same-legal n (afterCall shards c) (entryOf shards c ∷ past) cs (l .2))
-
--- In every mode but SwiftPaxos, with every settings, every legal list of calls on the engine meets the claim.
+-- So does every legal list of calls on the engine, which takes the lowest of them.
 pub agreement : (s : Settings) → NotSwift (s .mode) → (cs : List MemberCall) → Legal s cs → Claim (entries s cs)
-agreement s classic cs legal =
-    subst Claim (same-entries (begun s) [] cs) (agreement-ties s classic (allLowest cs) (same-legal (s .«process_count») (begun s) [] cs legal))
+agreement s classic cs legal = agreement-ties s classic ours (λ place. lowest-picks-best) cs legal

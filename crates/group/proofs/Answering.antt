@@ -53,7 +53,7 @@ use Rattle.steps.specs.declared.CoreStep.{CoreStep}
 use Rattle.steps.specs.declared.Heard.{Heard}
 use Rattle.agreement.specs.Model.{View, Answers, Host, Outcome, withAnswer, withAnswers, quiet, refuse, say, voted}
 use Rattle.agreement.specs.Model as model
-use Rattle.group.specs.Ties.{PicksBest}
+use Rattle.group.specs.Claim.{PicksBest}
 use Rattle.group.proofs.View.{roundNumber, processNumber, insert-add, proposerOf, isEPaxos, answersIn, viewOf, setupOf, Follows}
 use Rattle.group.proofs.Preparing.{askedBy, follows-both, own-accept-view, broadcast-classic}
 

@@ -77,9 +77,8 @@ use Rattle.agreement.specs.Engine as engine
 use Rattle.agreement.specs.Model.{View, Answers, quiet, refuse, advanced}
 use Rattle.agreement.specs.Model as model
 use Rattle.agreement.specs.Refinement.{meanings, seen, AsModel, outcome, deliver}
-use Rattle.group.specs.Claim.{memberSettings, begun, NotSwift}
+use Rattle.group.specs.Claim.{memberSettings, begun, PicksBest, MemberCall, NotSwift}
 pub use Rattle.group.specs.Steps.{isDone}
-use Rattle.group.specs.Ties.{PicksBest, TieCall}
 use Rattle.group.proofs.View.{roundNumber, LeaderFits, processNumber, no-member, meaningOf, meaning-is, proposerOf, isEPaxos, answersIn, envelopes, viewOf, Leaders, setupOf, SeenAs, Follows}
 use Rattle.group.proofs.Preparing.{askedBy, on-prepare-follows}
 use Rattle.group.proofs.Accepting.{committer-same, on-accept-follows}
@@ -109,16 +108,22 @@ answerFrom r =
       taken = isDone (r .reply .outcome);
     }
 
+-- a call of a list, with a choice that takes one of the best
+pub record ChosenCall : Type 0 where
+  pub of-member : MemberCall
+  pub choose : Choice
+  pub picks-best : PicksBest choose
+
 abbrev pub engineOf : Settings → Engine
 engineOf s =
     record {
       Shard = Shard;
       Message = ConsensusMessage;
-      Call = TieCall;
+      Call = ChosenCall;
       size = s .«process_count»;
-      member = λ c. c .member;
-      kind = λ c. kindOf (c .call);
-      answer = λ shard c. answerFrom (callWith (c .choose) shard (c .call));
+      member = λ c. c .of-member .member;
+      kind = λ c. kindOf (c .of-member .call);
+      answer = λ shard c. answerFrom (callWith (c .choose) shard (c .of-member .call));
       initial = begun s;
     }
 

@@ -32,10 +32,9 @@ use Rattle.calls.specs.Asked.{gathererIn}
 use Rattle.consensus.specs.Handle.{onCommit, processed, processMessage, handle}
 use Rattle.delivery.specs.Limits.{roundNumbers, rvNumbers, msgNumbers, valueNumbers, processNumbers, numbersFit, rvProcesses, msgProcesses, requesterBelow, processesFit}
 use Rattle.agreement.proofs.Tests.{neqb→ne}
-use Rattle.group.specs.Claim.{MemberCall, entriesFrom, entries, LegalFrom, Legal, Claim}
-use Rattle.group.specs.Ties.{prefer, TieCall, tieEntriesFrom, tieEntries, LegalTiesFrom, LegalTies}
+use Rattle.group.specs.Claim.{Choices, MemberCall, entriesFrom, entriesWith, entries, LegalFrom, LegalWith, Legal, Claim}
 use Rattle.group.proofs.Agreement.{agreement, agreement-ties}
-use Rattle.group.proofs.Ties.{prefer-picks-best}
+use Rattle.group.proofs.Ties.{prefer, prefer-picks-best}
 use Rattle.group.proofs.Example.{three, proposes, hears, commitsOf, none, commits, first}
 
 -- slot 0: member 0 proposes 10, member 1 answers for it, and that is a fast quorum
@@ -80,26 +79,26 @@ fast-example-claim = agreement (three EPaxos) tt calls fast-example-legal
 
 -- ---- the tie, the other way
 
--- the same with choices that prefer member 1's value, up to the adoption
-abbrev prefers : MemberCall → TieCall
-prefers c = record { member = c .member; call = c .call; choose = prefer 1; picks-best = prefer-picks-best 1 }
+-- member 1 adopts its own value
+abbrev preferOne : Choices
+preferOne place = prefer 1
 
-abbrev tied : List TieCall
+abbrev tied : List MemberCall
 tied =
-    prefers (proposes 0 20)
-    ∷ prefers (proposes 1 21)
-    ∷ prefers (hears 0 1 NoValue (Prepare 0 (roundOf 0 1) (FastV 1 21)))
-    ∷ prefers (hears 1 0 NoValue (Prepare 0 (roundOf 0 1) (FastV 0 20)))
-    ∷ prefers (hears 2 1 NoValue (Accept 0 (roundOf 0 1) 21))
-    ∷ prefers (hears 1 2 NoValue (Accept 0 (roundOf 0 1) 21))
+    proposes 0 20
+    ∷ proposes 1 21
+    ∷ hears 0 1 NoValue (Prepare 0 (roundOf 0 1) (FastV 1 21))
+    ∷ hears 1 0 NoValue (Prepare 0 (roundOf 0 1) (FastV 0 20))
+    ∷ hears 2 1 NoValue (Accept 0 (roundOf 0 1) 21)
+    ∷ hears 1 2 NoValue (Accept 0 (roundOf 0 1) 21)
     ∷ []
 
-pub tie-commits : commitsOf (tieEntries (three EPaxos) tied) ≡ (commits 1 0 21 false ∷ none 2 ∷ none 1 ∷ none 0 ∷ none 1 ∷ none 0 ∷ [])
-unfolding tieEntriesFrom prefer newShard callWith unlessSpent dispatch propose receive admit numbersFit processesFit ready otherLastValue valueAwaited roundNumbers rvNumbers msgNumbers valueNumbers processNumbers rvProcesses msgProcesses requesterBelow handle onCommit committed processMessage processed gathererIn proposing proposeFast proposeChange leadsFromStart ownAnswer epaxosProposeV isUnanswered mayPropose electing proposePrepare processFast processChange onFastPrepare inFastPrepare fastPrepared fastGather startsAccept waits leadsRound fastPromised fastAnswered epaxosAnswer epaxosAnswered preacceptedAfter scoreAfter epaxosDecide epaxosTryAdopt adopted valueIn scoreIn better bestBelow adopting onFastAccept inFastAccept replicaAccept toVAfter epaxosScoresAfter swiftScoresAfter lookUp store enter fromLive isOlder inRound prepared holdFirst preparing answersNothing answerPrepare becomesPrepared acceptPhase broadcastAccept accepting accepted follower answered tryCommit commitMessages tellsCommit isCommitter answerAccept commitSlot paxosProposeV receivePromise heldAfterPromise receiveAccept acceptFits acceptOwn selfAccept withSender withOwn nextLeaderRound roundBefore roundEqual increment delegateIn committerIn committerFor withinLimits countsFit membersFit committersFit modeFits contains count size insert
+pub tie-commits : commitsOf (entriesWith preferOne (three EPaxos) tied) ≡ (commits 1 0 21 false ∷ none 2 ∷ none 1 ∷ none 0 ∷ none 1 ∷ none 0 ∷ [])
+unfolding entriesFrom prefer newShard callWith unlessSpent dispatch propose receive admit numbersFit processesFit ready otherLastValue valueAwaited roundNumbers rvNumbers msgNumbers valueNumbers processNumbers rvProcesses msgProcesses requesterBelow handle onCommit committed processMessage processed gathererIn proposing proposeFast proposeChange leadsFromStart ownAnswer epaxosProposeV isUnanswered mayPropose electing proposePrepare processFast processChange onFastPrepare inFastPrepare fastPrepared fastGather startsAccept waits leadsRound fastPromised fastAnswered epaxosAnswer epaxosAnswered preacceptedAfter scoreAfter epaxosDecide epaxosTryAdopt adopted valueIn scoreIn better bestBelow adopting onFastAccept inFastAccept replicaAccept toVAfter epaxosScoresAfter swiftScoresAfter lookUp store enter fromLive isOlder inRound prepared holdFirst preparing answersNothing answerPrepare becomesPrepared acceptPhase broadcastAccept accepting accepted follower answered tryCommit commitMessages tellsCommit isCommitter answerAccept commitSlot paxosProposeV receivePromise heldAfterPromise receiveAccept acceptFits acceptOwn selfAccept withSender withOwn nextLeaderRound roundBefore roundEqual increment delegateIn committerIn committerFor withinLimits countsFit membersFit committersFit modeFits contains count size insert
 tie-commits = refl
 
-pub tie-legal : LegalTies (three EPaxos) tied
-unfolding LegalTiesFrom prefer newShard callWith unlessSpent dispatch propose receive admit numbersFit processesFit ready otherLastValue valueAwaited roundNumbers rvNumbers msgNumbers valueNumbers processNumbers rvProcesses msgProcesses requesterBelow handle onCommit committed processMessage processed gathererIn proposing proposeFast proposeChange leadsFromStart ownAnswer epaxosProposeV isUnanswered mayPropose electing proposePrepare processFast processChange onFastPrepare inFastPrepare fastPrepared fastGather startsAccept waits leadsRound fastPromised fastAnswered epaxosAnswer epaxosAnswered preacceptedAfter scoreAfter epaxosDecide epaxosTryAdopt adopted valueIn scoreIn better bestBelow adopting onFastAccept inFastAccept replicaAccept toVAfter epaxosScoresAfter swiftScoresAfter lookUp store enter fromLive isOlder inRound prepared holdFirst preparing answersNothing answerPrepare becomesPrepared acceptPhase broadcastAccept accepting accepted follower answered tryCommit commitMessages tellsCommit isCommitter answerAccept commitSlot paxosProposeV receivePromise heldAfterPromise receiveAccept acceptFits acceptOwn selfAccept withSender withOwn nextLeaderRound roundBefore roundEqual increment delegateIn committerIn committerFor withinLimits countsFit membersFit committersFit modeFits contains count size insert
+pub tie-legal : LegalWith preferOne (three EPaxos) tied
+unfolding LegalFrom prefer newShard callWith unlessSpent dispatch propose receive admit numbersFit processesFit ready otherLastValue valueAwaited roundNumbers rvNumbers msgNumbers valueNumbers processNumbers rvProcesses msgProcesses requesterBelow handle onCommit committed processMessage processed gathererIn proposing proposeFast proposeChange leadsFromStart ownAnswer epaxosProposeV isUnanswered mayPropose electing proposePrepare processFast processChange onFastPrepare inFastPrepare fastPrepared fastGather startsAccept waits leadsRound fastPromised fastAnswered epaxosAnswer epaxosAnswered preacceptedAfter scoreAfter epaxosDecide epaxosTryAdopt adopted valueIn scoreIn better bestBelow adopting onFastAccept inFastAccept replicaAccept toVAfter epaxosScoresAfter swiftScoresAfter lookUp store enter fromLive isOlder inRound prepared holdFirst preparing answersNothing answerPrepare becomesPrepared acceptPhase broadcastAccept accepting accepted follower answered tryCommit commitMessages tellsCommit isCommitter answerAccept commitSlot paxosProposeV receivePromise heldAfterPromise receiveAccept acceptFits acceptOwn selfAccept withSender withOwn nextLeaderRound roundBefore roundEqual increment delegateIn committerIn committerFor withinLimits countsFit membersFit committersFit modeFits contains count size insert
 tie-legal =
     first (lit< tt) tt
     (first (lit< tt) tt
@@ -108,5 +107,5 @@ tie-legal =
     (first (lit< tt) (_, _, inl refl, refl, inl refl, refl, neqb→ne 1 2 tt)
     (first (lit< tt) (_, _, inl refl, refl, inl refl, refl, refl) tt)))))
 
-pub tie-claim : Claim (tieEntries (three EPaxos) tied)
-tie-claim = agreement-ties (three EPaxos) tt tied tie-legal
+pub tie-claim : Claim (entriesWith preferOne (three EPaxos) tied)
+tie-claim = agreement-ties (three EPaxos) tt preferOne (λ place. prefer-picks-best 1) tied tie-legal

@@ -46,7 +46,7 @@ use Rattle.steps.specs.declared.CoreStep.{CoreStep}
 use Rattle.steps.specs.declared.Heard.{Heard}
 use Rattle.agreement.specs.Model.{View, Answers, Host, joined, adopted, preparedBy, withAnswers, say}
 use Rattle.agreement.specs.Model as model
-use Rattle.group.specs.Ties.{PicksBest}
+use Rattle.group.specs.Claim.{PicksBest}
 use Rattle.group.proofs.View.{roundNumber, LeaderFits, processNumber, proposerOf, isEPaxos, answersIn, viewOf, Leaders, setupOf, Follows, thenIn}
 use Rattle.group.proofs.Entering.{in-round-leaders, in-round-round, enter-follows}
 use Rattle.group.proofs.Preparing.{askedBy, follows-both, promise-view, gather-follows, in-prepare-follows}

@@ -54,7 +54,7 @@ use Rattle.calls.specs.declared.Reply.{Reply}
 use Rattle.consensus.specs.declared.Shard.{Shard}
 use Rattle.basics.specs.Lists.{In}
 use Rattle.basics.proofs.Tests.{of-both}
-use Rattle.group.specs.Claim.{begun, MemberCall, Entry, entryOf, afterCall, entriesFrom, entries, messagesOf, Reaches, SentTo, WasSent, MayStand, LegalFrom, Legal}
+use Rattle.group.specs.Claim.{begun, ours, MemberCall, Entry, entryOf, afterCall, entriesFrom, entries, messagesOf, Reaches, SentTo, WasSent, MayStand, LegalFrom, Legal}
 
 -- ---- proposals and new reads, on any shard
 
@@ -211,14 +211,14 @@ call-to-all past q shard member z c may = made (shard .made)
         of-both (λ (r : Answer). CallToAll (r .reply)) (leb 9223372036854775807 (shard .state .rounds .core .slot)) (refused-to-all NumberTooLarge shard) (dispatched c may)
     made (Refused why) = refused-to-all why shard
 
-run-to-all : (shards : ℕ → Shard) (past : List Entry) → RunToAll past → (cs : List MemberCall) → LegalFrom 1 shards past cs → RunToAll (entriesFrom shards past cs)
+run-to-all : (shards : ℕ → Shard) (past : List Entry) → RunToAll past → (cs : List MemberCall) → LegalFrom 1 ours shards past cs → RunToAll (entriesFrom ours shards past cs)
 unfolding LegalFrom entriesFrom
 run-to-all shards past q [] l = q
 run-to-all shards past q (c ∷ cs) l =
     let only : c .member < 1 = l .0 in let z : c .member ≡ 0 = omega arith in
-    run-to-all (afterCall shards c) (entryOf shards c ∷ past) (z, call-to-all past q (shards (c .member)) (c .member) z (c .call) (l .1), q) cs (l .2)
+    run-to-all (afterCall lowestBest shards c) (entryOf lowestBest shards c ∷ past) (z, call-to-all past q (shards (c .member)) (c .member) z (c .call) (l .1), q) cs (l .2)
 
 -- In a group of one no legal list of calls commits.
 pub group-of-one : (s : Settings) → s .«process_count» ≡ 1 → (cs : List MemberCall) → Legal s cs → (e : Entry) → In e (entries s cs) → e .reply .commit ≡ NoCommit
 group-of-one s alone cs legal e h =
-    entry-to-all (entries s cs) (run-to-all (begun s) [] tt cs (subst (λ (n : ℕ). LegalFrom n (begun s) [] cs) alone legal)) e h .1 .1
+    entry-to-all (entries s cs) (run-to-all (begun s) [] tt cs (subst (λ (n : ℕ). LegalFrom n ours (begun s) [] cs) alone legal)) e h .1 .1

@@ -580,13 +580,13 @@ module _ (n : ℕ) (few : n ≤ 64) where
 -- the shards after the calls of a list
 unfoldable pub shardsAfter : (ℕ → Shard) → List MemberCall → ℕ → Shard
 shardsAfter shards [] = shards
-shardsAfter shards (c ∷ cs) = shardsAfter (afterCall shards c) cs
+shardsAfter shards (c ∷ cs) = shardsAfter (afterCall lowestBest shards c) cs
 
 record RunLasts (s : Settings) (shards : ℕ → Shard) : Type 0 where
   lasting : (i : ℕ) → Lasts (shards i)
   settings-stay : (i : ℕ) → shards i .settings ≡ memberSettings s i
 
-call-keeps : (s : Settings) (shards : ℕ → Shard) → RunLasts s shards → (c : MemberCall) → RunLasts s (afterCall shards c)
+call-keeps : (s : Settings) (shards : ℕ → Shard) → RunLasts s shards → (c : MemberCall) → RunLasts s (afterCall lowestBest shards c)
 call-keeps s shards k c =
     record {
       lasting = λ j. of-both Lasts (eqb j (c .member)) (left .lasts) (k .lasting j);
@@ -602,7 +602,7 @@ call-keeps s shards k c =
 run-keeps : (s : Settings) (shards : ℕ → Shard) → RunLasts s shards → (cs : List MemberCall) → RunLasts s (shardsAfter shards cs)
 unfolding shardsAfter
 run-keeps s shards k [] = k
-run-keeps s shards k (c ∷ cs) = run-keeps s (afterCall shards c) (call-keeps s shards k c) cs
+run-keeps s shards k (c ∷ cs) = run-keeps s (afterCall lowestBest shards c) (call-keeps s shards k c) cs
 
 module _ (s : Settings) (cs : List MemberCall) (i : ℕ) where
   -- the shard of member i after the calls

@@ -46,7 +46,7 @@ use Rattle.steps.specs.declared.Core.{Core}
 use Rattle.steps.specs.declared.CoreStep.{CoreStep}
 use Rattle.steps.specs.declared.Heard.{Heard}
 use Rattle.swift_path.specs.Swift.{swiftAnsweredAccept}
-use Rattle.group.specs.Ties.{PicksBest}
+use Rattle.group.specs.Claim.{PicksBest}
 use Rattle.group.proofs.View.{LeaderFits, isEPaxos, answersIn, thenIn}
 use Rattle.group.proofs.Entering.{enter-client}
 use Rattle.group.proofs.Preparing.{askedBy}

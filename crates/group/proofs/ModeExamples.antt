@@ -40,6 +40,7 @@ use Rattle.calls.specs.Asked.{gathererIn}
 use Rattle.consensus.specs.Handle.{onCommit, onReadRequest, onReadResponse, startRead, processed, processMessage, handle}
 use Rattle.delivery.specs.Limits.{roundNumbers, rvNumbers, msgNumbers, valueNumbers, processNumbers, numbersFit, rvProcesses, msgProcesses, requesterBelow, processesFit}
 use Rattle.calls.specs.declared.Call.the-variants.{StartRead}
+use Rattle.fast_state.specs.Adopt.{lowestBest}
 use Rattle.consensus.specs.declared.Answer.{Answer}
 use Rattle.consensus.specs.declared.Shard.{Shard}
 use Rattle.agreement.proofs.Tests.{neqb→ne}
@@ -68,7 +69,7 @@ servedBy member a = readsOf member (take (a .reply .«served_count») (a .shard 
 -- all reads that a run serves, in the order of the calls
 unfoldable pub servedFrom : (ℕ → Shard) → List MemberCall → List MemberRead
 servedFrom shards [] = []
-servedFrom shards (c ∷ cs) = servedBy (c .member) (callOf (shards (c .member)) (c .call)) ++ servedFrom (afterCall shards c) cs
+servedFrom shards (c ∷ cs) = servedBy (c .member) (callOf (shards (c .member)) (c .call)) ++ servedFrom (afterCall lowestBest shards c) cs
 
 -- a read with the first id of its member
 abbrev serves : ℕ → ℕ → ℕ → MemberRead

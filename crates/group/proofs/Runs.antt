@@ -13,10 +13,11 @@ use borrow.Author.Tests.{lt-ltb, eqb-true, eqb-false}
 use Rattle.basics.proofs.Places.{get-set}
 use Rattle.basics.proofs.Tests.{either}
 use Rattle.settings.specs.declared.Settings.{Settings}
+use Rattle.fast_state.specs.Adopt.{lowestBest}
 use Rattle.consensus.specs.Call.{callOf}
 use Rattle.calls.specs.declared.Call.{Call}
 use Rattle.consensus.specs.declared.Shard.{Shard}
-use Rattle.group.specs.Claim.{begun, MemberCall, Entry, entryOf, afterCall, entriesFrom, entries, LegalFrom, Legal, Claim, NotSwift}
+use Rattle.group.specs.Claim.{begun, ours, MemberCall, Entry, entryOf, afterCall, entriesFrom, entries, LegalFrom, Legal, Claim, NotSwift}
 use Rattle.group.specs.Group.{newMembers, newGroup, shardAt, replaced, called, logFrom, logOf}
 use Rattle.group.specs.declared.Group.{Group}
 use Rattle.group.specs.declared.GroupAnswer.{GroupAnswer}
@@ -57,9 +58,9 @@ module _ (d : Shard) where
   called-member g i c h = simp (lt-ltb _ _ h)
 
   call-same : (g : Group) (shards : ℕ → Shard) → Same g shards → (c : MemberCall) → c .member < 64
-      → Same (called d g (c .member) (c .call) .group) (afterCall shards c)
+      → Same (called d g (c .member) (c .call) .group) (afterCall lowestBest shards c)
   call-same g shards k c h =
-      subst (λ (r : GroupAnswer). Same (r .group) (afterCall shards c)) (sym (called-member g (c .member) (c .call) h))
+      subst (λ (r : GroupAnswer). Same (r .group) (afterCall lowestBest shards c)) (sym (called-member g (c .member) (c .call) h))
       (record {
         long = length-set (g .members) (c .member) (callOf (shardAt d g (c .member)) (c .call) .shard) ∙ k .long;
         shard = λ j b.
@@ -69,19 +70,19 @@ module _ (d : Shard) where
       })
 
   call-entry : (g : Group) (shards : ℕ → Shard) → Same g shards → (c : MemberCall) → c .member < 64
-      → record { member = c .member; call = c .call; reply = called d g (c .member) (c .call) .reply } ≡ entryOf shards c
+      → record { member = c .member; call = c .call; reply = called d g (c .member) (c .call) .reply } ≡ entryOf lowestBest shards c
   call-entry g shards k c h =
       ap (λ (r : GroupAnswer). record { member = c .member; call = c .call; reply = r .reply }) (called-member g (c .member) (c .call) h)
       ∙ ap (λ (x : Shard). record { member = c .member; call = c .call; reply = callOf x (c .call) .reply }) (k .shard (c .member) h)
 
-  run-same : (n : ℕ) → n ≤ 64 → (g : Group) (shards : ℕ → Shard) → Same g shards → (past : List Entry) (cs : List MemberCall) → LegalFrom n shards past cs
-      → logFrom d g past cs ≡ entriesFrom shards past cs
+  run-same : (n : ℕ) → n ≤ 64 → (g : Group) (shards : ℕ → Shard) → Same g shards → (past : List Entry) (cs : List MemberCall) → LegalFrom n ours shards past cs
+      → logFrom d g past cs ≡ entriesFrom ours shards past cs
   unfolding logFrom entriesFrom LegalFrom
   run-same n few g shards k past [] l = refl
   run-same n few g shards k past (c ∷ cs) l =
       let h : c .member < 64 = lt-of-lt-of-le (l .0) few in
       ap (λ (e : Entry). logFrom d (called d g (c .member) (c .call) .group) (e ∷ past) cs) (call-entry g shards k c h)
-      ∙ run-same n few (called d g (c .member) (c .call) .group) (afterCall shards c) (call-same g shards k c h) (entryOf shards c ∷ past) cs (l .2)
+      ∙ run-same n few (called d g (c .member) (c .call) .group) (afterCall lowestBest shards c) (call-same g shards k c h) (entryOf lowestBest shards c ∷ past) cs (l .2)
 
   -- The log of a group by value, of at most 64 members, is the run's.
   pub log-is-run : (s : Settings) → s .«process_count» ≤ 64 → (cs : List MemberCall) → Legal s cs → logOf d s cs ≡ entries s cs

@@ -13,7 +13,7 @@ use Rattle.fast_state.specs.Adopt.{lowestBest}
 use Rattle.consensus.specs.Call.{newShard, callOf}
 use Rattle.calls.specs.declared.OptionalCommit.{OptionalCommit}
 use Rattle.consensus.specs.declared.Shard.{Shard}
-use Rattle.group.specs.Claim.{memberSettings, begun, MemberCall, Entry, entryOf, afterCall, entriesFrom, entries, At, plusCommit, slotAt, CommitAt}
+use Rattle.group.specs.Claim.{memberSettings, begun, ours, MemberCall, Entry, entryOf, afterCall, entriesFrom, entries, At, plusCommit, slotAt, CommitAt}
 use Rattle.group.proofs.Invariants.{Lasts, OfSlot, CallLasts, begun-lasts, call-lasts, shardsAfter}
 
 abbrev slotOf : Shard → ℕ
@@ -29,7 +29,7 @@ record Counted (shards : ℕ → Shard) (past : List Entry) : Type 0 where
   slots : (i : ℕ) → slotOf (shards i) ≡ slotAt i past
   own-slots : OwnSlots past
 
-call-counted : (shards : ℕ → Shard) (past : List Entry) → Counted shards past → (c : MemberCall) → Counted (afterCall shards c) (entryOf shards c ∷ past)
+call-counted : (shards : ℕ → Shard) (past : List Entry) → Counted shards past → (c : MemberCall) → Counted (afterCall lowestBest shards c) (entryOf lowestBest shards c ∷ past)
 call-counted shards past k c =
     record {
       lasting = λ j. of-both Lasts (eqb j (c .member)) (left .lasts) (k .lasting j);
@@ -51,19 +51,19 @@ call-counted shards past k c =
     go j true e = left .slot-moves ∙ ap (plusCommit commit) (k .slots (c .member) ∙ ap (λ (i : ℕ). slotAt i past) (sym (e tt)))
     go j false e = k .slots j
 
-    own : OwnSlots (entryOf shards c ∷ past)
+    own : OwnSlots (entryOf lowestBest shards c ∷ past)
     own slot v m = at (m .stands)
       where
-        at : At (m .entry) (m .earlier) (entryOf shards c ∷ past) → slot ≡ slotAt (m .entry .member) (m .earlier)
+        at : At (m .entry) (m .earlier) (entryOf lowestBest shards c ∷ past) → slot ≡ slotAt (m .entry .member) (m .earlier)
         at (inl e) =
             subst (OfSlot (slotOf old)) (sym (ap (λ (x : Entry). x .reply .commit) (e .0)) ∙ m .commit) (left .of-own-slot)
             ∙ k .slots (c .member) ∙ sym (ap (λ (x : Entry). slotAt (x .member) past) (e .0)) ∙ ap (slotAt (m .entry .member)) (sym (e .1))
         at (inr h) = k .own-slots slot v (record { entry = m .entry; earlier = m .earlier; stands = h; fast = m .fast; commit = m .commit })
 
-run-counted : (shards : ℕ → Shard) (past : List Entry) → Counted shards past → (cs : List MemberCall) → Counted (shardsAfter shards cs) (entriesFrom shards past cs)
+run-counted : (shards : ℕ → Shard) (past : List Entry) → Counted shards past → (cs : List MemberCall) → Counted (shardsAfter shards cs) (entriesFrom ours shards past cs)
 unfolding shardsAfter entriesFrom
 run-counted shards past k [] = k
-run-counted shards past k (c ∷ cs) = run-counted (afterCall shards c) (entryOf shards c ∷ past) (call-counted shards past k c) cs
+run-counted shards past k (c ∷ cs) = run-counted (afterCall lowestBest shards c) (entryOf lowestBest shards c ∷ past) (call-counted shards past k c) cs
 
 module _ (s : Settings) (cs : List MemberCall) where
   counted : Counted (shardsAfter (begun s) cs) (entries s cs)

@@ -1,26 +1,30 @@
--- Group runs, and what is claimed of them (document 01, "Group runs (demand 3)"). This page is the statement; proofs/Agreement.antt has the
--- theorem. Lists of what has happened have the latest first.
+-- Group runs, and what is claimed of them (document 01, "Group runs (demand 3)"; document 02, E9). This page is the statement;
+-- proofs/Agreement.antt has the theorem. Lists of what has happened have the latest first.
 -- Assumes nothing.
 use mathlib.Core.Path.{_≡_}
 use mathlib.Core.Logic.{_⊎_, _↔_}
-use mathlib.Core.Bool.{Bool, cond}
+use mathlib.Core.Bool.{Bool, true, cond}
 use mathlib.Core.List.{List, [], _∷_}
-use Prim.Native.Nat.{ℕ, suc, _<_}
+use Prim.Native.Nat.{ℕ, suc, _≤_, _<_}
 use lib.Dec.{eqb}
+use Rattle.sets.specs.Sets.{contains}
 use Rattle.message.specs.declared.ConsensusMessage.{ConsensusMessage}
 use Rattle.message.specs.declared.ConsensusMsg.{ConsensusMsg}
 use Rattle.message.specs.declared.ConsensusMsg.the-variants.{Prepare, Accept, ForwardRequest, Commit, ReadRequest, ReadResponse}
+use Rattle.message.specs.declared.OptionalProcess.the-variants.{Process}
 use Rattle.message.specs.declared.Outcome.the-variants.{Done}
 use Rattle.message.specs.declared.PFMode.{PFMode}
 use Rattle.message.specs.declared.PFMode.the-variants.{Paxos, MultiPaxos, MultiPaxos3P, EPaxos, Pando, SwiftPaxos}
 use Rattle.settings.specs.declared.Settings.{Settings}
+use Rattle.fast_state.specs.Adopt.{Choice, lowestBest}
+use Rattle.fast_state.specs.declared.FastAnswers.{FastAnswers}
 use Rattle.steps.specs.declared.Destination.{Destination}
 use Rattle.steps.specs.declared.Destination.the-variants.{One, All}
 use Rattle.steps.specs.declared.Messages.{Messages}
 use Rattle.steps.specs.declared.OptionalMessage.{OptionalMessage}
 use Rattle.steps.specs.declared.OptionalMessage.the-variants.{NoMessage, Send}
 use Rattle.steps.specs.declared.Outgoing.{Outgoing}
-use Rattle.consensus.specs.Call.{newShard, callOf}
+use Rattle.consensus.specs.Call.{newShard, callWith}
 use Rattle.calls.specs.declared.Call.{Call}
 use Rattle.calls.specs.declared.Call.the-variants.{Propose, StartRead, Receive}
 use Rattle.calls.specs.declared.OptionalCommit.{OptionalCommit}
@@ -64,20 +68,36 @@ pub record Entry : Type 0 where
   pub call : Call
   pub reply : Reply
 
-abbrev pub entryOf : (ℕ → Shard) → MemberCall → Entry
-entryOf shards c = record { member = c .member; call = c .call; reply = callOf (shards (c .member)) (c .call) .reply }
+-- In EPaxos an adoption takes the value of a proposer that is chosen. The choice is a parameter, a new one at each place in the list; ours is the
+-- lowest of the best at every place (`callOf` is `callWith lowestBest`).
+abbrev pub Choices : Type 0
+Choices = ℕ → Choice
+
+abbrev pub ours : Choices
+ours place = lowestBest
+
+-- those of the list without its first call
+abbrev pub laterChoices : Choices → Choices
+laterChoices choices place = choices (suc place)
+
+abbrev pub entryOf : Choice → (ℕ → Shard) → MemberCall → Entry
+entryOf choose shards c = record { member = c .member; call = c .call; reply = callWith choose (shards (c .member)) (c .call) .reply }
 
 -- "A shard goes from one call of its member to the next, by value or lent, and has no other writer."
-abbrev pub afterCall : (ℕ → Shard) → MemberCall → ℕ → Shard
-afterCall shards c j = cond (eqb j (c .member)) (callOf (shards (c .member)) (c .call) .shard) (shards j)
+abbrev pub afterCall : Choice → (ℕ → Shard) → MemberCall → ℕ → Shard
+afterCall choose shards c j = cond (eqb j (c .member)) (callWith choose (shards (c .member)) (c .call) .shard) (shards j)
 
 -- the entries of a run that goes on from some shards and earlier entries
-unfoldable pub entriesFrom : (ℕ → Shard) → List Entry → List MemberCall → List Entry
-entriesFrom shards past [] = past
-entriesFrom shards past (c ∷ cs) = entriesFrom (afterCall shards c) (entryOf shards c ∷ past) cs
+unfoldable pub entriesFrom : Choices → (ℕ → Shard) → List Entry → List MemberCall → List Entry
+entriesFrom choices shards past [] = past
+entriesFrom choices shards past (c ∷ cs) = entriesFrom (laterChoices choices) (afterCall (choices 0) shards c) (entryOf (choices 0) shards c ∷ past) cs
 
+abbrev pub entriesWith : Choices → Settings → List MemberCall → List Entry
+entriesWith choices s cs = entriesFrom choices (begun s) [] cs
+
+-- at our choice
 abbrev pub entries : Settings → List MemberCall → List Entry
-entries s cs = entriesFrom (begun s) [] cs
+entries s cs = entriesWith ours s cs
 
 -- ---- legal lists
 
@@ -114,12 +134,17 @@ MayStand past member (StartRead tag arrival) = Unit {0}
 MayStand past member (Receive d) = WasSent past (d .message) member
 
 -- every call is of a member of the group, and every message stands only where it was sent before
-unfoldable pub LegalFrom : ℕ → (ℕ → Shard) → List Entry → List MemberCall → Type 0
-LegalFrom n shards past [] = Unit {0}
-LegalFrom n shards past (c ∷ cs) = (c .member < n) × MayStand past (c .member) (c .call) × LegalFrom n (afterCall shards c) (entryOf shards c ∷ past) cs
+unfoldable pub LegalFrom : ℕ → Choices → (ℕ → Shard) → List Entry → List MemberCall → Type 0
+LegalFrom n choices shards past [] = Unit {0}
+LegalFrom n choices shards past (c ∷ cs) =
+    (c .member < n) × MayStand past (c .member) (c .call)
+    × LegalFrom n (laterChoices choices) (afterCall (choices 0) shards c) (entryOf (choices 0) shards c ∷ past) cs
+
+abbrev pub LegalWith : Choices → Settings → List MemberCall → Type 0
+LegalWith choices s cs = LegalFrom (s .«process_count») choices (begun s) [] cs
 
 abbrev pub Legal : Settings → List MemberCall → Type 0
-Legal s cs = LegalFrom (s .«process_count») (begun s) [] cs
+Legal s cs = LegalWith ours s cs
 
 -- ---- the claim
 
@@ -158,7 +183,9 @@ pub record Claim (run : List Entry) : Type 0 where
   pub proposed : (slot v : ℕ) (c : CommitAt slot v run) → Proposed slot v (c .entry ∷ c .earlier)
   pub own-slot : (slot v : ℕ) (c : CommitAt slot v run) → slot ≡ slotAt (c .entry .member) (c .earlier)
 
--- the modes in which the claim holds: all but SwiftPaxos
+-- ---- where it is claimed: of every legal list, with every settings
+
+-- in all modes but SwiftPaxos
 abbrev pub NotSwift : PFMode → Type 0
 NotSwift Paxos = Unit {0}
 NotSwift MultiPaxos = Unit {0}
@@ -166,3 +193,8 @@ NotSwift MultiPaxos3P = Unit {0}
 NotSwift EPaxos = Unit {0}
 NotSwift Pando = Unit {0}
 NotSwift SwiftPaxos = ⊥
+
+-- "all this holds whichever of the best-scored proposers each adoption takes": whom the choice takes is a proposer, and none has a higher score
+pub record PicksBest (choose : Choice) : Type 0 where
+  pub proposer : (f : FastAnswers) (score : ℕ → ℕ) (p : ℕ) → choose f score ≡ Process p → (p < 64) × (contains (f .«fast_proposers») p ≡ true)
+  pub best : (f : FastAnswers) (score : ℕ → ℕ) (p q : ℕ) → choose f score ≡ Process p → q < 64 → contains (f .«fast_proposers») q ≡ true → score q ≤ score p

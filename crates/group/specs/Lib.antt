@@ -1,4 +1,3 @@
 pub mod Claim
 pub mod Group
-pub mod Ties
 pub mod Steps

@@ -7,6 +7,7 @@ use Prim.Native.Nat.{ℕ}
 use Rattle.message.specs.declared.Outcome.{Outcome}
 use Rattle.message.specs.declared.Outcome.the-variants.{Done, Refused}
 use Rattle.settings.specs.declared.Settings.{Settings}
+use Rattle.fast_state.specs.Adopt.{lowestBest}
 use Rattle.delivery.specs.declared.Delivery.{Delivery}
 use Rattle.calls.specs.declared.Call.{Call}
 use Rattle.calls.specs.declared.Call.the-variants.{Propose, StartRead, Receive}
@@ -50,7 +51,7 @@ stepOf shards c = record { member = c .member; before = shards (c .member); call
 -- the steps of a run that goes on from some shards and earlier steps
 unfoldable pub stepsFrom : (ℕ → Shard) → List Step → List MemberCall → List Step
 stepsFrom shards past [] = past
-stepsFrom shards past (c ∷ cs) = stepsFrom (afterCall shards c) (stepOf shards c ∷ past) cs
+stepsFrom shards past (c ∷ cs) = stepsFrom (afterCall lowestBest shards c) (stepOf shards c ∷ past) cs
 
 abbrev pub steps : Settings → List MemberCall → List Step
 steps s cs = stepsFrom (begun s) [] cs

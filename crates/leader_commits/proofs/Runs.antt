@@ -35,7 +35,7 @@ use Rattle.agreement.specs.Model.{View}
 use Rattle.agreement.specs.Model as model
 use Rattle.agreement.specs.Refinement.{meanings}
 use Rattle.agreement.proofs.Tests.{by-test}
-use Rattle.group.specs.Claim.{memberSettings, begun, MemberCall, Entry, afterCall, listed, messagesOf, SentTo, WasSent, MayStand, LegalFrom, Legal, At, slotAt}
+use Rattle.group.specs.Claim.{memberSettings, begun, ours, MemberCall, Entry, afterCall, listed, messagesOf, SentTo, WasSent, MayStand, LegalFrom, Legal, At, slotAt}
 use Rattle.group.specs.Steps.{Step, replyOf, isDone, heard, stepOf, stepsFrom, steps, entriesOf}
 use Rattle.group.proofs.Agreement.{begun-valid}
 use Rattle.group.proofs.Calls.{kindOf, seenAnswer, viewShard, Valid, call-ok}
@@ -205,7 +205,7 @@ module _ (s : Settings) (terms : Terms s) where
         (λ t le. ap (λ (b : Bool). b && isDone (replyOf step .outcome)) (and-fails (isAnswer s t (heard step)) (ne-eqb i l other)))
         (λ v own is done. other own)
 
-    call-invariant : Invariant (afterCall shards c) (stepOf shards c ∷ past)
+    call-invariant : Invariant (afterCall lowestBest shards c) (stepOf shards c ∷ past)
     call-invariant =
         record {
           valid = λ j.
@@ -235,12 +235,12 @@ module _ (s : Settings) (terms : Terms s) where
   -- what follows of a step from the invariant before it holds of every step of a legal run
   module _ (P : Step → List Step → Type 0)
       (follows : (shards : ℕ → Shard) (past : List Step) → Invariant shards past → (c : MemberCall) → MayStand (entriesOf past) (c .member) (c .call) → P (stepOf shards c) past) where
-    each-from : (shards : ℕ → Shard) (past : List Step) (cs : List MemberCall) → Invariant shards past → LegalFrom (s .«process_count») shards (entriesOf past) cs
+    each-from : (shards : ℕ → Shard) (past : List Step) (cs : List MemberCall) → Invariant shards past → LegalFrom (s .«process_count») ours shards (entriesOf past) cs
         → ((x : Step) (earlier : List Step) → At x earlier past → P x earlier) → (x : Step) (earlier : List Step) → At x earlier (stepsFrom shards past cs) → P x earlier
     unfolding LegalFrom stepsFrom
     each-from shards past [] k legal known x earlier at = known x earlier at
     each-from shards past (c ∷ cs) k legal known x earlier at =
-        each-from (afterCall shards c) (stepOf shards c ∷ past) cs (call-invariant shards past k c (legal .1)) (legal .2) more x earlier at
+        each-from (afterCall lowestBest shards c) (stepOf shards c ∷ past) cs (call-invariant shards past k c (legal .1)) (legal .2) more x earlier at
       where
         more : (y : Step) (before : List Step) → At y before (stepOf shards c ∷ past) → P y before
         more y before (inl e) =
@@ -251,11 +251,11 @@ module _ (s : Settings) (terms : Terms s) where
     each-step cs legal x earlier at = each-from (begun s) [] cs begun-invariant legal (λ y before a. absurd a) x earlier at
 
   -- and the invariant holds after the run
-  run-from : (shards : ℕ → Shard) (past : List Step) (cs : List MemberCall) → Invariant shards past → LegalFrom (s .«process_count») shards (entriesOf past) cs
+  run-from : (shards : ℕ → Shard) (past : List Step) (cs : List MemberCall) → Invariant shards past → LegalFrom (s .«process_count») ours shards (entriesOf past) cs
       → Invariant (shardsAfter shards cs) (stepsFrom shards past cs)
   unfolding LegalFrom stepsFrom shardsAfter
   run-from shards past [] k legal = k
-  run-from shards past (c ∷ cs) k legal = run-from (afterCall shards c) (stepOf shards c ∷ past) cs (call-invariant shards past k c (legal .1)) (legal .2)
+  run-from shards past (c ∷ cs) k legal = run-from (afterCall lowestBest shards c) (stepOf shards c ∷ past) cs (call-invariant shards past k c (legal .1)) (legal .2)
 
   pub run-invariant : (cs : List MemberCall) → Legal s cs → Invariant (shardsAfter (begun s) cs) (steps s cs)
   run-invariant cs legal = run-from (begun s) [] cs begun-invariant legal
