@@ -15,7 +15,7 @@ use Rattle.basics.specs.Lists.{In}
 use Rattle.agreement.proofs.Tests.{by-test, neqb→ne}
 use Rattle.agreement.proofs.Voting.{chosen-agree, chosen-proposed}
 use Rattle.agreement.proofs.Growth.{Grows, chosen-stays, TrueView, others-keep}
-use Rattle.agreement.proofs.Answers.{no-answers-true}
+use Rattle.agreement.proofs.Moves.{fresh-true}
 use Rattle.agreement.proofs.Handlers.{MessageTrue, OutgoingTrue, DecisionTrue, message-stays, Correct, NewProposal}
 use Rattle.agreement.proofs.Slots.{NextSlot, MovesOn}
 
@@ -228,23 +228,10 @@ module _ (g : Voters) (rules : VotersRules g) (E : Engine) (sound : Sound g E) w
       firstOwner = λ m s p v h. absurd h;
       ownRounds = λ t m s r h l. let z = rules .noStart t in let e = h .1 in absurd (omega arith);
     };
-    views = λ i below. subst (TrueView g w0 i) (sym (sound .initial-view i below)) (record {
-      at = (refl, refl);
-      furthest = λ s r h. (omega (arith, h .0), λ _. omega (arith, h .1));
-      started = omega arith;
-      unheld = λ t. refl;
-      heldBound = omega arith;
-      heldVoted = λ l. absurd (omega arith);
-      heldProposed = λ t. absurd t;
-      unheldFirst = λ t c v h. h;
-      heldFirst = λ t. absurd t;
-      heldStill = λ t z. absurd t;
-      answers = no-answers-true g w0 i 0;
-      ownVotes = λ r v h. absurd h;
-      promises = λ m t. absurd t;
-      accepts = λ m t. absurd t;
-      picked = λ m v h d. absurd h;
-    });
+    views = λ i below. subst (TrueView g w0 i) (sym (sound .initial-view i below)) (
+        fresh-true g w0 i 0 (record { at = (refl, refl); furthest = λ s r h. (omega (arith, h .0), λ _. omega (arith, h .1)); started = omega arith })
+        (λ c v h. h) (λ r v h. h) (λ m v h d. h)
+        );
     valid = sound .initial-valid;
     messages = λ e h. absurd h;
     events = λ e h. absurd h;

@@ -177,58 +177,70 @@ answers-stay g P i w w′ e j s f o = record {
   scored = o .scored;
 }
 
--- The view x of member i is true of the world: i stands at x's position and has reached none after it; what it holds was proposed, and
--- voted in the round that it names, and i has voted in no later round of the slot; who has prepared has promised that much, and who has
--- accepted has voted for the held value. It holds something exactly where it has held something first, of no later round than its own, and
--- this it holds still where no round is named. Its answers are true. Last, a delegate knows of its own vote where anyone has voted in its round: so it picks once.
+-- Member i stands at (s, r), and has reached no position after it.
+pub record TruePosition (g : Voters) (w : World) (i s r : ℕ) : Type 0 where
+  pub at : w .Reached i s r
+  pub furthest : (s′ r′ : ℕ) → w .Reached i s′ r′ → NotAfter s′ r′ s r
+  pub started : g .start ≤ r
+
+-- What member i holds at (s, r) is true, where a, c and v are the round of the held value, its proposer and the value: it was proposed, and
+-- voted in the round that it names, and i has voted in no later round of the slot. Something is held exactly where something was held first,
+-- of no later round than i's own, and that is held still where no round is named.
+pub record TrueHeld (w : World) (i s r : ℕ) (holds : Bool) (a c v : ℕ) : Type 0 where
+  pub unheld : T (not holds) → a ≡ 0
+  pub heldBound : a ≤ r
+  pub heldVoted : 1 ≤ a → Voted w s a v
+  pub heldProposed : T holds → w .Proposed s v
+  pub unheldFirst : T (not holds) → (c′ v′ : ℕ) → w .First i s c′ v′ → ⊥
+  pub heldFirst : T holds → (c′ : ℕ) × (v′ : ℕ) × w .First i s c′ v′ × (c′ ≤ r)
+  pub heldStill : T holds → a ≡ 0 → w .First i s c v
+  pub ownVotes : (r′ v′ : ℕ) → w .Votes i s r′ v′ → r′ ≤ a
+
+-- The view x of member i is true of the world: its position, what it holds and its answers are; who has prepared has promised that much, and
+-- who has accepted has voted for the held value. Last, a delegate knows of its own vote where anyone has voted in its round: so it picks once.
 pub record TrueView (g : Voters) (w : World) (i : ℕ) (x : View) : Type 0 where
-  pub at : w .Reached i (x .slot) (x .round)
-  pub furthest : (s r : ℕ) → w .Reached i s r → NotAfter s r (x .slot) (x .round)
-  pub started : g .start ≤ x .round
-  pub unheld : T (not (x .holds)) → x .heldRound ≡ 0
-  pub heldBound : x .heldRound ≤ x .round
-  pub heldVoted : 1 ≤ x .heldRound → Voted w (x .slot) (x .heldRound) (x .heldValue)
-  pub heldProposed : T (x .holds) → w .Proposed (x .slot) (x .heldValue)
-  pub unheldFirst : T (not (x .holds)) → (c v : ℕ) → w .First i (x .slot) c v → ⊥
-  pub heldFirst : T (x .holds) → (c : ℕ) × (v : ℕ) × w .First i (x .slot) c v × (c ≤ x .round)
-  pub heldStill : T (x .holds) → x .heldRound ≡ 0 → w .First i (x .slot) (x .heldProposer) (x .heldValue)
-  pub answers : TrueAnswers g w i (x .slot) (x .answers)
-  pub ownVotes : (r v : ℕ) → w .Votes i (x .slot) r v → r ≤ x .heldRound
+  pub position : TruePosition g w i (x .slot) (x .round)
+  pub held : TrueHeld w i (x .slot) (x .round) (x .holds) (x .heldRound) (x .heldProposer) (x .heldValue)
   pub promises : (m : ℕ) → T (x .prepared m) → Promise g w m (x .slot) (x .round) (x .heldRound)
   pub accepts : (m : ℕ) → T (x .accepted m) → (x .heldRound ≡ x .round) × w .Votes m (x .slot) (x .round) (x .heldValue)
   pub picked : (m v : ℕ) → w .Votes m (x .slot) (x .round) v → i ≡ g .delegate (x .round) → T (x .accepted i)
+  pub answers : TrueAnswers g w i (x .slot) (x .answers)
 
 -- the views of the others stay true
 pub others-keep : (g : Voters) (P : ℕ → ℕ → Type 0) (i : ℕ) (w w′ : World) → Grows g P i w w′
     → (j : ℕ) (x : View) → (j ≡ i → ⊥) → TrueView g w j x → TrueView g w′ j x
 others-keep g P i w w′ e j x ne o = record {
-  at = e .reached j (x .slot) (x .round) (o .at);
-  furthest = λ s r h. furthest s r (e .newReached j s r h);
-  started = o .started;
-  unheld = o .unheld;
-  heldBound = o .heldBound;
-  heldVoted = λ l. voted-stays g P i w w′ e (x .slot) (x .heldRound) (x .heldValue) (o .heldVoted l);
-  heldProposed = λ t. e .proposed (x .slot) (x .heldValue) (o .heldProposed t);
-  unheldFirst = λ t c v h. unheldFirst t c v (e .newFirst j (x .slot) c v h);
-  heldFirst = λ t. let h = o .heldFirst t in (h .0, h .1, e .first j (x .slot) (h .0) (h .1) (h .2), h .3);
-  heldStill = λ t z. e .first j (x .slot) (x .heldProposer) (x .heldValue) (o .heldStill t z);
-  answers = answers-stay g P i w w′ e j (x .slot) (x .answers) (o .answers);
-  ownVotes = λ r v h. ownVotes r v (e .newVote j (x .slot) r v h);
+  position = record {
+    at = e .reached j (x .slot) (x .round) (o .position .at);
+    furthest = λ s r h. furthest s r (e .newReached j s r h);
+    started = o .position .started;
+  };
+  held = record {
+    unheld = o .held .unheld;
+    heldBound = o .held .heldBound;
+    heldVoted = λ l. voted-stays g P i w w′ e (x .slot) (x .heldRound) (x .heldValue) (o .held .heldVoted l);
+    heldProposed = λ t. e .proposed (x .slot) (x .heldValue) (o .held .heldProposed t);
+    unheldFirst = λ t c v h. unheldFirst t c v (e .newFirst j (x .slot) c v h);
+    heldFirst = λ t. let h = o .held .heldFirst t in (h .0, h .1, e .first j (x .slot) (h .0) (h .1) (h .2), h .3);
+    heldStill = λ t z. e .first j (x .slot) (x .heldProposer) (x .heldValue) (o .held .heldStill t z);
+    ownVotes = λ r v h. ownVotes r v (e .newVote j (x .slot) r v h);
+  };
   promises = λ m t. promise-stays g P i w w′ e m (x .slot) (x .round) (x .heldRound) (o .promises m t);
   accepts = λ m t. (o .accepts m t .0, e .votes m (x .slot) (x .round) (x .heldValue) (o .accepts m t .1));
   picked = λ m v h d. picked m v d (e .newVote m (x .slot) (x .round) v h);
+  answers = answers-stay g P i w w′ e j (x .slot) (x .answers) (o .answers);
 }
   where
     furthest : (s r : ℕ) → (w .Reached j s r) ⊎ NewPosition w i j s r → NotAfter s r (x .slot) (x .round)
-    furthest s r (inl h) = o .furthest s r h
+    furthest s r (inl h) = o .position .furthest s r h
     furthest s r (inr k) = absurd (ne (k .0))
 
     unheldFirst : T (not (x .holds)) → (c v : ℕ) → (w .First j (x .slot) c v) ⊎ (j ≡ i) → ⊥
-    unheldFirst t c v (inl h) = o .unheldFirst t c v h
+    unheldFirst t c v (inl h) = o .held .unheldFirst t c v h
     unheldFirst t c v (inr q) = ne q
 
     ownVotes : (r v : ℕ) → (w .Votes j (x .slot) r v) ⊎ NewVote g w i j (x .slot) r v → r ≤ x .heldRound
-    ownVotes r v (inl h) = o .ownVotes r v h
+    ownVotes r v (inl h) = o .held .ownVotes r v h
     ownVotes r v (inr k) = absurd (ne (k .0))
 
     picked-first : (v : ℕ) → (j ≡ g .delegate (x .round)) → Voted w (x .slot) (x .round) v ⊎ (i ≡ g .delegate (x .round)) → T (x .accepted j)

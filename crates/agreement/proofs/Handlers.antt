@@ -211,12 +211,12 @@ module _ (S : Setup) (rules : SetupRules S) where
         unfolding picks
         picks-correct old calm = by-test Keeps (ltb (count (old .prepared) (g .count)) (g .quorum) && enoughPrepared S x) _ _
             (λ t. let enough = leb→le (g .quorum) (count (x .prepared) (g .count)) (and-both (ltb (count (old .prepared) (g .count)) (g .quorum)) (enoughPrepared S x) t .1) in
-            casts-correct (x .heldValue) (o .heldProposed holds) (λ unvoted. inr (
+            casts-correct (x .heldValue) (o .held .heldProposed holds) (λ unvoted. inr (
               x .prepared,
               x .heldRound,
               enough,
               o .promises,
-              (λ l. (later unvoted l (decLt (x .heldRound) (x .round)), o .heldVoted l)),
+              (λ l. (later unvoted l (decLt (x .heldRound) (x .round)), o .held .heldVoted l)),
               λ z p l. inr (inr (g .live, rules .voters .noFast (calm z), λ m t. inl t)),
             )))
             (λ t. say-correct [] tt)
@@ -225,15 +225,15 @@ module _ (S : Setup) (rules : SetupRules S) where
             later : ((m v′ : ℕ) → w1 .Votes m (x .slot) (x .round) v′ → ⊥) → 1 ≤ x .heldRound → Dec (x .heldRound < x .round) → x .heldRound < x .round
             later unvoted l (yes h) = h
             later unvoted l (no h) =
-                let c = o .heldBound in
+                let c = o .held .heldBound in
                 let e : x .heldRound ≡ x .round = omega arith in
-                let d = o .heldVoted l in
+                let d = o .held .heldVoted l in
                 absurd (unvoted (d .0) (x .heldValue) (subst (λ (r : ℕ). w1 .Votes (d .0) (x .slot) r (x .heldValue)) e (d .1)))
 
         -- ---- the fast path: nothing was accepted in a round, and the round is the delegate's own
         module _ (fast : T (g .fastPath)) (zero-round : x .heldRound ≡ 0) where
           own-round : x .round ≡ suc i
-          own-round = ok1 .ownRounds fast i (x .slot) (x .round) (o .at) in-round ∙ ap suc (sym delegated)
+          own-round = ok1 .ownRounds fast i (x .slot) (x .round) (o .position .at) in-round ∙ ap suc (sym delegated)
 
           -- a proposer that an answer names is a process
           proposer-below : (p : ℕ) → T (x .answers .proposers p) → p < g .count
@@ -331,7 +331,7 @@ module _ (S : Setup) (rules : SetupRules S) where
                   own-first = proposer-first g w1 ok1 i (x .slot) (x .answers) a i own-proposal
 
                   held-same : x .heldValue ≡ v
-                  held-same = ok1 .firstOnce i (x .slot) (x .heldProposer) (x .heldValue) (suc i) (x .answers .values i) (o .heldStill holds zero-round) own-first .1 ∙ own-value
+                  held-same = ok1 .firstOnce i (x .slot) (x .heldProposer) (x .heldValue) (suc i) (x .answers .values i) (o .held .heldStill holds zero-round) own-first .1 ∙ own-value
 
                   holder-first : (m : ℕ) → T (holders m) → w1 .First m (x .slot) (suc i) v
                   holder-first m t =
@@ -340,7 +340,7 @@ module _ (S : Setup) (rules : SetupRules S) where
                       (subst (λ (q : ℕ). w1 .First m (x .slot) (suc q) (x .answers .values q)) (k .1) (a .says m (k .0)))
 
                   position : (r : ℕ) → (w1 .Reached i (x .slot) r) ⊎ ((i ≡ i) × (x .slot ≡ suc (x .slot)) × (r ≡ g .start)) → r ≤ suc i
-                  position r (inl h) = let le = o .furthest (x .slot) r h .1 refl in let e = own-round in omega arith
+                  position r (inl h) = let le = o .position .furthest (x .slot) r h .1 refl in let e = own-round in omega arith
                   position r (inr k) = let e = k .1 in absurd (omega arith)
 
                   unvoted : (m u : ℕ) → w1 .Votes m (x .slot) (suc i) u → ⊥
@@ -414,8 +414,8 @@ module _ (S : Setup) (rules : SetupRules S) where
           (λ z. told .4 (omega arith))))
           (λ t. by-test Keeps (eqb (x .heldRound) (x .round)) _ _
           (λ _. say-correct w1 e1 ok1 x o [] tt)
-          (λ n. let b = o .heldBound in let ne = neqb→ne (x .heldRound) (x .round) n in
-          say-correct w1 e1 ok1 x o _ ((own-promise g w1 ok1 i x o live-i holds, omega arith, o .heldVoted, o .heldProposed holds, o .heldStill holds), tt)))
+          (λ n. let b = o .held .heldBound in let ne = neqb→ne (x .heldRound) (x .round) n in
+          say-correct w1 e1 ok1 x o _ ((own-promise g w1 ok1 i x o live-i holds, omega arith, o .held .heldVoted, o .held .heldProposed holds, o .held .heldStill holds), tt)))
 
     -- what a handler does once the message is let in, at the message's slot and round, to which its source has come
     enter-correct : (source s r : ℕ) (k : View → Outcome) → w .Reached source s r
@@ -454,7 +454,7 @@ module _ (S : Setup) (rules : SetupRules S) where
           → Keeps (promised S i source a c v h x0 (preparedBy i (adopted a c v y)))
       holds-first f same early owner =
           let may : MayHold g w1 i (y .slot) f v =
-          record { nothing-yet = o .unheldFirst unheld; live = live-i; came = (y .round, o .at); proposed = told .3; owner = owner } in
+          record { nothing-yet = o .held .unheldFirst unheld; live = live-i; came = (y .round, o .position .at); proposed = told .3; owner = owner } in
           let w2 : World = addFirst w1 i (y .slot) f v in
           let e2 : Grows g P i w1 w2 = addFirst-grows g P w1 i (y .slot) f v in
           let ok2 : Consistent g w2 = addFirst-consistent g w1 i (y .slot) f v may ok1 in
@@ -520,7 +520,7 @@ module _ (S : Setup) (rules : SetupRules S) where
             let in-round = ok1 .inRound source (y .slot) (y .round) v told1 .0 in
             let p = ok1 .proposed source (y .slot) (y .round) v told1 in
             let may : MayHold g w1 i (y .slot) 0 v =
-            record { nothing-yet = o .unheldFirst unheld; live = live-i; came = (y .round, o .at); proposed = p; owner = λ q e. absurd (omega arith) } in
+            record { nothing-yet = o .held .unheldFirst unheld; live = live-i; came = (y .round, o .position .at); proposed = p; owner = λ q e. absurd (omega arith) } in
             let w2 : World = addFirst w1 i (y .slot) 0 v in
             let o1 : TrueView g w2 i (adopted 0 0 v y) =
             held-true g w1 ok1 i y o 0 0 0 v unheld (omega arith) (λ l. absurd (omega arith)) p (λ _. refl) (omega arith) in
@@ -572,13 +572,13 @@ module _ (S : Setup) (rules : SetupRules S) where
     led-correct : T (g .live i) → T (not (x .holds)) → x .round ≡ g .start → T (S .startsLed) → i ≡ g .delegate (x .round)
         → KeepsProposal (say (voted i v (preparedBy i (adopted 0 0 v (joined (x .round) x)))) (record { destination = all; message = accept (x .slot) (x .round) v } ∷ []))
     led-correct live-i unheld same-round led delegated =
-        let z = o .unheld unheld in
+        let z = o .held .unheld unheld in
         let positive = rules .startsInRound led in
         let p : wᵖ .Proposed (x .slot) v = inr (refl, refl) in
         let c : View = joined (x .round) x in
         let o0 : TrueView g wᵖ i c = cleared-true g wᵖ okᵖ i x oᵖ unheld (omega arith) in
         let may : MayHold g wᵖ i (x .slot) 0 v =
-        record { nothing-yet = o .unheldFirst unheld; live = live-i; came = (x .round, o .at); proposed = p; owner = λ q e. absurd (omega arith) } in
+        record { nothing-yet = o .held .unheldFirst unheld; live = live-i; came = (x .round, o .position .at); proposed = p; owner = λ q e. absurd (omega arith) } in
         let w1 : World = addFirst wᵖ i (x .slot) 0 v in
         let e1 : Grows g (NewProposal x v true) i wᵖ w1 = addFirst-grows g (NewProposal x v true) wᵖ i (x .slot) 0 v in
         let ok1 : Consistent g w1 = addFirst-consistent g wᵖ i (x .slot) 0 v may okᵖ in
@@ -621,7 +621,7 @@ module _ (S : Setup) (rules : SetupRules S) where
 
       ok² : Consistent g w²
       ok² = addFirst-consistent g w¹ i (x .slot) f v
-          (record { nothing-yet = o .unheldFirst unheld; live = live-i; came = (S .ownRound i, inr (refl, refl, refl)); proposed = inr (refl, refl); owner = λ q e. inr (owner q e) }) ok¹
+          (record { nothing-yet = o .held .unheldFirst unheld; live = live-i; came = (S .ownRound i, inr (refl, refl, refl)); proposed = inr (refl, refl); owner = λ q e. inr (owner q e) }) ok¹
 
       asked-grows : Grows g (NewProposal x v true) i w w²
       asked-grows = grows-trans g (NewProposal x v true) i w wᵖ w² proposal-grows (grows-trans g (NewProposal x v true) i wᵖ w¹ w²

@@ -7,8 +7,8 @@ use mathlib.Core.Logic.{_⊎_, inl, inr}
 use lib.Dec.{T}
 use native.Mathlib.Omega.{arith}
 use Rattle.agreement.specs.Voting.{Voters, World, NotAfter, Voted, Promise, Safe, Consistent}
-use Rattle.agreement.specs.Model.{View, Answers, joined, advanced, adopted, preparedBy, acceptedBy, voted, withAnswers}
-use Rattle.agreement.proofs.Growth.{NewVote, NewPosition, Grows, promise-stays, safe-stays, TrueAnswers, answers-stay, TrueView}
+use Rattle.agreement.specs.Model.{View, Answers, fresh, joined, advanced, adopted, preparedBy, acceptedBy, voted, withAnswers}
+use Rattle.agreement.proofs.Growth.{NewVote, NewPosition, Grows, promise-stays, safe-stays, TrueAnswers, answers-stay, TruePosition, TrueView, others-keep}
 use Rattle.agreement.proofs.Answers.{add-case, add-self, add-old, no-answers-true}
 
 -- ---- the world with one fact more
@@ -213,127 +213,114 @@ addProposal-consistent g w s v ok = record {
   ownRounds = ok .ownRounds;
 }
 
+-- it is the doing of no member, so every view stays true
 pub addProposal-true : (g : Voters) (w : World) (s v i : ℕ) (x : View) → TrueView g w i x → TrueView g (addProposal w s v) i x
-addProposal-true g w s v i x o = record {
-  at = o .at;
-  furthest = o .furthest;
-  started = o .started;
-  unheld = o .unheld;
-  heldBound = o .heldBound;
-  heldVoted = o .heldVoted;
-  heldProposed = λ t. inl (o .heldProposed t);
-  unheldFirst = o .unheldFirst;
-  heldFirst = o .heldFirst;
-  heldStill = o .heldStill;
-  answers = answers-stay g (λ s′ v′. (s′ ≡ s) × (v′ ≡ v)) i w (addProposal w s v)
-      (addProposal-grows g (λ s′ v′. (s′ ≡ s) × (v′ ≡ v)) w i s v (refl, refl)) i (x .slot) (x .answers) (o .answers);
-  ownVotes = o .ownVotes;
-  promises = o .promises;
-  accepts = o .accepts;
-  picked = o .picked;
-}
+addProposal-true g w s v i x o =
+    others-keep g (λ s′ v′. (s′ ≡ s) × (v′ ≡ v)) (suc i) w (addProposal w s v)
+    (addProposal-grows g (λ s′ v′. (s′ ≡ s) × (v′ ≡ v)) w (suc i) s v (refl, refl)) i x (λ e. omega arith) o
 
 -- what may be voted: what was voted already in the round, or what the round's delegate picks
 abbrev pub MayVote : Voters → World → ℕ → View → ℕ → Type 0
 MayVote g w i x v = Voted w (x .slot) (x .round) v
     ⊎ ((i ≡ g .delegate (x .round)) × ((m v′ : ℕ) → w .Votes m (x .slot) (x .round) v′ → ⊥) × Safe g w (x .slot) (x .round) v)
 
+-- a new slot is begun in the starting round: i has held nothing there and voted nothing, nor has anyone in that round, where i is its delegate
+pub fresh-true : (g : Voters) (w : World) (i s : ℕ) → TruePosition g w i s (g .start) → ((c v : ℕ) → w .First i s c v → ⊥) → ((r v : ℕ) → w .Votes i s r v → ⊥)
+    → ((m v : ℕ) → w .Votes m s (g .start) v → i ≡ g .delegate (g .start) → ⊥) → TrueView g w i (fresh s (g .start))
+fresh-true g w i s here no-first no-vote unpicked = record {
+  position = here;
+  held = record {
+    unheld = λ t. refl;
+    heldBound = omega arith;
+    heldVoted = λ l. absurd (omega arith);
+    heldProposed = λ t. absurd t;
+    unheldFirst = λ t c v h. no-first c v h;
+    heldFirst = λ t. absurd t;
+    heldStill = λ t z. absurd t;
+    ownVotes = λ r v h. absurd (no-vote r v h);
+  };
+  promises = λ m t. absurd t;
+  accepts = λ m t. absurd t;
+  picked = λ m v h d. absurd (unpicked m v h d);
+  answers = no-answers-true g w i s;
+}
+
 module _ (g : Voters) (w : World) (ok : Consistent g w) (i : ℕ) (x : View) (o : TrueView g w i x) where
   -- a later round is onward
   pub later-onward : (r : ℕ) → x .round < r → Onward w i (x .slot) r
-  later-onward r lt s1 r1 h = let k = o .furthest s1 r1 h in (k .0, λ q. let z = k .1 q in omega arith)
+  later-onward r lt s1 r1 h = let k = o .position .furthest s1 r1 h in (k .0, λ q. let z = k .1 q in omega arith)
 
   -- so is the next slot
   pub next-onward : Onward w i (suc (x .slot)) (g .start)
-  next-onward s1 r1 h = let k = o .furthest s1 r1 h .0 in (omega arith, λ q. absurd (omega arith))
+  next-onward s1 r1 h = let k = o .position .furthest s1 r1 h .0 in (omega arith, λ q. absurd (omega arith))
 
   -- to a later round of the slot: both sets are emptied, what is held stays
   pub joined-true : (r : ℕ) → x .round < r → TrueView g (addReached w i (x .slot) r) i (joined r x)
   joined-true r lt = record {
-    at = inr (refl, refl, refl);
-    furthest = λ s′ r′ h. furthest s′ r′ h;
-    started = omega (arith, o .started);
-    unheld = o .unheld;
-    heldBound = omega (arith, o .heldBound);
-    heldVoted = o .heldVoted;
-    heldProposed = o .heldProposed;
-    unheldFirst = o .unheldFirst;
-    heldFirst = λ t. let h = o .heldFirst t in let l = h .3 in (h .0, h .1, h .2, omega arith);
-    heldStill = o .heldStill;
+    position = record { at = inr (refl, refl, refl); furthest = λ s′ r′ h. furthest s′ r′ h; started = omega (arith, o .position .started) };
+    held = record {
+      unheld = o .held .unheld;
+      heldBound = omega (arith, o .held .heldBound);
+      heldVoted = o .held .heldVoted;
+      heldProposed = o .held .heldProposed;
+      unheldFirst = o .held .unheldFirst;
+      heldFirst = λ t. let h = o .held .heldFirst t in let l = h .3 in (h .0, h .1, h .2, omega arith);
+      heldStill = o .held .heldStill;
+      ownVotes = o .held .ownVotes;
+    };
     answers = answers-stay g nothing i w (addReached w i (x .slot) r) (addReached-grows g nothing w i (x .slot) r (later-onward r lt)) i (x .slot) (x .answers) (o .answers);
-    ownVotes = o .ownVotes;
     promises = λ m t. absurd t;
     accepts = λ m t. absurd t;
     picked = λ m v h d.
-        let k = o .furthest (x .slot) r (subst (λ (j : ℕ). w .Reached j (x .slot) r) (sym d) (ok .delegateReached m (x .slot) r v h)) .1 refl in absurd (omega arith);
+        let k = o .position .furthest (x .slot) r (subst (λ (j : ℕ). w .Reached j (x .slot) r) (sym d) (ok .delegateReached m (x .slot) r v h)) .1 refl in absurd (omega arith);
   }
     where
       furthest : (s′ r′ : ℕ) → (w .Reached i s′ r′) ⊎ ((i ≡ i) × (s′ ≡ x .slot) × (r′ ≡ r)) → NotAfter s′ r′ (x .slot) r
-      furthest s′ r′ (inl h) = let k = o .furthest s′ r′ h in (k .0, λ q. let z = k .1 q in omega arith)
+      furthest s′ r′ (inl h) = let k = o .position .furthest s′ r′ h in (k .0, λ q. let z = k .1 q in omega arith)
       furthest s′ r′ (inr k) = (omega (arith, k .1), λ q. omega (arith, k .2))
 
   -- to the same round again, where nothing is held: both sets were empty
   pub cleared-true : T (not (x .holds)) → 1 ≤ x .round → TrueView g w i (joined (x .round) x)
   cleared-true unheld in-round = record {
-    at = o .at;
-    furthest = o .furthest;
-    started = o .started;
-    unheld = o .unheld;
-    heldBound = o .heldBound;
-    heldVoted = o .heldVoted;
-    heldProposed = o .heldProposed;
-    unheldFirst = o .unheldFirst;
-    heldFirst = o .heldFirst;
-    heldStill = o .heldStill;
+    position = o .position;
+    held = o .held;
     answers = o .answers;
-    ownVotes = o .ownVotes;
     promises = λ m t. absurd t;
     accepts = λ m t. absurd t;
-    picked = λ m v h d. let k = o .accepts i (o .picked m v h d) .0 in let z = o .unheld unheld in absurd (omega arith);
+    picked = λ m v h d. let k = o .accepts i (o .picked m v h d) .0 in let z = o .held .unheld unheld in absurd (omega arith);
   }
 
   -- the slot is done: everything is emptied
   pub advanced-true : TrueView g (addReached w i (suc (x .slot)) (g .start)) i (advanced (g .start) x)
-  advanced-true = record {
-    at = inr (refl, refl, refl);
-    furthest = λ s′ r′ h. furthest s′ r′ h;
-    started = omega arith;
-    unheld = λ t. refl;
-    heldBound = omega arith;
-    heldVoted = λ l. absurd (omega arith);
-    heldProposed = λ t. absurd t;
-    unheldFirst = λ t c v h.
-        let there = ok .firstReached i (suc (x .slot)) c v h in let k = o .furthest (suc (x .slot)) (there .0) (there .1) .0 in omega arith;
-    heldFirst = λ t. absurd t;
-    heldStill = λ t z. absurd t;
-    answers = no-answers-true g (addReached w i (suc (x .slot)) (g .start)) i (suc (x .slot));
-    ownVotes = λ r v h. let k = o .furthest (suc (x .slot)) r (ok .reached i (suc (x .slot)) r v h) .0 in absurd (omega arith);
-    promises = λ m t. absurd t;
-    accepts = λ m t. absurd t;
-    picked = λ m v h d.
-        let there : w .Reached (g .delegate (g .start)) (suc (x .slot)) (g .start) = ok .delegateReached m (suc (x .slot)) (g .start) v h in
-        let k = o .furthest (suc (x .slot)) (g .start) (subst (λ (j : ℕ). w .Reached j (suc (x .slot)) (g .start)) (sym d) there) .0 in absurd (omega arith);
-  }
+  advanced-true =
+      fresh-true g (addReached w i (suc (x .slot)) (g .start)) i (suc (x .slot))
+      (record { at = inr (refl, refl, refl); furthest = λ s′ r′ h. furthest s′ r′ h; started = omega arith })
+      (λ c v h. let there = ok .firstReached i (suc (x .slot)) c v h in not-there (there .0) (there .1))
+      (λ r v h. not-there r (ok .reached i (suc (x .slot)) r v h))
+      (λ m v h d. not-there (g .start) (subst (λ (j : ℕ). w .Reached j (suc (x .slot)) (g .start)) (sym d) (ok .delegateReached m (suc (x .slot)) (g .start) v h)))
     where
+      not-there : (r : ℕ) → w .Reached i (suc (x .slot)) r → ⊥
+      not-there r h = let k = o .position .furthest (suc (x .slot)) r h .0 in omega arith
+
       furthest : (s′ r′ : ℕ) → (w .Reached i s′ r′) ⊎ ((i ≡ i) × (s′ ≡ suc (x .slot)) × (r′ ≡ g .start)) → NotAfter s′ r′ (suc (x .slot)) (g .start)
-      furthest s′ r′ (inl h) = let k = o .furthest s′ r′ h .0 in (omega arith, λ q. absurd (omega arith))
+      furthest s′ r′ (inl h) = let k = o .position .furthest s′ r′ h .0 in (omega arith, λ q. absurd (omega arith))
       furthest s′ r′ (inr k) = (omega (arith, k .1), λ q. omega (arith, k .2))
 
   -- to hold what was accepted at a later round, in place of what is held
   pub adopted-true : (a c v : ℕ) → T (x .holds) → x .heldRound < a → a < x .round → Voted w (x .slot) a v → w .Proposed (x .slot) v → TrueView g w i (adopted a c v x)
   adopted-true a c v holds le lt was-voted p = record {
-    at = o .at;
-    furthest = o .furthest;
-    started = o .started;
-    unheld = λ t. absurd t;
-    heldBound = omega arith;
-    heldVoted = λ l. was-voted;
-    heldProposed = λ t. p;
-    unheldFirst = λ t. absurd t;
-    heldFirst = λ t. o .heldFirst holds;
-    heldStill = λ t z. absurd (omega arith);
+    position = o .position;
+    held = record {
+      unheld = λ t. absurd t;
+      heldBound = omega arith;
+      heldVoted = λ l. was-voted;
+      heldProposed = λ t. p;
+      unheldFirst = λ t. absurd t;
+      heldFirst = λ t. o .held .heldFirst holds;
+      heldStill = λ t z. absurd (omega arith);
+      ownVotes = λ r v′ h. let k = o .held .ownVotes r v′ h in omega arith;
+    };
     answers = o .answers;
-    ownVotes = λ r v′ h. let k = o .ownVotes r v′ h in omega arith;
     promises = λ m t. let b = o .promises m t in (b .0, b .1, (λ r′ v′ h l. let k = b .2 r′ v′ h l in omega arith), b .3);
     accepts = λ m t. let k = o .accepts m t .0 in absurd (omega arith);
     picked = o .picked;
@@ -347,43 +334,34 @@ module _ (g : Voters) (w : World) (ok : Consistent g w) (i : ℕ) (x : View) (o 
 
     pub held-true : TrueView g w¹ i (adopted a c v x)
     held-true = record {
-      at = o .at;
-      furthest = o .furthest;
-      started = o .started;
-      unheld = λ t. absurd t;
-      heldBound = omega arith;
-      heldVoted = was-voted;
-      heldProposed = λ t. p;
-      unheldFirst = λ t. absurd t;
-      heldFirst = λ t. (f, v, inr (refl, refl, refl, refl), early);
-      heldStill = λ t z. inr (refl, refl, same z, refl);
+      position = record { at = o .position .at; furthest = o .position .furthest; started = o .position .started };
+      held = record {
+        unheld = λ t. absurd t;
+        heldBound = omega arith;
+        heldVoted = was-voted;
+        heldProposed = λ t. p;
+        unheldFirst = λ t. absurd t;
+        heldFirst = λ t. (f, v, inr (refl, refl, refl, refl), early);
+        heldStill = λ t z. inr (refl, refl, same z, refl);
+        ownVotes = λ r v′ h. let k = o .held .ownVotes r v′ h in let z = o .held .unheld unheld in omega arith;
+      };
       answers = answers-stay g nothing i w w¹ (addFirst-grows g nothing w i (x .slot) f v) i (x .slot) (x .answers) (o .answers);
-      ownVotes = λ r v′ h. let k = o .ownVotes r v′ h in let z = o .unheld unheld in omega arith;
       promises = λ m t. promise m (o .promises m t);
-      accepts = λ m t. let k = o .accepts m t .0 in let z = o .unheld unheld in absurd (omega arith);
+      accepts = λ m t. let k = o .accepts m t .0 in let z = o .held .unheld unheld in absurd (omega arith);
       picked = o .picked;
     }
       where
         promise : (m : ℕ) → Promise g w m (x .slot) (x .round) (x .heldRound) → Promise g w¹ m (x .slot) (x .round) a
         promise m q =
             let b = promise-stays g nothing i w w¹ (addFirst-grows g nothing w i (x .slot) f v) m (x .slot) (x .round) (x .heldRound) q in
-            let z = o .unheld unheld in (b .0, b .1, (λ r′ v′ h l. let k = b .2 r′ v′ h l in omega arith), b .3)
+            let z = o .held .unheld unheld in (b .0, b .1, (λ r′ v′ h l. let k = b .2 r′ v′ h l in omega arith), b .3)
 
   -- to count a promise
   pub preparedBy-true : (m : ℕ) → Promise g w m (x .slot) (x .round) (x .heldRound) → TrueView g w i (preparedBy m x)
   preparedBy-true m b = record {
-    at = o .at;
-    furthest = o .furthest;
-    started = o .started;
-    unheld = o .unheld;
-    heldBound = o .heldBound;
-    heldVoted = o .heldVoted;
-    heldProposed = o .heldProposed;
-    unheldFirst = o .unheldFirst;
-    heldFirst = o .heldFirst;
-    heldStill = o .heldStill;
+    position = o .position;
+    held = o .held;
     answers = o .answers;
-    ownVotes = o .ownVotes;
     promises = λ k t. go k (add-case m (x .prepared) k t);
     accepts = o .accepts;
     picked = o .picked;
@@ -395,23 +373,14 @@ module _ (g : Voters) (w : World) (ok : Consistent g w) (i : ℕ) (x : View) (o 
 
   -- the member's own promise
   pub own-promise : T (g .live i) → T (x .holds) → Promise g w i (x .slot) (x .round) (x .heldRound)
-  own-promise l holds = (l, o .at, (λ r′ v′ h lt. o .ownVotes r′ v′ h), o .heldFirst holds)
+  own-promise l holds = (l, o .position .at, (λ r′ v′ h lt. o .held .ownVotes r′ v′ h), o .held .heldFirst holds)
 
   -- to count an accept
   pub acceptedBy-true : (m : ℕ) → x .heldRound ≡ x .round → w .Votes m (x .slot) (x .round) (x .heldValue) → TrueView g w i (acceptedBy m x)
   acceptedBy-true m e b = record {
-    at = o .at;
-    furthest = o .furthest;
-    started = o .started;
-    unheld = o .unheld;
-    heldBound = o .heldBound;
-    heldVoted = o .heldVoted;
-    heldProposed = o .heldProposed;
-    unheldFirst = o .unheldFirst;
-    heldFirst = o .heldFirst;
-    heldStill = o .heldStill;
+    position = o .position;
+    held = o .held;
     answers = o .answers;
-    ownVotes = o .ownVotes;
     promises = o .promises;
     accepts = λ k t. go k (add-case m (x .accepted) k t);
     picked = λ k v h d. add-old m (x .accepted) i (o .picked k v h d);
@@ -424,18 +393,9 @@ module _ (g : Voters) (w : World) (ok : Consistent g w) (i : ℕ) (x : View) (o 
   -- to have other answers
   pub withAnswers-true : (f : Answers) → TrueAnswers g w i (x .slot) f → TrueView g w i (withAnswers f x)
   withAnswers-true f a = record {
-    at = o .at;
-    furthest = o .furthest;
-    started = o .started;
-    unheld = o .unheld;
-    heldBound = o .heldBound;
-    heldVoted = o .heldVoted;
-    heldProposed = o .heldProposed;
-    unheldFirst = o .unheldFirst;
-    heldFirst = o .heldFirst;
-    heldStill = o .heldStill;
+    position = o .position;
+    held = o .held;
     answers = a;
-    ownVotes = o .ownVotes;
     promises = o .promises;
     accepts = o .accepts;
     picked = o .picked;
@@ -466,7 +426,7 @@ module _ (g : Voters) (w : World) (ok : Consistent g w) (i : ℕ) (x : View) (o 
       where
         go : (m s r u : ℕ) → (w .Votes m s r u) ⊎ ThisVote m s r u → (w .Votes m s r u) ⊎ NewVote g w i m s r u
         go m s r u (inl h) = inl h
-        go m s r u (inr k) = inr (same-vote (NewVote g w i) m s r u i (x .slot) (x .round) v k (refl, o .furthest, voted-or-delegate f))
+        go m s r u (inr k) = inr (same-vote (NewVote g w i) m s r u i (x .slot) (x .round) v k (refl, o .position .furthest, voted-or-delegate f))
 
     same-new : (m u : ℕ) → w .Votes m (x .slot) (x .round) u → u ≡ v
     same-new m u h = go f
@@ -511,7 +471,7 @@ module _ (g : Voters) (w : World) (ok : Consistent g w) (i : ℕ) (x : View) (o 
 
         inRound : (m s r u : ℕ) → (w .Votes m s r u) ⊎ ThisVote m s r u → (1 ≤ r) × (g .start ≤ r)
         inRound m s r u (inl h) = ok .inRound m s r u h
-        inRound m s r u (inr k) = same-vote (λ m s r u. (1 ≤ r) × (g .start ≤ r)) m s r u i (x .slot) (x .round) v k (in-round, o .started)
+        inRound m s r u (inr k) = same-vote (λ m s r u. (1 ≤ r) × (g .start ≤ r)) m s r u i (x .slot) (x .round) v k (in-round, o .position .started)
 
         live : (m s r u : ℕ) → (w .Votes m s r u) ⊎ ThisVote m s r u → T (g .live m)
         live m s r u (inl h) = ok .live m s r u h
@@ -519,7 +479,7 @@ module _ (g : Voters) (w : World) (ok : Consistent g w) (i : ℕ) (x : View) (o 
 
         reached : (m s r u : ℕ) → (w .Votes m s r u) ⊎ ThisVote m s r u → w .Reached m s r
         reached m s r u (inl h) = ok .reached m s r u h
-        reached m s r u (inr k) = same-vote (λ m s r u. w .Reached m s r) m s r u i (x .slot) (x .round) v k (o .at)
+        reached m s r u (inr k) = same-vote (λ m s r u. w .Reached m s r) m s r u i (x .slot) (x .round) v k (o .position .at)
 
         proposed : (m s r u : ℕ) → (w .Votes m s r u) ⊎ ThisVote m s r u → w .Proposed s u
         proposed m s r u (inl h) = ok .proposed m s r u h
@@ -527,7 +487,7 @@ module _ (g : Voters) (w : World) (ok : Consistent g w) (i : ℕ) (x : View) (o 
 
         delegate-there : MayVote g w i x v → w .Reached (g .delegate (x .round)) (x .slot) (x .round)
         delegate-there (inl d) = ok .delegateReached (d .0) (x .slot) (x .round) v (d .1)
-        delegate-there (inr k) = subst (λ (j : ℕ). w .Reached j (x .slot) (x .round)) (k .0) (o .at)
+        delegate-there (inr k) = subst (λ (j : ℕ). w .Reached j (x .slot) (x .round)) (k .0) (o .position .at)
 
         delegateReached : (m s r u : ℕ) → (w .Votes m s r u) ⊎ ThisVote m s r u → w .Reached (g .delegate r) s r
         delegateReached m s r u (inl h) = ok .delegateReached m s r u h
@@ -535,25 +495,25 @@ module _ (g : Voters) (w : World) (ok : Consistent g w) (i : ℕ) (x : View) (o 
 
     pub voted-true : TrueView g w⁺ i (voted i v x)
     voted-true = record {
-      at = o .at;
-      furthest = o .furthest;
-      started = o .started;
-      unheld = λ t. absurd t;
-      heldBound = omega arith;
-      heldVoted = λ l. (i, inr (refl, refl, refl, refl));
-      heldProposed = λ t. p;
-      unheldFirst = λ t. absurd t;
-      heldFirst = λ t. o .heldFirst holds;
-      heldStill = λ t z. absurd (omega arith);
+      position = record { at = o .position .at; furthest = o .position .furthest; started = o .position .started };
+      held = record {
+        unheld = λ t. absurd t;
+        heldBound = omega arith;
+        heldVoted = λ l. (i, inr (refl, refl, refl, refl));
+        heldProposed = λ t. p;
+        unheldFirst = λ t. absurd t;
+        heldFirst = λ t. o .held .heldFirst holds;
+        heldStill = λ t z. absurd (omega arith);
+        ownVotes = λ r u h. ownVotes r u h;
+      };
       answers = answers-stay g nothing i w w⁺ (vote-grows nothing) i (x .slot) (x .answers) (o .answers);
-      ownVotes = λ r u h. ownVotes r u h;
       promises = λ m t. let b = o .promises m t in (b .0, b .1, (λ r′ v′ h l. omega arith), b .3);
       accepts = λ m t. accepts m (add-case i (x .accepted) m t);
       picked = λ m u h d. add-self i (x .accepted);
     }
       where
         ownVotes : (r u : ℕ) → (w .Votes i (x .slot) r u) ⊎ ThisVote i (x .slot) r u → r ≤ x .round
-        ownVotes r u (inl h) = let k = o .ownVotes r u h in let c = o .heldBound in omega arith
+        ownVotes r u (inl h) = let k = o .held .ownVotes r u h in let c = o .held .heldBound in omega arith
         ownVotes r u (inr k) = omega (arith, k .2)
 
         accepts : (m : ℕ) → (m ≡ i) ⊎ T (x .accepted m) → (x .round ≡ x .round) × ((w .Votes m (x .slot) (x .round) v) ⊎ ThisVote m (x .slot) (x .round) v)

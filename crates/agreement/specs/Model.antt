@@ -108,7 +108,7 @@ withAnswer i m p v f = record {
 }
 
 -- in slot s and round r, with nothing held and nobody heard of
-abbrev fresh : ℕ → ℕ → View
+abbrev pub fresh : ℕ → ℕ → View
 fresh s r = record { slot = s; round = r; holds = false; heldRound = 0; heldProposer = 0; heldValue = 0; prepared = empty; accepted = empty; answers = noAnswers }
 
 -- a new member
