@@ -10,7 +10,7 @@ use native.Mathlib.Nat.{zero-lt-suc, le-trans, lt-of-lt-of-le}
 use native.Mathlib.Omega.{arith}
 use lib.Dec.{T, eqb, ltb, leb}
 use borrow.Author.Tests.{lt-ltb}
-use Rattle.basics.proofs.Tests.{either, not-both}
+use Rattle.basics.proofs.Tests.{either}
 use Rattle.sets.specs.Sets.{contains, count, size, fits}
 use Rattle.sets.proofs.Counting.{count-le}
 use Rattle.sets.proofs.Laws.{fits-members}
@@ -55,8 +55,8 @@ use Rattle.agreement.specs.Voting.{VotersRules}
 use Rattle.agreement.proofs.Refinement.{refines-claim}
 use Rattle.agreement.proofs.Tests.{is-true}
 use Rattle.group.specs.Claim.{memberSettings, begun, PicksBest, Choices, laterChoices, ours, MemberCall, Entry, entryOf, afterCall, entriesFrom, entriesWith, entries, listed, messagesOf, Reaches, SentTo, WasSent, MayStand, LegalFrom, LegalWith, Legal, At, plusCommit, slotAt, Proposed, Claim, NotSwift}
-use Rattle.group.proofs.Calls.{isDone, decisionOf, seenAnswer, ChosenCall, engineOf, viewShard, refuse-as-model, kindOf, no-answers-fit, begins-seen, Valid, call-ok}
-use Rattle.group.proofs.Proposing.{starting-fits}
+use Rattle.group.proofs.Calls.{isDone, decisionOf, seenAnswer, ChosenCall, engineOf, viewShard, refuse-as-model, kindOf, begins-seen, Valid, call-ok}
+use Rattle.group.proofs.Invariants.{begun-lasts}
 use Rattle.group.proofs.Ties.{lowest-picks-best}
 use Rattle.group.proofs.View.{roundNumber, leaderOf, isEPaxos, no-member, meaningOf, reached, destinationOf, envelope, envelopesOf, envelopes, setupOf}
 
@@ -213,23 +213,7 @@ begun-view s i = λ z. record {
 
 pub begun-valid : (s : Settings) (i : ℕ) → Valid s i (begun s i)
 unfolding newShard
-begun-valid s i =
-    record {
-      own-settings = refl;
-      within = λ e. within e;
-      fast-half = λ e. no-answers-fit;
-      leaders = λ e. record { in-round = starting-fits (s .mode) (s .«first_leader») (first (within e)); in-held = tt };
-    }
-  where
-    within : cond (withinLimits (memberSettings s i)) Done (Refused SettingsOutsideLimits) ≡ Done → withinLimits (memberSettings s i) ≡ true
-    within e = go (withinLimits (memberSettings s i)) refl e
-      where
-        go : (t : Bool) → withinLimits (memberSettings s i) ≡ t → cond t Done (Refused SettingsOutsideLimits) ≡ Done → withinLimits (memberSettings s i) ≡ true
-        go true d f = d
-        go false d f = let z : _≡_ {A = Bool} true false = ap isDone (sym f) in absurd (not-both refl z)
-
-    first : withinLimits (memberSettings s i) ≡ true → s .«first_leader» < 64
-    first e = lt-of-lt-of-le (within-members (memberSettings s i) e .leader-below) (within-counts (memberSettings s i) e .most-processes)
+begun-valid s i = record { own-settings = refl; lasting = begun-lasts (memberSettings s i) }
 
 made-refines : (s : Settings) → NotSwift (s .mode) → Refines (setupOf s) (engineOf s)
 made-refines s classic =

@@ -2,17 +2,17 @@
 -- Assumes nothing.
 use mathlib.Core.Path.{_≡_, refl, sym, ap, ap₂, subst, fun-ext, _∙_}
 use mathlib.Core.Logic.{_⊎_, inl, inr}
-use mathlib.Core.Bool.{Bool, true, false, cond, not, _&&_}
+use mathlib.Core.Bool.{Bool, true, false, cond, _&&_}
 use mathlib.Core.List.{List, [], _∷_}
 use Prim.Native.Nat.{ℕ, zero, suc, pred, _+_, _-_, _≤_, _<_}
 use native.Mathlib.Numerals.{add-one}
 use native.Mathlib.Omega.{arith}
 use lib.Dec.{eqb, ltb, leb, eqb·suc-zero}
-use lib.ListN.{length, set, length-set}
+use lib.ListN.{length, getD, set, replicate, length-set, length-replicate}
 use borrow.Author.Tests.{lt-ltb, ltb-true, ltb-false, le-leb, lt-leb, eq-eqb, ne-eqb, eqb-true}
 use Rattle.basics.proofs.Tests.{either, fails, and-both, and-left, and-right}
-use Rattle.sets.specs.Sets.{contains, insert, count, size, isEmpty, one}
-use Rattle.sets.proofs.Laws.{contains-empty, size-insert}
+use Rattle.sets.specs.Sets.{contains, count, size, isEmpty}
+use Rattle.sets.proofs.Laws.{contains-empty}
 use Rattle.sets.proofs.Counting.{count-le, count-ext}
 use Rattle.tables.specs.Tables.{lookUp, store}
 use Rattle.tables.proofs.Stored.{look-up-stored}
@@ -37,7 +37,7 @@ use Rattle.settings.specs.Questions.{quorumsOf}
 use Rattle.settings.specs.declared.Settings.{Settings}
 use Rattle.fast_state.specs.Adopt.{Choice, valueIn, scoreIn, adopted, epaxosTryAdopt, epaxosTryAdoptAfter}
 use Rattle.fast_state.specs.Fast as fastHalf
-use Rattle.fast_state.specs.Fast.{answersOf, unchanged, changed, toVAfter, epaxosScoresAfter, preacceptedAfter, secondAnswer, epaxosCounted, epaxosAnswered, epaxosCanCommit}
+use Rattle.fast_state.specs.Fast.{answersOf, unchanged, changed, noAnswers, toVAfter, epaxosScoresAfter, preacceptedAfter, secondAnswer, epaxosCounted, epaxosAnswered, epaxosCanCommit}
 use Rattle.fast_state.proofs.Stored.{value-stored, score-stored}
 use Rattle.fast_state.specs.declared.Adoption.{Adoption}
 use Rattle.fast_state.specs.declared.Adoption.the-variants.{NoAdoption, AdoptionRefused}
@@ -59,12 +59,17 @@ use Rattle.group.proofs.Preparing.{askedBy, follows-both, own-accept-vi
 
 -- ---- the fast half as the engine keeps it
 
--- its tables have a place for each process, and its figures are no larger than the number of answers
-pub record FastFits (fast : FastState) : Type 0 where
-  pub long-values : length (fast .«fast_proposer_to_v») ≡ 64
-  pub long-scores : length (fast .«epaxos_proposer_scores») ≡ 64
-  pub few-preaccepted : fast .«fast_preaccepted» ≤ size (fast .«fast_answer_set»)
-  pub low-scores : (p : ℕ) → lookUp (fast .«epaxos_proposer_scores») p ≤ 2 + size (fast .«fast_answer_set»)
+-- Its tables have a place for each process. No figure is larger than the number of answers, from where it begins; a score is 2 or more until its
+-- proposer has answered, and then 1 or more, since no second answer of it counts.
+pub record FastFits (f : FastState) : Type 0 where
+  pub long-values : length (f .«fast_proposer_to_v») ≡ 64
+  pub long-epaxos : length (f .«epaxos_proposer_scores») ≡ 64
+  pub long-swift : length (f .«swift_proposer_scores») ≡ 64
+  pub few-preaccepted : f .«fast_preaccepted» ≤ size (f .«fast_answer_set»)
+  pub epaxos-high : (p : ℕ) → lookUp (f .«epaxos_proposer_scores») p ≤ 2 + size (f .«fast_answer_set»)
+  pub swift-high : (p : ℕ) → lookUp (f .«swift_proposer_scores») p ≤ size (f .«fast_answer_set»)
+  pub epaxos-low : (p : ℕ) → p < 64 → 1 ≤ lookUp (f .«epaxos_proposer_scores») p
+  pub epaxos-first : (p : ℕ) → p < 64 → contains (f .«fast_answer_set») p ≡ false → 2 ≤ lookUp (f .«epaxos_proposer_scores») p
 
 pub size-bound : (s : ℕ) → size s ≤ 64
 unfolding size
@@ -92,14 +97,55 @@ stored-length table p n = go (ltb p 64)
     go true = length-set table p n
     go false = refl
 
+-- ---- the fast half at the beginning of a slot
+
+replicated : (n a d p : ℕ) → p < n → getD (replicate n a) p d ≡ a
+replicated zero a d p l = absurd (omega arith)
+replicated (suc n) a d zero l = refl
+replicated (suc n) a d (suc p) l = replicated n a d p (omega arith)
+
+pub begins-with : (a p : ℕ) → cond (ltb p 64) (lookUp (replicate 64 a) p) a ≡ a
+unfolding lookUp
+begins-with a p = go (ltb p 64) refl
+  where
+    go : (t : Bool) → ltb p 64 ≡ t → cond t (cond (ltb p 64) (getD (replicate 64 a) p 0) 0) a ≡ a
+    go true e = ap (λ (t : Bool). cond t (getD (replicate 64 a) p 0) 0) e ∙ replicated 64 a 0 p (ltb-true p 64 e)
+    go false e = refl
+
+pub values-begin : (p : ℕ) → lookUp (replicate 64 0) p ≡ 0
+unfolding lookUp
+values-begin p = go (ltb p 64) refl
+  where
+    go : (t : Bool) → ltb p 64 ≡ t → _≡_ {A = ℕ} (cond t (getD (replicate 64 0) p 0) 0) 0
+    go true e = replicated 64 0 0 p (ltb-true p 64 e)
+    go false e = refl
+
+begins-at-two : (p : ℕ) → p < 64 → lookUp (replicate 64 2) p ≡ 2
+unfolding lookUp
+begins-at-two p l = ap (λ (t : Bool). cond t (getD (replicate 64 2) p 0) 0) (lt-ltb p 64 l) ∙ replicated 64 2 0 p l
+
+pub no-answers-fit : FastFits noAnswers
+unfolding lookUp
+no-answers-fit =
+    record {
+      long-values = length-replicate {A = ℕ} 64 0;
+      long-epaxos = length-replicate {A = ℕ} 64 2;
+      long-swift = length-replicate {A = ℕ} 64 0;
+      few-preaccepted = omega arith;
+      epaxos-high = λ p. high p (ltb p 64) refl;
+      swift-high = λ p. let e = values-begin p in omega arith;
+      epaxos-low = λ p l. let e = begins-at-two p l in omega arith;
+      epaxos-first = λ p l e. let d = begins-at-two p l in omega arith;
+    }
+  where
+    high : (p : ℕ) (t : Bool) → ltb p 64 ≡ t → cond t (getD (replicate 64 2) p 0) 0 ≤ 2 + size 0
+    high p true e = let z = replicated 64 2 0 p (ltb-true p 64 e) in omega arith
+    high p false e = omega arith
+
 -- nothing is changed
 pub unchanged-answers : (fast : FastState) → answersIn (changed (unchanged (answersOf fast)) fast) ≡ answersIn fast
 unfolding toVAfter epaxosScoresAfter
 unchanged-answers fast = refl
-
-pub unchanged-fits : (fast : FastState) → FastFits fast → FastFits (changed (unchanged (answersOf fast)) fast)
-unfolding toVAfter epaxosScoresAfter
-unchanged-fits fast ok = record { long-values = ok .long-values; long-scores = ok .long-scores; few-preaccepted = ok .few-preaccepted; low-scores = ok .low-scores }
 
 -- ---- one answer more
 
@@ -117,13 +163,8 @@ module _ (me : Member) (src p v : ℕ) (src-small : src < 64) (p-small : p < 64)
   score-same : fastHalf.scoreAfter src p (lookUp (fast .«epaxos_proposer_scores») p) ≡ model.scoreAfter src p (answersIn fast .scores p)
   unfolding fastHalf.scoreAfter
   score-same =
-      ap (λ (n : ℕ). cond (eqb src p) (lookUp (fast .«epaxos_proposer_scores») p - 1) n) (room (lookUp (fast .«epaxos_proposer_scores») p) (ok .low-scores p))
+      ap (λ (n : ℕ). cond (eqb src p) (lookUp (fast .«epaxos_proposer_scores») p - 1) n) (room (lookUp (fast .«epaxos_proposer_scores») p) (ok .epaxos-high p))
       ∙ ap (model.scoreAfter src p) (sym (ap (λ (t : Bool). cond t (lookUp (fast .«epaxos_proposer_scores») p) 2) (lt-ltb p 64 p-small)))
-
-  score-plain : fastHalf.scoreAfter src p (lookUp (fast .«epaxos_proposer_scores») p)
-      ≡ cond (eqb src p) (lookUp (fast .«epaxos_proposer_scores») p - 1) (suc (lookUp (fast .«epaxos_proposer_scores») p))
-  unfolding fastHalf.scoreAfter
-  score-plain = ap (λ (n : ℕ). cond (eqb src p) (lookUp (fast .«epaxos_proposer_scores») p - 1) n) (room (lookUp (fast .«epaxos_proposer_scores») p) (ok .low-scores p))
 
   scores-same : (q : ℕ) → cond (ltb q 64) (lookUp (store (fast .«epaxos_proposer_scores») p (fastHalf.scoreAfter src p (lookUp (fast .«epaxos_proposer_scores») p))) q) 2
       ≡ cond (eqb q p) (model.scoreAfter src p (answersIn fast .scores p)) (answersIn fast .scores q)
@@ -135,7 +176,7 @@ module _ (me : Member) (src p v : ℕ) (src-small : src < 64) (p-small : p < 64)
       go : (ltb q 64 ≡ true) ⊎ (ltb q 64 ≡ false) → cond (ltb q 64) (lookUp (store (fast .«epaxos_proposer_scores») p new) q) 2
           ≡ cond (eqb q p) (model.scoreAfter src p (answersIn fast .scores p)) (answersIn fast .scores q)
       go (inl e) =
-          ap (λ (t : Bool). cond t (lookUp (store (fast .«epaxos_proposer_scores») p new) q) 2) e ∙ stored (fast .«epaxos_proposer_scores») (ok .long-scores) p new p-small q
+          ap (λ (t : Bool). cond t (lookUp (store (fast .«epaxos_proposer_scores») p new) q) 2) e ∙ stored (fast .«epaxos_proposer_scores») (ok .long-epaxos) p new p-small q
           ∙ ap₂ (λ (n m : ℕ). cond (eqb q p) n m) score-same (sym (ap (λ (t : Bool). cond t (lookUp (fast .«epaxos_proposer_scores») q) 2) e))
       go (inr e) =
           let above : 64 ≤ q = ltb-false q 64 e in
@@ -153,37 +194,6 @@ module _ (me : Member) (src p v : ℕ) (src-small : src < 64) (p-small : p < 64)
     values = fun-ext (stored (fast .«fast_proposer_to_v») (ok .long-values) p v p-small) z;
     scores = fun-ext scores-same z;
   }
-
-  -- and keeps to its bounds
-  pub counted-fits : contains (fast .«fast_answer_set») src ≡ false → FastFits (changed counts fast)
-  unfolding toVAfter epaxosScoresAfter
-  counted-fits new =
-      let one-more : size (insert (fast .«fast_answer_set») src) ≡ size (fast .«fast_answer_set») + 1 =
-      size-insert (fast .«fast_answer_set») src src-small ∙ ap (λ (t : Bool). size (fast .«fast_answer_set») + one (not t)) new in
-      record {
-        long-values = stored-length (fast .«fast_proposer_to_v») p v ∙ ok .long-values;
-        long-scores = stored-length (fast .«epaxos_proposer_scores») p _ ∙ ok .long-scores;
-        few-preaccepted = let le = ok .few-preaccepted in few (eqb p (me .«my_pid»)) preaccepted-same one-more le;
-        low-scores = λ q. low q one-more (eqb q p) (stored (fast .«epaxos_proposer_scores») (ok .long-scores) p (fastHalf.scoreAfter src p (lookUp (fast .«epaxos_proposer_scores») p)) p-small q) (new-score (eqb src p));
-      }
-    where
-      few : (t : Bool) → preacceptedAfter me p (fast .«fast_preaccepted») ≡ cond t (suc (fast .«fast_preaccepted»)) (fast .«fast_preaccepted»)
-          → size (insert (fast .«fast_answer_set») src) ≡ size (fast .«fast_answer_set») + 1 → fast .«fast_preaccepted» ≤ size (fast .«fast_answer_set»)
-          → preacceptedAfter me p (fast .«fast_preaccepted») ≤ size (insert (fast .«fast_answer_set») src)
-      few true e m le = omega arith
-      few false e m le = omega arith
-
-      new-score : (t : Bool) → cond t (lookUp (fast .«epaxos_proposer_scores») p - 1) (suc (lookUp (fast .«epaxos_proposer_scores») p)) ≤ 3 + size (fast .«fast_answer_set»)
-      new-score true = let le = ok .low-scores p in omega arith
-      new-score false = let le = ok .low-scores p in omega arith
-
-      low : (q : ℕ) → size (insert (fast .«fast_answer_set») src) ≡ size (fast .«fast_answer_set») + 1 → (t : Bool)
-          → lookUp (store (fast .«epaxos_proposer_scores») p (fastHalf.scoreAfter src p (lookUp (fast .«epaxos_proposer_scores») p))) q
-          ≡ cond t (fastHalf.scoreAfter src p (lookUp (fast .«epaxos_proposer_scores») p)) (lookUp (fast .«epaxos_proposer_scores») q)
-          → cond (eqb src p) (lookUp (fast .«epaxos_proposer_scores») p - 1) (suc (lookUp (fast .«epaxos_proposer_scores») p)) ≤ 3 + size (fast .«fast_answer_set»)
-          → lookUp (store (fast .«epaxos_proposer_scores») p (fastHalf.scoreAfter src p (lookUp (fast .«epaxos_proposer_scores») p))) q ≤ 2 + size (insert (fast .«fast_answer_set») src)
-      low q m true e le = let d = score-plain in omega arith
-      low q m false e le = let k = ok .low-scores q in omega arith
 
 -- ---- what follows an answer
 
@@ -461,7 +471,7 @@ module _ (choose : Choice) (picks-best : PicksBest choose) (s : Settings) (i : �
 
     decided : (change : FastChange) (v : ℕ) (r : Outcome) → r ≡ model.decides (setupOf s) i v (hostWith choose change (fast .«epaxos_proposer_scores»)) x0 (viewOf (answersIn (changed change fast)) core)
         → FollowsChange (setupOf s) fast (withChange change (epaxosDecide choose (askedBy s i) h round v core change (fast .«fast_proposer_to_v») (fast .«epaxos_proposer_scores»))) r
-    decided change v r e = record { follows = follows-both refl e (decide-follows fast change (ok .long-values) (ok .long-scores) v) }
+    decided change v r e = record { follows = follows-both refl e (decide-follows fast change (ok .long-values) (ok .long-epaxos) v) }
 
     fast-answer-follows : (p v : ℕ) → p < 64
         → FollowsChange (setupOf s) fast (epaxosAnswer choose (askedBy s i) h round (FastV p v) core (answersOf fast) (fast .«fast_proposer_to_v») (fast .«epaxos_proposer_scores»))

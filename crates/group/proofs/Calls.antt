@@ -3,23 +3,22 @@
 use mathlib.Core.Path.{_≡_, refl, sym, ap, subst, fun-ext, _∙_}
 use mathlib.Core.Logic.{_⊎_, inl, inr}
 use mathlib.Core.Bool.{Bool, true, false, cond, not, _&&_}
-use Prim.Native.Nat.{ℕ, zero, suc, _+_, _≤_, _<_}
+use Prim.Native.Nat.{ℕ, _≤_, _<_}
 use native.Mathlib.Nat.{lt-of-lt-of-le}
 use native.Mathlib.Numerals.{add-one}
 use native.Mathlib.Omega.{arith}
 use lib.Dec.{eqb, ltb, leb}
 use borrow.Author.Tests.{ltb-true, ltb-false, leb-false, eq-eqb}
-use Rattle.basics.proofs.Tests.{either, not-both, and-left, and-right}
+use Rattle.basics.proofs.Tests.{either, not-both}
 use Rattle.message.specs.Messages.{msgSlot}
-use lib.ListN.{getD, replicate, length-replicate}
 use Rattle.sets.specs.Sets.{size}
-use Rattle.tables.specs.Tables.{lookUp}
 use Rattle.message.specs.Modes.{hasFastPath, isMultiPaxos, isSwiftPaxos}
 use Rattle.message.specs.Promises.{valueOf, acceptRoundOf}
 use Rattle.message.proofs.NextLeader.{increment-next}
 use Rattle.message.specs.declared.ConsensusMessage.{ConsensusMessage}
 use Rattle.message.specs.declared.ConsensusMsg.{ConsensusMsg}
 use Rattle.message.specs.declared.ConsensusMsg.the-variants.{Prepare, Accept, ForwardRequest, Commit, ReadRequest, ReadResponse}
+use Rattle.message.specs.declared.OptionalRound.{OptionalRound}
 use Rattle.message.specs.declared.OptionalRound.the-variants.{NoRound, Round}
 use Rattle.message.specs.declared.OptionalValue.{OptionalValue}
 use Rattle.message.specs.declared.OptionalValue.the-variants.{NoValue}
@@ -33,6 +32,7 @@ use Rattle.message.specs.declared.Refusal.{Refusal}
 use Rattle.message.specs.declared.Refusal.the-variants.{NumberTooLarge, NoSuchProcess, OtherLastValue, SlotAhead, ValueNotHeld, Panic}
 use Rattle.message.specs.declared.RoundV.{RoundV}
 use Rattle.message.specs.declared.RoundV.the-variants.{FastV, PaxosV}
+use Rattle.round_state.specs.Paxos.{getLastAcceptedRound}
 use Rattle.fast_state.specs.Adopt.{Choice}
 use Rattle.fast_state.specs.Fast.{answersOf, unchanged, changed, noAnswers}
 use Rattle.fast_state.specs.declared.FastState.{FastState}
@@ -45,7 +45,7 @@ use Rattle.settings.proofs.Limits.{within-counts, within-members}
 use Rattle.paxos_family.specs.Commit.{commitSlot}
 use Rattle.accept.specs.Accept.{accepting}
 use Rattle.paxos_family.specs.Process.{onPrepare, onAccept, processClassic, onFastPrepare, onFastAccept, processChange, processFast}
-use Rattle.propose.specs.Propose.{electing, proposeClassic, proposeChange, proposeFast}
+use Rattle.propose.specs.Propose.{proposeClassic, proposeChange, proposeFast}
 use Rattle.steps.specs.Steps.{noMessages, oneMessage, stays, withChange, onRounds, changeRounds}
 use Rattle.steps.specs.declared.ChangeStep.{ChangeStep}
 use Rattle.steps.specs.declared.Core.{Core}
@@ -63,7 +63,7 @@ use Rattle.consensus.specs.Call.{proposing, propose, read, admitted, receive, d
 use Rattle.calls.specs.Asked.{gathererOf, heardOf, gathererIn}
 use Rattle.core_calls.specs.CoreCall.{nextReadable}
 use Rattle.consensus.specs.Handle.{onCommit, onReadRequest, onReadResponse, afterInsert, readInserted, startRead, processed, processMessage, handle}
-use Rattle.delivery.specs.Limits.{isNumber, isSlot, numbersFit, rvProcesses, msgProcesses, requesterBelow, processesFit}
+use Rattle.delivery.specs.Limits.{isNumber, isSlot, numbersFit, processesFit}
 use Rattle.consensus.specs.declared.Answer.{Answer}
 use Rattle.calls.specs.declared.Call.{Call}
 use Rattle.calls.specs.declared.Call.the-variants.{Propose, StartRead, Receive}
@@ -79,14 +79,14 @@ use Rattle.agreement.specs.Model as model
 use Rattle.agreement.specs.Refinement.{meanings, seen, AsModel, outcome, deliver}
 use Rattle.group.specs.Claim.{memberSettings, begun, PicksBest, MemberCall, NotSwift}
 pub use Rattle.group.specs.Steps.{isDone}
-use Rattle.group.proofs.View.{roundNumber, LeaderFits, processNumber, no-member, meaningOf, meaning-is, proposerOf, isEPaxos, answersIn, envelopes, viewOf, Leaders, setupOf, SeenAs, Follows}
+use Rattle.group.proofs.View.{roundNumber, LeaderIn, LeaderFits, processNumber, no-member, meaningOf, meaning-is, proposerOf, isEPaxos, answersIn, envelopes, viewOf, Leaders, setupOf, SeenAs, Follows}
 use Rattle.group.proofs.Preparing.{askedBy, on-prepare-follows}
 use Rattle.group.proofs.Accepting.{committer-same, on-accept-follows}
-use Rattle.group.proofs.Proposing.{starting-fits, electing-own, propose-follows}
-use Rattle.group.proofs.Keeping.{Keeps, on-prepare-keeps, on-accept-keeps, propose-keeps}
-use Rattle.group.proofs.Answering.{FastFits, unchanged-fits, FollowsChange, lifted, coreStepOf, hostFor, ProposerFits, host-allows}
+use Rattle.group.proofs.Proposing.{propose-follows}
+use Rattle.group.proofs.Answering.{FastFits, begins-with, values-begin, FollowsChange, lifted, coreStepOf, hostFor, host-allows}
 use Rattle.group.proofs.FastPath.{fast-prepare-follows, fast-accept-follows, fast-propose-follows}
-use Rattle.group.proofs.KeepingFast.{FastKeeps, on-fast-prepare-keeps, on-fast-accept-keeps, propose-fast-keeps}
+use Rattle.group.proofs.StepBounds.{MessageFits}
+use Rattle.group.proofs.Invariants.{admit-cond, source-below, message-numbers, message-fits, LeadsIn, Lasts, CallLasts, proposed-fits, message-processed-fits, call-lasts}
 
 -- ---- the group as an engine
 
@@ -167,28 +167,6 @@ not-swift EPaxos c = refl
 not-swift Pando c = refl
 not-swift SwiftPaxos c = absurd c
 
--- the fast half at the beginning of a slot
-pub replicated : (n a d p : ℕ) → p < n → getD (replicate n a) p d ≡ a
-replicated zero a d p l = absurd (omega arith)
-replicated (suc n) a d zero l = refl
-replicated (suc n) a d (suc p) l = replicated n a d p (omega arith)
-
-begins-with : (a p : ℕ) → cond (ltb p 64) (lookUp (replicate 64 a) p) a ≡ a
-unfolding lookUp
-begins-with a p = go (ltb p 64) refl
-  where
-    go : (t : Bool) → ltb p 64 ≡ t → cond t (cond (ltb p 64) (getD (replicate 64 a) p 0) 0) a ≡ a
-    go true e = ap (λ (t : Bool). cond t (getD (replicate 64 a) p 0) 0) e ∙ replicated 64 a 0 p (ltb-true p 64 e)
-    go false e = refl
-
-pub values-begin : (p : ℕ) → lookUp (replicate 64 0) p ≡ 0
-unfolding lookUp
-values-begin p = go (ltb p 64) refl
-  where
-    go : (t : Bool) → ltb p 64 ≡ t → _≡_ {A = ℕ} (cond t (getD (replicate 64 0) p 0) 0) 0
-    go true e = replicated 64 0 0 p (ltb-true p 64 e)
-    go false e = refl
-
 pub no-answers-seen : answersIn noAnswers ≡ model.noAnswers
 no-answers-seen = λ z. record {
   answered = no-member z;
@@ -197,17 +175,6 @@ no-answers-seen = λ z. record {
   values = fun-ext values-begin z;
   scores = fun-ext (begins-with 2) z;
 }
-
-pub no-answers-fit : FastFits noAnswers
-unfolding lookUp
-no-answers-fit = record { long-values = length-replicate {A = ℕ} 64 0; long-scores = length-replicate {A = ℕ} 64 2; few-preaccepted = omega arith; low-scores = low }
-  where
-    low : (p : ℕ) → cond (ltb p 64) (getD (replicate 64 2) p 0) 0 ≤ 2 + size 0
-    low p = go (ltb p 64) refl
-      where
-        go : (t : Bool) → ltb p 64 ≡ t → cond t (getD (replicate 64 2) p 0) 0 ≤ 2 + size 0
-        go true e = let z = replicated 64 2 0 p (ltb-true p 64 e) in omega arith
-        go false e = omega arith
 
 -- after a commit the fast half begins anew
 cleared-seen : (m : PFMode) (f : FastState) → answersFor m (cond (hasFastPath m) noAnswers f) ≡ model.noAnswers
@@ -225,10 +192,6 @@ begins-seen m = go (isEPaxos m)
     go true = no-answers-seen
     go false = refl
 
-cleared-fits : (t : Bool) (f : FastState) → FastFits f → FastFits (cond t noAnswers f)
-cleared-fits true f ok = no-answers-fit
-cleared-fits false f ok = ok
-
 -- ---- refusals
 
 pub refuse-as-model : (S : model.Setup) (i : ℕ) (x : View) (k : Kind ConsensusMessage) → AsModel meaningOf S i x k (refuse x)
@@ -242,12 +205,9 @@ refuse-as-model S i x reads = (refl, refl, tt)
 abbrev coreStep : RoundsStep → CoreStep
 coreStep step = record { core = step .rounds .core; messages = step .messages; next = step .next }
 
--- a step on the rounds is the model's, and keeps the slot, the leaders and the fast half to their bounds
-pub record StepOk (s : Settings) (slot : ℕ) (step : RoundsStep) (r : model.Outcome) : Type 0 where
-  pub follows : Follows (setupOf s) (answersFor (s .mode) (step .rounds .fast)) (coreStep step) r
-  pub same-slot : step .rounds .core .slot ≡ slot
-  pub leaders-fit : Leaders (step .rounds .core)
-  pub fast-fits : FastFits (step .rounds .fast)
+-- a step on the rounds is the model's
+abbrev StepFollows : Settings → RoundsStep → model.Outcome → Type 0
+StepFollows s step r = Follows (setupOf s) (answersFor (s .mode) (step .rounds .fast)) (coreStep step) r
 
 module _ (s : Settings) (i : ℕ) (made : Outcome) (state : State) where
   commit-seen : (v : ℕ) (rounds : Rounds) (ms : Messages) → rounds .core .slot < 9223372036854775807
@@ -271,28 +231,21 @@ module _ (s : Settings) (i : ℕ) (made : Outcome) (state : State) where
     taken = true;
   }
 
-  finish-seen : (held : Bool) (step : RoundsStep) (r : model.Outcome) → StepOk s (state .rounds .core .slot) step r → state .rounds .core .slot < 9223372036854775807
+  finish-seen : (held : Bool) (step : RoundsStep) (r : model.Outcome) → StepFollows s step r → step .rounds .core .slot < 9223372036854775807
       → (seenAnswer (finish (shardOf s i made state) (askedBy s i) held step) ≡ r)
       ⊎ (seenAnswer (finish (shardOf s i made state) (askedBy s i) held step) ≡ refuse (viewShard (shardOf s i made state)))
-  finish-seen held step r ok l = go (step .next) held (ok .follows .seen-as)
+  finish-seen held step r f l = go (step .next) held (f .seen-as)
     where
       go : (n : Next) (held : Bool) → SeenAs (setupOf s) (answersFor (s .mode) (step .rounds .fast)) (step .rounds .core) (step .messages) n r
           → (seenAnswer (finishAt (shardOf s i made state) (askedBy s i) held (step .rounds) (step .messages) n) ≡ r)
           ⊎ (seenAnswer (finishAt (shardOf s i made state) (askedBy s i) held (step .rounds) (step .messages) n) ≡ refuse (viewShard (shardOf s i made state)))
       go Stays held e = inl e
       go Continues held e = absurd e
-      go (Commits v) true e = inl (commit-seen v (step .rounds) (step .messages) (subst (λ (n : ℕ). n < 9223372036854775807) (sym (ok .same-slot)) l) ∙ e)
+      go (Commits v) true e = inl (commit-seen v (step .rounds) (step .messages) l ∙ e)
       go (Commits v) false e = inr refl
       go (Refuses why) held e = inr refl
 
 -- ---- what is known of an admitted message
-
-pub admit-cond : (b : Bool) (o : Outcome) (why : Refusal) → cond b o (Refused why) ≡ Done → (b ≡ true) × (o ≡ Done)
-admit-cond b o why e = go b refl e
-  where
-    go : (t : Bool) → b ≡ t → cond t o (Refused why) ≡ Done → (b ≡ true) × (o ≡ Done)
-    go true d f = (d, f)
-    go false d f = let z : _≡_ {A = Bool} true false = ap isDone (sym f) in absurd (not-both refl z)
 
 ready-cond : (b : Bool) (o : Outcome) (why : Refusal) → cond b (Refused why) o ≡ Done → b ≡ false
 ready-cond b o why e = go b refl e
@@ -302,6 +255,7 @@ ready-cond b o why e = go b refl e
     go false d f = d
 
 pub record Admitted (n : ℕ) (core : Core) (d : Delivery) : Type 0 where
+  pub numbers : numbersFit d ≡ true
   pub processes : processesFit n d ≡ true
   pub not-ahead : isAhead core (msgSlot (d .message .msg)) ≡ false
 
@@ -310,7 +264,7 @@ unfolding admit ready
 admitted-facts count own core d e =
     let n = admit-cond (numbersFit d) (cond (processesFit count d) (ready own core d) (Refused NoSuchProcess)) NumberTooLarge e in
     let p = admit-cond (processesFit count d) (ready own core d) NoSuchProcess (n .1) in
-    record { processes = p .0; not-ahead = ready-cond (isAhead core (msgSlot (d .message .msg))) (cond (otherLastValue core d) (Refused OtherLastValue) (cond (valueAwaited own core d) (Refused ValueNotHeld) Done)) SlotAhead (p .1) }
+    record { numbers = n .0; processes = p .0; not-ahead = ready-cond (isAhead core (msgSlot (d .message .msg))) (cond (otherLastValue core d) (Refused OtherLastValue) (cond (valueAwaited own core d) (Refused ValueNotHeld) Done)) SlotAhead (p .1) }
 
 delegate-same : (s : Settings) (i : ℕ) (m : PFMode) (l : ℕ) → delegateOf (memberSettings s i) m l ≡ delegateOf s m l
 unfolding delegateIn
@@ -331,44 +285,12 @@ module _ (s : Settings) (i : ℕ) (classic : NotSwift (s .mode)) (choose : Choic
   leader-small : s .«first_leader» < 64
   leader-small = lt-of-lt-of-le (within-members (memberSettings s i) limits .leader-below) few
 
-  below : (p : ℕ) → ltb p (s .«process_count») ≡ true → p < 64
-  below p e = lt-of-lt-of-le (ltb-true p (s .«process_count») e) few
-
-  rv-fits : (rv : RoundV) → rvProcesses (s .«process_count») rv ≡ true → LeaderFits (acceptRoundOf rv)
-  unfolding rvProcesses
-  rv-fits (FastV proposer v) e = tt
-  rv-fits (PaxosV NoRound v) e = tt
-  rv-fits (PaxosV (Round round) v) e = below (round .leader) e
-
-  proposer-fits : (rv : RoundV) → rvProcesses (s .«process_count») rv ≡ true → ProposerFits rv
-  unfolding rvProcesses
-  proposer-fits (FastV proposer v) e = below proposer e
-  proposer-fits (PaxosV at v) e = tt
-
   source-small : (d : Delivery) → processesFit (s .«process_count») d ≡ true → d .message .src < 64
-  unfolding processesFit
-  source-small d e =
-      below (d .message .src)
-      (and-left (ltb (d .message .src) (s .«process_count»)) (msgProcesses (s .«process_count») (d .message .msg))
-      (and-left (ltb (d .message .src) (s .«process_count») && msgProcesses (s .«process_count») (d .message .msg)) (requesterBelow (s .«process_count») (d .said .requester))
-      (and-left (ltb (d .message .src) (s .«process_count») && msgProcesses (s .«process_count») (d .message .msg) && requesterBelow (s .«process_count») (d .said .requester)) (requesterBelow (s .«process_count») (d .«held_requester»)) e)))
+  source-small d e = lt-of-lt-of-le (ltb-true (d .message .src) (s .«process_count») (source-below (s .«process_count») d e .0)) few
 
-  message-small : (d : Delivery) → processesFit (s .«process_count») d ≡ true → msgProcesses (s .«process_count») (d .message .msg) ≡ true
-  unfolding processesFit
-  message-small d e =
-      and-right (ltb (d .message .src) (s .«process_count»)) (msgProcesses (s .«process_count») (d .message .msg))
-      (and-left (ltb (d .message .src) (s .«process_count») && msgProcesses (s .«process_count») (d .message .msg)) (requesterBelow (s .«process_count») (d .said .requester))
-      (and-left (ltb (d .message .src) (s .«process_count») && msgProcesses (s .«process_count») (d .message .msg) && requesterBelow (s .«process_count») (d .said .requester)) (requesterBelow (s .«process_count») (d .«held_requester»)) e))
-
-  prepare-leader : (slot : ℕ) (round : PaxosRound) (rv : RoundV) → msgProcesses (s .«process_count») (Prepare slot round rv) ≡ true → (round .leader < 64) × LeaderFits (acceptRoundOf rv) × ProposerFits rv
-  unfolding msgProcesses
-  prepare-leader slot round rv e =
-      let named = and-right (ltb (round .leader) (s .«process_count»)) (rvProcesses (s .«process_count») rv) e in
-      (below (round .leader) (and-left (ltb (round .leader) (s .«process_count»)) (rvProcesses (s .«process_count») rv) e), rv-fits rv named, proposer-fits rv named)
-
-  accept-leader : (slot : ℕ) (round : PaxosRound) (v : ℕ) → msgProcesses (s .«process_count») (Accept slot round v) ≡ true → round .leader < 64
-  unfolding msgProcesses
-  accept-leader slot round v e = below (round .leader) e
+  numbers-small : (core : Core) (d : Delivery) → Admitted (s .«process_count») core d → MessageFits (λ p. p < 64) (d .message .msg)
+  numbers-small core d adm =
+      message-fits (λ p. p < 64) (s .«process_count») few (λ p l. lt-of-lt-of-le l few) (d .message .msg) (message-numbers d (adm .numbers)) (source-below (s .«process_count») d (adm .processes) .1)
 
   -- who gathers
   gatherer : (slot : ℕ) (round : PaxosRound) (rv : RoundV) → gathererOf (memberSettings s i) (Prepare slot round rv) ≡ delegateOf s (s .mode) (round .leader)
@@ -387,7 +309,7 @@ module _ (s : Settings) (i : ℕ) (classic : NotSwift (s .mode)) (choose : Choic
 
   -- ---- messages
 
-  module _ (made : Outcome) (state : State) (ok : Leaders (state .rounds .core)) (fits : FastFits (state .rounds .fast)) (room : state .rounds .core .slot < 9223372036854775807) where
+  module _ (made : Outcome) (state : State) (lasts : Lasts (shardOf s i made state)) (done : made ≡ Done) (room : state .rounds .core .slot < 9223372036854775807) where
     abbrev shard : Shard
     shard = shardOf s i made state
 
@@ -397,13 +319,25 @@ module _ (s : Settings) (i : ℕ) (classic : NotSwift (s .mode)) (choose : Choic
     abbrev fastState : FastState
     fastState = state .rounds .fast
 
+    ok : Leaders core
+    ok = record { in-round = led-fits (core .paxos .round) (lasts .sets-fit .round-led); in-held = led-fits (getLastAcceptedRound (core .paxos .«max_rv»)) (lasts .sets-fit .held-led) }
+      where
+        led-fits : (r : OptionalRound) → LeaderIn (LeadsIn made) r → LeaderFits r
+        led-fits NoRound led = tt
+        led-fits (Round r) led = led done
+
+    fits : FastFits fastState
+    fits = lasts .fast-fits
+
     abbrev asModel : Kind ConsensusMessage → Answer → Type 0
     asModel k r = AsModel meaningOf (setupOf s) i (viewShard shard) k (seenAnswer r)
 
     -- a step that is the model's ends as the model's call, or is refused
     deliver-ends : (held : Bool) (source : ℕ) (message : ConsensusMessage) (host : model.Host) (step : RoundsStep)
-        → StepOk s (core .slot) step (outcome (setupOf s) (viewShard shard) (deliver i source (meaningOf message) host)) → asModel (delivers source message) (finish shard (askedBy s i) held step)
-    deliver-ends held source message host step f = go (finish-seen s i made state held step (outcome (setupOf s) (viewShard shard) (deliver i source (meaningOf message) host)) f room)
+        → StepFollows s step (outcome (setupOf s) (viewShard shard) (deliver i source (meaningOf message) host)) → step .rounds .core .slot ≡ core .slot
+        → asModel (delivers source message) (finish shard (askedBy s i) held step)
+    deliver-ends held source message host step f same =
+        go (finish-seen s i made state held step (outcome (setupOf s) (viewShard shard) (deliver i source (meaningOf message) host)) f (subst (λ (n : ℕ). n < 9223372036854775807) (sym same) room))
       where
         result : model.Outcome
         result = seenAnswer (finish shard (askedBy s i) held step)
@@ -424,42 +358,32 @@ module _ (s : Settings) (i : ℕ) (classic : NotSwift (s .mode)) (choose : Choic
     unfolding processed processFast
     processed-fast h m e = simp e
 
-    -- the view without a fast half, and with one
-    slow-view : isEPaxos (s .mode) ≡ false → (f : FastState) → answersFor (s .mode) f ≡ model.noAnswers
-    slow-view e f = ap (λ (t : Bool). cond t (answersIn f) model.noAnswers) e
-
     fast-view : isEPaxos (s .mode) ≡ true → (f : FastState) → answersFor (s .mode) f ≡ answersIn f
     fast-view e f = ap (λ (t : Bool). cond t (answersIn f) model.noAnswers) e
 
-    -- a step of the classic modes, and one of EPaxos
-    slow-step : (step : CoreStep) (r : model.Outcome) → Follows (setupOf s) (answersFor (s .mode) fastState) step r → Keeps (core .slot) step → StepOk s (core .slot) (onRounds fastState step) r
-    slow-step step r f k = record { follows = record { seen-as = f .seen-as }; same-slot = k .same-slot; leaders-fit = k .leaders; fast-fits = fits }
-
-    fast-step : isEPaxos (s .mode) ≡ true → (cs : ChangeStep) (r : View → model.Outcome) → FollowsChange (setupOf s) fastState cs (r (viewOf (answersIn fastState) core)) → FastKeeps (core .slot) fastState cs
-        → StepOk s (core .slot) (changeRounds fastState cs) (r (viewShard shard))
-    fast-step e cs r f k =
-        record {
-          follows =
-              subst (λ (a : Answers). Follows (setupOf s) a (coreStepOf cs) (r (viewShard shard))) (sym (fast-view e (changed (cs .change) fastState)))
-              (subst (λ (a : Answers). Follows (setupOf s) (answersIn (changed (cs .change) fastState)) (coreStepOf cs) (r (viewOf a core))) (sym (fast-view e fastState)) (f .follows));
-          same-slot = k .kept .same-slot;
-          leaders-fit = k .kept .leaders;
-          fast-fits = k .fits;
-        }
+    -- a step of EPaxos
+    fast-step : isEPaxos (s .mode) ≡ true → (cs : ChangeStep) (r : View → model.Outcome) → FollowsChange (setupOf s) fastState cs (r (viewOf (answersIn fastState) core)) → StepFollows s (changeRounds fastState cs) (r (viewShard shard))
+    fast-step e cs r f =
+        subst (λ (a : Answers). Follows (setupOf s) a (coreStepOf cs) (r (viewShard shard))) (sym (fast-view e (changed (cs .change) fastState)))
+        (subst (λ (a : Answers). Follows (setupOf s) (answersIn (changed (cs .change) fastState)) (coreStepOf cs) (r (viewOf a core))) (sym (fast-view e fastState)) (f .follows))
 
     module _ (d : Delivery) (adm : Admitted (s .«process_count») core d) where
       abbrev h : Heard
       h = heardOf (memberSettings s i) d
 
+      same-slot : (m : ConsensusMsg) → d .message .msg ≡ m → processed choose (askedBy s i) h m (state .rounds) .rounds .core .slot ≡ core .slot
+      same-slot m e = subst (λ (m : ConsensusMsg). processed choose (askedBy s i) h m (state .rounds) .rounds .core .slot ≡ core .slot) e
+          (message-processed-fits choose shard lasts limits room d (adm .numbers) (adm .processes) .core-fits .same-slot)
+
       prepare-ok : (slot : ℕ) (round : PaxosRound) (rv : RoundV) → d .message .msg ≡ Prepare slot round rv
           → (host : model.Host)
-          × StepOk s (core .slot) (processed choose (askedBy s i) h (Prepare slot round rv) (state .rounds))
+          × StepFollows s (processed choose (askedBy s i) h (Prepare slot round rv) (state .rounds))
           (outcome (setupOf s) (viewShard shard) (deliver i (d .message .src) (model.prepare slot (roundNumber (Round round)) (roundNumber (acceptRoundOf rv)) (proposerOf rv) (valueOf rv)) host))
       unfolding processClassic processChange outcome model.onMessage
       prepare-ok slot round rv e = go (mode-is (s .mode) classic)
         where
-          parts : (round .leader < 64) × LeaderFits (acceptRoundOf rv) × ProposerFits rv
-          parts = prepare-leader slot round rv (sym (ap (msgProcesses (s .«process_count»)) e) ∙ message-small d (adm .processes))
+          parts : MessageFits (λ p. p < 64) (Prepare slot round rv)
+          parts = subst (MessageFits (λ p. p < 64)) e (numbers-small core d adm)
 
           delegate-of : h .delegate ≡ delegateOf s (s .mode) (round .leader)
           delegate-of = ap (gathererOf (memberSettings s i)) e ∙ gatherer slot round rv
@@ -471,40 +395,37 @@ module _ (s : Settings) (i : ℕ) (classic : NotSwift (s .mode)) (choose : Choic
           slow-host = record { allows = true; requester = 0; adoptee = 0 }
 
           goal : model.Host → RoundsStep → Type 0
-          goal host step = StepOk s (core .slot) step (model.onPrepare (setupOf s) i (viewShard shard) (d .message .src) slot (roundNumber (Round round)) (roundNumber (acceptRoundOf rv)) (proposerOf rv) (valueOf rv) host)
+          goal host step = StepFollows s step (model.onPrepare (setupOf s) i (viewShard shard) (d .message .src) slot (roundNumber (Round round)) (roundNumber (acceptRoundOf rv)) (proposerOf rv) (valueOf rv) host)
 
           go : ModeIs (s .mode)
-              → (host : model.Host) × StepOk s (core .slot) (processed choose (askedBy s i) h (Prepare slot round rv) (state .rounds))
+              → (host : model.Host) × StepFollows s (processed choose (askedBy s i) h (Prepare slot round rv) (state .rounds))
               (cond (host .allows) (model.onPrepare (setupOf s) i (viewShard shard) (d .message .src) slot (roundNumber (Round round)) (roundNumber (acceptRoundOf rv)) (proposerOf rv) (valueOf rv) host) (refuse (viewShard shard)))
           go (isClassic no-fast no-epaxos) = (
             slow-host,
             subst (goal slow-host) (sym (processed-slow h (Prepare slot round rv) no-fast))
-                (slow-step (onPrepare (askedBy s i) h slot round rv core) _
-                (on-prepare-follows (answersFor (s .mode) fastState) s i (not-swift (s .mode) classic) no-epaxos own-small h (source-small d (adm .processes)) slot round (parts .0) rv (parts .1) refl delegate-of core ok le slow-host)
-                (on-prepare-keeps (askedBy s i) h (core .slot) round (parts .0) slot rv core (refl, ok) (parts .1))),
+                (on-prepare-follows (answersFor (s .mode) fastState) s i (not-swift (s .mode) classic) no-epaxos own-small h (source-small d (adm .processes)) slot round (parts .0 .1) rv (parts .1) refl delegate-of core ok le slow-host),
           )
           go (isFast has-fast epaxos single) = (
             hostFor choose s i (d .message .src) fastState rv,
             host-allows choose s i (d .message .src) fastState rv
                 (λ (b : Bool).
-                StepOk s (core .slot) (processed choose (askedBy s i) h (Prepare slot round rv) (state .rounds))
+                StepFollows s (processed choose (askedBy s i) h (Prepare slot round rv) (state .rounds))
                 (cond b (model.onPrepare (setupOf s) i (viewShard shard) (d .message .src) slot (roundNumber (Round round)) (roundNumber (acceptRoundOf rv)) (proposerOf rv) (valueOf rv) (hostFor choose s i (d .message .src) fastState rv)) (refuse (viewShard shard))))
                 (subst (goal (hostFor choose s i (d .message .src) fastState rv)) (sym (processed-fast h (Prepare slot round rv) has-fast))
                 (fast-step epaxos
                 (onFastPrepare choose (askedBy s i) h slot round rv core (answersOf fastState) (fastState .«fast_proposer_to_v») (fastState .«epaxos_proposer_scores») (fastState .«swift_proposer_scores»))
                 (λ x. model.onPrepare (setupOf s) i x (d .message .src) slot (roundNumber (Round round)) (roundNumber (acceptRoundOf rv)) (proposerOf rv) (valueOf rv) (hostFor choose s i (d .message .src) fastState rv))
-                (fast-prepare-follows choose picks-best s i (not-swift (s .mode) classic) epaxos own-small fastState fits h (source-small d (adm .processes)) round (parts .0) slot rv (parts .1) (parts .2) refl delegate-of core ok le)
-                (on-fast-prepare-keeps s i (not-swift (s .mode) classic) epaxos own-small choose picks-best fastState fits (core .slot) h (source-small d (adm .processes)) round (parts .0) slot rv (parts .1) (parts .2) core (refl, ok)))),
+                (fast-prepare-follows choose picks-best s i (not-swift (s .mode) classic) epaxos own-small fastState fits h (source-small d (adm .processes)) round (parts .0 .1) slot rv (parts .1) (parts .2) refl delegate-of core ok le))),
           )
 
       accept-ok : (slot : ℕ) (round : PaxosRound) (v : ℕ) → d .message .msg ≡ Accept slot round v
-          → StepOk s (core .slot) (processed choose (askedBy s i) h (Accept slot round v) (state .rounds))
+          → StepFollows s (processed choose (askedBy s i) h (Accept slot round v) (state .rounds))
           (outcome (setupOf s) (viewShard shard) (deliver i (d .message .src) (model.accept slot (roundNumber (Round round)) v) (record { allows = true; requester = processNumber (d .said .requester); adoptee = 0 })))
       unfolding processClassic processChange outcome model.onMessage onAccept
       accept-ok slot round v e = go (mode-is (s .mode) classic)
         where
           leader : round .leader < 64
-          leader = accept-leader slot round v (sym (ap (msgProcesses (s .«process_count»)) e) ∙ message-small d (adm .processes))
+          leader = subst (MessageFits (λ p. p < 64)) e (numbers-small core d adm) .1
 
           delegate-of : h .delegate ≡ delegateOf s (s .mode) (round .leader)
           delegate-of = ap (gathererOf (memberSettings s i)) e ∙ accept-gatherer slot round v
@@ -516,40 +437,33 @@ module _ (s : Settings) (i : ℕ) (classic : NotSwift (s .mode)) (choose : Choic
           host = record { allows = true; requester = processNumber (d .said .requester); adoptee = 0 }
 
           goal : RoundsStep → Type 0
-          goal step = StepOk s (core .slot) step (model.onAccept (setupOf s) i (viewShard shard) (d .message .src) slot (roundNumber (Round round)) v host)
+          goal step = StepFollows s step (model.onAccept (setupOf s) i (viewShard shard) (d .message .src) slot (roundNumber (Round round)) v host)
 
           go : ModeIs (s .mode) → goal (processed choose (askedBy s i) h (Accept slot round v) (state .rounds))
           go (isClassic no-fast no-epaxos) =
               subst goal (sym (processed-slow h (Accept slot round v) no-fast))
-              (slow-step (onAccept (askedBy s i) h slot round v core) _
               (on-accept-follows (answersFor (s .mode) fastState) s i (not-swift (s .mode) classic) own-small h (source-small d (adm .processes)) slot round leader v refl delegate-of (committer-same s i (d .said .requester))
               CoreStep (λ t. t) (Follows (setupOf s) (answersFor (s .mode) fastState)) (λ step r f. f) (accepting (askedBy s i) h round v) (λ alive c r f. f) core ok le)
-              (on-accept-keeps (askedBy s i) h (core .slot) round leader slot v core (refl, ok)))
           go (isFast has-fast epaxos single) =
               subst goal (sym (processed-fast h (Accept slot round v) has-fast))
               (fast-step epaxos (onFastAccept (askedBy s i) h slot round v core (answersOf fastState) (fastState .«swift_proposer_scores»))
               (λ x. model.onAccept (setupOf s) i x (d .message .src) slot (roundNumber (Round round)) v host)
-              (fast-accept-follows choose picks-best s i (not-swift (s .mode) classic) epaxos own-small fastState fits h (source-small d (adm .processes)) round leader slot v refl delegate-of (committer-same s i (d .said .requester)) core ok le)
-              (on-fast-accept-keeps s i (not-swift (s .mode) classic) epaxos own-small choose picks-best fastState fits (core .slot) h (source-small d (adm .processes)) round leader slot v core (refl, ok)))
+              (fast-accept-follows choose picks-best s i (not-swift (s .mode) classic) epaxos own-small fastState fits h (source-small d (adm .processes)) round leader slot v refl delegate-of (committer-same s i (d .said .requester)) core ok le))
 
       -- a ForwardRequest does nothing
-      forward-ok : (v : ℕ) → StepOk s (core .slot) (processed choose (askedBy s i) h (ForwardRequest v) (state .rounds)) (quiet (viewShard shard))
+      forward-ok : (v : ℕ) → StepFollows s (processed choose (askedBy s i) h (ForwardRequest v) (state .rounds)) (quiet (viewShard shard))
       unfolding processClassic processChange
       forward-ok v = go (mode-is (s .mode) classic)
         where
-          idle : Keeps (core .slot) (stays core noMessages)
-          idle = record { same-slot = refl; leaders = ok }
-
           goal : RoundsStep → Type 0
-          goal step = StepOk s (core .slot) step (quiet (viewShard shard))
+          goal step = StepFollows s step (quiet (viewShard shard))
 
           go : ModeIs (s .mode) → goal (processed choose (askedBy s i) h (ForwardRequest v) (state .rounds))
-          go (isClassic no-fast no-epaxos) = subst goal (sym (processed-slow h (ForwardRequest v) no-fast)) (slow-step (stays core noMessages) (quiet (viewShard shard)) (record { seen-as = refl }) idle)
+          go (isClassic no-fast no-epaxos) = subst goal (sym (processed-slow h (ForwardRequest v) no-fast)) (record { seen-as = refl })
           go (isFast has-fast epaxos single) =
               subst goal (sym (processed-fast h (ForwardRequest v) has-fast))
               (fast-step epaxos (withChange (unchanged (answersOf fastState)) (stays core noMessages)) quiet
-              (lifted (setupOf s) fastState (stays core noMessages) (quiet (viewOf (answersIn fastState) core)) (record { seen-as = refl }))
-              (record { kept = record { same-slot = refl; leaders = ok }; fits = unchanged-fits fastState fits }))
+              (lifted (setupOf s) fastState (stays core noMessages) (quiet (viewOf (answersIn fastState) core)) (record { seen-as = refl })))
 
       processed-step : (m : ConsensusMsg) → d .message .msg ≡ m
           → processMessage choose shard d ≡ finish shard (askedBy s i) (d .said .«value_held») (processed choose (askedBy s i) h m (state .rounds))
@@ -561,20 +475,20 @@ module _ (s : Settings) (i : ℕ) (classic : NotSwift (s .mode)) (choose : Choic
           let k = prepare-ok slot round rv e in
           subst (asModel (delivers (d .message .src) (d .message))) (sym (processed-step (Prepare slot round rv) e))
           (subst (λ (m : ConsensusMsg). asModel (delivers (d .message .src) (record { msg = m; src = d .message .src; «last_v» = d .message .«last_v» })) (finish shard (askedBy s i) (d .said .«value_held») (processed choose (askedBy s i) h (Prepare slot round rv) (state .rounds)))) (sym e)
-          (deliver-ends (d .said .«value_held») (d .message .src) (record { msg = Prepare slot round rv; src = d .message .src; «last_v» = d .message .«last_v» }) (k .0) (processed choose (askedBy s i) h (Prepare slot round rv) (state .rounds)) (k .1)))
+          (deliver-ends (d .said .«value_held») (d .message .src) (record { msg = Prepare slot round rv; src = d .message .src; «last_v» = d .message .«last_v» }) (k .0) (processed choose (askedBy s i) h (Prepare slot round rv) (state .rounds)) (k .1) (same-slot (Prepare slot round rv) e)))
 
       on-accept : (slot : ℕ) (round : PaxosRound) (v : ℕ) → d .message .msg ≡ Accept slot round v → asModel (kindOf (Receive d)) (processMessage choose shard d)
       on-accept slot round v e =
           subst (asModel (delivers (d .message .src) (d .message))) (sym (processed-step (Accept slot round v) e))
           (subst (λ (m : ConsensusMsg). asModel (delivers (d .message .src) (record { msg = m; src = d .message .src; «last_v» = d .message .«last_v» })) (finish shard (askedBy s i) (d .said .«value_held») (processed choose (askedBy s i) h (Accept slot round v) (state .rounds)))) (sym e)
-          (deliver-ends (d .said .«value_held») (d .message .src) (record { msg = Accept slot round v; src = d .message .src; «last_v» = d .message .«last_v» }) (record { allows = true; requester = processNumber (d .said .requester); adoptee = 0 }) (processed choose (askedBy s i) h (Accept slot round v) (state .rounds)) (accept-ok slot round v e)))
+          (deliver-ends (d .said .«value_held») (d .message .src) (record { msg = Accept slot round v; src = d .message .src; «last_v» = d .message .«last_v» }) (record { allows = true; requester = processNumber (d .said .requester); adoptee = 0 }) (processed choose (askedBy s i) h (Accept slot round v) (state .rounds)) (accept-ok slot round v e) (same-slot (Accept slot round v) e)))
 
       on-forward : (v : ℕ) → d .message .msg ≡ ForwardRequest v → asModel (kindOf (Receive d)) (processMessage choose shard d)
       unfolding outcome model.onMessage
       on-forward v e =
           subst (asModel (delivers (d .message .src) (d .message))) (sym (processed-step (ForwardRequest v) e))
           (subst (λ (m : ConsensusMsg). asModel (delivers (d .message .src) (record { msg = m; src = d .message .src; «last_v» = d .message .«last_v» })) (finish shard (askedBy s i) (d .said .«value_held») (processed choose (askedBy s i) h (ForwardRequest v) (state .rounds)))) (sym e)
-          (deliver-ends (d .said .«value_held») (d .message .src) (record { msg = ForwardRequest v; src = d .message .src; «last_v» = d .message .«last_v» }) (record { allows = true; requester = 0; adoptee = 0 }) (processed choose (askedBy s i) h (ForwardRequest v) (state .rounds)) (forward-ok v)))
+          (deliver-ends (d .said .«value_held») (d .message .src) (record { msg = ForwardRequest v; src = d .message .src; «last_v» = d .message .«last_v» }) (record { allows = true; requester = 0; adoptee = 0 }) (processed choose (askedBy s i) h (ForwardRequest v) (state .rounds)) (forward-ok v) (same-slot (ForwardRequest v) e)))
 
     commit-older : (slot v : ℕ) → ltb slot (core .slot) ≡ true → onCommit shard slot v ≡ nothing shard
     unfolding onCommit
@@ -637,9 +551,6 @@ module _ (s : Settings) (i : ℕ) (classic : NotSwift (s .mode)) (choose : Choic
 
     -- ---- proposals
 
-    own-elected : electing (askedBy s i) < 64
-    own-elected = subst (λ (p : ℕ). p < 64) (sym (electing-own model.noAnswers s i (not-swift (s .mode) classic) own-small leader-small 0 core ok)) own-small
-
     proposing-slow : (v : ℕ) → hasFastPath (s .mode) ≡ false → proposing (askedBy s i) v (state .rounds) ≡ onRounds fastState (proposeClassic (askedBy s i) v core)
     unfolding proposing
     proposing-slow v e = simp e
@@ -649,28 +560,25 @@ module _ (s : Settings) (i : ℕ) (classic : NotSwift (s .mode)) (choose : Choic
     unfolding proposing proposeFast
     proposing-fast v e = simp e
 
-    propose-ok : (v : ℕ) → StepOk s (core .slot) (proposing (askedBy s i) v (state .rounds)) (model.onPropose (setupOf s) i (viewShard shard) v)
+    propose-ok : (v : ℕ) → StepFollows s (proposing (askedBy s i) v (state .rounds)) (model.onPropose (setupOf s) i (viewShard shard) v)
     propose-ok v = go (mode-is (s .mode) classic)
       where
         goal : RoundsStep → Type 0
-        goal step = StepOk s (core .slot) step (model.onPropose (setupOf s) i (viewShard shard) v)
+        goal step = StepFollows s step (model.onPropose (setupOf s) i (viewShard shard) v)
 
         go : ModeIs (s .mode) → goal (proposing (askedBy s i) v (state .rounds))
         go (isClassic no-fast no-epaxos) =
             subst goal (sym (proposing-slow v no-fast))
-            (slow-step (proposeClassic (askedBy s i) v core) _
             (propose-follows (answersFor (s .mode) fastState) s i (not-swift (s .mode) classic) own-small leader-small v core ok no-epaxos)
-            (propose-keeps (askedBy s i) (core .slot) v core own-elected (refl, ok)))
         go (isFast has-fast epaxos single) =
             subst goal (sym (proposing-fast v has-fast))
             (fast-step epaxos (proposeChange (askedBy s i) v core (answersOf fastState) (fastState .«epaxos_proposer_scores») (fastState .«swift_proposer_scores»))
             (λ x. model.onPropose (setupOf s) i x v)
-            (fast-propose-follows choose picks-best s i (not-swift (s .mode) classic) epaxos own-small fastState fits leader-small v core ok single)
-            (propose-fast-keeps s i (not-swift (s .mode) classic) epaxos own-small choose picks-best fastState fits (core .slot) leader-small v core single own-elected (refl, ok)))
+            (fast-propose-follows choose picks-best s i (not-swift (s .mode) classic) epaxos own-small fastState fits leader-small v core ok single))
 
     propose-ends : (v : ℕ) → asModel (proposes v) (finish shard (askedBy s i) true (proposing (askedBy s i) v (state .rounds)))
     unfolding outcome
-    propose-ends v = go (finish-seen s i made state true (proposing (askedBy s i) v (state .rounds)) (model.onPropose (setupOf s) i (viewShard shard) v) (propose-ok v) room)
+    propose-ends v = go (finish-seen s i made state true (proposing (askedBy s i) v (state .rounds)) (model.onPropose (setupOf s) i (viewShard shard) v) (propose-ok v) (subst (λ (n : ℕ). n < 9223372036854775807) (sym (proposed-fits choose shard lasts limits room v .core-fits .same-slot)) room))
       where
         result : model.Outcome
         result = seenAnswer (finish shard (askedBy s i) true (proposing (askedBy s i) v (state .rounds)))
@@ -707,152 +615,47 @@ module _ (s : Settings) (i : ℕ) (classic : NotSwift (s .mode)) (choose : Choic
     dispatched (StartRead tag arrival) = new-read tag arrival
     dispatched (Receive d) = received d
 
-    -- ---- what the shard keeps
-
-    -- the settings, whether it was made, that leaders are processes, and the bounds of the fast half
-    pub record ShardKept (r : Answer) : Type 0 where
-      pub same-settings : r .shard .settings ≡ memberSettings s i
-      pub same-made : r .shard .made ≡ made
-      pub leaders-kept : Leaders (coreOf (r .shard))
-      pub fast-kept : FastFits (r .shard .state .rounds .fast)
-
-    refused-kept : (why : Refusal) → ShardKept (refused why shard)
-    refused-kept why = record { same-settings = refl; same-made = refl; leaders-kept = ok; fast-kept = fits }
-
-    started-kept : (rounds : Rounds) (v : ℕ) → Leaders (commitSlot (askedBy s i) v rounds .core)
-    unfolding commitSlot
-    started-kept rounds v = record { in-round = starting-fits (s .mode) (s .«first_leader») leader-small; in-held = tt }
-
-    committed-kept : (v : ℕ) (rounds : Rounds) → FastFits (rounds .fast) → (ms : Messages) → ShardKept (committed shard (askedBy s i) v rounds ms)
-    unfolding committed commitSlot
-    committed-kept v rounds f ms =
-        record {
-          same-settings = refl;
-          same-made = refl;
-          leaders-kept = record { in-round = started-kept rounds v .in-round; in-held = started-kept rounds v .in-held };
-          fast-kept = cleared-fits (hasFastPath (s .mode)) (rounds .fast) f;
-        }
-
-    finish-kept : (held : Bool) (step : RoundsStep) (r : model.Outcome) → StepOk s (core .slot) step r → ShardKept (finish shard (askedBy s i) held step)
-    finish-kept held step r f = go (step .next) held
-      where
-        go : (n : Next) (held : Bool) → ShardKept (finishAt shard (askedBy s i) held (step .rounds) (step .messages) n)
-        go Stays held = record { same-settings = refl; same-made = refl; leaders-kept = f .leaders-fit; fast-kept = f .fast-fits }
-        go Continues held = record { same-settings = refl; same-made = refl; leaders-kept = f .leaders-fit; fast-kept = f .fast-fits }
-        go (Commits v) true = committed-kept v (step .rounds) (f .fast-fits) (step .messages)
-        go (Commits v) false = refused-kept ValueNotHeld
-        go (Refuses why) held = refused-kept why
-
-    request-kept : (source : ℕ) (id : ReadId) → ShardKept (onReadRequest shard source id)
-    unfolding onReadRequest
-    request-kept source id = go (eqb source i)
-      where
-        go : (t : Bool)
-            → ShardKept
-            (cond t (refused Panic shard)
-            (sent shard (oneMessage (record { destination = One source; message = record { msg = ReadResponse id (nextReadable core); src = i; «last_v» = NoValue } }))))
-        go true = refused-kept Panic
-        go false = record { same-settings = refl; same-made = refl; leaders-kept = ok; fast-kept = fits }
-
-    response-kept : (id : ReadId) (fast : Bool) → ShardKept (onReadResponse shard id fast)
-    unfolding onReadResponse
-    response-kept id fast = record { same-settings = refl; same-made = refl; leaders-kept = record { in-round = ok .in-round; in-held = ok .in-held }; fast-kept = fits }
-
-    handled-kept : (d : Delivery) → Admitted (s .«process_count») core d → (m : ConsensusMsg) → d .message .msg ≡ m → ShardKept (handle choose shard d m)
-    unfolding handle
-    handled-kept d adm (Prepare slot round rv) e =
-        let k = prepare-ok d adm slot round rv e in
-        subst ShardKept (sym (processed-step d adm (Prepare slot round rv) e)) (finish-kept (d .said .«value_held») (processed choose (askedBy s i) (heardOf (memberSettings s i) d) (Prepare slot round rv) (state .rounds)) _ (k .1))
-    handled-kept d adm (Accept slot round v) e =
-        subst ShardKept (sym (processed-step d adm (Accept slot round v) e)) (finish-kept (d .said .«value_held») (processed choose (askedBy s i) (heardOf (memberSettings s i) d) (Accept slot round v) (state .rounds)) _ (accept-ok d adm slot round v e))
-    handled-kept d adm (ForwardRequest v) e =
-        subst ShardKept (sym (processed-step d adm (ForwardRequest v) e)) (finish-kept (d .said .«value_held») (processed choose (askedBy s i) (heardOf (memberSettings s i) d) (ForwardRequest v) (state .rounds)) _ (forward-ok d adm v))
-    handled-kept d adm (Commit slot v) e = go (either (ltb slot (core .slot)))
-      where
-        go : (ltb slot (core .slot) ≡ true) ⊎ (ltb slot (core .slot) ≡ false) → ShardKept (onCommit shard slot v)
-        go (inl f) = subst ShardKept (sym (commit-older slot v f)) (record { same-settings = refl; same-made = refl; leaders-kept = ok; fast-kept = fits })
-        go (inr f) = subst ShardKept (sym (commit-own slot v f)) (committed-kept v (state .rounds) fits noMessages)
-    handled-kept d adm (ReadRequest id) e = request-kept (d .message .src) id
-    handled-kept d adm (ReadResponse id next) e = response-kept id (d .said .fast)
-
-    received-kept : (d : Delivery) → ShardKept (receive choose shard d)
-    unfolding receive
-    received-kept d = go (admit (s .«process_count») i core d) refl
-      where
-        go : (o : Outcome) → admit (s .«process_count») i core d ≡ o → ShardKept (admitted choose shard d o)
-        go Done e = handled-kept d (admitted-facts (s .«process_count») i core d e) (d .message .msg) refl
-        go (Refused why) e = refused-kept why
-
-    proposal-kept : (v : ℕ) → ShardKept (propose shard v)
-    unfolding propose
-    proposal-kept v = go (isNumber v)
-      where
-        go : (t : Bool) → ShardKept (cond t (finish shard (askedBy s i) true (proposing (askedBy s i) v (state .rounds))) (refused NumberTooLarge shard))
-        go true = finish-kept true (proposing (askedBy s i) v (state .rounds)) _ (propose-ok v)
-        go false = refused-kept NumberTooLarge
-
-    read-kept : (tag arrival : ℕ) → ShardKept (read shard tag arrival)
-    unfolding read startRead
-    read-kept tag arrival = go (isNumber tag && isSlot arrival)
-      where
-        opened : (o : Opened) → ShardKept (afterInsert shard (readInserted shard tag arrival) o)
-        opened (NotOpened why) = refused-kept why
-        opened (Id id) = record { same-settings = refl; same-made = refl; leaders-kept = record { in-round = ok .in-round; in-held = ok .in-held }; fast-kept = fits }
-
-        go : (t : Bool) → ShardKept (cond t (afterInsert shard (readInserted shard tag arrival) (readInserted shard tag arrival .opened)) (refused NumberTooLarge shard))
-        go true = opened (readInserted shard tag arrival .opened)
-        go false = refused-kept NumberTooLarge
-
-    dispatched-kept : (c : Call) → ShardKept (dispatch choose shard c)
-    unfolding dispatch
-    dispatched-kept (Propose v) = proposal-kept v
-    dispatched-kept (StartRead tag arrival) = read-kept tag arrival
-    dispatched-kept (Receive d) = received-kept d
-
 -- ---- every call
 
+-- a shard of member i, and what lasts of it
 pub record Valid (s : Settings) (i : ℕ) (shard : Shard) : Type 0 where
   pub own-settings : shard .settings ≡ memberSettings s i
-  pub within : shard .made ≡ Done → withinLimits (memberSettings s i) ≡ true
-  pub leaders : shard .made ≡ Done → Leaders (coreOf shard)
-  pub fast-half : shard .made ≡ Done → FastFits (shard .state .rounds .fast)
+  pub lasting : Lasts shard
+
+pub valid-within : (s : Settings) (i : ℕ) (shard : Shard) → Valid s i shard → shard .made ≡ Done → withinLimits (memberSettings s i) ≡ true
+valid-within s i shard valid e = subst (λ (x : Settings). withinLimits x ≡ true) (valid .own-settings) (valid .lasting .made-within e)
 
 -- what is shown of each call on a shard: it is the model's, and the shard stays valid
 pub record CallOk (s : Settings) (i : ℕ) (shard : Shard) (k : Kind ConsensusMessage) (r : Answer) : Type 0 where
   pub as-model : AsModel meaningOf (setupOf s) i (viewShard shard) k (seenAnswer r)
   pub valid : Valid s i (r .shard)
 
-refused-ok : (s : Settings) (i : ℕ) (shard : Shard) → Valid s i shard → (why : Refusal) (k : Kind ConsensusMessage) → CallOk s i shard k (refused why shard)
-refused-ok s i shard v why k = record { as-model = refuse-as-model (setupOf s) i (viewShard shard) k; valid = v }
-
-not-spent-ok : (s : Settings) (i : ℕ) → NotSwift (s .mode) → (choose : Choice) → PicksBest choose → (made : Outcome) (state : State) → Valid s i (shardOf s i made state) → made ≡ Done → (c : Call)
-    → CallOk s i (shardOf s i made state) (kindOf c) (unlessSpent choose (shardOf s i made state) c)
+not-spent-as-model : (s : Settings) (i : ℕ) → NotSwift (s .mode) → (choose : Choice) → PicksBest choose → (made : Outcome) (state : State) → Lasts (shardOf s i made state) → made ≡ Done → (c : Call)
+    → AsModel meaningOf (setupOf s) i (viewShard (shardOf s i made state)) (kindOf c) (seenAnswer (unlessSpent choose (shardOf s i made state) c))
 unfolding unlessSpent
-not-spent-ok s i classic choose picks-best made state valid done c = go (leb 9223372036854775807 (state .rounds .core .slot)) refl
+not-spent-as-model s i classic choose picks-best made state lasts done c = go (leb 9223372036854775807 (state .rounds .core .slot)) refl
   where
-    limits : withinLimits (memberSettings s i) ≡ true
-    limits = valid .within done
-
     go : (t : Bool) → leb 9223372036854775807 (state .rounds .core .slot) ≡ t
-        → CallOk s i (shardOf s i made state) (kindOf c) (cond t (refused NumberTooLarge (shardOf s i made state)) (dispatch choose (shardOf s i made state) c))
-    go true e = refused-ok s i (shardOf s i made state) valid NumberTooLarge (kindOf c)
-    go false e =
-        let room : state .rounds .core .slot < 9223372036854775807 = leb-false 9223372036854775807 (state .rounds .core .slot) e in
-        let kept = dispatched-kept s i classic choose picks-best limits made state (valid .leaders done) (valid .fast-half done) room c in
-        record {
-          as-model = dispatched s i classic choose picks-best limits made state (valid .leaders done) (valid .fast-half done) room c;
-          valid = record { own-settings = kept .same-settings; within = λ d. limits; leaders = λ d. kept .leaders-kept; fast-half = λ d. kept .fast-kept };
-        }
+        → AsModel meaningOf (setupOf s) i (viewShard (shardOf s i made state)) (kindOf c) (seenAnswer (cond t (refused NumberTooLarge (shardOf s i made state)) (dispatch choose (shardOf s i made state) c)))
+    go true e = refuse-as-model (setupOf s) i (viewShard (shardOf s i made state)) (kindOf c)
+    go false e = dispatched s i classic choose picks-best (lasts .made-within done) made state lasts done (leb-false 9223372036854775807 (state .rounds .core .slot) e) c
 
 -- Each call is the model's, and the shard stays valid.
 pub call-ok : (s : Settings) (i : ℕ) → NotSwift (s .mode) → (choose : Choice) → PicksBest choose → (shard : Shard) → Valid s i shard → (c : Call) → CallOk s i shard (kindOf c) (callWith choose shard c)
 unfolding callWith
-call-ok s i classic choose picks-best shard valid c = go (shard .made) refl
+call-ok s i classic choose picks-best shard valid c =
+    record { as-model = go (shard .made) refl; valid = record { own-settings = left .same-settings ∙ valid .own-settings; lasting = left .lasts } }
   where
-    go : (o : Outcome) → shard .made ≡ o → CallOk s i shard (kindOf c) (ifMade choose shard c o)
+    left : CallLasts shard (callWith choose shard c)
+    left = call-lasts choose shard (valid .lasting) c
+
+    go : (o : Outcome) → shard .made ≡ o → AsModel meaningOf (setupOf s) i (viewShard shard) (kindOf c) (seenAnswer (ifMade choose shard c o))
     go Done e =
-        subst (λ (x : Settings). (y : Valid s i (record { made = shard .made; settings = x; state = shard .state })) → CallOk s i (record { made = shard .made; settings = x; state = shard .state }) (kindOf c) (unlessSpent choose (record { made = shard .made; settings = x; state = shard .state }) c))
+        subst
+        (λ (x : Settings).
+        (y : Lasts (record { made = shard .made; settings = x; state = shard .state }))
+        → AsModel meaningOf (setupOf s) i (viewShard (record { made = shard .made; settings = x; state = shard .state })) (kindOf c) (seenAnswer (unlessSpent choose (record { made = shard .made; settings = x; state = shard .state }) c)))
         (sym (valid .own-settings))
-        (λ y. not-spent-ok s i classic choose picks-best (shard .made) (shard .state) y e c)
-        valid
-    go (Refused why) e = refused-ok s i shard valid why (kindOf c)
+        (λ y. not-spent-as-model s i classic choose picks-best (shard .made) (shard .state) y e c)
+        (valid .lasting)
+    go (Refused why) e = refuse-as-model (setupOf s) i (viewShard shard) (kindOf c)

@@ -82,14 +82,6 @@ in-round-round round core no-older = go (either (before (core .paxos .round) (Ro
         ap (λ (t : Bool). cond t (withPaxos (gotoRound (Round round) (core .paxos)) core) core .paxos .round) e
         ∙ optional-rounds-ordered .connected (core .paxos .round) (Round round) e no-older
 
-pub in-round-slot : (round : PaxosRound) (core : Core) → inRound round core .slot ≡ core .slot
-unfolding inRound
-in-round-slot round core = go (before (core .paxos .round) (Round round))
-  where
-    go : (t : Bool) → cond t (withPaxos (gotoRound (Round round) (core .paxos)) core) core .slot ≡ core .slot
-    go true = refl
-    go false = refl
-
 -- ---- counting
 
 pub add-again : (p : ℕ) (f : ℕ → Bool) → add p (add p f) ≡ add p f
@@ -123,7 +115,7 @@ counted-add me src set r l k = ap contains (with-own-replica me src (withSender 
 -- ---- entering
 
 module _ (ans : Answers) (s : Settings) (i : ℕ) (classic : isSwiftPaxos (s .mode) ≡ false) (core : Core) (h : Heard) (slot : ℕ) (round : PaxosRound) where
-  pub enter-client : contains (s .«alive_replicas») i ≡ false → enter (askedOf (memberSettings s i)) h slot round core ≡ stays core noMessages
+  enter-client : contains (s .«alive_replicas») i ≡ false → enter (askedOf (memberSettings s i)) h slot round core ≡ stays core noMessages
   unfolding enter
   enter-client e = simp (e, classic)
 

@@ -14,7 +14,6 @@ use Rattle.tables.specs.Tables.{lookUp}
 use Rattle.message.specs.Modes.{isMultiPaxos, isSwiftPaxos}
 use Rattle.message.specs.Promises.{valueOf, acceptRoundOf}
 use Rattle.message.specs.Rounds.{isRound}
-use Rattle.message.specs.declared.ConsensusMsg.the-variants.{Prepare}
 use Rattle.message.specs.declared.OptionalRound.{OptionalRound}
 use Rattle.message.specs.declared.OptionalRound.the-variants.{NoRound, Round}
 use Rattle.message.specs.declared.PaxosRound.{PaxosRound}
@@ -70,7 +69,7 @@ module _ (choose : Choice) (a : Asked) (h : Heard) (round : PaxosRound) (rv : Ro
       cond starts (withChange (unchanged answers) (acceptPhase a round promised))
       (cond slow (withChange (unchanged answers) (stays promised noMessages)) (epaxosAnswer choose a h round rv promised answers values scores))
 
-  pub gather-by : (core : Core) (answers : FastAnswers) (values scores swifts : List ℕ) → a .member .replica ≡ true → isSwiftPaxos (a .mode) ≡ false
+  gather-by : (core : Core) (answers : FastAnswers) (values scores swifts : List ℕ) → a .member .replica ≡ true → isSwiftPaxos (a .mode) ≡ false
       → fastGather choose a h round rv core answers values scores swifts
       ≡ gathered answers values scores (withPromise a h rv core) (hasAccepted (withPromise a h rv core) && becomesPrepared a core (withPromise a h rv core)) (hasAccepted (withPromise a h rv core))
   unfolding fastGather startsAccept waits fastPromised fastAnswered
@@ -84,7 +83,7 @@ module _ (choose : Choice) (a : Asked) (h : Heard) (round : PaxosRound) (rv : Ro
           (cond t (swiftClientPrepare a h round rv promised answers swifts) (epaxosAnswer choose a h round rv promised answers values scores)))
 
 -- where nobody has answered the set of answers is empty
-pub empty-set : (fast : FastState) → isUnanswered (answersOf fast) ≡ true → fast .«fast_answer_set» ≡ 0
+empty-set : (fast : FastState) → isUnanswered (answersOf fast) ≡ true → fast .«fast_answer_set» ≡ 0
 unfolding isUnanswered
 empty-set fast e =
     eqb-true (fast .«fast_answer_set») 0
@@ -101,7 +100,7 @@ module _ (choose : Choice) (picks-best : PicksBest choose) (s : Settings) (i : �
   abbrev pub scores : List ℕ
   scores = fast .«epaxos_proposer_scores»
 
-  abbrev pub swifts : List ℕ
+  abbrev swifts : List ℕ
   swifts = fast .«swift_proposer_scores»
 
   abbrev pub lift : CoreStep → ChangeStep
@@ -180,7 +179,7 @@ module _ (choose : Choice) (picks-best : PicksBest choose) (s : Settings) (i : �
 
     -- ---- a Prepare
 
-    pub in-prepare : contains (s .«alive_replicas») i ≡ true → (rv : RoundV) (core : Core)
+    in-prepare : contains (s .«alive_replicas») i ≡ true → (rv : RoundV) (core : Core)
         → inFastPrepare choose (askedBy s i) h round rv core (answersOf fast) values scores swifts
         ≡ thenIn lift (prepared (askedBy s i) h round rv core) (λ c. fastGather choose (askedBy s i) h round rv c (answersOf fast) values scores swifts)
     unfolding inFastPrepare fastPrepared
@@ -217,7 +216,7 @@ module _ (choose : Choice) (picks-best : PicksBest choose) (s : Settings) (i : �
 
     -- ---- an Accept
 
-    pub in-accept : contains (s .«alive_replicas») i ≡ true → (v : ℕ) (core : Core)
+    in-accept : contains (s .«alive_replicas») i ≡ true → (v : ℕ) (core : Core)
         → inFastAccept (askedBy s i) h round v core (answersOf fast) swifts
         ≡ thenIn lift (accepting (askedBy s i) h round v core) (λ c. swiftAnsweredAccept (askedBy s i) h round v c (accepting (askedBy s i) h round v core .messages) (answersOf fast) swifts)
     unfolding inFastAccept replicaAccept
@@ -244,11 +243,11 @@ module _ (choose : Choice) (picks-best : PicksBest choose) (s : Settings) (i : �
     abbrev pub own-answer : FastStep
     own-answer = ownAnswer (askedBy s i) v (answersOf fast) scores swifts
 
-    abbrev pub counts-own : FastChange
+    abbrev counts-own : FastChange
     counts-own = epaxosCounted (askedBy s i .member) i i v (answersOf fast) scores
 
     -- the own answer is the first, or is refused
-    pub own-first : isUnanswered (answersOf fast) ≡ true → eqb (lookUp scores i) 2 ≡ true → own-answer ≡ fastHalf.taken counts-own
+    own-first : isUnanswered (answersOf fast) ≡ true → eqb (lookUp scores i) 2 ≡ true → own-answer ≡ fastHalf.taken counts-own
     unfolding ownAnswer epaxosProposeV epaxosAnswered
     own-first e d = ap (λ (t : Bool). cond t (swift-own) (cond (isUnanswered (answersOf fast) && eqb (lookUp scores i) 2) first-own-step (fastHalf.refused Panic (answersOf fast)))) classic
         ∙ ap₂ (λ (t u : Bool). cond (t && u) first-own-step (fastHalf.refused Panic (answersOf fast))) e d
@@ -263,7 +262,7 @@ module _ (choose : Choice) (picks-best : PicksBest choose) (s : Settings) (i : �
         nobody : contains (fast .«fast_answer_set») i ≡ false
         nobody = ap (λ (n : ℕ). contains n i) (empty-set fast e) ∙ contains-empty i
 
-    pub own-refused : (isUnanswered (answersOf fast) && eqb (lookUp scores i) 2) ≡ false → own-answer ≡ fastHalf.refused Panic (answersOf fast)
+    own-refused : (isUnanswered (answersOf fast) && eqb (lookUp scores i) 2) ≡ false → own-answer ≡ fastHalf.refused Panic (answersOf fast)
     unfolding ownAnswer epaxosProposeV
     own-refused e =
         ap (λ (t : Bool). cond t (swiftProposeV (askedBy s i .member) v (askedBy s i .quorum) false (answersOf fast) swifts)
@@ -271,7 +270,7 @@ module _ (choose : Choice) (picks-best : PicksBest choose) (s : Settings) (i : �
         ∙ ap (λ (t : Bool). cond t (epaxosAnswered (askedBy s i .member) i i v (answersOf fast) scores) (fastHalf.refused Panic (answersOf fast))) e
 
     -- the steps of a proposal
-    pub change-allowed : mayPropose (askedBy s i) core ≡ true
+    change-allowed : mayPropose (askedBy s i) core ≡ true
         → proposeChange (askedBy s i) v core (answersOf fast) scores swifts ≡ afterOwnAnswer (askedBy s i) (proposalRound (askedBy s i) core) v core (own-answer .change) (own-answer .outcome)
     unfolding proposeChange leadsFromStart
     change-allowed e =
@@ -284,7 +283,7 @@ module _ (choose : Choice) (picks-best : PicksBest choose) (s : Settings) (i : �
         e
         classic
 
-    pub change-refused : mayPropose (askedBy s i) core ≡ false → proposeChange (askedBy s i) v core (answersOf fast) scores swifts ≡ withChange (unchanged (answersOf fast)) (notAllowed core)
+    change-refused : mayPropose (askedBy s i) core ≡ false → proposeChange (askedBy s i) v core (answersOf fast) scores swifts ≡ withChange (unchanged (answersOf fast)) (notAllowed core)
     unfolding proposeChange
     change-refused e =
         ap
@@ -295,7 +294,7 @@ module _ (choose : Choice) (picks-best : PicksBest choose) (s : Settings) (i : �
         (withChange (unchanged (answersOf fast)) (notAllowed core)))
         e
 
-    pub after-step : (step : FastStep) → own-answer ≡ step → mayPropose (askedBy s i) core ≡ true
+    after-step : (step : FastStep) → own-answer ≡ step → mayPropose (askedBy s i) core ≡ true
         → proposeChange (askedBy s i) v core (answersOf fast) scores swifts ≡ afterOwnAnswer (askedBy s i) (proposalRound (askedBy s i) core) v core (step .change) (step .outcome)
     after-step step e may = change-allowed may ∙ ap (λ (t : FastStep). afterOwnAnswer (askedBy s i) (proposalRound (askedBy s i) core) v core (t .change) (t .outcome)) e
 

@@ -9,13 +9,14 @@ use mathlib.Core.List.{List, [], _∷_, _++_}
 use Prim.Native.Nat.{ℕ, suc, _+_, _-_, _≤_, _<_, min}
 use native.Mathlib.Omega.{arith}
 use lib.Dec.{T, eqb, eqb→eq, ltb, leb}
-use lib.ListN.{length, length-take, length-replicate, getD, replicate}
+use lib.ListN.{length, length-take}
 use lib.Seq.{take-at, take-suc-set}
-use borrow.Author.Tests.{lt-ltb, ltb-true, ltb-false, leb-true, leb-false, le-leb}
+use borrow.Author.Tests.{ltb-true, ltb-false, leb-true, leb-false, le-leb}
 use Rattle.basics.proofs.Tests.{not-both, and-left, and-right, or-cases, of-both}
 use Rattle.sets.specs.Sets.{contains, size, Within}
 use Rattle.tables.specs.Tables.{lookUp}
 use Rattle.message.specs.Modes.{hasFastPath, isSwiftPaxos}
+use Rattle.message.specs.Promises.{acceptRoundOf}
 use Rattle.message.specs.Rounds.{increment, roundEqual, nextLeaderRound, startingRound, equal, unwrapOrDefault}
 use Rattle.message.proofs.NextLeader.{increment-next}
 use Rattle.message.specs.declared.ConsensusMsg.{ConsensusMsg}
@@ -29,6 +30,8 @@ use Rattle.message.specs.declared.Outcome.the-variants.{Done, Refused}
 use Rattle.message.specs.declared.PFMode.{PFMode}
 use Rattle.message.specs.declared.PFMode.the-variants.{Paxos, MultiPaxos, MultiPaxos3P, EPaxos, Pando, SwiftPaxos}
 use Rattle.message.specs.declared.ReadId.{ReadId}
+use Rattle.message.specs.declared.PaxosRound.{PaxosRound}
+use Rattle.message.specs.declared.Refusal.{Refusal}
 use Rattle.message.specs.declared.Refusal.the-variants.{NumberTooLarge, NoSuchProcess, SettingsOutsideLimits}
 use Rattle.message.specs.declared.RoundV.{RoundV}
 use Rattle.message.specs.declared.RoundV.the-variants.{FastV, PaxosV}
@@ -78,9 +81,10 @@ use Rattle.consensus.specs.declared.Shard.{Shard}
 use Rattle.basics.specs.Lists.{In}
 use Rattle.agreement.proofs.Tests.{by-test, and-both, is-true}
 use Rattle.group.specs.Claim.{memberSettings, begun, MemberCall, afterCall, plusCommit}
-use Rattle.group.proofs.Answering.{size-bound, ProposerFits}
-use Rattle.group.proofs.Calls.{replicated, values-begin, no-answers-fit, admit-cond}
-use Rattle.group.proofs.StepBounds.{GroupFits, StateFits, only-empty, FastFits, CoreFits, MessageFits, RoundsFit, processed-fits, proposing-fits}
+use Rattle.group.specs.Steps.{isDone}
+use Rattle.group.proofs.View.{LeaderIn}
+use Rattle.group.proofs.Answering.{FastFits, size-bound, no-answers-fit, ProposerFits}
+use Rattle.group.proofs.StepBounds.{GroupFits, RoundFits, StateFits, only-empty, CoreFits, MessageFits, RoundsFit, processed-fits, proposing-fits}
 
 not-true : (b : Bool) → T (not b) → b ≡ false
 not-true true t = absurd t
@@ -205,6 +209,16 @@ start-fits EPaxos l = tt
 start-fits Pando l = tt
 start-fits SwiftPaxos l = tt
 
+-- the first leader may lead, so it may lead the starting round
+start-led : (Leads : ℕ → Type 0) (mode : PFMode) (l : ℕ) → Leads l → LeaderIn Leads (startingRound mode l)
+unfolding nextLeaderRound
+start-led Leads Paxos l led = tt
+start-led Leads MultiPaxos l led = led
+start-led Leads MultiPaxos3P l led = led
+start-led Leads EPaxos l led = tt
+start-led Leads Pando l led = tt
+start-led Leads SwiftPaxos l led = tt
+
 -- a proposal is made in the starting round, and its round is of group 0 or 1
 start-group : (r : OptionalRound) (mode : PFMode) (l : ℕ) → T (equal r (startingRound mode l)) → unwrapOrDefault r .«round_group» ≡ 0
 unfolding roundEqual
@@ -227,14 +241,28 @@ proposal-group s core t =
     free true x t = absurd t
     free false x t = t
 
+-- its leader is who is elected
+proposal-leader : (s : Settings) → withinLimits s ≡ true → (core : Core) → proposalRound (askedOf s) core .leader < 64
+unfolding electing nextLeaderRound
+proposal-leader s limits core =
+    let few = few-processes s limits in let own = own-below s limits in let first = within-members s limits .leader-below in
+    of-both (λ (p : ℕ). p < 64) (isSwiftPaxos (s .mode)) (omega arith) (omega arith)
+
 -- the numbers of an admitted message
-numbers-of : (count own : ℕ) (core : Core) (d : Delivery) → admit count own core d ≡ Done → (numbersFit d ≡ true) × (processesFit count d ≡ true)
+pub admit-cond : (b : Bool) (o : Outcome) (why : Refusal) → cond b o (Refused why) ≡ Done → (b ≡ true) × (o ≡ Done)
+admit-cond b o why e = go b refl e
+  where
+    go : (t : Bool) → b ≡ t → cond t o (Refused why) ≡ Done → (b ≡ true) × (o ≡ Done)
+    go true d f = (d, f)
+    go false d f = let z : _≡_ {A = Bool} true false = ap isDone (sym f) in absurd (not-both refl z)
+
+pub numbers-of : (count own : ℕ) (core : Core) (d : Delivery) → admit count own core d ≡ Done → (numbersFit d ≡ true) × (processesFit count d ≡ true)
 unfolding admit
 numbers-of count own core d e =
     let n = admit-cond (numbersFit d) (cond (processesFit count d) (ready own core d) (Refused NoSuchProcess)) NumberTooLarge e in
     (n .0, admit-cond (processesFit count d) (ready own core d) NoSuchProcess (n .1) .0)
 
-source-below : (n : ℕ) (d : Delivery) → processesFit n d ≡ true → (ltb (d .message .src) n ≡ true) × (msgProcesses n (d .message .msg) ≡ true)
+pub source-below : (n : ℕ) (d : Delivery) → processesFit n d ≡ true → (ltb (d .message .src) n ≡ true) × (msgProcesses n (d .message .msg) ≡ true)
 unfolding processesFit
 source-below n d e =
     let both =
@@ -242,7 +270,7 @@ source-below n d e =
     (and-left (ltb (d .message .src) n && msgProcesses n (d .message .msg) && requesterBelow n (d .said .requester)) (requesterBelow n (d .«held_requester»)) e) in
     (and-left (ltb (d .message .src) n) (msgProcesses n (d .message .msg)) both, and-right (ltb (d .message .src) n) (msgProcesses n (d .message .msg)) both)
 
-message-numbers : (d : Delivery) → numbersFit d ≡ true → msgNumbers (d .message .msg) ≡ true
+pub message-numbers : (d : Delivery) → numbersFit d ≡ true → msgNumbers (d .message .msg) ≡ true
 unfolding numbersFit
 message-numbers d e =
     and-left (msgNumbers (d .message .msg)) (isNumber (d .message .src))
@@ -255,20 +283,31 @@ unfolding rvProcesses
 proposer-below n few (FastV p v) e = let l = ltb-true p n e in omega arith
 proposer-below n few (PaxosV at v) e = tt
 
-message-fits : (n : ℕ) → n ≤ 64 → (m : ConsensusMsg) → msgNumbers m ≡ true → msgProcesses n m ≡ true → MessageFits m
-unfolding msgNumbers roundNumbers msgProcesses
-message-fits n few (Prepare slot round rv) e q = (
-  leb-true (round .«round_group») 9223372036854775807
-      (and-left (isNumber (round .«round_group»)) (isNumber (round .leader)) (and-right (isSlot slot) (roundNumbers round) (and-left (isSlot slot && roundNumbers round) (rvNumbers rv) e))),
-  proposer-below n few rv (and-right (ltb (round .leader) n) (rvProcesses n rv) q),
-)
-message-fits n few (Accept slot round v) e q =
-    leb-true (round .«round_group») 9223372036854775807
-    (and-left (isNumber (round .«round_group»)) (isNumber (round .leader)) (and-right (isSlot slot) (roundNumbers round) (and-left (isSlot slot && roundNumbers round) (isNumber v) e)))
-message-fits n few (ForwardRequest v) e q = tt
-message-fits n few (Commit slot v) e q = tt
-message-fits n few (ReadRequest id) e q = tt
-message-fits n few (ReadResponse id next) e q = tt
+-- of a group whose processes may lead
+module _ (Leads : ℕ → Type 0) (n : ℕ) (few : n ≤ 64) (may-lead : (p : ℕ) → p < n → Leads p) where
+  accepted-led : (rv : RoundV) → rvProcesses n rv ≡ true → LeaderIn Leads (acceptRoundOf rv)
+  unfolding rvProcesses
+  accepted-led (FastV p v) e = tt
+  accepted-led (PaxosV NoRound v) e = tt
+  accepted-led (PaxosV (Round r) v) e = may-lead (r .leader) (ltb-true (r .leader) n e)
+
+  round-fits : (round : PaxosRound) → roundNumbers round ≡ true → ltb (round .leader) n ≡ true → RoundFits Leads round
+  unfolding roundNumbers
+  round-fits round e q = (
+    leb-true (round .«round_group») 9223372036854775807 (and-left (isNumber (round .«round_group»)) (isNumber (round .leader)) e),
+    may-lead (round .leader) (ltb-true (round .leader) n q),
+  )
+
+  pub message-fits : (m : ConsensusMsg) → msgNumbers m ≡ true → msgProcesses n m ≡ true → MessageFits Leads m
+  unfolding msgNumbers msgProcesses
+  message-fits (Prepare slot round rv) e q =
+      let named = and-right (ltb (round .leader) n) (rvProcesses n rv) q in
+      (round-fits round (and-right (isSlot slot) (roundNumbers round) (and-left (isSlot slot && roundNumbers round) (rvNumbers rv) e)) (and-left (ltb (round .leader) n) (rvProcesses n rv) q), accepted-led rv named, proposer-below n few rv named)
+  message-fits (Accept slot round v) e q = round-fits round (and-right (isSlot slot) (roundNumbers round) (and-left (isSlot slot && roundNumbers round) (isNumber v) e)) q
+  message-fits (ForwardRequest v) e q = tt
+  message-fits (Commit slot v) e q = tt
+  message-fits (ReadRequest id) e q = tt
+  message-fits (ReadResponse id next) e q = tt
 
 -- ---- what lasts
 
@@ -276,10 +315,14 @@ message-fits n few (ReadResponse id next) e q = tt
 abbrev pub CountedIn : Settings → ℕ → Type 0
 CountedIn s p = (p < s .«process_count») × (isSwiftPaxos (s .mode) ≡ false → contains (s .«alive_replicas») p ≡ true)
 
+-- who leads rounds, where the shard is made
+abbrev pub LeadsIn : Outcome → ℕ → Type 0
+LeadsIn made p = made ≡ Done → p < 64
+
 pub record Lasts (shard : Shard) : Type 0 where
   pub made-within : shard .made ≡ Done → withinLimits (shard .settings) ≡ true
   pub slot-fits : shard .state .rounds .core .slot ≤ 9223372036854775807
-  pub sets-fit : StateFits (CountedIn (shard .settings)) (shard .state .rounds .core .paxos)
+  pub sets-fit : StateFits (CountedIn (shard .settings)) (LeadsIn (shard .made)) (shard .state .rounds .core .paxos)
   pub fast-fits : FastFits (shard .state .rounds .fast)
   pub fast-as-new : hasFastPath (shard .settings .mode) ≡ false → shard .state .rounds .fast ≡ noAnswers
   pub reads-fit : ReadsFit (shard .state .rounds .core .tracker) (shard .state .table)
@@ -306,36 +349,34 @@ pub record CallLasts (old : Shard) (r : Answer) : Type 0 where
   pub slot-moves : r .shard .state .rounds .core .slot ≡ plusCommit (r .reply .commit) (old .state .rounds .core .slot)
   pub of-own-slot : OfSlot (old .state .rounds .core .slot) (r .reply .commit)
 
-begins-at-two : (p : ℕ) → p < 64 → lookUp (replicate 64 2) p ≡ 2
-unfolding lookUp
-begins-at-two p l = ap (λ (t : Bool). cond t (getD (replicate 64 2) p 0) 0) (lt-ltb p 64 l) ∙ replicated 64 2 0 p l
+leader-below : (s : Settings) → withinLimits s ≡ true → s .«first_leader» < 64
+leader-below s limits = let few = few-processes s limits in let first = within-members s limits .leader-below in omega arith
 
-begun-fast-fits : FastFits noAnswers
-begun-fast-fits =
+-- the sets as a slot begins
+new-sets-fit : (s : Settings) (made : Outcome) → LeadsIn made (s .«first_leader») → StateFits (CountedIn s) (LeadsIn made) (newCore s .paxos)
+new-sets-fit s made led =
     record {
-      long-epaxos = no-answers-fit .long-scores;
-      long-swift = length-replicate {A = ℕ} 64 0;
-      few-preaccepted = omega arith;
-      epaxos-high = no-answers-fit .low-scores;
-      swift-high = λ p. let e = values-begin p in omega arith;
-      epaxos-low = λ p l. let e = begins-at-two p l in omega arith;
-      epaxos-first = λ p l e. let d = begins-at-two p l in omega arith;
+      only-prepared = only-empty (CountedIn s) (LeadsIn made);
+      only-accepted = only-empty (CountedIn s) (LeadsIn made);
+      group-fits = start-fits (s .mode) (s .«first_leader»);
+      round-led = start-led (LeadsIn made) (s .mode) (s .«first_leader») led;
+      held-led = tt;
     }
 
 pub begun-lasts : (s : Settings) → Lasts (newShard s)
 unfolding newShard
 begun-lasts s =
     record {
-      made-within = made (withinLimits s);
+      made-within = made (withinLimits s) refl;
       slot-fits = omega arith;
-      sets-fit = record { only-prepared = only-empty (CountedIn s); only-accepted = only-empty (CountedIn s); group-fits = start-fits (s .mode) (s .«first_leader») };
-      fast-fits = begun-fast-fits;
+      sets-fit = new-sets-fit s (newShard s .made) (λ e. leader-below s (made (withinLimits s) refl e));
+      fast-fits = no-answers-fit;
       fast-as-new = λ e. refl;
       reads-fit = record { in-order = new-in-order; low-counts = tt; ids-fit = omega arith };
     }
   where
-    made : (t : Bool) → cond t Done (Refused SettingsOutsideLimits) ≡ Done → t ≡ true
-    made t e = admit-cond t Done SettingsOutsideLimits e .0
+    made : (t : Bool) → withinLimits s ≡ t → cond t Done (Refused SettingsOutsideLimits) ≡ Done → withinLimits s ≡ true
+    made t w e = w ∙ admit-cond t Done SettingsOutsideLimits e .0
 
 module _ (choose : Choice) (shard : Shard) (k : Lasts shard) where
   abbrev s : Settings
@@ -355,16 +396,16 @@ module _ (choose : Choice) (shard : Shard) (k : Lasts shard) where
       }
 
   module _ (limits : withinLimits s ≡ true) (room : shard .state .rounds .core .slot < 9223372036854775807) where
-    own-small : s .«my_pid» < 64
+    pub own-small : s .«my_pid» < 64
     own-small = let few = few-processes s limits in let below = own-below s limits in omega arith
 
-    own-counts : T (isReplica s) → CountedIn s (s .«my_pid»)
+    pub own-counts : T (isReplica s) → CountedIn s (s .«my_pid»)
     own-counts t = (own-below s limits, λ e. is-true (isReplica s) t)
 
     abbrev Fits : Rounds → Type 0
-    Fits rounds = RoundsFit (CountedIn s) asked own-counts own-small (shard .state .rounds .core) (shard .state .rounds .fast) rounds
+    Fits rounds = RoundsFit (CountedIn s) (LeadsIn (shard .made)) asked own-counts own-small (shard .state .rounds .core) (shard .state .rounds .fast) rounds
 
-    as-it-is : CoreFits (CountedIn s) asked own-counts own-small (shard .state .rounds .core) (shard .state .rounds .core)
+    as-it-is : CoreFits (CountedIn s) (LeadsIn (shard .made)) asked own-counts own-small (shard .state .rounds .core) (shard .state .rounds .core)
     as-it-is = record { same-slot = refl; same-tracker = refl; state-fits = k .sets-fit }
 
     stays-lasts : (rounds : Rounds) → Fits rounds → Lasts (record { made = shard .made; settings = s; state = record { rounds = rounds; table = shard .state .table } })
@@ -386,8 +427,8 @@ module _ (choose : Choice) (shard : Shard) (k : Lasts shard) where
               record {
                 made-within = k .made-within;
                 slot-fits = let e = f .core-fits .same-slot in let n = increment-next (rounds .core .slot) (omega arith) in omega arith;
-                sets-fit = record { only-prepared = only-empty (CountedIn s); only-accepted = only-empty (CountedIn s); group-fits = start-fits (s .mode) (s .«first_leader») };
-                fast-fits = of-both FastFits (hasFastPath (s .mode)) begun-fast-fits (f .fast-fits);
+                sets-fit = new-sets-fit s (shard .made) (λ e. leader-below s limits);
+                fast-fits = of-both FastFits (hasFastPath (s .mode)) no-answers-fit (f .fast-fits);
                 fast-as-new = λ e. cleared (hasFastPath (s .mode)) (λ d. d);
                 reads-fit =
                     commit-reads-fit (rounds .core .tracker) (shard .state .table) (quorumsOf s .majority) _ (low-majority s limits)
@@ -412,13 +453,14 @@ module _ (choose : Choice) (shard : Shard) (k : Lasts shard) where
         go (Commits v) = of-both (CallLasts shard) held (commit-lasts v (step .rounds) (step .messages) f) (same-lasts _ refl refl)
         go (Refuses why) = same-lasts _ refl refl
 
+    pub proposed-fits : (v : ℕ) → Fits (proposing asked v (shard .state .rounds) .rounds)
+    proposed-fits v =
+        proposing-fits (CountedIn s) (LeadsIn (shard .made)) asked own-counts own-small (shard .state .rounds .core)
+        (λ core t. (let g = proposal-group s core t in omega arith, λ e. proposal-leader s limits core)) v (shard .state .rounds) (k .fast-fits) as-it-is
+
     propose-lasts : (v : ℕ) → CallLasts shard (propose shard v)
     unfolding propose
-    propose-lasts v =
-        of-both (CallLasts shard) (isNumber v)
-        (finish-lasts true (proposing asked v (shard .state .rounds))
-        (proposing-fits (CountedIn s) asked own-counts own-small (shard .state .rounds .core) (λ core t. let g = proposal-group s core t in omega arith) v (shard .state .rounds) (k .fast-fits) as-it-is))
-        (same-lasts _ refl refl)
+    propose-lasts v = of-both (CallLasts shard) (isNumber v) (finish-lasts true (proposing asked v (shard .state .rounds)) (proposed-fits v)) (same-lasts _ refl refl)
 
     read-lasts : (tag arrival : ℕ) → CallLasts shard (read shard tag arrival)
     unfolding read startRead
@@ -454,13 +496,15 @@ module _ (choose : Choice) (shard : Shard) (k : Lasts shard) where
           live (inl h) e = h
           live (inr h) e = absurd (not-both h e)
 
+      pub message-processed-fits : Fits (processed choose asked (heardOf s d) (d .message .msg) (shard .state .rounds) .rounds)
+      message-processed-fits =
+          let few = few-processes s limits in let l = source in
+          processed-fits (CountedIn s) (LeadsIn (shard .made)) asked own-counts own-small (shard .state .rounds .core) choose (heardOf s d) (omega arith) source-counts (d .message .msg)
+          (message-fits (LeadsIn (shard .made)) (s .«process_count») few (λ p below e. omega arith) (d .message .msg) (message-numbers d numbers) (source-below (s .«process_count») d processes .1)) (shard .state .rounds) (k .fast-fits) as-it-is
+
       process-lasts : CallLasts shard (processMessage choose shard d)
       unfolding processMessage
-      process-lasts =
-          let few = few-processes s limits in let l = source in
-          finish-lasts (d .said .«value_held») (processed choose asked (heardOf s d) (d .message .msg) (shard .state .rounds))
-          (processed-fits (CountedIn s) asked own-counts own-small (shard .state .rounds .core) choose (heardOf s d) (omega arith) source-counts (d .message .msg)
-          (message-fits (s .«process_count») few (d .message .msg) (message-numbers d numbers) (source-below (s .«process_count») d processes .1)) (shard .state .rounds) (k .fast-fits) as-it-is)
+      process-lasts = finish-lasts (d .said .«value_held») (processed choose asked (heardOf s d) (d .message .msg) (shard .state .rounds)) message-processed-fits
 
       handle-lasts : (m : ConsensusMsg) → CallLasts shard (handle choose shard d m)
       unfolding handle onCommit onReadRequest onReadResponse
@@ -637,8 +681,8 @@ module _ (s : Settings) (cs : List MemberCall) (i : ℕ) where
   pub reads-in-order : InOrder (left .state .rounds .core .tracker) (left .state .table)
   reads-in-order = ok .reads-fit .in-order
 
-  counted : StateFits (CountedIn s) (core .paxos)
-  counted = subst (λ (x : Settings). StateFits (CountedIn x) (core .paxos)) same (ok .sets-fit)
+  counted : StateFits (CountedIn s) (LeadsIn (left .made)) (core .paxos)
+  counted = subst (λ (x : Settings). StateFits (CountedIn x) (LeadsIn (left .made)) (core .paxos)) same (ok .sets-fit)
 
   -- The prepared and accepted sets hold processes of the group, and live replicas alone where the mode is not SwiftPaxos.
   pub sets-hold-processes : (p : ℕ) → (contains (left .state .rounds .core .paxos .«prepared_set») p ≡ true) ⊎ (contains (left .state .rounds .core .paxos .«accepted_set») p ≡ true) → p < s .«process_count»

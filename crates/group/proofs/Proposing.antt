@@ -33,7 +33,7 @@ use Rattle.steps.specs.Steps.{oneMessage, sends, toAll, withPaxos, stays}
 use Rattle.steps.specs.declared.Core.{Core}
 use Rattle.agreement.specs.Model.{View, Answers, joined, adopted, preparedBy, voted, say}
 use Rattle.agreement.specs.Model as model
-use Rattle.group.proofs.View.{roundNumber, LeaderFits, leaderOf, leader-of, proposerOf, isEPaxos, viewOf, Leaders, setupOf, Follows}
+use Rattle.group.proofs.View.{roundNumber, leaderOf, leader-of, proposerOf, isEPaxos, viewOf, Leaders, setupOf, Follows}
 use Rattle.group.proofs.Entering.{goto-view}
 use Rattle.group.proofs.Preparing.{askedBy, nothing-held, follows-both, first-view, own-accept-view}
 
@@ -58,16 +58,6 @@ leader-gathers s EPaxos l e = absurd (not-both e refl)
 leader-gathers s Pando l e = absurd (not-both e refl)
 leader-gathers s SwiftPaxos l e = absurd (not-both e refl)
 
--- the first leader is a process, so the starting round's is
-pub starting-fits : (m : PFMode) (l : ℕ) → l < 64 → LeaderFits (startingRound m l)
-unfolding nextLeaderRound
-starting-fits Paxos l h = tt
-starting-fits MultiPaxos l h = h
-starting-fits MultiPaxos3P l h = h
-starting-fits EPaxos l h = tt
-starting-fits Pando l h = tt
-starting-fits SwiftPaxos l h = tt
-
 -- the own round of a process
 own-round : (i : ℕ) → roundNumber (Round (nextLeaderRound defaultRound i)) ≡ suc i
 unfolding nextLeaderRound
@@ -78,7 +68,7 @@ unfolding nextLeaderRound
 next-leader r p = refl
 
 module _ (ans : Answers) (s : Settings) (i : ℕ) (classic : isSwiftPaxos (s .mode) ≡ false) (small : i < 64) (first-small : s .«first_leader» < 64) (v : ℕ) (core : Core) (ok : Leaders core) where
-  pub electing-own : electing (askedBy s i) ≡ i
+  electing-own : electing (askedBy s i) ≡ i
   unfolding electing
   electing-own = simp classic
 

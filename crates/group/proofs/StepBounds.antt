@@ -1,5 +1,5 @@
--- What every step of every mode keeps, for any shard within its limits: slot and open reads, whom the prepared and accepted sets hold, and the
--- bounds of the numbers that a call adds to or subtracts from.
+-- What every step of every mode keeps, for any shard within its limits: slot and open reads, whom the prepared and accepted sets hold, who leads
+-- rounds, and the bounds of the numbers that a call adds to or subtracts from.
 -- Assumes nothing.
 use mathlib.Core.Path.{_≡_, refl, sym, ap, subst, _∙_}
 use mathlib.Core.Logic.{_⊎_, inl, inr}
@@ -7,7 +7,6 @@ use mathlib.Core.Bool.{Bool, true, false, cond, not, _&&_}
 use Prim.Native.Nat.{ℕ, _+_, _-_, _≤_, _<_}
 use native.Mathlib.Omega.{arith}
 use lib.Dec.{T, eqb, eqb→eq, ltb}
-use lib.ListN.{length}
 use borrow.Author.Tests.{ltb-true, ltb-false, eqb-true}
 use Rattle.basics.proofs.Tests.{either, not-both, fails, or-cases, of-both}
 use Rattle.sets.specs.Sets.{contains, insert, size, isEmpty, one}
@@ -27,9 +26,10 @@ use Rattle.message.specs.declared.Outcome.the-variants.{Done, Refused}
 use Rattle.message.specs.declared.PaxosRound.{PaxosRound}
 use Rattle.message.specs.declared.RoundV.{RoundV}
 use Rattle.message.specs.declared.RoundV.the-variants.{FastV, PaxosV}
-use Rattle.message.specs.Promises.{isProcess}
-use Rattle.round_state.specs.Paxos.{isHeld, getV, isPrepared, paxosCanCommit, withSender, withOwn, counted, withHeld, gotoRound, receivePromise, paxosProposeV, acceptFits, receiveAccept, acceptOwn, selfAccept, adoptFromEpaxos}
-use Rattle.round_state.specs.declared.HeldPromise.the-variants.{Held}
+use Rattle.message.specs.Promises.{isProcess, acceptRoundOf}
+use Rattle.round_state.specs.Paxos.{isHeld, getV, getLastAcceptedRound, heldAfterPromise, isPrepared, paxosCanCommit, withSender, withOwn, counted, withHeld, gotoRound, receivePromise, paxosProposeV, acceptFits, receiveAccept, acceptOwn, selfAccept, adoptFromEpaxos}
+use Rattle.round_state.specs.declared.HeldPromise.{HeldPromise}
+use Rattle.round_state.specs.declared.HeldPromise.the-variants.{NothingHeld, Held}
 use Rattle.round_state.specs.declared.Member.{Member}
 use Rattle.round_state.specs.declared.PaxosState.{PaxosState}
 use Rattle.round_state.specs.declared.PaxosStep.{PaxosStep}
@@ -61,7 +61,8 @@ use Rattle.message.specs.declared.Refusal.the-variants.{SourceNotLive}
 use Rattle.consensus.specs.Call.{proposing}
 use Rattle.consensus.specs.Handle.{processed}
 use Rattle.agreement.proofs.Tests.{by-test, neqb→ne}
-use Rattle.group.proofs.Answering.{size-bound, stored, stored-length, ProposerFits}
+use Rattle.group.proofs.View.{LeaderIn}
+use Rattle.group.proofs.Answering.{FastFits, size-bound, stored, stored-length, ProposerFits}
 
 -- ---- rounds
 
@@ -70,9 +71,13 @@ abbrev pub GroupFits : OptionalRound → Type 0
 GroupFits NoRound = Unit {0}
 GroupFits (Round r) = r .«round_group» ≤ 9223372036854775807
 
--- ---- sets that hold only what may be counted
+-- and its leader is one that may lead
+abbrev pub RoundFits : (ℕ → Type 0) → PaxosRound → Type 0
+RoundFits Leads r = GroupFits (Round r) × Leads (r .leader)
 
-module _ (Counts : ℕ → Type 0) where
+-- ---- sets that hold only what may be counted, and rounds that are led by who may lead
+
+module _ (Counts Leads : ℕ → Type 0) where
   abbrev pub Only : ℕ → Type 0
   Only set = (p : ℕ) → contains set p ≡ true → Counts p
 
@@ -80,6 +85,8 @@ module _ (Counts : ℕ → Type 0) where
     pub only-prepared : Only (s .«prepared_set»)
     pub only-accepted : Only (s .«accepted_set»)
     pub group-fits : GroupFits (s .round)
+    pub round-led : LeaderIn Leads (s .round)
+    pub held-led : LeaderIn Leads (getLastAcceptedRound (s .«max_rv»))
 
   pub only-empty : Only 0
   only-empty p e = absurd (not-both e (contains-empty p))
@@ -110,52 +117,60 @@ module _ (Counts : ℕ → Type 0) where
         sender : Only (cond (eqb src (me .«my_pid»)) set (insert set src))
         sender = by-test Only (eqb src (me .«my_pid»)) set (insert set src) (λ t. only) (λ t. only-insert set src only (c (neqb→ne src (me .«my_pid») t)))
 
-    promise-fits : (src : ℕ) (rv : RoundV) (s : PaxosState) → CountsOther src → StateFits s → StateFits (receivePromise me src rv s .state)
+    led-after : (held : HeldPromise) (rv : RoundV) → LeaderIn Leads (getLastAcceptedRound held) → LeaderIn Leads (acceptRoundOf rv)
+        → LeaderIn Leads (getLastAcceptedRound (heldAfterPromise held rv))
+    unfolding heldAfterPromise
+    led-after NothingHeld rv old led = led
+    led-after (Held rv0) rv old led = of-both (λ (x : HeldPromise). LeaderIn Leads (getLastAcceptedRound x)) (before (acceptRoundOf rv0) (acceptRoundOf rv)) led old
+
+    promise-fits : (src : ℕ) (rv : RoundV) (s : PaxosState) → CountsOther src → LeaderIn Leads (acceptRoundOf rv) → StateFits s → StateFits (receivePromise me src rv s .state)
     unfolding receivePromise
-    promise-fits src rv s c f = record { only-prepared = counted-only src (s .«prepared_set») c (f .only-prepared); only-accepted = f .only-accepted; group-fits = f .group-fits }
+    promise-fits src rv s c led f =
+        record {
+          only-prepared = counted-only src (s .«prepared_set») c (f .only-prepared);
+          only-accepted = f .only-accepted;
+          group-fits = f .group-fits;
+          round-led = f .round-led;
+          held-led = led-after (s .«max_rv») rv (f .held-led) led;
+        }
 
     abbrev PaxosStepFits : PaxosStep → Type 0
     PaxosStepFits step = StateFits (step .state)
 
-    propose-fits : (rv : RoundV) (s : PaxosState) → StateFits s → PaxosStepFits (paxosProposeV me rv s)
+    propose-fits : (rv : RoundV) (s : PaxosState) → LeaderIn Leads (acceptRoundOf rv) → StateFits s → PaxosStepFits (paxosProposeV me rv s)
     unfolding paxosProposeV
-    propose-fits rv s f =
-        of-both PaxosStepFits (isHeld (s .«max_rv»)) f (of-both PaxosStepFits (isEmpty (s .«prepared_set»)) (promise-fits (me .«my_pid») rv s own-other f) f)
+    propose-fits rv s led f =
+        of-both PaxosStepFits (isHeld (s .«max_rv»)) f (of-both PaxosStepFits (isEmpty (s .«prepared_set»)) (promise-fits (me .«my_pid») rv s own-other led f) f)
 
-    accept-fits : (src : ℕ) (round : PaxosRound) (v : ℕ) (s : PaxosState) → CountsOther src → StateFits s → PaxosStepFits (receiveAccept me src round v s)
+    accept-fits : (src : ℕ) (round : PaxosRound) (v : ℕ) (s : PaxosState) → CountsOther src → Leads (round .leader) → StateFits s → PaxosStepFits (receiveAccept me src round v s)
     unfolding receiveAccept
-    accept-fits src round v s c f =
+    accept-fits src round v s c led f =
         of-both PaxosStepFits (acceptFits (s .«max_rv») round v)
-        (record { only-prepared = f .only-prepared; only-accepted = counted-only src (s .«accepted_set») c (f .only-accepted); group-fits = f .group-fits }) f
+        (record {
+          only-prepared = f .only-prepared;
+          only-accepted = counted-only src (s .«accepted_set») c (f .only-accepted);
+          group-fits = f .group-fits;
+          round-led = f .round-led;
+          held-led = led;
+        }) f
 
-    self-fits : (round : PaxosRound) (s : PaxosState) → StateFits s → PaxosStepFits (selfAccept me round s)
+    self-fits : (round : PaxosRound) (s : PaxosState) → Leads (round .leader) → StateFits s → PaxosStepFits (selfAccept me round s)
     unfolding selfAccept acceptOwn
-    self-fits round s f = of-both PaxosStepFits (isEmpty (s .«accepted_set»)) (go (getV (s .«max_rv»))) f
+    self-fits round s led f = of-both PaxosStepFits (isEmpty (s .«accepted_set»)) (go (getV (s .«max_rv»))) f
       where
         go : (v : OptionalValue) → PaxosStepFits (acceptOwn me round s v)
         go NoValue = f
-        go (Value v) = accept-fits (me .«my_pid») round v s own-other f
+        go (Value v) = accept-fits (me .«my_pid») round v s own-other led f
 
-  goto-fits : (round : OptionalRound) (s : PaxosState) → GroupFits round → StateFits (gotoRound round s)
-  goto-fits round s g = record { only-prepared = only-empty; only-accepted = only-empty; group-fits = g }
+  goto-fits : (round : PaxosRound) (s : PaxosState) → RoundFits Leads round → StateFits s → StateFits (gotoRound (Round round) s)
+  goto-fits round s fit f = record { only-prepared = only-empty; only-accepted = only-empty; group-fits = fit .0; round-led = fit .1; held-led = f .held-led }
 
 -- ---- the fast half
-
--- No figure is larger than the number of answers, from where it begins; a score is 2 or more until its proposer has answered, and then 1 or
--- more, since no second answer of it counts.
-pub record FastFits (f : FastState) : Type 0 where
-  pub long-epaxos : length (f .«epaxos_proposer_scores») ≡ 64
-  pub long-swift : length (f .«swift_proposer_scores») ≡ 64
-  pub few-preaccepted : f .«fast_preaccepted» ≤ size (f .«fast_answer_set»)
-  pub epaxos-high : (p : ℕ) → lookUp (f .«epaxos_proposer_scores») p ≤ 2 + size (f .«fast_answer_set»)
-  pub swift-high : (p : ℕ) → lookUp (f .«swift_proposer_scores») p ≤ size (f .«fast_answer_set»)
-  pub epaxos-low : (p : ℕ) → p < 64 → 1 ≤ lookUp (f .«epaxos_proposer_scores») p
-  pub epaxos-first : (p : ℕ) → p < 64 → contains (f .«fast_answer_set») p ≡ false → 2 ≤ lookUp (f .«epaxos_proposer_scores») p
 
 unchanged-fits : (f : FastState) → FastFits f → FastFits (changed (unchanged (answersOf f)) f)
 unfolding toVAfter epaxosScoresAfter swiftScoresAfter
 unchanged-fits f ok =
-    record { long-epaxos = ok .long-epaxos; long-swift = ok .long-swift; few-preaccepted = ok .few-preaccepted; epaxos-high = ok .epaxos-high; swift-high = ok .swift-high; epaxos-low = ok .epaxos-low; epaxos-first = ok .epaxos-first }
+    record { long-values = ok .long-values; long-epaxos = ok .long-epaxos; long-swift = ok .long-swift; few-preaccepted = ok .few-preaccepted; epaxos-high = ok .epaxos-high; swift-high = ok .swift-high; epaxos-low = ok .epaxos-low; epaxos-first = ok .epaxos-first }
 
 -- an answer more, from one that has not answered
 module _ (me : Member) (src p v : ℕ) (src-small : src < 64) (p-small : p < 64) (f : FastState) (ok : FastFits f) (new : contains (f .«fast_answer_set») src ≡ false) where
@@ -207,6 +222,7 @@ module _ (me : Member) (src p v : ℕ) (src-small : src < 64) (p-small : p < 64)
   unfolding toVAfter epaxosScoresAfter swiftScoresAfter
   epaxos-counted-fits =
       record {
+        long-values = stored-length (f .«fast_proposer_to_v») p v ∙ ok .long-values;
         long-epaxos = stored-length (f .«epaxos_proposer_scores») p newScore ∙ ok .long-epaxos;
         long-swift = ok .long-swift;
         few-preaccepted = let m = one-more in let le = preaccepted-fits in omega arith;
@@ -228,6 +244,7 @@ module _ (me : Member) (src p v : ℕ) (src-small : src < 64) (p-small : p < 64)
   unfolding toVAfter epaxosScoresAfter swiftScoresAfter
   swift-counted-fits leader =
       record {
+        long-values = stored-length (f .«fast_proposer_to_v») p v ∙ ok .long-values;
         long-epaxos = ok .long-epaxos;
         long-swift = stored-length (f .«swift_proposer_scores») p swiftScore ∙ ok .long-swift;
         few-preaccepted = let m = one-more in let le = preaccepted-fits in omega arith;
@@ -244,6 +261,7 @@ module _ (me : Member) (src p v : ℕ) (src-small : src < 64) (p-small : p < 64)
   unfolding toVAfter epaxosScoresAfter swiftScoresAfter
   swift-recorded-fits =
       record {
+        long-values = stored-length (f .«fast_proposer_to_v») p v ∙ ok .long-values;
         long-epaxos = ok .long-epaxos;
         long-swift = ok .long-swift;
         few-preaccepted = let m = one-more in let le = ok .few-preaccepted in omega arith;
@@ -284,15 +302,15 @@ module _ (me : Member) (own-small : me .«my_pid» < 64) (f : FastState) (ok : F
 -- ---- the handlers of every mode
 
 -- the numbers of an admitted message
-abbrev pub MessageFits : ConsensusMsg → Type 0
-MessageFits (Prepare slot round rv) = (round .«round_group» ≤ 9223372036854775807) × ProposerFits rv
-MessageFits (Accept slot round v) = round .«round_group» ≤ 9223372036854775807
-MessageFits (ForwardRequest v) = Unit {0}
-MessageFits (Commit slot v) = Unit {0}
-MessageFits (ReadRequest id) = Unit {0}
-MessageFits (ReadResponse id next) = Unit {0}
+abbrev pub MessageFits : (ℕ → Type 0) → ConsensusMsg → Type 0
+MessageFits Leads (Prepare slot round rv) = RoundFits Leads round × LeaderIn Leads (acceptRoundOf rv) × ProposerFits rv
+MessageFits Leads (Accept slot round v) = RoundFits Leads round
+MessageFits Leads (ForwardRequest v) = Unit {0}
+MessageFits Leads (Commit slot v) = Unit {0}
+MessageFits Leads (ReadRequest id) = Unit {0}
+MessageFits Leads (ReadResponse id next) = Unit {0}
 
-module _ (Counts : ℕ → Type 0) (a : Asked) (own-counts : T (a .member .replica) → Counts (a .member .«my_pid»)) (own-small : a .member .«my_pid» < 64) (old : Core) where
+module _ (Counts Leads : ℕ → Type 0) (a : Asked) (own-counts : T (a .member .replica) → Counts (a .member .«my_pid»)) (own-small : a .member .«my_pid» < 64) (old : Core) where
   abbrev me : Member
   me = a .member
 
@@ -300,12 +318,12 @@ module _ (Counts : ℕ → Type 0) (a : Asked) (own-counts : T (a .member .repli
   pub record CoreFits (core : Core) : Type 0 where
     pub same-slot : core .slot ≡ old .slot
     pub same-tracker : core .tracker ≡ old .tracker
-    pub state-fits : StateFits Counts (core .paxos)
+    pub state-fits : StateFits Counts Leads (core .paxos)
 
   abbrev StepFits : CoreStep → Type 0
   StepFits step = CoreFits (step .core)
 
-  with-state : {core : Core} {s : PaxosState} → CoreFits core → StateFits Counts s → CoreFits (withPaxos s core)
+  with-state : {core : Core} {s : PaxosState} → CoreFits core → StateFits Counts Leads s → CoreFits (withPaxos s core)
   with-state k f = record { same-slot = k .same-slot; same-tracker = k .same-tracker; state-fits = f }
 
   left-fits : {core : Core} → CoreFits core → CoreFits (leftFastPath core)
@@ -319,22 +337,22 @@ module _ (Counts : ℕ → Type 0) (a : Asked) (own-counts : T (a .member .repli
 
   -- ---- accepts by oneself
 
-  own-accept-fits : (round : PaxosRound) (core : Core) (s : PaxosState) (o : Outcome) → CoreFits core → StateFits Counts s → StepFits (afterOwnAccept a round core s o)
+  own-accept-fits : (round : PaxosRound) (core : Core) (s : PaxosState) (o : Outcome) → CoreFits core → StateFits Counts Leads s → StepFits (afterOwnAccept a round core s o)
   unfolding broadcastAccept
   own-accept-fits round core s Done k f = off-fits (withPaxos s core) (with-state k f)
   own-accept-fits round core s (Refused why) k f = k
 
-  phase-fits : (round : PaxosRound) (core : Core) → CoreFits core → StepFits (acceptPhase a round core)
+  phase-fits : (round : PaxosRound) → Leads (round .leader) → (core : Core) → CoreFits core → StepFits (acceptPhase a round core)
   unfolding acceptPhase
-  phase-fits round core k =
-      own-accept-fits round core (selfAccept me round (core .paxos) .state) (selfAccept me round (core .paxos) .outcome) k (self-fits Counts me own-counts round (core .paxos) (k .state-fits))
+  phase-fits round led core k =
+      own-accept-fits round core (selfAccept me round (core .paxos) .state) (selfAccept me round (core .paxos) .outcome) k (self-fits Counts Leads me own-counts round (core .paxos) led (k .state-fits))
 
   -- ---- messages
 
-  module _ (h : Heard) (round : PaxosRound) (group-fits : round .«round_group» ≤ 9223372036854775807) where
+  module _ (h : Heard) (round : PaxosRound) (round-fits : RoundFits Leads round) where
     in-round-fits : (core : Core) → CoreFits core → CoreFits (inRound round core)
     unfolding inRound
-    in-round-fits core k = of-both CoreFits (before (core .paxos .round) (Round round)) (with-state k (goto-fits Counts (Round round) (core .paxos) group-fits)) k
+    in-round-fits core k = of-both CoreFits (before (core .paxos .round) (Round round)) (with-state k (goto-fits Counts Leads round (core .paxos) round-fits (k .state-fits))) k
 
     -- the round is not entered, or the source is taken
     entered : (Q : CoreStep → Type 0) (slot : ℕ) (core : Core) → Q (stays core noMessages) → Q (refuses SourceNotLive core)
@@ -347,14 +365,14 @@ module _ (Counts : ℕ → Type 0) (a : Asked) (own-counts : T (a .member .repli
     preparing-fits core k =
         of-both StepFits (eqb (h .delegate) (me .«my_pid»)) k (of-both StepFits (answersNothing a h round core) k (of-both StepFits (mayAnswer h round) k k))
 
-    prepared-fits : (rv : RoundV) (core : Core) → CoreFits core → StepFits (prepared a h round rv core)
+    prepared-fits : (rv : RoundV) → LeaderIn Leads (acceptRoundOf rv) → (core : Core) → CoreFits core → StepFits (prepared a h round rv core)
     unfolding prepared holdFirst
-    prepared-fits rv core k = go (holdFirst a rv (core .paxos) .state) (holdFirst a rv (core .paxos) .outcome) held
+    prepared-fits rv led core k = go (holdFirst a rv (core .paxos) .state) (holdFirst a rv (core .paxos) .outcome) held
       where
-        held : StateFits Counts (holdFirst a rv (core .paxos) .state)
-        held = of-both (λ (x : PaxosStep). StateFits Counts (x .state)) (isHeld (core .paxos .«max_rv»)) (k .state-fits) (propose-fits Counts me own-counts rv (core .paxos) (k .state-fits))
+        held : StateFits Counts Leads (holdFirst a rv (core .paxos) .state)
+        held = of-both (λ (x : PaxosStep). StateFits Counts Leads (x .state)) (isHeld (core .paxos .«max_rv»)) (k .state-fits) (propose-fits Counts Leads me own-counts rv (core .paxos) led (k .state-fits))
 
-        go : (s : PaxosState) (o : Outcome) → StateFits Counts s → StepFits (afterHeld a h round core s o)
+        go : (s : PaxosState) (o : Outcome) → StateFits Counts Leads s → StepFits (afterHeld a h round core s o)
         go s Done f = preparing-fits (withPaxos s core) (with-state k f)
         go s (Refused why) f = k
 
@@ -371,34 +389,35 @@ module _ (Counts : ℕ → Type 0) (a : Asked) (own-counts : T (a .member .repli
         (of-both StepFits (isCommitter a h) (try-fits v core noMessages k) k))
 
     module _ (src-counts : Counts (h .src)) where
-      promised-fits : (rv : RoundV) (core : Core) → CoreFits core → CoreFits (withPromise a h rv core)
-      promised-fits rv core k = with-state k (promise-fits Counts me own-counts (h .src) rv (core .paxos) (λ other. src-counts) (k .state-fits))
+      promised-fits : (rv : RoundV) → LeaderIn Leads (acceptRoundOf rv) → (core : Core) → CoreFits core → CoreFits (withPromise a h rv core)
+      promised-fits rv led core k = with-state k (promise-fits Counts Leads me own-counts (h .src) rv (core .paxos) (λ other. src-counts) led (k .state-fits))
 
-      gather-fits : (rv : RoundV) (core : Core) → CoreFits core → StepFits (gather a h round rv core)
+      gather-fits : (rv : RoundV) → LeaderIn Leads (acceptRoundOf rv) → (core : Core) → CoreFits core → StepFits (gather a h round rv core)
       unfolding gather
-      gather-fits rv core k =
-          of-both StepFits (becomesPrepared a core (withPromise a h rv core)) (phase-fits round (withPromise a h rv core) (promised-fits rv core k)) (promised-fits rv core k)
+      gather-fits rv led core k =
+          let q = promised-fits rv led core k in
+          of-both StepFits (becomesPrepared a core (withPromise a h rv core)) (phase-fits round (round-fits .1) (withPromise a h rv core) q) q
 
-      received-fits : (v : ℕ) (core : Core) → CoreFits core → StateFits Counts (receiveAccept me (h .src) round v (core .paxos) .state)
-      received-fits v core k = accept-fits Counts me own-counts (h .src) round v (core .paxos) (λ other. src-counts) (k .state-fits)
+      received-fits : (v : ℕ) (core : Core) → CoreFits core → StateFits Counts Leads (receiveAccept me (h .src) round v (core .paxos) .state)
+      received-fits v core k = accept-fits Counts Leads me own-counts (h .src) round v (core .paxos) (λ other. src-counts) (round-fits .1) (k .state-fits)
 
       accepting-fits : (v : ℕ) (core : Core) → CoreFits core → StepFits (accepting a h round v core)
       unfolding accepting
       accepting-fits v core k = go (receiveAccept me (h .src) round v (core .paxos) .state) (receiveAccept me (h .src) round v (core .paxos) .outcome) (received-fits v core k)
         where
-          go : (s : PaxosState) (o : Outcome) → StateFits Counts s → StepFits (afterAccepted a h round v core s o)
+          go : (s : PaxosState) (o : Outcome) → StateFits Counts Leads s → StepFits (afterAccepted a h round v core s o)
           go s Done f = accepted-fits v (offFastPath a (withPaxos s core)) (off-fits (withPaxos s core) (with-state k f))
           go s (Refused why) f = k
 
   -- ---- messages in the classic modes
 
   module _ (h : Heard) (src-counts : T (sourceTaken a h) → Counts (h .src)) where
-    classic-fits : (m : ConsensusMsg) → MessageFits m → (core : Core) → CoreFits core → StepFits (processClassic a h m core)
+    classic-fits : (m : ConsensusMsg) → MessageFits Leads m → (core : Core) → CoreFits core → StepFits (processClassic a h m core)
     unfolding processClassic onPrepare inPrepare onAccept
     classic-fits (Prepare slot round rv) fit core k =
         entered h round (fit .0) (λ step. StepFits (andThen step (inPrepare a h round rv))) slot core k k
-        (λ t. then-fits (prepared a h round rv (inRound round core)) (gather a h round rv) (prepared-fits h round (fit .0) rv (inRound round core) (in-round-fits h round (fit .0) core k))
-        (gather-fits h round (fit .0) (src-counts t) rv))
+        (λ t. then-fits (prepared a h round rv (inRound round core)) (gather a h round rv) (prepared-fits h round (fit .0) rv (fit .1) (inRound round core) (in-round-fits h round (fit .0) core k))
+        (gather-fits h round (fit .0) (src-counts t) rv (fit .1)))
     classic-fits (Accept slot round v) fit core k =
         entered h round fit (λ step. StepFits (andThen step (accepting a h round v))) slot core k k
         (λ t. accepting-fits h round fit (src-counts t) v (inRound round core) (in-round-fits h round fit core k))
@@ -422,19 +441,19 @@ module _ (Counts : ℕ → Type 0) (a : Asked) (own-counts : T (a .member .repli
     then-changes : (step : CoreStep) (rest : Core → ChangeStep) → StepFits step → ((c : Core) → CoreFits c → ChangeFits (rest c)) → ChangeFits (andThenChange answersNow step rest)
     then-changes step rest k r = of-both ChangeFits (goesOn (step .next)) (r (step .core) k) (same-fits k)
 
-    adopt-fits : (round : PaxosRound) (core : Core) (x : Adoption) → CoreFits core → StepFits (epaxosAdopt a round core x)
+    adopt-fits : (round : PaxosRound) → Leads (round .leader) → (core : Core) (x : Adoption) → CoreFits core → StepFits (epaxosAdopt a round core x)
     unfolding adopting
-    adopt-fits round core NoAdoption k = k
-    adopt-fits round core (Adopt v) k =
+    adopt-fits round led core NoAdoption k = k
+    adopt-fits round led core (Adopt v) k =
         of-both StepFits (isPrepared me (core .paxos))
         (own-accept-fits round core (adoptFromEpaxos me round v (core .paxos) .state) (adoptFromEpaxos me round v (core .paxos) .outcome) k
-        (self-fits Counts me own-counts round (withHeld (Held (PaxosV NoRound v)) (core .paxos)) held)) k
+        (self-fits Counts Leads me own-counts round (withHeld (Held (PaxosV NoRound v)) (core .paxos)) led held)) k
       where
-        held : StateFits Counts (withHeld (Held (PaxosV NoRound v)) (core .paxos))
-        held = record { only-prepared = k .state-fits .only-prepared; only-accepted = k .state-fits .only-accepted; group-fits = k .state-fits .group-fits }
-    adopt-fits round core (AdoptionRefused why) k = k
+        held : StateFits Counts Leads (withHeld (Held (PaxosV NoRound v)) (core .paxos))
+        held = record { only-prepared = k .state-fits .only-prepared; only-accepted = k .state-fits .only-accepted; group-fits = k .state-fits .group-fits; round-led = k .state-fits .round-led; held-led = tt }
+    adopt-fits round led core (AdoptionRefused why) k = k
 
-    module _ (h : Heard) (src-small : h .src < 64) (round : PaxosRound) where
+    module _ (h : Heard) (src-small : h .src < 64) (round : PaxosRound) (round-fits : RoundFits Leads round) where
       epaxos-fits : (choose : Choice) (rv : RoundV) → ProposerFits rv → (core : Core) → CoreFits core
           → ChangeFits (epaxosAnswer choose a h round rv core answersNow (f .«fast_proposer_to_v») (f .«epaxos_proposer_scores»))
       unfolding epaxosAnswer epaxosDecide
@@ -447,7 +466,7 @@ module _ (Counts : ℕ → Type 0) (a : Asked) (own-counts : T (a .member .repli
               → ChangeFits (afterEpaxosAnswer choose a h round v core (f .«fast_proposer_to_v») (f .«epaxos_proposer_scores») change o)
           go change Done q = (
             of-both StepFits (epaxosCanCommit me (change .answers)) k
-                (adopt-fits round core (epaxosTryAdoptAfter choose me change (f .«fast_proposer_to_v») (f .«epaxos_proposer_scores»)) k),
+                (adopt-fits round (round-fits .1) core (epaxosTryAdoptAfter choose me change (f .«fast_proposer_to_v») (f .«epaxos_proposer_scores»)) k),
             q,
           )
           go change (Refused why) q = (k, q)
@@ -471,7 +490,7 @@ module _ (Counts : ℕ → Type 0) (a : Asked) (own-counts : T (a .member .repli
       unfolding leaderAnswered
       leader-fits v = swift-answered-fits me own-small f ok (h .src) (me .«my_pid») v src-small own-small (a .quorum) true
 
-      module _ (group-fits : round .«round_group» ≤ 9223372036854775807) (src-counts : Counts (h .src)) where
+      module _ (src-counts : Counts (h .src)) where
         client-accept-fits : (v : ℕ) (core : Core) → CoreFits core → ChangeFits (swiftClientAccept a h round v core answersNow (f .«swift_proposer_scores»))
         unfolding swiftClientAccept swiftAccept clientAccept acceptAnswered
         client-accept-fits v core k =
@@ -481,42 +500,42 @@ module _ (Counts : ℕ → Type 0) (a : Asked) (own-counts : T (a .member .repli
             )
             (same-fits k)
           where
-            received : (s : PaxosState) (o : Outcome) → StateFits Counts s → StepFits (afterClientAccept a v core s o)
+            received : (s : PaxosState) (o : Outcome) → StateFits Counts Leads s → StepFits (afterClientAccept a v core s o)
             received s Done q = of-both StepFits (paxosCanCommit me s) (with-state k q) (with-state k q)
             received s (Refused why) q = k
 
             go : (left : FastAnswers) (o : Outcome) → StepFits (afterAcceptAnswer a h round v core left o)
             go left Done =
                 of-both StepFits (fromLeader h round && swiftCommits a left) k
-                (received (receiveAccept me (h .src) round v (core .paxos) .state) (receiveAccept me (h .src) round v (core .paxos) .outcome) (received-fits h round group-fits src-counts v core k))
+                (received (receiveAccept me (h .src) round v (core .paxos) .state) (receiveAccept me (h .src) round v (core .paxos) .outcome) (received-fits h round round-fits src-counts v core k))
             go left (Refused why) = k
 
         replica-accept-fits : (v : ℕ) (core : Core) → CoreFits core → ChangeFits (replicaAccept a h round v core answersNow (f .«swift_proposer_scores»))
         unfolding replicaAccept swiftAnsweredAccept
         replica-accept-fits v core k =
-            then-changes step (λ c. swiftAnsweredAccept a h round v c (step .messages) answersNow (f .«swift_proposer_scores»)) (accepting-fits h round group-fits src-counts v core k)
+            then-changes step (λ c. swiftAnsweredAccept a h round v c (step .messages) answersNow (f .«swift_proposer_scores»)) (accepting-fits h round round-fits src-counts v core k)
             (λ c q. (go c q (leaderAnswered a h v answersNow (f .«swift_proposer_scores») .change .answers) (leaderAnswered a h v answersNow (f .«swift_proposer_scores») .outcome), leader-fits v))
           where
             step : CoreStep
             step = accepting a h round v core
 
             go : (c : Core) → CoreFits c → (left : FastAnswers) (o : Outcome) → StepFits (afterReplicaAnswer a h round v c (step .messages) left o)
-            go c q left Done = of-both StepFits (swiftCommits a left) q (try-fits h round group-fits v c (step .messages) q)
+            go c q left Done = of-both StepFits (swiftCommits a left) q (try-fits h round round-fits v c (step .messages) q)
             go c q left (Refused why) = q
 
-        fast-gather-fits : (choose : Choice) (rv : RoundV) → ProposerFits rv → (core : Core) → CoreFits core
+        fast-gather-fits : (choose : Choice) (rv : RoundV) → LeaderIn Leads (acceptRoundOf rv) → ProposerFits rv → (core : Core) → CoreFits core
             → ChangeFits (fastGather choose a h round rv core answersNow (f .«fast_proposer_to_v») (f .«epaxos_proposer_scores») (f .«swift_proposer_scores»))
         unfolding fastGather fastAnswered fastPromised
-        fast-gather-fits choose rv l core k =
-            of-both ChangeFits (startsAccept a round core (fastPromised a h rv core)) (same-fits (phase-fits round (fastPromised a h rv core) q))
+        fast-gather-fits choose rv led l core k =
+            of-both ChangeFits (startsAccept a round core (fastPromised a h rv core)) (same-fits (phase-fits round (round-fits .1) (fastPromised a h rv core) q))
             (of-both ChangeFits (waits a round (fastPromised a h rv core)) (same-fits q)
             (of-both ChangeFits (isSwiftPaxos (a .mode)) (client-prepare-fits rv l (fastPromised a h rv core) q) (epaxos-fits choose rv l (fastPromised a h rv core) q)))
           where
             q : CoreFits (fastPromised a h rv core)
-            q = of-both CoreFits (me .replica) (promised-fits h round group-fits src-counts rv core k) k
+            q = of-both CoreFits (me .replica) (promised-fits h round round-fits src-counts rv led core k) k
 
     module _ (h : Heard) (src-small : h .src < 64) (src-counts : T (sourceTaken a h) → Counts (h .src)) where
-      change-fits : (choose : Choice) (m : ConsensusMsg) → MessageFits m → (core : Core) → CoreFits core
+      change-fits : (choose : Choice) (m : ConsensusMsg) → MessageFits Leads m → (core : Core) → CoreFits core
           → ChangeFits (processChange choose a h m core answersNow (f .«fast_proposer_to_v») (f .«epaxos_proposer_scores») (f .«swift_proposer_scores»))
       unfolding processChange onFastPrepare inFastPrepare fastPrepared onFastAccept inFastAccept
       change-fits choose (Prepare slot round rv) fit core k =
@@ -525,8 +544,8 @@ module _ (Counts : ℕ → Type 0) (a : Asked) (own-counts : T (a .member .repli
           slot core (same-fits k) (same-fits k)
           (λ t. then-changes (fastPrepared a h round rv (inRound round core))
           (λ c. fastGather choose a h round rv c answersNow (f .«fast_proposer_to_v») (f .«epaxos_proposer_scores») (f .«swift_proposer_scores»))
-          (of-both StepFits (me .replica) (prepared-fits h round (fit .0) rv (inRound round core) (in-round-fits h round (fit .0) core k)) (in-round-fits h round (fit .0) core k))
-          (fast-gather-fits h src-small round (fit .0) (src-counts t) choose rv (fit .1)))
+          (of-both StepFits (me .replica) (prepared-fits h round (fit .0) rv (fit .1) (inRound round core) (in-round-fits h round (fit .0) core k)) (in-round-fits h round (fit .0) core k))
+          (fast-gather-fits h src-small round (fit .0) (src-counts t) choose rv (fit .1) (fit .2)))
       change-fits choose (Accept slot round v) fit core k =
           entered h round fit (λ step. ChangeFits (andThenChange answersNow step (λ c. inFastAccept a h round v c answersNow (f .«swift_proposer_scores»)))) slot core (same-fits k) (same-fits k)
           (λ t. of-both ChangeFits (me .replica) (replica-accept-fits h src-small round fit (src-counts t) v (inRound round core) (in-round-fits h round fit core k))
@@ -539,28 +558,28 @@ module _ (Counts : ℕ → Type 0) (a : Asked) (own-counts : T (a .member .repli
   -- ---- proposals
 
   -- a proposal is made in the starting round alone, and so its round is of the first groups
-  module _ (round-fits : (core : Core) → T (mayPropose a core) → proposalRound a core .«round_group» ≤ 9223372036854775807) where
-    proposed-fits : (msg : ConsensusMsg) (core : Core) (s : PaxosState) (o : Outcome) → CoreFits core → StateFits Counts s → StepFits (proposed a msg core s o)
+  module _ (round-fits : (core : Core) → T (mayPropose a core) → RoundFits Leads (proposalRound a core)) where
+    proposed-fits : (msg : ConsensusMsg) (core : Core) (s : PaxosState) (o : Outcome) → CoreFits core → StateFits Counts Leads s → StepFits (proposed a msg core s o)
     proposed-fits msg core s Done k f = with-state k f
     proposed-fits msg core s (Refused why) k f = k
 
-    propose-prepare-fits : (round : PaxosRound) (rv : RoundV) (core : Core) → round .«round_group» ≤ 9223372036854775807 → CoreFits core → StepFits (proposePrepare a round rv core)
+    propose-prepare-fits : (round : PaxosRound) (rv : RoundV) → LeaderIn Leads (acceptRoundOf rv) → (core : Core) → RoundFits Leads round → CoreFits core → StepFits (proposePrepare a round rv core)
     unfolding proposePrepare
-    propose-prepare-fits round rv core g k =
-        proposed-fits (Prepare (core .slot) round rv) core (step .state) (step .outcome) k (propose-fits Counts me own-counts rv (gotoRound (Round round) (core .paxos)) (goto-fits Counts (Round round) (core .paxos) g))
+    propose-prepare-fits round rv led core g k =
+        proposed-fits (Prepare (core .slot) round rv) core (step .state) (step .outcome) k (propose-fits Counts Leads me own-counts rv (gotoRound (Round round) (core .paxos)) led (goto-fits Counts Leads round (core .paxos) g (k .state-fits)))
       where
         step : PaxosStep
         step = paxosProposeV me rv (gotoRound (Round round) (core .paxos))
 
-    propose-accept-fits : (round : PaxosRound) (v : ℕ) (core : Core) → round .«round_group» ≤ 9223372036854775807 → CoreFits core → StepFits (proposeAccept a round v core)
+    propose-accept-fits : (round : PaxosRound) (v : ℕ) (core : Core) → RoundFits Leads round → CoreFits core → StepFits (proposeAccept a round v core)
     unfolding proposeAccept
-    propose-accept-fits round v core g k = go (step .state) (step .outcome) (propose-fits Counts me own-counts (PaxosV NoRound v) (gotoRound (Round round) (core .paxos)) (goto-fits Counts (Round round) (core .paxos) g))
+    propose-accept-fits round v core g k = go (step .state) (step .outcome) (propose-fits Counts Leads me own-counts (PaxosV NoRound v) (gotoRound (Round round) (core .paxos)) tt (goto-fits Counts Leads round (core .paxos) g (k .state-fits)))
       where
         step : PaxosStep
         step = paxosProposeV me (PaxosV NoRound v) (gotoRound (Round round) (core .paxos))
 
-        go : (s : PaxosState) (o : Outcome) → StateFits Counts s → StepFits (afterOwnPromise a round v core s o)
-        go s Done f = proposed-fits (Accept (core .slot) round v) core (selfAccept me round s .state) (selfAccept me round s .outcome) k (self-fits Counts me own-counts round s f)
+        go : (s : PaxosState) (o : Outcome) → StateFits Counts Leads s → StepFits (afterOwnPromise a round v core s o)
+        go s Done f = proposed-fits (Accept (core .slot) round v) core (selfAccept me round s .state) (selfAccept me round s .outcome) k (self-fits Counts Leads me own-counts round s (g .1) f)
         go s (Refused why) f = k
 
     propose-classic-fits : (v : ℕ) (core : Core) → CoreFits core → StepFits (proposeClassic a v core)
@@ -568,7 +587,7 @@ module _ (Counts : ℕ → Type 0) (a : Asked) (own-counts : T (a .member .repli
     propose-classic-fits v core k =
         by-test StepFits (mayPropose a core) _ _
         (λ t. of-both StepFits (isMultiPaxos (a .mode)) (propose-accept-fits (proposalRound a core) v core (round-fits core t) k)
-        (propose-prepare-fits (proposalRound a core) (PaxosV NoRound v) core (round-fits core t) k)) (λ t. k)
+        (propose-prepare-fits (proposalRound a core) (PaxosV NoRound v) tt core (round-fits core t) k)) (λ t. k)
 
     module _ (f : FastState) (ok : FastFits f) where
       own-answer-fits : (v : ℕ) → FastFits (changed (ownAnswer a v (answersOf f) (f .«epaxos_proposer_scores») (f .«swift_proposer_scores») .change) f)
@@ -594,8 +613,8 @@ module _ (Counts : ℕ → Type 0) (a : Asked) (own-counts : T (a .member .repli
           answer : FastStep
           answer = ownAnswer a v (answersOf f) (f .«epaxos_proposer_scores») (f .«swift_proposer_scores»)
 
-          go : (change : FastChange) (o : Outcome) → proposalRound a core .«round_group» ≤ 9223372036854775807 → FastFits (changed change f) → ChangeFits f ok (afterOwnAnswer a (proposalRound a core) v core change o)
-          go change Done g q = (propose-prepare-fits (proposalRound a core) (FastV (me .«my_pid») v) core g k, q)
+          go : (change : FastChange) (o : Outcome) → RoundFits Leads (proposalRound a core) → FastFits (changed change f) → ChangeFits f ok (afterOwnAnswer a (proposalRound a core) v core change o)
+          go change Done g q = (propose-prepare-fits (proposalRound a core) (FastV (me .«my_pid») v) tt core g k, q)
           go change (Refused why) g q = (k, q)
 
   -- ---- by the mode
@@ -614,12 +633,12 @@ module _ (Counts : ℕ → Type 0) (a : Asked) (own-counts : T (a .member .repli
       go true e = record { core-fits = q .0; fast-fits = q .1; same-fast = λ d. absurd (not-both refl (e d)) }
       go false e = record { core-fits = k; fast-fits = ok; same-fast = λ d. refl }
 
-  pub processed-fits : (choose : Choice) (h : Heard) → h .src < 64 → (T (sourceTaken a h) → Counts (h .src)) → (m : ConsensusMsg) → MessageFits m → (s : Rounds) → FastFits (s .fast) → CoreFits (s .core)
+  pub processed-fits : (choose : Choice) (h : Heard) → h .src < 64 → (T (sourceTaken a h) → Counts (h .src)) → (m : ConsensusMsg) → MessageFits Leads m → (s : Rounds) → FastFits (s .fast) → CoreFits (s .core)
       → RoundsFit (s .fast) (processed choose a h m s .rounds)
   unfolding processed processFast
   processed-fits choose h small c m fit s ok k = by-mode (s .fast) ok _ _ (change-fits (s .fast) ok h small c choose m fit (s .core) k) (classic-fits h c m fit (s .core) k)
 
-  pub proposing-fits : ((core : Core) → T (mayPropose a core) → proposalRound a core .«round_group» ≤ 9223372036854775807) → (v : ℕ) (s : Rounds) → FastFits (s .fast) → CoreFits (s .core)
+  pub proposing-fits : ((core : Core) → T (mayPropose a core) → RoundFits Leads (proposalRound a core)) → (v : ℕ) (s : Rounds) → FastFits (s .fast) → CoreFits (s .core)
       → RoundsFit (s .fast) (proposing a v s .rounds)
   unfolding proposing proposeFast
   proposing-fits r v s ok k = by-mode (s .fast) ok _ _ (propose-change-fits r (s .fast) ok v (s .core) k) (propose-classic-fits r v (s .core) k)

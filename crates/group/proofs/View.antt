@@ -57,10 +57,13 @@ abbrev pub roundNumber : OptionalRound → ℕ
 roundNumber NoRound = 0
 roundNumber (Round r) = suc (r .«round_group» * 64 + r .leader)
 
--- a leader below 64, where there is a round
+-- a leader of which something holds, where there is a round; a leader below 64
+abbrev pub LeaderIn : (ℕ → Type 0) → OptionalRound → Type 0
+LeaderIn Leads NoRound = Unit {0}
+LeaderIn Leads (Round r) = Leads (r .leader)
+
 abbrev pub LeaderFits : OptionalRound → Type 0
-LeaderFits NoRound = Unit {0}
-LeaderFits (Round r) = r .leader < 64
+LeaderFits r = LeaderIn (λ p. p < 64) r
 
 abbrev pub leaderOf : ℕ → ℕ
 leaderOf n = pred n % 64

@@ -39,7 +39,7 @@ use Rattle.agreement.specs.Model as model
 use Rattle.agreement.specs.Refinement.{propose, outcome, AsModel}
 use Rattle.group.specs.Claim.{memberSettings, NotSwift}
 use Rattle.group.specs.Steps.{Step, replyOf, isDone, Delivered, heardIn, heard}
-use Rattle.group.proofs.Calls.{kindOf, not-swift, seenAnswer, viewShard, Valid, call-ok}
+use Rattle.group.proofs.Calls.{kindOf, not-swift, seenAnswer, viewShard, Valid, valid-within, call-ok}
 use Rattle.group.proofs.Ties.{lowest-picks-best}
 use Rattle.group.proofs.View.{roundNumber, leaderOf, leader-of, processNumber, processOf, meaningOf, meaning-is, setupOf}
 use Rattle.leader_commits.specs.Answers.{isAcceptOf, isAnswer, hears}
@@ -106,7 +106,7 @@ unfolding callWith
 made-or-refused s i shard valid c = go (shard .made) refl
   where
     go : (o : Outcome) → shard .made ≡ o → ((why : Refusal) × (callOf shard c ≡ refused why shard)) ⊎ (withinLimits (memberSettings s i) ≡ true)
-    go Done e = inr (valid .within e)
+    go Done e = inr (valid-within s i shard valid e)
     go (Refused why) e = inl (why, ap (ifMade lowestBest shard c) e)
 
 -- ---- a step, seen as the model's
