@@ -144,7 +144,7 @@ module _ (choose : Choice) where
   causes-numbered shard (StartRead tag arrival) = refl
   causes-numbered shard (Receive d) = numbered-then (admissionCauses shard d) _ refl (handling-numbered (shard .settings) (shard .state .rounds) d (d .message .msg))
 
-refusal-numbered : (why : Refusal) → ltb 0 (refusalNumber why) ≡ true
+pub refusal-numbered : (why : Refusal) → ltb 0 (refusalNumber why) ≡ true
 refusal-numbered SettingsOutsideLimits = refl
 refusal-numbered NumberTooLarge = refl
 refusal-numbered NoSuchProcess = refl

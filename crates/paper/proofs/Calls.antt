@@ -1,31 +1,33 @@
--- Demand 2, the paper: what is seen of a call (its outcome, the replica that it leaves, its messages and its commit) is what the definition from
--- *Paxos Made Simple* (specs/Replica.antt) makes of the call, on every shard of Paxos, MultiPaxos, MultiPaxos3P or Pando with settings within
+-- Demand 2, the paper: what is seen of a call (its number, the replica that it leaves, its messages and its commit) is what the definition from
+-- *Paxos Made Simple* (specs/PaperCall.antt) makes of the call, on every shard of Paxos, MultiPaxos, MultiPaxos3P or Pando with settings within
 -- the limits, and for every proposal and every Prepare, Accept, ForwardRequest and Commit.
 -- Assumes nothing.
 use mathlib.Core.Path.{_≡_, refl, sym, ap, _∙_}
+use mathlib.Core.Logic.{inl, inr}
 use mathlib.Core.Bool.{Bool, true, false, cond, not, _&&_}
 use Prim.Native.Nat.{ℕ, _+_, _/_, _≤_, min}
 use native.Mathlib.Omega.{arith}
-use lib.Dec.{ltb, leb}
-use borrow.Author.Tests.{ltb-true, leb-true, lt-ltb, le-leb}
+use lib.Dec.{eqb, ltb, leb}
+use borrow.Author.Tests.{ltb-true, leb-true, lt-ltb, le-leb, ne-eqb}
 use Rattle.basics.proofs.Tests.{not-both, and-left, and-right, same-test}
-use Rattle.paxos.specs.PaxosMadeSimple.{isMajority}
+use Rattle.paxos.specs.PaxosMadeSimple.{isMajority, accepts}
 use Rattle.message.specs.Modes.{hasFastPath}
 use Rattle.message.specs.Rounds.{increment, before}
 use Rattle.message.specs.declared.ConsensusMsg.{ConsensusMsg}
 use Rattle.message.specs.declared.ConsensusMsg.the-variants.{Prepare, Accept, ForwardRequest, Commit, ReadRequest, ReadResponse}
-use Rattle.message.specs.declared.OptionalRound.the-variants.{Round}
 use Rattle.message.specs.declared.OptionalValue.the-variants.{Value}
 use Rattle.message.specs.declared.Outcome.{Outcome}
 use Rattle.message.specs.declared.Outcome.the-variants.{Done, Refused}
 use Rattle.message.specs.declared.PaxosRound.{PaxosRound}
-use Rattle.message.specs.declared.Refusal.the-variants.{SettingsOutsideLimits, NumberTooLarge}
+use Rattle.message.specs.Refusals.{refusalNumber}
+use Rattle.message.specs.declared.Refusal.{Refusal}
+use Rattle.message.specs.declared.Refusal.the-variants.{SettingsOutsideLimits}
 use Rattle.message.specs.declared.RoundV.{RoundV}
-use Rattle.fast_state.specs.Adopt.{Choice, lowestBest}
+use Rattle.fast_state.specs.Adopt.{lowestBest}
 use Rattle.settings.specs.Settings.{countsFit, withinLimits}
 use Rattle.settings.specs.Questions.{quorumsOf}
 use Rattle.settings.specs.declared.Settings.{Settings}
-use Rattle.enter.specs.Enter.{inRound, enter}
+use Rattle.enter.specs.Enter.{inRound}
 use Rattle.prepare.specs.Prepare.{prepared, gather}
 use Rattle.accept.specs.Accept.{accepting}
 use Rattle.propose.specs.Propose.{proposeFast, proposeClassic}
@@ -40,19 +42,23 @@ use Rattle.steps.specs.declared.RoundsStep.{RoundsStep}
 use Rattle.delivery.specs.Admit.{admit}
 use Rattle.delivery.specs.Limits.{isNumber}
 use Rattle.delivery.specs.declared.Delivery.{Delivery}
-use Rattle.calls.specs.Asked.{askedOf, heardOf}
+use Rattle.calls.specs.Asked.{askedOf, heardOf, nothingHeard}
 use Rattle.calls.specs.declared.Call.{Call}
 use Rattle.calls.specs.declared.Call.the-variants.{Propose, StartRead, Receive}
 use Rattle.calls.specs.declared.OptionalCommit.the-variants.{Committed}
-use Rattle.consensus.specs.Answers.{refused, committed, finish}
+use Rattle.consensus.specs.Answers.{committed, finish}
 use Rattle.consensus.specs.Call.{newShard, callOf, proposing, propose, admitted, receive, dispatch, unlessSpent, ifMade, callWith}
 use Rattle.consensus.proofs.ByParts.{by-parts}
+use Rattle.consensus.proofs.FirstCause.{Gives, first-cause}
+use Rattle.consensus.proofs.Refusals.{refusal-numbered}
+use Rattle.consensus.specs.FirstCause.{numberOf}
 use Rattle.consensus.specs.Handle.{processed, processMessage, onCommit, handle}
 use Rattle.consensus.specs.declared.Answer.{Answer}
 use Rattle.consensus.specs.declared.Shard.{Shard}
-use Rattle.paper.specs.Replica.{Replica}
-use Rattle.paper.specs.PaperCall.{Seen, Place, placeOf, seen, commits, prepares, acceptsIn, receivesPrepare, receivesAccept, received, OfPaxos, InPaxos, replicaIn, refusedIn, ifDone, paperTaken, paperCall}
-use Rattle.paper.proofs.Views.{both, taken-no, round-entered, not-exceeded}
+use Rattle.paper.specs.Replica.{Replica, enters, takesUp}
+use Rattle.paper.specs.PaperCall.{Seen, Place, self, placeOf, seen, commits, inPrepare, receivesPrepare, inAccept, receivesAccept, proposesOwn, received, OfPaxos, InPaxos, replicaIn, refusedWith, byRules, paperCall}
+use Rattle.paper.specs.Runs.{Reached, new, called}
+use Rattle.paper.proofs.Views.{taken-no, Agrees, agrees, through, no-refusal, agree-both, agree-unless, round-entered, not-exceeded}
 use Rattle.paper.proofs.Handlers.{enter-paper, entered-core, prepared-paper, accepting-paper}
 use Rattle.paper.proofs.Proposals.{proposal-paper}
 
@@ -76,7 +82,7 @@ majority-paper s within k =
 
 -- ---- calls
 
-module _ (choose : Choice) (shard : Shard) (classic : hasFastPath (shard .settings .mode) ≡ false) (within : withinLimits (shard .settings) ≡ true) where
+module _ (shard : Shard) (classic : hasFastPath (shard .settings .mode) ≡ false) (within : withinLimits (shard .settings) ≡ true) where
   abbrev a : Asked
   a = askedOf (shard .settings)
 
@@ -105,86 +111,93 @@ module _ (choose : Choice) (shard : Shard) (classic : hasFastPath (shard .settin
     abbrev seenStep : CoreStep → Seen
     seenStep step = seen (finish shard a there (onRounds (shard .state .rounds .fast) step))
 
-    prepare-paper : (slot : ℕ) (n : PaxosRound) (rv : RoundV) → seenStep (onPrepare a h slot n rv core) ≡ receivesPrepare here slot n rv
+    prepare-paper : (slot : ℕ) (n : PaxosRound) (rv : RoundV) → Agrees (seenStep (onPrepare a h slot n rv core)) (receivesPrepare here slot n rv)
     unfolding onPrepare inPrepareStep receivesPrepare
     prepare-paper slot n rv =
-        enter-paper shard a h there acceptors classic quorum slot n (inPrepareStep a h n rv) (prepares here n rv)
+        enter-paper shard a h there acceptors classic quorum slot n (inPrepareStep a h n rv) (inPrepare here n rv (takesUp (self here) rv (enters n old)))
         (λ replica free.
-        ap (λ (c : Core). seenStep (andThen (prepared a h n rv c) (gather a h n rv))) (entered-core shard a h there acceptors classic quorum n)
-        ∙ prepared-paper shard a h there acceptors classic quorum replica n rv (inRound n core .paxos) (not-exceeded n core free)
-        ∙ ap (prepares here n rv) (round-entered n core))
+        through (ap (λ (c : Core). seenStep (andThen (prepared a h n rv c) (gather a h n rv))) (entered-core shard a h there acceptors classic quorum n))
+        (prepared-paper shard a h there acceptors classic quorum replica n rv (inRound n core .paxos) (not-exceeded n core free))
+        (ap (λ (r : Replica). inPrepare here n rv (takesUp (self here) rv r)) (round-entered n core)))
 
-    accept-paper : (slot : ℕ) (n : PaxosRound) (v : ℕ)
-        → seenStep (onAccept a h slot n v core) ≡ receivesAccept here there slot (record { number = n; value = v })
-    unfolding onAccept receivesAccept
+    accept-paper : (slot : ℕ) (n : PaxosRound) (v : ℕ) → Agrees (seenStep (onAccept a h slot n v core)) (receivesAccept here slot (record { number = n; value = v }))
+    unfolding onAccept receivesAccept accepts
     accept-paper slot n v =
-        enter-paper shard a h there acceptors classic quorum slot n (accepting a h n v) (acceptsIn here there (record { number = n; value = v }))
+        enter-paper shard a h there acceptors classic quorum slot n (accepting a h n v) (inAccept here (record { number = n; value = v }) (enters n old))
         (λ replica free.
-        ap (λ (c : Core). seenStep (accepting a h n v c)) (entered-core shard a h there acceptors classic quorum n)
-        ∙ accepting-paper shard a h there acceptors classic quorum replica n v (inRound n core .paxos) (not-exceeded n core free)
-        ∙ ap (acceptsIn here there (record { number = n; value = v })) (round-entered n core))
+        through (ap (λ (c : Core). seenStep (accepting a h n v c)) (entered-core shard a h there acceptors classic quorum n))
+        (accepting-paper shard a h there acceptors classic quorum replica n v (inRound n core .paxos) (not-exceeded n core free))
+        (ap (inAccept here (record { number = n; value = v })) (round-entered n core)))
 
     -- in the classic modes the message is handled by the core alone
-    by-core : (m : ConsensusMsg) → d .message .msg ≡ m → seen (processMessage choose shard d) ≡ seenStep (processClassic a h m core)
+    by-core : (m : ConsensusMsg) → d .message .msg ≡ m → seen (processMessage lowestBest shard d) ≡ seenStep (processClassic a h m core)
     unfolding processMessage processed
     by-core m e =
-        taken-no (λ (step : RoundsStep). seen (finish shard a there step)) (hasFastPath (a .mode)) (processFast choose a h (d .message .msg) (shard .state .rounds))
+        taken-no (λ (step : RoundsStep). seen (finish shard a there step)) (hasFastPath (a .mode)) (processFast lowestBest a h (d .message .msg) (shard .state .rounds))
         (onRounds (shard .state .rounds .fast) (processClassic a h (d .message .msg) core)) classic
         ∙ ap (λ (x : ConsensusMsg). seenStep (processClassic a h x core)) e
 
-    handled-paper : (m : ConsensusMsg) → d .message .msg ≡ m → OfPaxos m → seen (handle choose shard d m) ≡ received here there m
+    handled-paper : (m : ConsensusMsg) → d .message .msg ≡ m → OfPaxos m → Agrees (seen (handle lowestBest shard d m)) (received here m)
     unfolding handle processClassic onCommit committed commitSlot received
-    handled-paper (Prepare slot n rv) e p = by-core (Prepare slot n rv) e ∙ prepare-paper slot n rv
-    handled-paper (Accept slot n v) e p = by-core (Accept slot n v) e ∙ accept-paper slot n v
-    handled-paper (ForwardRequest v) e p = by-core (ForwardRequest v) e
+    handled-paper (Prepare slot n rv) e p = through (by-core (Prepare slot n rv) e) (prepare-paper slot n rv) refl
+    handled-paper (Accept slot n v) e p = through (by-core (Accept slot n v) e) (accept-paper slot n v) refl
+    handled-paper (ForwardRequest v) e p = agrees (by-core (ForwardRequest v) e)
     handled-paper (Commit slot v) e p =
-        both seen (ltb slot (core .slot)) (ltb slot (core .slot)) refl (λ o. refl)
-        (λ o. ap (λ (t : Bool). record { outcome = Done; slot = increment (core .slot); last = Value v; replica = commits here v noMessages .replica; messages = noMessages; commit = Committed (core .slot) v (t && not (core .«slot_left_fast_path»)) }) classic)
+        agree-both seen (ltb slot (core .slot)) (ltb slot (core .slot)) refl (λ o. agrees refl)
+        (λ o. agrees (ap (λ (t : Bool). record { outcome = 0; slot = increment (core .slot); last = Value v; replica = commits here v noMessages .replica; messages = noMessages; commit = Committed (core .slot) v (t && not (core .«slot_left_fast_path»)) }) classic))
     handled-paper (ReadRequest id) e p = absurd p
     handled-paper (ReadResponse id next) e p = absurd p
 
-    receive-paper : OfPaxos (d .message .msg) → seen (receive choose shard d) ≡ paperTaken shard (Receive d)
-    unfolding receive paperTaken
+    receive-paper : OfPaxos (d .message .msg) → Agrees (seen (receive lowestBest shard d)) (received here (d .message .msg))
+    unfolding receive
     receive-paper p = go (admit (shard .settings .«process_count») (shard .settings .«my_pid») core d)
       where
-        go : (o : Outcome) → seen (admitted choose shard d o) ≡ ifDone shard o (received here there (d .message .msg))
+        go : (o : Outcome) → Agrees (seen (admitted lowestBest shard d o)) (received here (d .message .msg))
         go Done = handled-paper (d .message .msg) refl p
-        go (Refused why) = refl
+        go (Refused why) = no-refusal (refusal-numbered why)
 
-  propose-paper : (v : ℕ) → seen (propose shard v) ≡ paperTaken shard (Propose v)
-  unfolding propose proposing paperTaken
+  propose-paper : (v : ℕ) → Agrees (seen (propose shard v)) (proposesOwn (placeOf shard nothingHeard) v)
+  unfolding propose proposing
   propose-paper v =
-      both seen (isNumber v) (isNumber v) refl
+      agree-unless seen (isNumber v)
       (λ e.
-      taken-no (λ (step : RoundsStep). seen (finish shard a true step)) (hasFastPath (a .mode)) (proposeFast a v (shard .state .rounds))
-      (onRounds (shard .state .rounds .fast) (proposeClassic a v core)) classic
-      ∙ proposal-paper shard acceptors classic v)
-      (λ e. refl)
+      through
+      (taken-no (λ (step : RoundsStep). seen (finish shard a true step)) (hasFastPath (a .mode)) (proposeFast a v (shard .state .rounds))
+      (onRounds (shard .state .rounds .fast) (proposeClassic a v core)) classic)
+      (proposal-paper shard acceptors classic v) refl)
+      (λ e. no-refusal refl)
 
-  dispatch-paper : (c : Call) → InPaxos c → seen (dispatch choose shard c) ≡ paperTaken shard c
-  unfolding dispatch
+  dispatch-paper : (c : Call) → InPaxos c → Agrees (seen (dispatch lowestBest shard c)) (byRules shard c)
+  unfolding dispatch byRules
   dispatch-paper (Propose v) p = propose-paper v
   dispatch-paper (StartRead tag arrival) p = absurd p
   dispatch-paper (Receive d) p = receive-paper d p
 
-  -- Every call is the paper's.
-  pub call-as-paper : (c : Call) → InPaxos c → seen (callWith choose shard c) ≡ paperCall shard c
-  unfolding callWith unlessSpent paperCall
-  call-as-paper c p = go (shard .made)
+  -- a call that is taken follows the rules
+  taken-by-rules : (c : Call) → InPaxos c → Agrees (seen (callOf shard c)) (byRules shard c)
+  unfolding callWith unlessSpent
+  taken-by-rules c p = go (shard .made)
     where
-      spent : Bool
-      spent = leb 9223372036854775807 (core .slot)
+      go : (o : Outcome) → Agrees (seen (ifMade lowestBest shard c o)) (byRules shard c)
+      go Done = agree-unless seen (leb 9223372036854775807 (core .slot)) (λ e. no-refusal refl) (λ e. dispatch-paper c p)
+      go (Refused why) = no-refusal (refusal-numbered why)
 
-      go : (o : Outcome) → seen (ifMade choose shard c o) ≡ ifDone shard o (cond spent (refusedIn shard NumberTooLarge) (paperTaken shard c))
-      go Done = both seen spent spent refl (λ e. refl) (λ e. dispatch-paper c p)
-      go (Refused why) = refl
+  -- Every call is the paper's, whatever stands in the shard: where a cause refuses it (demand 1), with its number, and else by the rules.
+  pub call-as-paper : (c : Call) → InPaxos c → seen (callOf shard c) ≡ paperCall shard c
+  unfolding paperCall
+  call-as-paper c p = go (first-cause lowestBest shard c)
+    where
+      by : ℕ → Seen
+      by n = cond (eqb n 0) (byRules shard c) (refusedWith n shard)
+
+      above : (why : Refusal) → eqb (refusalNumber why) 0 ≡ false
+      above why = ne-eqb (refusalNumber why) 0 (λ e. not-both (refusal-numbered why) (ap (ltb 0) e))
+
+      go : {n : ℕ} → Gives shard (callOf shard c) n → seen (callOf shard c) ≡ by n
+      go (inl (taken, e)) = taken-by-rules c p (ap numberOf taken) ∙ ap by (sym e)
+      go (inr (why, e, n)) = ap seen e ∙ ap (λ (t : Bool). cond t (byRules shard c) (refusedWith (refusalNumber why) shard)) (sym (above why)) ∙ ap by (sym n)
 
 -- ---- the shards that there are
-
--- a shard as it was made, or as a call of it has left it
-pub data Reached : Shard → Type 0 where
-  new : (s : Settings) → newShard s .made ≡ Done → Reached (newShard s)
-  called : (shard : Shard) (c : Call) → Reached shard → Reached (callOf shard c .shard)
 
 abbrev isDone : Outcome → Bool
 isDone Done = true
@@ -205,4 +218,4 @@ reached-within shard (called before c r) = ap (λ (x : Answer). withinLimits (x 
 -- Every call of Paxos on every shard that there is, in Paxos, MultiPaxos, MultiPaxos3P and Pando.
 pub every-call-as-paper : (shard : Shard) → Reached shard → hasFastPath (shard .settings .mode) ≡ false → (c : Call) → InPaxos c
     → seen (callOf shard c) ≡ paperCall shard c
-every-call-as-paper shard r classic c p = call-as-paper lowestBest shard classic (reached-within shard r) c p
+every-call-as-paper shard r classic c p = call-as-paper shard classic (reached-within shard r) c p

@@ -1,45 +1,35 @@
--- What follows from `call-as-paper`: the Paxos half of the new shard, the whole shard after a refusal, the proposer's choice of all the promises
--- that it has heard, and that those who are counted for a commit have accepted one proposal.
+-- What follows from `call-as-paper`: the Paxos half of the new shard, and the proposer's choice of all the promises that it has heard.
 -- Assumes nothing.
 use mathlib.Core.Path.{_≡_, refl, sym, ap, _∙_}
 use mathlib.Core.Logic.{_⊎_, inl, inr}
-use mathlib.Core.Bool.{Bool, true, false, cond, _&&_, _||_}
+use mathlib.Core.Bool.{Bool, true, false, cond, _||_}
 use mathlib.Core.List.{List, [], _∷_, _++_}
 use mathlib.Core.Option.{Option, none, some}
 use Prim.Native.Nat.{ℕ}
 use lib.Dec.{eqb}
 use borrow.Author.Tests.{eqb-true, eqb-false}
-use Rattle.basics.proofs.Tests.{not-both, and-right}
+use Rattle.basics.proofs.Tests.{not-both}
 use Rattle.basics.specs.Lists.{In}
 use Rattle.sets.specs.Sets.{contains, insert, size}
 use Rattle.sets.proofs.Laws.{contains-insert-other}
-use Rattle.paxos.specs.PaxosMadeSimple.{Proposal, Proposer, higher, highest, valueOr, choice, isMajority, proposes}
+use Rattle.paxos.specs.PaxosMadeSimple.{Proposal, higher, highest, valueOr, choice, isMajority, proposes}
 use Rattle.message.specs.Modes.{hasFastPath}
-use Rattle.message.specs.Rounds.{roundBefore, roundEqual}
-use Rattle.message.proofs.Order.{rounds-ordered}
+use Rattle.message.specs.Rounds.{roundBefore}
 use Rattle.message.specs.declared.OptionalRound.{OptionalRound}
 use Rattle.message.specs.declared.OptionalRound.the-variants.{NoRound, Round}
-use Rattle.message.specs.declared.Outcome.{Outcome}
-use Rattle.message.specs.declared.Outcome.the-variants.{Done, Refused}
 use Rattle.message.specs.declared.PaxosRound.{PaxosRound}
-use Rattle.message.specs.declared.Refusal.{Refusal}
-use Rattle.message.specs.declared.Refusal.the-variants.{Panic}
 use Rattle.message.specs.declared.RoundV.{RoundV}
 use Rattle.message.specs.declared.RoundV.the-variants.{FastV, PaxosV}
 use Rattle.round_state.specs.declared.HeldPromise.{HeldPromise}
 use Rattle.round_state.specs.declared.HeldPromise.the-variants.{NothingHeld, Held}
 use Rattle.round_state.specs.declared.PaxosState.{PaxosState}
-use Rattle.fast_state.specs.Adopt.{Choice}
 use Rattle.settings.specs.Settings.{withinLimits}
 use Rattle.calls.specs.declared.Call.{Call}
-use Rattle.consensus.specs.Answers.{refused}
-use Rattle.consensus.specs.Call.{callWith}
-use Rattle.consensus.specs.FirstCause.{ByFirstCause}
-use Rattle.consensus.proofs.Refusals.{by-first-cause}
-use Rattle.consensus.specs.declared.Answer.{Answer}
+use Rattle.consensus.specs.Call.{callOf}
 use Rattle.consensus.specs.declared.Shard.{Shard}
-use Rattle.paper.specs.Replica.{Replica, reportOf, acceptedOf, wishOf, respondedOf, replicaOf, roundOf, heldOf, stateOf, ownValue, firstWish, unlessAccepted, isThere, keepsSomething, fits, proposerIn, alsoSelf, hears}
+use Rattle.paper.specs.Replica.{Replica, reportOf, acceptedOf, wishOf, respondedOf, replicaOf, roundOf, heldOf, stateOf, ownValue, firstWish, unlessAccepted, isThere, keepsSomething, proposerIn, alsoSelf, hears}
 use Rattle.paper.specs.PaperCall.{Seen, InPaxos, paperCall}
+use Rattle.paper.specs.Runs.{Response, reportsOf, hearsAll, withAll}
 use Rattle.paper.proofs.Calls.{call-as-paper}
 
 -- ---- the new shard
@@ -59,44 +49,13 @@ state-back p =
     ap (λ (o : OptionalRound). record { round = o; «max_rv» = heldOf (acceptedOf (p .«max_rv»)) (wishOf (p .«max_rv»)); «prepared_set» = p .«prepared_set»; «accepted_set» = p .«accepted_set» }) (round-back (p .round))
     ∙ ap (λ (held : HeldPromise). record { round = p .round; «max_rv» = held; «prepared_set» = p .«prepared_set»; «accepted_set» = p .«accepted_set» }) (held-back (p .«max_rv»))
 
-abbrev reason : Outcome → Refusal
-reason Done = Panic
-reason (Refused why) = why
-
-abbrev isDone : Outcome → Bool
-isDone Done = true
-isDone (Refused why) = false
-
-module _ (choose : Choice) (shard : Shard) (classic : hasFastPath (shard .settings .mode) ≡ false) (within : withinLimits (shard .settings) ≡ true) (c : Call)
-    (paxos : InPaxos c) where
-  -- the round, what is held, and who is counted, in the shard that the call leaves
-  pub call-leaves : callWith choose shard c .shard .state .rounds .core .paxos ≡ stateOf (paperCall shard c .replica)
-  call-leaves =
-      sym (state-back (callWith choose shard c .shard .state .rounds .core .paxos))
-      ∙ ap (λ (s : Seen). stateOf (s .replica)) (call-as-paper choose shard classic within c paxos)
-
-  -- a refusal leaves the whole shard
-  pub refused-unchanged : (why : Refusal) → paperCall shard c .outcome ≡ Refused why → callWith choose shard c ≡ refused why shard
-  refused-unchanged why e = go (by-first-cause choose shard c)
-    where
-      outcome : callWith choose shard c .reply .outcome ≡ Refused why
-      outcome = ap (λ (s : Seen). s .outcome) (call-as-paper choose shard classic within c paxos) ∙ e
-
-      go : ByFirstCause choose shard c (callWith choose shard c) → callWith choose shard c ≡ refused why shard
-      go (inl (d, holds)) = absurd (not-both (ap isDone d) (ap isDone outcome))
-      go (inr (x, d, first)) =
-          d ∙ ap (λ (y : Refusal). refused y shard) (ap (λ (r : Answer). reason (r .reply .outcome)) (sym d) ∙ ap reason outcome)
+-- the round, what is held, and who is counted, in the shard that a call leaves
+pub call-leaves : (shard : Shard) → hasFastPath (shard .settings .mode) ≡ false → withinLimits (shard .settings) ≡ true → (c : Call) → InPaxos c
+    → callOf shard c .shard .state .rounds .core .paxos ≡ stateOf (paperCall shard c .replica)
+call-leaves shard classic within c paxos =
+    sym (state-back (callOf shard c .shard .state .rounds .core .paxos)) ∙ ap (λ (s : Seen). stateOf (s .replica)) (call-as-paper shard classic within c paxos)
 
 -- ---- the proposer's choice
-
--- a promise that was heard: whose, and what it brought
-pub record Response : Type 0 where
-  pub src : ℕ
-  pub brought : RoundV
-
-abbrev pub reportsOf : List Response → List (Option (Proposal PaxosRound ℕ))
-reportsOf [] = []
-reportsOf (p ∷ ps) = reportOf (p .brought) ∷ reportsOf ps
 
 -- where a proposal was reported, the own value does not count
 own-unused : (x y : ℕ) (p : Proposal PaxosRound ℕ) (rs : List (Option (Proposal PaxosRound ℕ)))
@@ -140,14 +99,9 @@ still-keeps (some p) wish rv = refl
 still-keeps none none rv = refl
 still-keeps none (some w) rv = refl
 
-module _ (me acceptors : ℕ) where
-  -- the gatherer hears some promises, one after the other
-  abbrev pub hearsAll : Replica → List Response → Replica
-  hearsAll r [] = r
-  hearsAll r (p ∷ ps) = hearsAll (hears me (p .src) (p .brought) r) ps
-
+module _ (me : ℕ) where
   heard-value : (r : Replica) (ps : List Response) → keepsSomething r ≡ true
-      → valueOr roundBefore (ownValue (hearsAll r ps .wish)) (hearsAll r ps .acceptor .accepted) ≡ valueOr roundBefore (ownValue (r .wish)) (highest roundBefore (r .acceptor .accepted) (reportsOf ps))
+      → valueOr roundBefore (ownValue (hearsAll me r ps .wish)) (hearsAll me r ps .acceptor .accepted) ≡ valueOr roundBefore (ownValue (r .wish)) (highest roundBefore (r .acceptor .accepted) (reportsOf ps))
   unfolding highest hears
   heard-value r [] e = refl
   heard-value r (p ∷ ps) e =
@@ -158,29 +112,25 @@ module _ (me acceptors : ℕ) where
   unfolding hears
   heard-keeps-one r p = still-keeps (higher roundBefore (r .acceptor .accepted) (reportOf (p .brought))) (r .wish) (p .brought)
 
-  pub heard-keeps : (r : Replica) (ps : List Response) → keepsSomething r ≡ true → keepsSomething (hearsAll r ps) ≡ true
+  pub heard-keeps : (r : Replica) (ps : List Response) → keepsSomething r ≡ true → keepsSomething (hearsAll me r ps) ≡ true
   heard-keeps r [] e = e
   heard-keeps r (p ∷ ps) e = heard-keeps (hears me (p .src) (p .brought) r) ps (heard-keeps-one r p)
 
   -- one promise more, behind the others
   pub heard-last : (r : Replica) (ps : List Response) (src : ℕ) (rv : RoundV)
-      → hears me src rv (hearsAll r ps) ≡ hearsAll r (ps ++ (record { src = src; brought = rv } ∷ []))
+      → hears me src rv (hearsAll me r ps) ≡ hearsAll me r (ps ++ (record { src = src; brought = rv } ∷ []))
   heard-last r [] src rv = refl
   heard-last r (p ∷ ps) src rv = heard-last (hears me (p .src) (p .brought) r) ps src rv
 
-  -- the paper's proposer with every report: the own acceptor's, and then those of the promises
-  abbrev pub withAll : PaxosRound → Replica → List Response → Proposer PaxosRound ℕ
-  withAll n r ps = record { number = n; own = ownValue (r .wish); responders = size (hearsAll r ps .promised); reports = r .acceptor .accepted ∷ reportsOf ps }
-
   -- A gatherer that has heard some promises proposes as the paper's proposer that remembers every report.
-  pub proposes-of-all : (n : PaxosRound) (r : Replica) (ps : List Response) → keepsSomething r ≡ true
-      → proposes roundBefore acceptors (proposerIn n (hearsAll r ps)) ≡ proposes roundBefore acceptors (withAll n r ps)
+  pub proposes-of-all : (acceptors : ℕ) (n : PaxosRound) (r : Replica) (ps : List Response) → keepsSomething r ≡ true
+      → proposes roundBefore acceptors (proposerIn n (hearsAll me r ps)) ≡ proposes roundBefore acceptors (withAll me n r ps)
   unfolding proposes choice highest
-  proposes-of-all n r ps e =
-      ap (λ (v : ℕ). cond (isMajority acceptors (size (hearsAll r ps .promised))) (some (record { number = n; value = v })) none) (heard-value r ps e)
+  proposes-of-all acceptors n r ps e =
+      ap (λ (v : ℕ). cond (isMajority acceptors (size (hearsAll me r ps .promised))) (some (record { number = n; value = v })) none) (heard-value r ps e)
 
   -- it counts those alone that it has heard, and itself
-  pub responders-heard : (r : Replica) (ps : List Response) (q : ℕ) → contains (hearsAll r ps .promised) q ≡ true
+  pub responders-heard : (r : Replica) (ps : List Response) (q : ℕ) → contains (hearsAll me r ps .promised) q ≡ true
       → (contains (r .promised) q ≡ true) ⊎ (q ≡ me) ⊎ ((p : Response) × In p ps × (q ≡ p .src))
   unfolding hears
   responders-heard r [] q e = inl e
@@ -204,14 +154,3 @@ module _ (me acceptors : ℕ) where
       go (inl f) = by-self (eqb me q) refl f
       go (inr (inl f)) = inr (inl f)
       go (inr (inr (x, i, f))) = inr (inr (x, inr i, f))
-
--- ---- the learner's count
-
--- Acceptances that are counted in one number are of one proposal: the one that the replica has accepted itself, since no other fits.
-pub counted-one-proposal : (p q : Proposal PaxosRound ℕ) → fits (some p) q ≡ true → p .number ≡ q .number → p ≡ q
-counted-one-proposal p q e d =
-    ap (λ (n : PaxosRound). record { number = n; value = p .value }) d
-    ∙ ap (λ (v : ℕ). record { number = q .number; value = v }) (eqb-true (p .value) (q .value) (and-right (roundEqual (p .number) (q .number)) (eqb (p .value) (q .value)) same))
-  where
-    same : (roundEqual (p .number) (q .number) && eqb (p .value) (q .value)) ≡ true
-    same = sym (ap (λ (t : Bool). t || (roundEqual (p .number) (q .number) && eqb (p .value) (q .value))) (ap (roundBefore (p .number)) (sym d) ∙ rounds-ordered .irreflexive (p .number))) ∙ e

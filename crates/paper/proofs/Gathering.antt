@@ -6,18 +6,12 @@ use mathlib.Core.Bool.{Bool, true, false}
 use mathlib.Core.List.{List, [], _∷_, _++_}
 use mathlib.Core.Option.{Option, none, some}
 use Prim.Native.Nat.{ℕ}
-use lib.Dec.{eqb}
-use Rattle.basics.proofs.Tests.{not-both, of-both}
-use Rattle.sets.specs.Sets.{isEmpty}
+use Rattle.basics.proofs.Tests.{not-both}
 use Rattle.paxos.specs.PaxosMadeSimple.{Proposal, proposes}
 use Rattle.message.specs.Modes.{hasFastPath}
 use Rattle.message.specs.Rounds.{roundBefore}
-use Rattle.message.specs.declared.ConsensusMsg.the-variants.{Prepare}
-use Rattle.message.specs.declared.Outcome.{Outcome}
-use Rattle.message.specs.declared.Outcome.the-variants.{Done, Refused}
 use Rattle.message.specs.declared.PaxosRound.{PaxosRound}
 use Rattle.message.specs.declared.RoundV.{RoundV}
-use Rattle.fast_state.specs.Adopt.{lowestBest}
 use Rattle.settings.specs.Settings.{withinLimits}
 use Rattle.settings.specs.declared.Settings.{Settings}
 use Rattle.steps.specs.Steps.{noMessages}
@@ -31,31 +25,11 @@ use Rattle.consensus.specs.Call.{callOf}
 use Rattle.consensus.proofs.ByParts.{by-parts}
 use Rattle.consensus.specs.declared.Answer.{Answer}
 use Rattle.consensus.specs.declared.Shard.{Shard}
-use Rattle.paper.specs.Replica.{Replica, keepsSomething, fits, proposerIn, newly, hears}
-use Rattle.paper.specs.PaperCall.{Seen, Place, placeOf, seen, requests, replicaIn}
-use Rattle.paper.proofs.Consequences.{Response, hearsAll, withAll, heard-keeps, heard-last}
-use Rattle.paper.proofs.Roles.{Handled, proposer-proposes, proposer-proposes-of-all}
-
--- a Prepare of the number n that is handled at the gatherer
-pub record Promised (n : PaxosRound) (shard : Shard) (d : Delivery) (rv : RoundV) : Type 0 where
-  pub slot : ℕ
-  pub handled : Handled shard d slot
-  pub message : d .message .msg ≡ Prepare slot n rv
-  pub gatherer : eqb (heardOf (shard .settings) d .delegate) (shard .settings .«my_pid») ≡ true
-
-abbrev pub responseOf : Delivery → RoundV → Response
-responseOf d rv = record { src = d .message .src; brought = rv }
-
--- the shard has taken promises one after the other, and has sent nothing
-pub data Gathered (n : PaxosRound) (first : Shard) : List Response → Shard → Type 0 where
-  nothing-yet : Gathered n first [] first
-  one-more : {ps : List Response} {shard : Shard} (d : Delivery) (rv : RoundV) → Gathered n first ps shard → Promised n shard d rv
-      → callOf shard (Receive d) .reply .outcome ≡ Done → callOf shard (Receive d) .reply .messages ≡ noMessages
-      → Gathered n first (ps ++ (responseOf d rv ∷ [])) (callOf shard (Receive d) .shard)
-
-abbrev isDone : Outcome → Bool
-isDone Done = true
-isDone (Refused why) = false
+use Rattle.paper.specs.Replica.{Replica, keepsSomething, proposerIn, newly, hears}
+use Rattle.paper.specs.PaperCall.{Seen, Place, placeOf, seen, requesting, replicaIn}
+use Rattle.paper.specs.Runs.{Response, hearsAll, withAll, Promised, responseOf, Gathered, nothing-yet, one-more}
+use Rattle.paper.proofs.Consequences.{heard-keeps, heard-last}
+use Rattle.paper.proofs.Roles.{proposer-proposes, proposer-proposes-of-all}
 
 abbrev isSent : OptionalMessage → Bool
 isSent NoMessage = false
@@ -63,15 +37,12 @@ isSent (Send m) = true
 
 -- where nothing is sent, the promise was heard and nothing else happened
 abbrev Quiet : Replica → Seen → Type 0
-Quiet r s = s .outcome ≡ Done → s .messages ≡ noMessages → s .replica ≡ r
+Quiet r s = s .messages ≡ noMessages → s .replica ≡ r
 
-quiet : (here : Place) (r : Replica) (o : Option (Proposal PaxosRound ℕ)) → Quiet r (requests here r o)
-unfolding requests
-quiet here r none = λ e f. refl
-quiet here r (some p) =
-    of-both (Quiet r) (isEmpty (r .agreed))
-    (of-both (Quiet r) (fits (r .acceptor .accepted) p) (λ e f. absurd (not-both refl (ap (λ (m : Messages). isSent (m .first)) f))) (λ e f. absurd (not-both (ap isDone e) refl)))
-    (λ e f. absurd (not-both (ap isDone e) refl))
+quiet : (here : Place) (r : Replica) (o : Option (Proposal PaxosRound ℕ)) → Quiet r (requesting here r o)
+unfolding requesting
+quiet here r none = λ f. refl
+quiet here r (some p) = λ f. absurd (not-both refl (ap (λ (m : Messages). isSent (m .first)) f))
 
 settings-kept : (shard : Shard) (d : Delivery) → callOf shard (Receive d) .shard .settings ≡ shard .settings
 settings-kept shard d = ap (λ (x : Answer). x .shard .settings) (sym (by-parts shard (Receive d)))
@@ -86,9 +57,9 @@ module _ (n : PaxosRound) (first : Shard) (classic : hasFastPath (first .setting
 
   pub record Since (ps : List Response) (shard : Shard) : Type 0 where
     pub settings : shard .settings ≡ first .settings
-    pub heard : replicaIn shard ≡ hearsAll me acceptors (replicaIn first) ps
+    pub heard : replicaIn shard ≡ hearsAll me (replicaIn first) ps
 
-  responded-kept : (r : Replica) (ps : List Response) → hearsAll me acceptors r ps .acceptor .responded ≡ r .acceptor .responded
+  responded-kept : (r : Replica) (ps : List Response) → hearsAll me r ps .acceptor .responded ≡ r .acceptor .responded
   unfolding hears
   responded-kept r [] = refl
   responded-kept r (p ∷ ps) = responded-kept (hears me (p .src) (p .brought) r) ps
@@ -102,24 +73,24 @@ module _ (n : PaxosRound) (first : Shard) (classic : hasFastPath (first .setting
     within-since = ap withinLimits (s .settings) ∙ within
 
     keeps-since : keepsSomething (replicaIn shard) ≡ true
-    keeps-since = ap keepsSomething (s .heard) ∙ heard-keeps me acceptors (replicaIn first) ps keeps
+    keeps-since = ap keepsSomething (s .heard) ∙ heard-keeps me (replicaIn first) ps keeps
 
     entry-since : replicaIn shard .acceptor .responded ≡ some n
     entry-since = ap (λ (r : Replica). r .acceptor .responded) (s .heard) ∙ responded-kept (replicaIn first) ps ∙ entry
 
     -- a promise that sends nothing was heard
-    heard-more : (d : Delivery) (rv : RoundV) → Promised n shard d rv → callOf shard (Receive d) .reply .outcome ≡ Done
-        → callOf shard (Receive d) .reply .messages ≡ noMessages → Since (ps ++ (responseOf d rv ∷ [])) (callOf shard (Receive d) .shard)
-    heard-more d rv p done sent =
+    heard-more : (d : Delivery) (rv : RoundV) → Promised n shard d rv → callOf shard (Receive d) .reply .messages ≡ noMessages
+        → Since (ps ++ (responseOf d rv ∷ [])) (callOf shard (Receive d) .shard)
+    heard-more d rv p sent =
         record {
           settings = settings-kept shard d ∙ s .settings;
           heard =
               ap (λ (x : Seen). x .replica) call
-              ∙ quiet here (hears (shard .settings .«my_pid») (d .message .src) rv (replicaIn shard)) request (sym (ap (λ (x : Seen). x .outcome) call) ∙ done)
+              ∙ quiet here (hears (shard .settings .«my_pid») (d .message .src) rv (replicaIn shard)) request
               (sym (ap (λ (x : Seen). x .messages) call) ∙ sent)
               ∙ ap (λ (x : Settings). hears (x .«my_pid») (d .message .src) rv (replicaIn shard)) (s .settings)
               ∙ ap (hears me (d .message .src) rv) (s .heard)
-              ∙ heard-last me acceptors (replicaIn first) ps (d .message .src) rv;
+              ∙ heard-last me (replicaIn first) ps (d .message .src) rv;
         }
       where
         here : Place
@@ -133,39 +104,39 @@ module _ (n : PaxosRound) (first : Shard) (classic : hasFastPath (first .setting
             newly (proposes roundBefore count (proposerIn n (replicaIn shard)))
             (proposes roundBefore count (proposerIn n (hears (shard .settings .«my_pid») (d .message .src) rv (replicaIn shard))))
 
-        call : seen (callOf shard (Receive d)) ≡ requests here (hears (shard .settings .«my_pid») (d .message .src) rv (replicaIn shard)) request
+        call : seen (callOf shard (Receive d)) ≡ requesting here (hears (shard .settings .«my_pid») (d .message .src) rv (replicaIn shard)) request
         call =
-            proposer-proposes lowestBest shard classic-since within-since d (p .slot) n (p .handled) rv (p .message) (p .gatherer) keeps-since entry-since
+            proposer-proposes shard classic-since within-since d (p .slot) n (p .handled) rv (p .message) (p .gatherer) keeps-since entry-since
 
     -- and the next one is answered by the paper's proposer with all of them
     next-proposes : (d : Delivery) (rv : RoundV) → Promised n shard d rv
         → seen (callOf shard (Receive d))
-        ≡ requests (placeOf shard (heardOf (shard .settings) d)) (hearsAll me acceptors (replicaIn first) (ps ++ (responseOf d rv ∷ [])))
-        (newly (proposes roundBefore acceptors (withAll me acceptors n (replicaIn first) ps))
-        (proposes roundBefore acceptors (withAll me acceptors n (replicaIn first) (ps ++ (responseOf d rv ∷ [])))))
+        ≡ requesting (placeOf shard (heardOf (shard .settings) d)) (hearsAll me (replicaIn first) (ps ++ (responseOf d rv ∷ [])))
+        (newly (proposes roundBefore acceptors (withAll me n (replicaIn first) ps))
+        (proposes roundBefore acceptors (withAll me n (replicaIn first) (ps ++ (responseOf d rv ∷ [])))))
     next-proposes d rv p =
-        proposer-proposes-of-all lowestBest shard classic-since within-since d (p .slot) n (p .handled) rv (p .message) (p .gatherer) entry-since (replicaIn first) ps keeps
-        (s .heard ∙ ap (λ (x : Settings). hearsAll (x .«my_pid») (x .«replica_count») (replicaIn first) ps) (sym (s .settings)))
-        ∙ ap (λ (x : Settings). requests here (hears (x .«my_pid») (d .message .src) rv (replicaIn shard)) (request (x .«my_pid») (x .«replica_count»))) (s .settings)
-        ∙ ap (λ (x : Replica). requests here x (request me acceptors)) (ap (hears me (d .message .src) rv) (s .heard) ∙ heard-last me acceptors (replicaIn first) ps (d .message .src) rv)
+        proposer-proposes-of-all shard classic-since within-since d (p .slot) n (p .handled) rv (p .message) (p .gatherer) entry-since (replicaIn first) ps keeps
+        (s .heard ∙ ap (λ (x : Settings). hearsAll (x .«my_pid») (replicaIn first) ps) (sym (s .settings)))
+        ∙ ap (λ (x : Settings). requesting here (hears (x .«my_pid») (d .message .src) rv (replicaIn shard)) (request (x .«my_pid») (x .«replica_count»))) (s .settings)
+        ∙ ap (λ (x : Replica). requesting here x (request me acceptors)) (ap (hears me (d .message .src) rv) (s .heard) ∙ heard-last me (replicaIn first) ps (d .message .src) rv)
       where
         here : Place
         here = placeOf shard (heardOf (shard .settings) d)
 
         request : ℕ → ℕ → Option (Proposal PaxosRound ℕ)
         request own count =
-            newly (proposes roundBefore count (withAll own count n (replicaIn first) ps))
-            (proposes roundBefore count (withAll own count n (replicaIn first) (ps ++ (responseOf d rv ∷ []))))
+            newly (proposes roundBefore count (withAll own n (replicaIn first) ps))
+            (proposes roundBefore count (withAll own n (replicaIn first) (ps ++ (responseOf d rv ∷ []))))
 
   gathered-since : (ps : List Response) (shard : Shard) → Gathered n first ps shard → Since ps shard
   gathered-since ps shard nothing-yet = record { settings = refl; heard = refl }
-  gathered-since ps shard (one-more {ps = qs} {shard = before} d rv g p done sent) = heard-more qs before (gathered-since qs before g) d rv p done sent
+  gathered-since ps shard (one-more {ps = qs} {shard = before} d rv g p sent) = heard-more qs before (gathered-since qs before g) d rv p sent
 
   -- Phase 2 (a) over a list of calls: a gatherer that was in the number and has since taken the promises ps, and sent nothing, takes one more. It
   -- then makes the proposal of the paper's proposer with all the reports, exactly where that one proposes and did not before.
   pub gathered-proposes : (ps : List Response) (shard : Shard) → Gathered n first ps shard → (d : Delivery) (rv : RoundV) → Promised n shard d rv
       → seen (callOf shard (Receive d))
-      ≡ requests (placeOf shard (heardOf (shard .settings) d)) (hearsAll me acceptors (replicaIn first) (ps ++ (responseOf d rv ∷ [])))
-      (newly (proposes roundBefore acceptors (withAll me acceptors n (replicaIn first) ps))
-      (proposes roundBefore acceptors (withAll me acceptors n (replicaIn first) (ps ++ (responseOf d rv ∷ [])))))
+      ≡ requesting (placeOf shard (heardOf (shard .settings) d)) (hearsAll me (replicaIn first) (ps ++ (responseOf d rv ∷ [])))
+      (newly (proposes roundBefore acceptors (withAll me n (replicaIn first) ps))
+      (proposes roundBefore acceptors (withAll me n (replicaIn first) (ps ++ (responseOf d rv ∷ [])))))
   gathered-proposes ps shard g d rv p = next-proposes ps shard (gathered-since ps shard g) d rv p

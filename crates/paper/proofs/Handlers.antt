@@ -2,12 +2,13 @@
 -- Assumes nothing.
 use mathlib.Core.Path.{_≡_, refl, sym, ap, _∙_}
 use mathlib.Core.Bool.{Bool, true, false, cond, not, _&&_, _||_}
-use mathlib.Core.Option.{Option, none, some}
+use mathlib.Core.Option.{none, some}
 use Prim.Native.Nat.{ℕ}
 use lib.Dec.{eqb, ltb, leb}
 use Rattle.basics.proofs.Tests.{not-both}
 use Rattle.sets.specs.Sets.{size, isEmpty}
-use Rattle.paxos.specs.PaxosMadeSimple.{Proposal, isMajority, exceeded, proposalOf, proposes, learns}
+use Rattle.paxos.specs.PaxosMadeSimple.{Proposal, isMajority, exceeded, acceptedIn, ignores, accepts, announcement, proposalOf, proposes, learns}
+use Rattle.paxos.specs.PaxosMadeSimple.Message.{promise, acceptance}
 use Rattle.message.specs.Modes.{isSwiftPaxos, hasFastPath}
 use Rattle.message.specs.Promises.{isProcess}
 use Rattle.message.specs.Rounds.{increment, roundBefore, before, equal}
@@ -17,13 +18,12 @@ use Rattle.message.specs.declared.OptionalProcess.the-variants.{NoProcess, Proc
 use Rattle.message.specs.declared.OptionalRound.the-variants.{Round}
 use Rattle.message.specs.declared.OptionalValue.{OptionalValue}
 use Rattle.message.specs.declared.OptionalValue.the-variants.{Value}
-use Rattle.message.specs.declared.Outcome.the-variants.{Done}
 use Rattle.message.specs.declared.PaxosRound.{PaxosRound}
 use Rattle.message.specs.declared.PFMode.{PFMode}
 use Rattle.message.specs.declared.PFMode.the-variants.{Paxos, MultiPaxos, MultiPaxos3P, EPaxos, Pando, SwiftPaxos}
-use Rattle.message.specs.declared.Refusal.the-variants.{Panic, ValueNotHeld}
+use Rattle.message.specs.declared.Refusal.the-variants.{Panic}
 use Rattle.message.specs.declared.RoundV.{RoundV}
-use Rattle.round_state.specs.Paxos.{isHeld, getV, getLastAcceptedRound, counted, taken, refused, gotoRound, heldAfterPromise, receivePromise, paxosProposeV, selfAccept, acceptOwn, receiveAccept, acceptFits, afterAccept, paxosCanCommit}
+use Rattle.round_state.specs.Paxos.{isHeld, getV, getLastAcceptedRound, taken, refused, gotoRound, heldAfterPromise, receivePromise, paxosProposeV, selfAccept, acceptOwn, receiveAccept, acceptFits, afterAccept, paxosCanCommit}
 use Rattle.round_state.specs.declared.HeldPromise.{HeldPromise}
 use Rattle.round_state.specs.declared.HeldPromise.the-variants.{NothingHeld, Held}
 use Rattle.round_state.specs.declared.PaxosState.{PaxosState}
@@ -32,7 +32,7 @@ use Rattle.enter.specs.Enter.{inRound, isOlder, fromLive, enter}
 use Rattle.prepare.specs.Prepare.{holdFirst, mayAnswer, answerPrepare, answersNothing, preparing, afterHeld, prepared, offFastPath, broadcastAccept, afterOwnAccept, acceptPhase, withPromise, becomesPrepared, gather}
 use Rattle.accept.specs.Accept.{tellsCommitter, isCommitter, acceptTo, committerHears, answerAccept, commitMessage, tellsCommit, commitMessages, tryCommit, answered, follower, accepted as acceptedStep, afterAccepted, accepting}
 use Rattle.paxos_family.specs.Commit.{commitSlot}
-use Rattle.steps.specs.Steps.{noMessages, oneMessage, twoMessages, also, sends, toAll, heldV, withPaxos, leftFastPath, stays, continues, commits as commitsStep, andThen, onRounds}
+use Rattle.steps.specs.Steps.{noMessages, oneMessage, twoMessages, also, sends, toAll, heldV, withPaxos, leftFastPath, stays, continues, refuses, commits as commitsStep, andThen, onRounds}
 use Rattle.steps.specs.declared.Asked.{Asked}
 use Rattle.steps.specs.declared.Core.{Core}
 use Rattle.steps.specs.declared.CoreStep.{CoreStep}
@@ -41,11 +41,10 @@ use Rattle.steps.specs.declared.Heard.{Heard}
 use Rattle.steps.specs.declared.Messages.{Messages}
 use Rattle.calls.specs.declared.OptionalCommit.the-variants.{Committed}
 use Rattle.consensus.specs.Answers.{committed, finish}
-use Rattle.consensus.specs.declared.Answer.{Answer}
 use Rattle.consensus.specs.declared.Shard.{Shard}
-use Rattle.paper.specs.Replica.{Replica, acceptedOf, replicaOf, brings, enters, keepsSomething, acceptedIn, fits, proposerIn, newly, hears, accepts}
-use Rattle.paper.specs.PaperCall.{Seen, Place, self, seen, hasCommitter, refuses, leaves, commits, promises, requests, gathers, inPrepare, prepares, acceptanceTo, tells, learned, counts, accepted, acceptsIn, entering}
-use Rattle.paper.proofs.Views.{both, taken-no, push, once, held-kept, held-brings, held-value, held-accepted-in, held-fits, exceeded-older, promise-heard, accept-counted}
+use Rattle.paper.specs.Replica.{Replica, acceptedOf, replicaOf, promises, keepsSomething, proposerIn, newly, hears, takesUp, acceptsWith}
+use Rattle.paper.specs.PaperCall.{Seen, Place, self, seen, hasCommitter, leaves, nothing, commits, takesPart, responding, requesting, gathers, inPrepare, toLearners, announcing, announces, informs, learning, counts, inAccept}
+use Rattle.paper.proofs.Views.{taken-no, push, once, Agrees, agrees, through, no-refusal, agree-both, agree-unless, held-kept, held-brings, held-value, held-accepted-in, exceeded-older, promise-heard, accept-counted}
 
 -- ---- the classic modes
 
@@ -72,6 +71,13 @@ or-false false t e = e
 neither-right : (s t : Bool) → (s || t) ≡ false → t ≡ false
 neither-right true t e = absurd (not-both refl e)
 neither-right false t e = e
+
+-- three tests, one behind the other, with the same way out
+nested : {A : Type 0} (r o e : Bool) (x y : A) → cond r (cond (o || e) y x) y ≡ cond (r && not o && not e) x y
+nested false o e x y = refl
+nested true true e x y = refl
+nested true false true x y = refl
+nested true false false x y = refl
 
 cond-or : (s t : Bool) → cond s true t ≡ (s || t)
 cond-or true t = refl
@@ -110,21 +116,23 @@ module _ (shard : Shard) (a : Asked) (h : Heard) (there : Bool) (acceptors : ℕ
 
   -- ---- entering
 
-  pub enter-paper : (slot : ℕ) (n : PaxosRound) (rest : Core → CoreStep) (then : Replica → Seen)
-      → (a .member .replica ≡ true → before (Round n) (core .paxos .round) ≡ false → seenStep (rest (inRound n core)) ≡ then (enters n old))
-      → seenStep (andThen (enter a h slot n core) rest) ≡ entering here slot n then
-  unfolding enter isOlder fromLive entering
-  enter-paper slot n rest then go =
-      both f (a .member .replica || isSwiftPaxos (a .mode)) (a .member .replica) (or-false (a .member .replica) (isSwiftPaxos (a .mode)) swift)
+  pub enter-paper : (slot : ℕ) (n : PaxosRound) (rest : Core → CoreStep) (rule : Seen)
+      → (a .member .replica ≡ true → before (Round n) (core .paxos .round) ≡ false → Agrees (seenStep (rest (inRound n core))) rule)
+      → Agrees (seenStep (andThen (enter a h slot n core) rest)) (cond (takesPart here slot && not (exceeded roundBefore (old .acceptor .responded) n)) rule (nothing here))
+  unfolding enter isOlder fromLive
+  enter-paper slot n rest rule go =
+      through refl
+      (agree-both f (a .member .replica || isSwiftPaxos (a .mode)) (a .member .replica) (or-false (a .member .replica) (isSwiftPaxos (a .mode)) swift)
       (λ r.
-      both f (ltb slot (core .slot) || before (Round n) (core .paxos .round)) (ltb slot (core .slot) || exceeded roundBefore (old .acceptor .responded) n)
+      agree-both f (ltb slot (core .slot) || before (Round n) (core .paxos .round)) (ltb slot (core .slot) || exceeded roundBefore (old .acceptor .responded) n)
       (ap (λ (t : Bool). ltb slot (core .slot) || t) (exceeded-older (core .paxos .round) n))
-      (λ o. refl)
+      (λ o. agrees refl)
       (λ o.
-      both f (h .«source_live» || isSwiftPaxos (a .mode)) (h .«source_live») (or-false (h .«source_live») (isSwiftPaxos (a .mode)) swift)
+      agree-unless f (h .«source_live» || isSwiftPaxos (a .mode))
       (λ l. go (sym (or-false (a .member .replica) (isSwiftPaxos (a .mode)) swift) ∙ r) (neither-right (ltb slot (core .slot)) (before (Round n) (core .paxos .round)) o))
-      (λ l. refl)))
-      (λ r. refl)
+      (λ l. no-refusal refl)))
+      (λ r. agrees refl))
+      (nested (a .member .replica) (ltb slot (core .slot)) (exceeded roundBefore (old .acceptor .responded) n) rule (nothing here))
     where
       f : CoreStep → Seen
       f step = seenStep (andThen step rest)
@@ -145,18 +153,20 @@ module _ (shard : Shard) (a : Asked) (h : Heard) (there : Bool) (acceptors : ℕ
 
     module _ (rv : RoundV) where
       propose-paper : (q : PaxosState) → isHeld (q .«max_rv») ≡ true → before (Round n) (q .round) ≡ false
-          → seenStep (acceptPhase a n (withPaxos q core)) ≡ requests here (replicaOf q) (some (proposalOf roundBefore (proposerIn n (replicaOf q))))
-      unfolding acceptPhase selfAccept acceptOwn receiveAccept broadcastAccept requests
+          → Agrees (seenStep (acceptPhase a n (withPaxos q core))) (requesting here (replicaOf q) (some (proposalOf roundBefore (proposerIn n (replicaOf q)))))
+      unfolding acceptPhase selfAccept acceptOwn receiveAccept broadcastAccept requesting
       propose-paper q has free =
-          both g (isEmpty (q .«accepted_set»)) (isEmpty (q .«accepted_set»)) refl
-          (λ e. ap (λ (v : OptionalValue). g (acceptOwn (a .member) n q v)) (has-value (q .«max_rv») has)
-          ∙ both g (acceptFits (q .«max_rv») n v) (fits (acceptedOf (q .«max_rv»)) (proposalOf roundBefore (proposerIn n (replicaOf q))))
-          (held-fits (q .«max_rv») n v ∙ ap (λ (w : ℕ). fits (acceptedOf (q .«max_rv»)) (record { number = n; value = w })) (held-value (q .«max_rv»)))
-          (λ fit. ap (λ (c : Core). seenStep (stays c request)) (off-paxos (withPaxos (afterAccept (a .member) (a .member .«my_pid») n v q) core))
+          agree-unless g (isEmpty (q .«accepted_set»))
+          (λ e.
+          through (ap (λ (v : OptionalValue). g (acceptOwn (a .member) n q v)) (has-value (q .«max_rv») has))
+          (agree-unless g (acceptFits (q .«max_rv») n v)
+          (λ fit. agrees
+          (ap (λ (c : Core). seenStep (stays c request)) (off-paxos (withPaxos (afterAccept (a .member) (a .member .«my_pid») n v q) core))
           ∙ ap (λ (r : Replica). leaves here r request) (accept-counted a replica (a .member .«my_pid») n v q free fit)
-          ∙ ap (λ (w : ℕ). leaves here (accepts (self here) (a .member .«my_pid») (record { number = n; value = w }) (replicaOf q)) (oneMessage (sends a core toAll (Accept (core .slot) n w)))) (held-value (q .«max_rv»)))
-          (λ fit. refl))
-          (λ e. refl)
+          ∙ ap (λ (w : ℕ). leaves here (acceptsWith (self here) (a .member .«my_pid») (record { number = n; value = w }) (replicaOf q)) (oneMessage (sends a core toAll (Accept (core .slot) n w)))) (held-value (q .«max_rv»))))
+          (λ fit. no-refusal refl))
+          refl)
+          (λ e. no-refusal refl)
         where
           v : ℕ
           v = heldV (q .«max_rv»)
@@ -167,23 +177,24 @@ module _ (shard : Shard) (a : Asked) (h : Heard) (there : Bool) (acceptors : ℕ
           request : Messages
           request = oneMessage (sends a core toAll (Accept (core .slot) n v))
 
-      requests-none : (r : Replica) → leaves here r noMessages ≡ requests here r none
-      unfolding requests
+      requests-none : (r : Replica) → leaves here r noMessages ≡ requesting here r none
+      unfolding requesting
       requests-none r = refl
 
       gather-paper : (p : PaxosState) → before (Round n) (p .round) ≡ false
-          → seenStep (gather a h n rv (withPaxos p core)) ≡ gathers here n rv (replicaOf p)
+          → Agrees (seenStep (gather a h n rv (withPaxos p core))) (gathers here n rv (replicaOf p))
       unfolding gather gathers becomesPrepared receivePromise proposes
       gather-paper p free =
-          both seenStep (becomesPrepared a (withPaxos p core) (withPromise a h rv (withPaxos p core)))
+          through refl
+          (agree-both seenStep (becomesPrepared a (withPaxos p core) (withPromise a h rv (withPaxos p core)))
           (not (isMajority acceptors (size (p .«prepared_set»))) && isMajority acceptors (size (q .«prepared_set»)))
           (ap (λ (t : Bool). not t && leb (a .member .quorums .majority) (size (q .«prepared_set»))) (quorum (size (p .«prepared_set»)))
           ∙ ap (λ (t : Bool). not (isMajority acceptors (size (p .«prepared_set»))) && t) (quorum (size (q .«prepared_set»))))
           (λ e. propose-paper q (after-promise-held (p .«max_rv») rv) free)
-          (λ e. requests-none (replicaOf q))
-          ∙ once (requests here (replicaOf q)) (isMajority acceptors (size (p .«prepared_set»))) (isMajority acceptors (size (q .«prepared_set»)))
+          (λ e. agrees (requests-none (replicaOf q))))
+          (once (requesting here (replicaOf q)) (isMajority acceptors (size (p .«prepared_set»))) (isMajority acceptors (size (q .«prepared_set»)))
           (proposalOf roundBefore (proposerIn n (replicaOf p))) (proposalOf roundBefore (proposerIn n (replicaOf q)))
-          ∙ ap (λ (r : Replica). requests here r (newly (proposes roundBefore acceptors (proposerIn n (replicaOf p))) (proposes roundBefore acceptors (proposerIn n r)))) heard
+          ∙ ap (λ (r : Replica). requesting here r (newly (proposes roundBefore acceptors (proposerIn n (replicaOf p))) (proposes roundBefore acceptors (proposerIn n r)))) heard)
         where
           q : PaxosState
           q = receivePromise (a .member) (h .src) rv p .state
@@ -196,33 +207,39 @@ module _ (shard : Shard) (a : Asked) (h : Heard) (there : Bool) (acceptors : ℕ
       seenThen step = seenStep (andThen step (gather a h n rv))
 
       preparing-paper : (p : PaxosState) → before (Round n) (p .round) ≡ false
-          → seenThen (preparing a h n (withPaxos p core)) ≡ inPrepare here n rv (replicaOf p)
-      unfolding preparing answersNothing answerPrepare inPrepare promises
+          → Agrees (seenThen (preparing a h n (withPaxos p core))) (inPrepare here n rv (replicaOf p))
+      unfolding preparing answersNothing answerPrepare inPrepare responding promises ignores
       preparing-paper p free =
-          both seenThen (eqb (h .delegate) (a .member .«my_pid»)) (eqb (h .delegate) (a .member .«my_pid»)) refl
+          agree-both seenThen (eqb (h .delegate) (a .member .«my_pid»)) (eqb (h .delegate) (a .member .«my_pid»)) refl
           (λ e. gather-paper p free)
           (λ e.
-          both seenThen (answersNothing a h n (withPaxos p core)) (acceptedIn n (acceptedOf (p .«max_rv»)))
-          (ap (λ (t : Bool). (t && eqb (h .delegate) (n .leader)) || last) swift ∙ held-accepted-in (p .«max_rv») n)
-          (λ d. refl)
+          through refl
+          (agree-both seenThen (answersNothing a h n (withPaxos p core)) (ignores roundBefore (replicaOf p .acceptor) n)
+          (ap (λ (t : Bool). (t && eqb (h .delegate) (n .leader)) || last) swift
+          ∙ held-accepted-in (p .«max_rv») n
+          ∙ ap (λ (t : Bool). t || acceptedIn roundBefore n (acceptedOf (p .«max_rv»))) (sym free ∙ exceeded-older (p .round) n))
+          (λ d. agrees refl)
           (λ d.
-          both seenThen (mayAnswer h n) (mayAnswer h n) refl
-          (λ m. ap (λ (x : RoundV). leaves here (replicaOf p) (oneMessage (sends a core (One (h .delegate)) (Prepare (core .slot) n x)))) (held-brings (p .«max_rv»)))
-          (λ m. refl)))
+          agree-unless seenThen (mayAnswer h n)
+          (λ m. agrees (ap (λ (x : RoundV). leaves here (replicaOf p) (oneMessage (sends a core (One (h .delegate)) (Prepare (core .slot) n x)))) (held-brings (p .«max_rv»))))
+          (λ m. no-refusal refl)))
+          (push (responding here (replicaOf p)) (ignores roundBefore (replicaOf p .acceptor) n) none (some (promise n (acceptedOf (p .«max_rv»))))))
         where
           last : Bool
           last = equal (getLastAcceptedRound (p .«max_rv»)) (Round n)
 
       pub prepared-paper : (p : PaxosState) → before (Round n) (p .round) ≡ false
-          → seenThen (prepared a h n rv (withPaxos p core)) ≡ prepares here n rv (replicaOf p)
-      unfolding prepared holdFirst paxosProposeV prepares receivePromise
+          → Agrees (seenThen (prepared a h n rv (withPaxos p core))) (inPrepare here n rv (takesUp (self here) rv (replicaOf p)))
+      unfolding prepared holdFirst paxosProposeV takesUp receivePromise
       prepared-paper p free =
-          both g (isHeld (p .«max_rv»)) (keepsSomething (replicaOf p)) (held-kept (p .«max_rv»))
+          through refl
+          (agree-both g (isHeld (p .«max_rv»)) (keepsSomething (replicaOf p)) (held-kept (p .«max_rv»))
           (λ e. preparing-paper p free)
-          (λ e. taken-no g (isHeld (p .«max_rv»)) (refused Panic p) (cond (isEmpty (p .«prepared_set»)) (taken q) (refused Panic p)) e
-          ∙ both g (isEmpty (p .«prepared_set»)) (isEmpty (p .«prepared_set»)) refl
-          (λ d. preparing-paper q free ∙ ap (inPrepare here n rv) (promise-heard a replica (a .member .«my_pid») rv p))
-          (λ d. refl))
+          (λ e.
+          through (taken-no g (isHeld (p .«max_rv»)) (refused Panic p) (cond (isEmpty (p .«prepared_set»)) (taken q) (refused Panic p)) e)
+          (agree-unless g (isEmpty (p .«prepared_set»)) (λ d. preparing-paper q free) (λ d. no-refusal refl))
+          (ap (inPrepare here n rv) (promise-heard a replica (a .member .«my_pid») rv p))))
+          (push (inPrepare here n rv) (keepsSomething (replicaOf p)) (replicaOf p) (hears (self here) (self here) rv (replicaOf p)))
         where
           q : PaxosState
           q = receivePromise (a .member) (a .member .«my_pid») rv p .state
@@ -246,8 +263,8 @@ module _ (shard : Shard) (a : Asked) (h : Heard) (there : Bool) (acceptors : ℕ
       unfolding isCommitter
       committer-here = ap (λ (t : Bool). t && isProcess (h .committer) (a .member .«my_pid»)) (tells-committer (a .mode) classic)
 
-      answer-paper : (q : OptionalProcess) → answerAccept a n off q ≡ acceptanceTo here q proposal
-      unfolding answerAccept committerHears acceptanceTo
+      answer-paper : (q : OptionalProcess) → answerAccept a n off q ≡ toLearners here n q (acceptance proposal)
+      unfolding answerAccept committerHears toLearners
       answer-paper NoProcess = refl
       answer-paper (Process q) =
           ap (λ (t : Bool). cond (t && (not (eqb q (n .leader)) && not (eqb q (a .member .«my_pid»)))) both-told leader-told) (tells-committer (a .mode) classic)
@@ -258,57 +275,82 @@ module _ (shard : Shard) (a : Asked) (h : Heard) (there : Bool) (acceptors : ℕ
           both-told : Messages
           both-told = twoMessages (acceptTo a off n q) (acceptTo a off n (n .leader))
 
-      tells-paper : (ms : Messages) → commitMessages a h n off ms ≡ tells here proposal ms
-      unfolding commitMessages tellsCommit tells
+      tells-paper : (ms : Messages) → commitMessages a h n off ms ≡ informs here proposal ms
+      unfolding commitMessages tellsCommit informs
       tells-paper ms =
           ap (λ (t : Bool). cond t (also ms (commitMessage a off (h .requester))) ms) (cond-or (eqb (n .leader) (a .member .«my_pid»)) (not (isProcess (h .requester) (a .member .«my_pid»))))
 
-      commit-paper : (ms : Messages) → seenStep (commitsStep v (leftFastPath off) ms)
-          ≡ cond there (commits here v ms) (refuses here ValueNotHeld)
+      commit-paper : (ms : Messages) → Agrees (seenStep (commitsStep v (leftFastPath off) ms)) (commits here v ms)
       unfolding committed commitSlot
       commit-paper ms =
-          both seen there there refl
-          (λ e. ap (λ (t : Bool). record { outcome = Done; slot = increment (core .slot); last = Value v; replica = commits here v ms .replica; messages = ms; commit = Committed (core .slot) v (t && false) }) classic)
-          (λ e. refl)
+          agree-unless seen there
+          (λ e. agrees (ap (λ (t : Bool). record { outcome = 0; slot = increment (core .slot); last = Value v; replica = commits here v ms .replica; messages = ms; commit = Committed (core .slot) v (t && false) }) classic))
+          (λ e. no-refusal refl)
 
-      learns-paper : (ms : Messages) → seenStep (tryCommit a h n v off ms) ≡ counts here there proposal (replicaOf after) ms
-      unfolding tryCommit learned learns
+      learns-paper : (ms : Messages) → Agrees (seenStep (tryCommit a h n v off ms)) (counts here proposal (replicaOf after) ms)
+      unfolding tryCommit learning learns
       learns-paper ms =
-          both seenStep (paxosCanCommit (a .member) after) (isMajority acceptors (size (after .«accepted_set»))) (quorum (size (after .«accepted_set»)))
-          (λ e. ap (λ (x : Messages). seenStep (commitsStep v (leftFastPath off) x)) (tells-paper ms) ∙ commit-paper (tells here proposal ms))
-          (λ e. refl)
-          ∙ push (learned here there proposal (replicaOf after) ms) (isMajority acceptors (size (after .«accepted_set»))) (some v) none
+          through refl
+          (agree-both seenStep (paxosCanCommit (a .member) after) (isMajority acceptors (size (after .«accepted_set»))) (quorum (size (after .«accepted_set»)))
+          (λ e. through (ap (λ (x : Messages). seenStep (commitsStep v (leftFastPath off) x)) (tells-paper ms)) (commit-paper (informs here proposal ms)) refl)
+          (λ e. agrees refl))
+          (push (learning here proposal (replicaOf after) ms) (isMajority acceptors (size (after .«accepted_set»))) (some v) none)
 
-      accepted-paper : seenStep (acceptedStep a h n v off) ≡ accepted here there proposal (replicaOf after)
-      unfolding acceptedStep follower answered accepted
-      accepted-paper =
-          both seenStep (eqb (a .member .«my_pid») (n .leader)) (eqb (a .member .«my_pid») (n .leader)) refl
-          (λ e. learns-paper noMessages)
-          (λ e.
-          both seenStep (eqb (h .src) (h .delegate)) (eqb (h .src) (h .delegate)) refl
-          (λ d.
-          both seenStep (isCommitter a h) committing committer-here
-          (λ c. taken-no seenStep (isSwiftPaxos (a .mode)) (continues off (answerAccept a n off (h .committer))) (tryCommit a h n v off (answerAccept a n off (h .committer))) swift
-          ∙ learns-paper (answerAccept a n off (h .committer))
-          ∙ ap (counts here there proposal (replicaOf after)) (answer-paper (h .committer)))
-          (λ c. ap (leaves here (replicaOf after)) (answer-paper (h .committer))))
-          (λ d.
-          both seenStep (isCommitter a h) committing committer-here
-          (λ c. learns-paper noMessages)
-          (λ c. refl)))
-        where
-          committing : Bool
-          committing = hasCommitter (a .mode) && isProcess (h .committer) (a .member .«my_pid»)
+      abbrev answers : Messages
+      answers = answerAccept a n off (h .committer)
+
+      abbrev leads : Bool
+      leads = eqb (a .member .«my_pid») (n .leader)
+
+      abbrev fromProposer : Bool
+      fromProposer = eqb (h .src) (h .delegate)
+
+      abbrev committing : Bool
+      committing = hasCommitter (a .mode) && isProcess (h .committer) (a .member .«my_pid»)
+
+      -- by whether oneself leads, the proposer sent it, and oneself is the committer
+      abbrev step : Bool → Bool → Bool → CoreStep
+      step l d c =
+          cond l (tryCommit a h n v off noMessages)
+          (cond d
+          (cond c (cond (isSwiftPaxos (a .mode)) (continues off answers) (tryCommit a h n v off answers)) (stays off answers))
+          (cond c (tryCommit a h n v off noMessages) (refuses Panic off)))
+
+      abbrev rule : Replica → Messages → Bool → Bool → Bool → Seen
+      rule r ms l d c = cond (l || c) (counts here proposal r (cond (not l && d) ms noMessages)) (leaves here r (cond (not l && d) ms noMessages))
+
+      by-roles : (l d c : Bool) → Agrees (seenStep (step l d c)) (rule (replicaOf after) (toLearners here n (h .committer) (acceptance proposal)) l d c)
+      by-roles true d c = learns-paper noMessages
+      by-roles false true true =
+          through
+          (taken-no seenStep (isSwiftPaxos (a .mode)) (continues off (answerAccept a n off (h .committer))) (tryCommit a h n v off (answerAccept a n off (h .committer))) swift)
+          (learns-paper (answerAccept a n off (h .committer)))
+          (ap (counts here proposal (replicaOf after)) (answer-paper (h .committer)))
+      by-roles false true false = agrees (ap (leaves here (replicaOf after)) (answer-paper (h .committer)))
+      by-roles false false true = learns-paper noMessages
+      by-roles false false false = no-refusal refl
+
+      accepted-paper : Agrees (seenStep (acceptedStep a h n v off)) (rule (replicaOf after) (toLearners here n (h .committer) (acceptance proposal)) leads fromProposer committing)
+      unfolding acceptedStep follower answered
+      accepted-paper = through (ap (λ (c : Bool). seenStep (step leads fromProposer c)) committer-here) (by-roles leads fromProposer committing) refl
+
+      -- what was entered is accepted, and so is announced
+      announced : before (Round n) (p .round) ≡ false → announcing here n (announcement roundBefore (replicaOf p .acceptor) proposal) ≡ toLearners here n (h .committer) (acceptance proposal)
+      unfolding announcement accepts
+      announced free =
+          ap (λ (t : Bool). announcing here n (cond (not t) (some (acceptance proposal)) none)) (sym (exceeded-older (p .round) n) ∙ free)
 
       pub accepting-paper : before (Round n) (p .round) ≡ false
-          → seenStep (accepting a h n v (withPaxos p core)) ≡ acceptsIn here there proposal (replicaOf p)
-      unfolding accepting receiveAccept acceptsIn
+          → Agrees (seenStep (accepting a h n v (withPaxos p core))) (inAccept here proposal (replicaOf p))
+      unfolding accepting receiveAccept inAccept announces
       accepting-paper free =
-          both g (acceptFits (p .«max_rv») n v) (fits (acceptedOf (p .«max_rv»)) proposal) (held-fits (p .«max_rv») n v)
-          (λ fit. ap (λ (c : Core). seenStep (acceptedStep a h n v c)) (off-paxos (withPaxos after core))
-          ∙ accepted-paper
-          ∙ ap (accepted here there proposal) (accept-counted a replica (h .src) n v p free fit))
-          (λ fit. refl)
+          agree-unless g (acceptFits (p .«max_rv») n v)
+          (λ fit.
+          through (ap (λ (c : Core). seenStep (acceptedStep a h n v c)) (off-paxos (withPaxos after core)))
+          accepted-paper
+          (ap (λ (r : Replica). rule r (toLearners here n (h .committer) (acceptance proposal)) leads fromProposer committing) (accept-counted a replica (h .src) n v p free fit)
+          ∙ ap (λ (ms : Messages). rule (acceptsWith (self here) (h .src) proposal (replicaOf p)) ms leads fromProposer committing) (sym (announced free))))
+          (λ fit. no-refusal refl)
         where
           g : PaxosStep → Seen
           g st = seenStep (afterAccepted a h n v (withPaxos p core) (st .state) (st .outcome))

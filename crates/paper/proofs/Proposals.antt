@@ -23,39 +23,20 @@ use Rattle.round_state.specs.declared.HeldPromise.{HeldPromise}
 use Rattle.round_state.specs.declared.HeldPromise.the-variants.{NothingHeld, Held}
 use Rattle.round_state.specs.declared.PaxosState.{PaxosState}
 use Rattle.enter.specs.Enter.{canPropose}
-use Rattle.proposal.specs.Proposal.{proposalRound, electing, mayPropose as mayProposeStep}
+use Rattle.proposal.specs.Proposal.{proposalRound, electing, mayPropose}
 use Rattle.propose.specs.Propose.{proposed, proposePrepare, afterOwnPromise, proposeAccept, proposeClassic}
 use Rattle.steps.specs.Steps.{oneMessage, sends, toAll, onRounds}
 use Rattle.steps.specs.declared.Asked.{Asked}
 use Rattle.steps.specs.declared.Core.{Core}
 use Rattle.steps.specs.declared.CoreStep.{CoreStep}
-use Rattle.steps.specs.declared.Heard.{Heard}
 use Rattle.steps.specs.declared.Messages.{Messages}
 use Rattle.calls.specs.Asked.{askedOf, nothingHeard}
 use Rattle.consensus.specs.Answers.{finish}
 use Rattle.consensus.specs.declared.Shard.{Shard}
-use Rattle.paper.specs.Replica.{Replica, acceptedOf, wishOf, respondedOf, replicaOf, brings, keepsSomething, sameNumber, numberOr, proposerIn, hears, accepts}
-use Rattle.paper.specs.PaperCall.{Seen, Place, self, seen, leaves, ownNumber, mayPropose, begins, proposesOwn}
-use Rattle.paper.proofs.Views.{both, held-kept, promise-heard, accept-counted}
+use Rattle.paper.specs.Replica.{Replica, acceptedOf, wishOf, respondedOf, replicaOf, brings, numberOr, proposerIn, hears, acceptsWith}
+use Rattle.paper.specs.PaperCall.{Seen, Place, self, seen, leaves, requesting, ownNumber, begins, proposesOwn}
+use Rattle.paper.proofs.Views.{Agrees, agrees, no-refusal, agree-both, agree-unless, promise-heard, accept-counted}
 use Rattle.paper.proofs.Handlers.{not-swift, or-false}
-
-nothing-held : (held : HeldPromise) → isHeld held ≡ false → held ≡ NothingHeld
-nothing-held NothingHeld e = refl
-nothing-held (Held rv) e = absurd (not-both refl e)
-
-not-and : (s t : Bool) → cond s false t ≡ (not s && t)
-not-and true t = refl
-not-and false t = refl
-
-not-true : (t : Bool) → not t ≡ true → t ≡ false
-not-true true e = sym e
-not-true false e = refl
-
-same-number : (a b : OptionalRound) → equal a b ≡ sameNumber (respondedOf a) (respondedOf b)
-same-number NoRound NoRound = refl
-same-number NoRound (Round b) = refl
-same-number (Round a) NoRound = refl
-same-number (Round a) (Round b) = refl
 
 or-default : (o : OptionalRound) → unwrapOrDefault o ≡ numberOr defaultRound (respondedOf o)
 or-default NoRound = refl
@@ -74,13 +55,12 @@ not-or true t e d = e
 not-or false t e d = absurd (not-both d refl)
 
 -- the proposer's own acceptor has responded to its number
-begun : (o start : OptionalRound) (n : PaxosRound) (x : Option (Proposal PaxosRound ℕ)) → sameNumber (respondedOf o) (respondedOf start) ≡ true
-    → (start ≡ NoRound) ⊎ (sameNumber (some n) (respondedOf start) ≡ true)
+begun : (o start : OptionalRound) (n : PaxosRound) (x : Option (Proposal PaxosRound ℕ)) → equal o start ≡ true → (start ≡ NoRound) ⊎ (equal (Round n) start ≡ true)
     → prepare roundBefore (record { responded = respondedOf o; accepted = x }) n ≡ record { responded = some n; accepted = x }
 unfolding prepare responds
 begun NoRound start n x e d = refl
 begun (Round m) NoRound n x e d = absurd (not-both e refl)
-begun (Round m) (Round s) n x e (inl d) = absurd (not-both e (ap (λ (o : OptionalRound). sameNumber (some m) (respondedOf o)) d))
+begun (Round m) (Round s) n x e (inl d) = absurd (not-both e (ap (equal (Round m)) d))
 begun (Round m) (Round s) n x e (inr d) =
     ap (λ (t : Bool). cond t (record { responded = some n; accepted = x }) (record { responded = some m; accepted = x }))
     (ap (roundBefore m) (round-equal n s d ∙ sym (round-equal m s e)) ∙ rounds-ordered .irreflexive m)
@@ -114,55 +94,46 @@ module _ (shard : Shard) (acceptors : ℕ) (classic : hasFastPath (shard .settin
       ap (λ (t : Bool). nextLeaderRound (unwrapOrDefault (core .paxos .round)) (cond t (a .«first_leader») (a .member .«my_pid»))) swift
       ∙ ap (λ (m : PaxosRound). nextLeaderRound m (a .member .«my_pid»)) (or-default (core .paxos .round))
 
-  may : mayProposeStep a core ≡ mayPropose here
-  unfolding mayProposeStep mayPropose
-  may =
-      not-and (isHeld (core .paxos .«max_rv»)) (canPropose a && at-start && allowed (proposalRound a core))
-      ∙ ap (λ (t : Bool). not t && (canPropose a && at-start && allowed (proposalRound a core))) (held-kept (core .paxos .«max_rv»))
-      ∙ ap (λ (t : Bool). free && (t && at-start && allowed (proposalRound a core))) (or-false (a .member .replica) (isSwiftPaxos (a .mode)) swift)
-      ∙ ap (λ (t : Bool). free && (a .member .replica && t && allowed (proposalRound a core))) (same-number (core .paxos .round) (a .«starting_round»))
-      ∙ ap (λ (m : PaxosRound). free && (a .member .replica && same && allowed m)) number
-      ∙ ap (λ (t : Bool). free && (a .member .replica && same && (not (isMultiPaxos (a .mode)) || t))) (same-number (Round n) (a .«starting_round»))
-    where
-      free : Bool
-      free = not (keepsSomething old)
-
-      at-start : Bool
-      at-start = equal (core .paxos .round) (a .«starting_round»)
-
-      same : Bool
-      same = sameNumber (old .acceptor .responded) (respondedOf (a .«starting_round»))
-
-      allowed : PaxosRound → Bool
-      allowed m = not (isMultiPaxos (a .mode)) || equal (Round m) (a .«starting_round»)
-
   -- what the paper's proposer begins with, where it may propose
   abbrev first : PaxosState
   first = record { round = Round n; «max_rv» = NothingHeld; «prepared_set» = 0; «accepted_set» = 0 }
 
-  module _ (allowed : mayPropose here ≡ true) where
-    nothing : core .paxos .«max_rv» ≡ NothingHeld
+  module _ (allowed : mayPropose a core ≡ true) where
+    abbrev atStart : Bool
+    atStart = equal (core .paxos .round) (a .«starting_round»)
+
+    abbrev inStarting : Bool
+    inStarting = not (isMultiPaxos (a .mode)) || equal (Round (proposalRound a core)) (a .«starting_round»)
+
+    -- nothing is held, and the tests that an own proposal passes hold
+    passed : (core .paxos .«max_rv» ≡ NothingHeld) × ((canPropose a && atStart && inStarting) ≡ true)
     unfolding mayPropose
-    nothing = nothing-held (core .paxos .«max_rv») (held-kept (core .paxos .«max_rv») ∙ not-true (keepsSomething old) (and-left (not (keepsSomething old)) _ allowed))
+    passed = go (core .paxos .«max_rv») refl allowed
+      where
+        go : (held : HeldPromise) → core .paxos .«max_rv» ≡ held → cond (isHeld held) false (canPropose a && atStart && inStarting) ≡ true
+            → (core .paxos .«max_rv» ≡ NothingHeld) × ((canPropose a && atStart && inStarting) ≡ true)
+        go NothingHeld e d = (e, d)
+        go (Held rv) e d = absurd (not-both d refl)
 
     in-round : gotoRound (Round n) (core .paxos) ≡ first
-    in-round = ap (λ (held : HeldPromise). record { round = Round n; «max_rv» = held; «prepared_set» = 0; «accepted_set» = 0 }) nothing
-
-    rest : (a .member .replica && sameNumber (old .acceptor .responded) (respondedOf (a .«starting_round»)) && (not (isMultiPaxos (a .mode)) || sameNumber (some n) (respondedOf (a .«starting_round»)))) ≡ true
-    unfolding mayPropose
-    rest = and-right (not (keepsSomething old)) _ allowed
+    in-round = ap (λ (held : HeldPromise). record { round = Round n; «max_rv» = held; «prepared_set» = 0; «accepted_set» = 0 }) (passed .0)
 
     replica : a .member .replica ≡ true
-    replica = and-left (a .member .replica) _ (and-left (a .member .replica && _) _ rest)
+    replica =
+        sym (or-false (a .member .replica) (isSwiftPaxos (a .mode)) swift)
+        ∙ and-left (canPropose a) atStart (and-left (canPropose a && atStart) inStarting (passed .1))
 
     started : record { acceptor = prepare roundBefore (old .acceptor) n; wish = old .wish; promised = 0; agreed = 0 } ≡ replicaOf first
     started =
         ap (λ (x : Acceptor PaxosRound ℕ). record { acceptor = x; wish = old .wish; promised = 0; agreed = 0 })
-        (begun (core .paxos .round) (a .«starting_round») n (acceptedOf (core .paxos .«max_rv»)) (and-right (a .member .replica) _ (and-left (a .member .replica && _) _ rest)) (go (isMultiPaxos (a .mode)) refl))
-        ∙ ap (λ (held : HeldPromise). record { acceptor = record { responded = some n; accepted = acceptedOf held }; wish = wishOf held; promised = 0; agreed = 0 }) nothing
+        (begun (core .paxos .round) (a .«starting_round») n (acceptedOf (core .paxos .«max_rv»))
+        (and-right (canPropose a) atStart (and-left (canPropose a && atStart) inStarting (passed .1))) (go (isMultiPaxos (a .mode)) refl))
+        ∙ ap (λ (held : HeldPromise). record { acceptor = record { responded = some n; accepted = acceptedOf held }; wish = wishOf held; promised = 0; agreed = 0 }) (passed .0)
       where
-        go : (t : Bool) → isMultiPaxos (a .mode) ≡ t → (a .«starting_round» ≡ NoRound) ⊎ (sameNumber (some n) (respondedOf (a .«starting_round»)) ≡ true)
-        go true e = inr (not-or (isMultiPaxos (a .mode)) _ (and-right (a .member .replica && _) _ rest) e)
+        go : (t : Bool) → isMultiPaxos (a .mode) ≡ t → (a .«starting_round» ≡ NoRound) ⊎ (equal (Round n) (a .«starting_round») ≡ true)
+        go true e =
+            inr (ap (λ (k : PaxosRound). equal (Round k) (a .«starting_round»)) (sym number)
+            ∙ not-or (isMultiPaxos (a .mode)) (equal (Round (proposalRound a core)) (a .«starting_round»)) (and-right (canPropose a && atStart) inStarting (passed .1)) e)
         go false e = inl (none-at-start (a .mode) (a .«first_leader») e)
 
     abbrev rv : RoundV
@@ -190,24 +161,24 @@ module _ (shard : Shard) (acceptors : ℕ) (classic : hasFastPath (shard .settin
     -- MultiPaxos and MultiPaxos3P: the accept request
     accept-request : seenStep (proposeAccept a n v core)
         ≡ leaves here
-        (accepts (self here) (a .member .«my_pid») (proposalOf roundBefore (proposerIn n (begins here v))) (begins here v))
+        (acceptsWith (self here) (a .member .«my_pid») (proposalOf roundBefore (proposerIn n (begins here v))) (begins here v))
         (oneMessage (sends a core toAll (Accept (core .slot) n (proposalOf roundBefore (proposerIn n (begins here v)) .value))))
     unfolding proposeAccept paxosProposeV selfAccept acceptOwn receiveAccept acceptFits receivePromise heldAfterPromise hears choice highest
     accept-request =
         ap (λ (p : PaxosState). seenStep (afterOwnPromise a n v core (paxosProposeV (a .member) rv p .state) (paxosProposeV (a .member) rv p .outcome))) in-round
         ∙ ap (λ (r : Replica). leaves here r request) (accept-counted a replica (a .member .«my_pid») n v mine (rounds-ordered .irreflexive n) refl)
-        ∙ ap (λ (r : Replica). leaves here (accepts (self here) (a .member .«my_pid») (record { number = n; value = v }) r) request) own-heard
-        ∙ ap (λ (r : Replica). leaves here (accepts (self here) (a .member .«my_pid») (proposalOf roundBefore (proposerIn n (heard r))) (heard r)) (oneMessage (sends a core toAll (Accept (core .slot) n (proposalOf roundBefore (proposerIn n (heard r)) .value))))) (sym started)
+        ∙ ap (λ (r : Replica). leaves here (acceptsWith (self here) (a .member .«my_pid») (record { number = n; value = v }) r) request) own-heard
+        ∙ ap (λ (r : Replica). leaves here (acceptsWith (self here) (a .member .«my_pid») (proposalOf roundBefore (proposerIn n (heard r))) (heard r)) (oneMessage (sends a core toAll (Accept (core .slot) n (proposalOf roundBefore (proposerIn n (heard r)) .value))))) (sym started)
       where
         request : Messages
         request = oneMessage (sends a core toAll (Accept (core .slot) n v))
 
-  pub proposal-paper : seenStep (proposeClassic a v core) ≡ proposesOwn here v
-  unfolding proposeClassic proposesOwn
+  pub proposal-paper : Agrees (seenStep (proposeClassic a v core)) (proposesOwn here v)
+  unfolding proposeClassic proposesOwn requesting
   proposal-paper =
-      both seenStep (mayProposeStep a core) (mayPropose here) may
+      agree-unless seenStep (mayPropose a core)
       (λ e.
-      both seenStep (isMultiPaxos (a .mode)) (isMultiPaxos (a .mode)) refl
-      (λ m. ap (λ (k : PaxosRound). seenStep (proposeAccept a k v core)) number ∙ accept-request (sym may ∙ e))
-      (λ m. ap (λ (k : PaxosRound). seenStep (proposePrepare a k (PaxosV NoRound v) core)) number ∙ prepare-request (sym may ∙ e)))
-      (λ e. refl)
+      agree-both seenStep (isMultiPaxos (a .mode)) (isMultiPaxos (a .mode)) refl
+      (λ m. agrees (ap (λ (k : PaxosRound). seenStep (proposeAccept a k v core)) number ∙ accept-request e))
+      (λ m. agrees (ap (λ (k : PaxosRound). seenStep (proposePrepare a k (PaxosV NoRound v) core)) number ∙ prepare-request e)))
+      (λ e. no-refusal refl)

@@ -6,11 +6,12 @@ use mathlib.Core.Bool.{Bool, true, false, cond, not, _&&_, _||_}
 use mathlib.Core.List.{[], _∷_}
 use mathlib.Core.Option.{Option, none, some}
 use Prim.Native.Nat.{ℕ}
-use Rattle.basics.proofs.Tests.{of-both}
+use lib.Dec.{ltb}
+use Rattle.basics.proofs.Tests.{not-both, same-test, of-both}
 use Rattle.sets.specs.Sets.{insert}
-use Rattle.paxos.specs.PaxosMadeSimple.{Proposal, Acceptor, greater, exceeded, higher, responds, prepare, accepts as acceptsPaper, accept, highest, choice}
-use Rattle.message.specs.Rounds.{roundBefore, before, equal}
-use Rattle.message.proofs.Order.{rounds-ordered, optional-rounds-ordered}
+use Rattle.paxos.specs.PaxosMadeSimple.{Proposal, Acceptor, greater, exceeded, higher, responds, prepare, acceptedIn, accepts, accept, highest, choice}
+use Rattle.message.specs.Rounds.{roundBefore, roundEqual, before, equal}
+use Rattle.message.proofs.Order.{rounds-ordered, optional-rounds-ordered, round-equal, equal-round}
 use Rattle.message.specs.declared.OptionalRound.{OptionalRound}
 use Rattle.message.specs.declared.OptionalRound.the-variants.{NoRound, Round}
 use Rattle.message.specs.declared.PaxosRound.{PaxosRound}
@@ -25,7 +26,8 @@ use Rattle.enter.specs.Enter.{inRound}
 use Rattle.steps.specs.Steps.{heldRv, heldV}
 use Rattle.steps.specs.declared.Asked.{Asked}
 use Rattle.steps.specs.declared.Core.{Core}
-use Rattle.paper.specs.Replica.{Replica, reportOf, acceptedOf, wishOf, respondedOf, replicaOf, brings, ownValue, enters, firstWish, unlessAccepted, isThere, newly, acceptedIn, fits, alsoSelf, hears, accepts}
+use Rattle.paper.specs.Replica.{Replica, reportOf, acceptedOf, wishOf, respondedOf, replicaOf, brings, ownValue, enters, firstWish, unlessAccepted, isThere, newly, alsoSelf, hears, acceptsWith}
+use Rattle.paper.specs.PaperCall.{Seen}
 
 -- ---- choices
 
@@ -34,6 +36,38 @@ pub both : {A B : Type 0} (f : A → B) (t s : Bool) {x y : A} {p q : B} → t �
 both {A} {B} f t s {x} {y} {p} {q} e pos neg = go t refl ∙ ap (λ (b : Bool). cond b p q) e
   where
     go : (b : Bool) → t ≡ b → f (cond b x y) ≡ cond b p q
+    go true d = pos d
+    go false d = neg d
+
+-- What is seen of a call that is taken is what the paper has. The causes of demand 1 say which calls are refused, so that a refusal has to be nothing.
+abbrev pub Agrees : Seen → Seen → Type 0
+Agrees s p = s .outcome ≡ 0 → s ≡ p
+
+pub agrees : {s p : Seen} → s ≡ p → Agrees s p
+agrees e taken = e
+
+pub through : {s t p q : Seen} → s ≡ t → Agrees t q → q ≡ p → Agrees s p
+through e f d taken = e ∙ f (ap (λ (x : Seen). x .outcome) (sym e) ∙ taken) ∙ d
+
+pub no-refusal : {s p : Seen} → ltb 0 (s .outcome) ≡ true → Agrees s p
+no-refusal above taken = absurd (not-both above (ap (ltb 0) taken))
+
+-- by one test on both sides
+pub agree-both : {A : Type 0} (f : A → Seen) (t s : Bool) {x y : A} {p q : Seen} → t ≡ s → (t ≡ true → Agrees (f x) p) → (t ≡ false → Agrees (f y) q)
+    → Agrees (f (cond t x y)) (cond s p q)
+agree-both {A} f t s {x} {y} {p} {q} e pos neg = go t s refl e
+  where
+    go : (b c : Bool) → t ≡ b → b ≡ c → Agrees (f (cond b x y)) (cond c p q)
+    go true true d g = pos d
+    go true false d g = absurd (not-both refl g)
+    go false true d g = absurd (not-both refl (sym g))
+    go false false d g = neg d
+
+-- by a test of the engine alone
+pub agree-unless : {A : Type 0} (f : A → Seen) (t : Bool) {x y : A} {p : Seen} → (t ≡ true → Agrees (f x) p) → (t ≡ false → Agrees (f y) p) → Agrees (f (cond t x y)) p
+agree-unless {A} f t {x} {y} {p} pos neg = go t refl
+  where
+    go : (b : Bool) → t ≡ b → Agrees (f (cond b x y)) p
     go true d = pos d
     go false d = neg d
 
@@ -74,18 +108,28 @@ held-value (Held (FastV proposer v)) = refl
 held-value (Held (PaxosV NoRound v)) = refl
 held-value (Held (PaxosV (Round n) v)) = refl
 
-pub held-accepted-in : (held : HeldPromise) (n : PaxosRound) → equal (getLastAcceptedRound held) (Round n) ≡ acceptedIn n (acceptedOf held)
+-- two numbers are the same where neither is before the other
+same-round : (m n : PaxosRound) → roundEqual m n ≡ not (roundBefore m n || roundBefore n m)
+same-round m n = same-test there back
+  where
+    there : roundEqual m n ≡ true → not (roundBefore m n || roundBefore n m) ≡ true
+    there e =
+        ap (λ (x : PaxosRound). not (roundBefore x n || roundBefore n x)) (round-equal m n e)
+        ∙ ap (λ (t : Bool). not (t || t)) (rounds-ordered .irreflexive n)
+
+    back : not (roundBefore m n || roundBefore n m) ≡ true → roundEqual m n ≡ true
+    back e = go (roundBefore m n) (roundBefore n m) refl refl e
+      where
+        go : (s t : Bool) → roundBefore m n ≡ s → roundBefore n m ≡ t → not (s || t) ≡ true → roundEqual m n ≡ true
+        go true t d f g = absurd (not-both g refl)
+        go false true d f g = absurd (not-both g refl)
+        go false false d f g = ap (roundEqual m) (sym (rounds-ordered .connected m n d f)) ∙ equal-round m
+
+pub held-accepted-in : (held : HeldPromise) (n : PaxosRound) → equal (getLastAcceptedRound held) (Round n) ≡ acceptedIn roundBefore n (acceptedOf held)
 held-accepted-in NothingHeld n = refl
 held-accepted-in (Held (FastV proposer v)) n = refl
 held-accepted-in (Held (PaxosV NoRound v)) n = refl
-held-accepted-in (Held (PaxosV (Round m) v)) n = refl
-
-pub held-fits : (held : HeldPromise) (n : PaxosRound) (v : ℕ) → acceptFits held n v ≡ fits (acceptedOf held) (record { number = n; value = v })
-unfolding acceptFits
-held-fits NothingHeld n v = refl
-held-fits (Held (FastV proposer w)) n v = refl
-held-fits (Held (PaxosV NoRound w)) n v = refl
-held-fits (Held (PaxosV (Round m) w)) n v = refl
+held-accepted-in (Held (PaxosV (Round m) v)) n = same-round m n
 
 -- ---- numbers
 
@@ -200,8 +244,8 @@ module _ (a : Asked) (replica : a .member .replica ≡ true) where
 
   -- an accept that fits, in a number that is not exceeded
   pub accept-counted : (src : ℕ) (n : PaxosRound) (v : ℕ) (p : PaxosState) → before (Round n) (p .round) ≡ false → acceptFits (p .«max_rv») n v ≡ true
-      → replicaOf (afterAccept (a .member) src n v p) ≡ accepts (a .member .«my_pid») src (record { number = n; value = v }) (replicaOf p)
-  unfolding accepts accept acceptsPaper
+      → replicaOf (afterAccept (a .member) src n v p) ≡ acceptsWith (a .member .«my_pid») src (record { number = n; value = v }) (replicaOf p)
+  unfolding acceptsWith accept accepts
   accept-counted src n v p free fit =
       ap (λ (x : Option (Proposal PaxosRound ℕ)). made (record { responded = respondedOf (p .round); accepted = x }) (counted (a .member) src (p .«accepted_set»))) (accept-higher (p .«max_rv») n v fit)
       ∙ ap (made taken) (counted-also src (p .«accepted_set»))

@@ -1,2 +1,3 @@
 pub mod Replica
 pub mod PaperCall
+pub mod Runs

@@ -1,14 +1,16 @@
--- A call as *Paxos Made Simple* has it: what a replica makes of a Prepare, of an Accept and of a proposal, put together from the paper's rules
--- (crates/paxos/specs/PaxosMadeSimple.antt), with the engine's own ways named where they stand (DIFFERENCE; docs/DIFFERENCES.md, "The Rust and
--- the paper"). `paperCall` at the end is what the theorems of proofs/ are about.
+-- A call as *Paxos Made Simple* has it: what a replica makes of a proposal, of a Prepare, of an Accept and of a Commit, put together from the paper's
+-- rules (crates/paxos/specs/PaxosMadeSimple.antt) and the replica's steps (Replica.antt). What is not the paper's is marked DIFFERENCE, with the name
+-- of its row in docs/DIFFERENCES.md, "The Rust and the paper". The paper refuses nothing: a call that a cause of document 01 refuses
+-- (crates/consensus/specs/FirstCause.antt, demand 1) is left to that cause, and every other call follows the rules. `paperCall` at the end is what the
+-- theorems of proofs/ are about.
 -- Assumes nothing.
 use mathlib.Core.Bool.{Bool, true, false, cond, not, _&&_, _||_}
 use mathlib.Core.Option.{Option, none, some}
 use Prim.Native.Nat.{ℕ}
-use lib.Dec.{eqb, ltb, leb}
-use Rattle.sets.specs.Sets.{size, isEmpty}
-use Rattle.paxos.specs.PaxosMadeSimple.{Proposal, Message, exceeded, prepare, asks, proposalOf, proposes, learns}
-use Rattle.paxos.specs.PaxosMadeSimple.Message.{promise, acceptRequest, acceptance}
+use lib.Dec.{eqb, ltb}
+use Rattle.sets.specs.Sets.{size}
+use Rattle.paxos.specs.PaxosMadeSimple.{Proposal, Message, exceeded, prepare, accepts, announcement, asks, proposalOf, proposes, learns}
+use Rattle.paxos.specs.PaxosMadeSimple.Message.{acceptRequest}
 use Rattle.message.specs.Promises.{isProcess}
 use Rattle.message.specs.Modes.{isMultiPaxos}
 use Rattle.message.specs.Rounds.{increment, roundBefore, nextLeaderRound, defaultRound}
@@ -19,15 +21,12 @@ use Rattle.message.specs.declared.OptionalProcess.the-variants.{NoProcess, Proc
 use Rattle.message.specs.declared.OptionalRound.the-variants.{NoRound}
 use Rattle.message.specs.declared.OptionalValue.{OptionalValue}
 use Rattle.message.specs.declared.OptionalValue.the-variants.{Value}
-use Rattle.message.specs.declared.Outcome.{Outcome}
-use Rattle.message.specs.declared.Outcome.the-variants.{Done, Refused}
 use Rattle.message.specs.declared.PaxosRound.{PaxosRound}
 use Rattle.message.specs.declared.PFMode.{PFMode}
 use Rattle.message.specs.declared.PFMode.the-variants.{Paxos, MultiPaxos, MultiPaxos3P, EPaxos, Pando, SwiftPaxos}
-use Rattle.message.specs.declared.Refusal.{Refusal}
-use Rattle.message.specs.declared.Refusal.the-variants.{Panic, SourceNotLive, AcceptUnlikeHeld, ValueNotHeld, ProposalNotAllowed, NumberTooLarge, NoRoomForRead}
 use Rattle.message.specs.declared.RoundV.{RoundV}
 use Rattle.message.specs.declared.RoundV.the-variants.{PaxosV}
+use Rattle.fast_state.specs.Adopt.{lowestBest}
 use Rattle.steps.specs.Steps.{noMessages, oneMessage, twoMessages, also, sends, toAll, firstServed}
 use Rattle.steps.specs.declared.Asked.{Asked}
 use Rattle.steps.specs.declared.Core.{Core}
@@ -36,22 +35,21 @@ use Rattle.steps.specs.declared.Destination.the-variants.{One, All}
 use Rattle.steps.specs.declared.Heard.{Heard}
 use Rattle.steps.specs.declared.Messages.{Messages}
 use Rattle.steps.specs.declared.Outgoing.{Outgoing}
-use Rattle.delivery.specs.Admit.{admit}
-use Rattle.delivery.specs.Limits.{isNumber}
 use Rattle.calls.specs.Asked.{askedOf, heardOf, nothingHeard}
 use Rattle.calls.specs.declared.Call.{Call}
 use Rattle.calls.specs.declared.Call.the-variants.{Propose, StartRead, Receive}
 use Rattle.calls.specs.declared.OptionalCommit.{OptionalCommit}
 use Rattle.calls.specs.declared.OptionalCommit.the-variants.{NoCommit, Committed}
+use Rattle.consensus.specs.FirstCause.{numberOf, firstCause}
 use Rattle.consensus.specs.declared.Answer.{Answer}
 use Rattle.consensus.specs.declared.Shard.{Shard}
-use Rattle.paper.specs.Replica.{Replica, respondedOf, replicaOf, written, enters, keepsSomething, acceptedIn, fits, proposerIn, newly, hears, accepts, sameNumber, numberOr}
+use Rattle.paper.specs.Replica.{Replica, respondedOf, replicaOf, written, enters, promises, proposerIn, newly, hears, takesUp, acceptsWith, numberOr}
 
 -- ---- what is seen of a call
 
--- what is seen of a call: its outcome, the slot, the last value and the replica afterwards, the messages and the commit
+-- its number (0 where it is taken), the slot, the last value and the replica afterwards, the messages and the commit
 pub record Seen : Type 0 where
-  pub outcome : Outcome
+  pub outcome : ℕ
   pub slot : ℕ
   pub last : OptionalValue
   pub replica : Replica
@@ -61,23 +59,13 @@ pub record Seen : Type 0 where
 abbrev pub seen : Answer → Seen
 seen r =
     record {
-      outcome = r .reply .outcome;
+      outcome = numberOf (r .reply .outcome);
       slot = r .shard .state .rounds .core .slot;
       last = r .shard .state .rounds .core .«last_v»;
       replica = replicaOf (r .shard .state .rounds .core .paxos);
       messages = r .reply .messages;
       commit = r .reply .commit;
     }
-
--- ---- the modes in which a committer counts acceptances beside the leader
-
-abbrev pub hasCommitter : PFMode → Bool
-hasCommitter Paxos = false
-hasCommitter MultiPaxos = false
-hasCommitter MultiPaxos3P = true
-hasCommitter EPaxos = false
-hasCommitter Pando = false
-hasCommitter SwiftPaxos = false
 
 -- ---- a call at a replica
 
@@ -94,21 +82,30 @@ pub record Place : Type 0 where
 abbrev pub self : Place → ℕ
 self here = here .asked .member .«my_pid»
 
-module _ (here : Place) where
-  -- the call is refused with a number, and the replica stays
-  abbrev pub refuses : Refusal → Seen
-  refuses why =
-      record { outcome = Refused why; slot = here .core .slot; last = here .core .«last_v»; replica = here .old; messages = noMessages; commit = NoCommit }
+-- MultiPaxos3P has a committer beside the leader
+abbrev pub hasCommitter : PFMode → Bool
+hasCommitter Paxos = false
+hasCommitter MultiPaxos = false
+hasCommitter MultiPaxos3P = true
+hasCommitter EPaxos = false
+hasCommitter Pando = false
+hasCommitter SwiftPaxos = false
 
+module _ (here : Place) where
+  -- the call leaves this replica and sends these messages
   abbrev pub leaves : Replica → Messages → Seen
   leaves r messages =
-      record { outcome = Done; slot = here .core .slot; last = here .core .«last_v»; replica = r; messages = messages; commit = NoCommit }
+      record { outcome = 0; slot = here .core .slot; last = here .core .«last_v»; replica = r; messages = messages; commit = NoCommit }
 
-  -- the value is committed, and the next slot begins
+  abbrev pub nothing : Seen
+  nothing = leaves (here .old) noMessages
+
+  -- The value is learned. Section 3: the next slot is an instance of its own, with a replica that has responded to nothing (in MultiPaxos and
+  -- MultiPaxos3P, to the first leader's number) and accepted nothing.
   abbrev pub commits : ℕ → Messages → Seen
   commits v messages =
       record {
-        outcome = Done;
+        outcome = 0;
         slot = increment (here .core .slot);
         last = Value v;
         replica =
@@ -121,144 +118,130 @@ module _ (here : Place) where
   abbrev pub sending : Destination → Option RoundV → Message PaxosRound ℕ → Outgoing
   sending destination wish m = sends (here .asked) (here .core) destination (written (here .core .slot) wish m)
 
+  -- An acceptor is a live replica. DIFFERENCE ("a message of a slot that is committed"): it takes part in its own slot alone, and ignores an older one.
+  abbrev pub takesPart : ℕ → Bool
+  takesPart slot = here .asked .member .replica && not (ltb slot (here .core .slot))
+
   -- ---- Prepare
 
-  -- The promise, to the one that gathers them. In the paper a number is answered once; DIFFERENCE ("a prepare request with a number that was
-  -- answered before"): it is answered again until a proposal with that number is accepted. Where the leader gathers, a Prepare of its number
-  -- from another is a promise that went astray, and is refused.
-  unfoldable pub promises : PaxosRound → Replica → Seen
-  promises n r =
-      cond (acceptedIn n (r .acceptor .accepted)) (leaves r noMessages)
-      (cond (eqb (here .heard .delegate) (here .heard .src) || not (eqb (here .heard .delegate) (n .leader)))
-      (leaves r (oneMessage (sending (One (here .heard .delegate)) (r .wish) (promise n (r .acceptor .accepted)))))
-      (refuses Panic))
+  -- Section 2.4, the distinguished proposer. DIFFERENCE ("who proposes"): the leader of the number, in Pando its delegate. It gathers the promises.
+  abbrev pub proposer : ℕ
+  proposer = here .heard .delegate
 
-  -- Phase 2 (a): the accept request to all, and the own acceptor accepts. Refused where acceptances are counted already.
-  unfoldable pub requests : Replica → Option (Proposal PaxosRound ℕ) → Seen
-  requests r none = leaves r noMessages
-  requests r (some p) =
-      cond (isEmpty (r .agreed))
-      (cond (fits (r .acceptor .accepted) p)
-      (leaves (accepts (self here) (self here) p r) (oneMessage (sending toAll none (acceptRequest p))))
-      (refuses AcceptUnlikeHeld))
-      (refuses AcceptUnlikeHeld)
+  -- Phase 1 (b): the response to it
+  unfoldable pub responding : Replica → Option (Message PaxosRound ℕ) → Seen
+  responding r none = leaves r noMessages
+  responding r (some m) = leaves r (oneMessage (sending (One proposer) (r .wish) m))
 
-  -- The gatherer hears the promise, and proposes once, as the paper's proposer: when a majority has responded. DIFFERENCE: one whose own promise
-  -- was a majority already, in a group of one, never proposes.
+  -- Phase 2 (a): the accept request to all; its own acceptor accepts
+  unfoldable pub requesting : Replica → Option (Proposal PaxosRound ℕ) → Seen
+  requesting r none = leaves r noMessages
+  requesting r (some p) = leaves (acceptsWith (self here) (self here) p r) (oneMessage (sending toAll none (acceptRequest p)))
+
+  -- it hears the promise, and proposes when a majority has responded
   unfoldable pub gathers : PaxosRound → RoundV → Replica → Seen
   gathers n rv r =
-      requests (hears (self here) (here .heard .src) rv r)
-      (newly (proposes roundBefore (here .acceptors) (proposerIn n r)) (proposes roundBefore (here .acceptors) (proposerIn n (hears (self here) (here .heard .src) rv r))))
+      requesting (hears (self here) (here .heard .src) rv r)
+      (newly (proposes roundBefore (here .acceptors) (proposerIn n r))
+      (proposes roundBefore (here .acceptors) (proposerIn n (hears (self here) (here .heard .src) rv r))))
 
+  -- a Prepare is a promise at the proposer, and a prepare request at every other
   unfoldable pub inPrepare : PaxosRound → RoundV → Replica → Seen
-  inPrepare n rv r = cond (eqb (here .heard .delegate) (self here)) (gathers n rv r) (promises n r)
+  inPrepare n rv r = cond (eqb proposer (self here)) (gathers n rv r) (responding r (promises n r))
 
-  -- DIFFERENCE ("a Prepare that brings an accepted proposal to one that holds nothing"): a replica that keeps nothing keeps what came, an
-  -- accepted proposal as if it had accepted it, and counts its own promise
-  unfoldable pub prepares : PaxosRound → RoundV → Replica → Seen
-  prepares n rv r =
-      cond (keepsSomething r) (inPrepare n rv r)
-      (cond (isEmpty (r .promised)) (inPrepare n rv (hears (self here) (self here) rv r)) (refuses Panic))
+  -- one of a number lower than that to which it has responded is ignored
+  unfoldable pub receivesPrepare : ℕ → PaxosRound → RoundV → Seen
+  receivesPrepare slot n rv =
+      cond (takesPart slot && not (exceeded roundBefore (here .old .acceptor .responded) n))
+      (inPrepare n rv (takesUp (self here) rv (enters n (here .old))))
+      nothing
 
   -- ---- Accept
 
-  -- the process to which the committer's part falls: in MultiPaxos3P, that of the value
+  -- Section 2.3: "the acceptors could respond with their acceptances to some set of distinguished learners, each of which can then inform all the
+  -- learners when a value has been chosen". They are the leader of the number and, in MultiPaxos3P, the committer of the value.
   abbrev pub isCommitterHere : Bool
   isCommitterHere = hasCommitter (here .asked .mode) && isProcess (here .heard .committer) (self here)
 
-  -- the acceptance goes to the leader, and to the committer where it is another
-  unfoldable pub acceptanceTo : OptionalProcess → Proposal PaxosRound ℕ → Messages
-  acceptanceTo NoProcess p = oneMessage (sending (One (p .number .leader)) none (acceptance p))
-  acceptanceTo (Process q) p =
-      cond (hasCommitter (here .asked .mode) && (not (eqb q (p .number .leader)) && not (eqb q (self here))))
-      (twoMessages (sending (One q) none (acceptance p)) (sending (One (p .number .leader)) none (acceptance p)))
-      (oneMessage (sending (One (p .number .leader)) none (acceptance p)))
+  abbrev pub isLearner : PaxosRound → Bool
+  isLearner n = eqb (self here) (n .leader) || isCommitterHere
 
-  -- DIFFERENCE ("how a chosen value is learned"): who counts a majority tells all, but for a committer that is the requester itself
-  unfoldable pub tells : Proposal PaxosRound ℕ → Messages → Messages
-  tells p messages =
+  -- to the leader, and to the committer where that is a third
+  unfoldable pub toLearners : PaxosRound → OptionalProcess → Message PaxosRound ℕ → Messages
+  toLearners n NoProcess m = oneMessage (sending (One (n .leader)) none m)
+  toLearners n (Process q) m =
+      cond (hasCommitter (here .asked .mode) && (not (eqb q (n .leader)) && not (eqb q (self here))))
+      (twoMessages (sending (One q) none m) (sending (One (n .leader)) none m))
+      (oneMessage (sending (One (n .leader)) none m))
+
+  abbrev pub announcing : PaxosRound → Option (Message PaxosRound ℕ) → Messages
+  announcing n none = noMessages
+  announcing n (some m) = toLearners n (here .heard .committer) m
+
+  -- an accept request comes from the proposer; any other Accept is an acceptance, and the leader need not tell itself
+  unfoldable pub announces : Proposal PaxosRound ℕ → Replica → Messages
+  announces p r =
+      cond (not (eqb (self here) (p .number .leader)) && eqb (here .heard .src) proposer)
+      (announcing (p .number) (announcement roundBefore (r .acceptor) p))
+      noMessages
+
+  -- a distinguished learner informs all. DIFFERENCE ("how a chosen value is learned"): not a committer that is itself the requester
+  unfoldable pub informs : Proposal PaxosRound ℕ → Messages → Messages
+  informs p messages =
       cond (eqb (p .number .leader) (self here) || not (isProcess (here .heard .requester) (self here)))
       (also messages (sends (here .asked) (here .core) (All (firstServed (here .asked) (here .heard .requester))) (Commit (here .core .slot) (p .value))))
       messages
 
-  -- The learner: a value that a majority has accepted is committed; the host has to hold it.
-  unfoldable pub learned : Bool → Proposal PaxosRound ℕ → Replica → Messages → Option ℕ → Seen
-  learned held p r messages none = leaves r messages
-  learned held p r messages (some v) = cond held (commits v (tells p messages)) (refuses ValueNotHeld)
+  -- the value that a majority has accepted is committed
+  unfoldable pub learning : Proposal PaxosRound ℕ → Replica → Messages → Option ℕ → Seen
+  learning p r messages none = leaves r messages
+  learning p r messages (some v) = commits v (informs p messages)
 
-  abbrev pub counts : Bool → Proposal PaxosRound ℕ → Replica → Messages → Seen
-  counts held p r messages = learned held p r messages (learns roundBefore (here .acceptors) (size (r .agreed)) p)
+  abbrev pub counts : Proposal PaxosRound ℕ → Replica → Messages → Seen
+  counts p r messages = learning p r messages (learns roundBefore (here .acceptors) (size (r .agreed)) p)
 
-  -- The leader counts acceptances. Another replica answers the accept request, which comes from the leader or its delegate; as the committer it
-  -- counts as well. An acceptance at another than those two is refused.
-  unfoldable pub accepted : Bool → Proposal PaxosRound ℕ → Replica → Seen
-  accepted held p r =
-      cond (eqb (self here) (p .number .leader)) (counts held p r noMessages)
-      (cond (eqb (here .heard .src) (here .heard .delegate))
-      (cond isCommitterHere (counts held p r (acceptanceTo (here .heard .committer) p)) (leaves r (acceptanceTo (here .heard .committer) p)))
-      (cond isCommitterHere (counts held p r noMessages) (refuses Panic)))
+  unfoldable pub inAccept : Proposal PaxosRound ℕ → Replica → Seen
+  inAccept p r =
+      cond (isLearner (p .number))
+      (counts p (acceptsWith (self here) (here .heard .src) p r) (announces p r))
+      (leaves (acceptsWith (self here) (here .heard .src) p r) (announces p r))
 
-  unfoldable pub acceptsIn : Bool → Proposal PaxosRound ℕ → Replica → Seen
-  acceptsIn held p r = cond (fits (r .acceptor .accepted) p) (accepted held p (accepts (self here) (here .heard .src) p r)) (refuses AcceptUnlikeHeld)
-
-  -- ---- both
-
-  -- An older slot or number is ignored; at a process that is no replica nothing happens; the source must be a live replica. Everything else
-  -- enters the number (DIFFERENCE: "an accept request").
-  unfoldable pub entering : ℕ → PaxosRound → (Replica → Seen) → Seen
-  entering slot n rest =
-      cond (here .asked .member .replica)
-      (cond (ltb slot (here .core .slot) || exceeded roundBefore (here .old .acceptor .responded) n) (leaves (here .old) noMessages)
-      (cond (here .heard .«source_live») (rest (enters n (here .old))) (refuses SourceNotLive)))
-      (leaves (here .old) noMessages)
-
-  -- a Prepare and an Accept
-  unfoldable pub receivesPrepare : ℕ → PaxosRound → RoundV → Seen
-  receivesPrepare slot n rv = entering slot n (prepares n rv)
-
-  unfoldable pub receivesAccept : Bool → ℕ → Proposal PaxosRound ℕ → Seen
-  receivesAccept held slot p = entering slot (p .number) (acceptsIn held p)
+  -- Phase 2 (b): the proposal is accepted unless a prepare request of a greater number was responded to. DIFFERENCE ("an accept request"): its number
+  -- is entered.
+  unfoldable pub receivesAccept : ℕ → Proposal PaxosRound ℕ → Seen
+  receivesAccept slot p = cond (takesPart slot && accepts roundBefore (here .old .acceptor) p) (inAccept p (enters (p .number) (here .old))) nothing
 
   -- ---- a proposal
 
-  -- the number: the next that is the proposer's own
+  -- Phase 1 (a): "A proposer selects a proposal number n": the next that is its own. DIFFERENCE ("a proposer that is overtaken or gets no answer"): it
+  -- does so once in a slot, by the causes of 11.
   abbrev pub ownNumber : PaxosRound
   ownNumber = nextLeaderRound (numberOr defaultRound (here .old .acceptor .responded)) (self here)
 
-  -- DIFFERENCE ("a proposer that is overtaken or gets no answer"): a replica proposes in the starting round alone, and where nothing is kept. In
-  -- MultiPaxos and MultiPaxos3P the number is the starting one, so that no other than the first leader proposes.
-  unfoldable pub mayPropose : Bool
-  mayPropose =
-      not (keepsSomething (here .old)) && (here .asked .member .replica && sameNumber (here .old .acceptor .responded) (respondedOf (here .asked .«starting_round»))
-      && (not (isMultiPaxos (here .asked .mode)) || sameNumber (some ownNumber) (respondedOf (here .asked .«starting_round»))))
-
-  -- the proposer begins with its number and the value that it would propose: its own acceptor promises
+  -- nobody is counted in the number yet but the own acceptor, which promises; the value is the wish
   abbrev pub begins : ℕ → Replica
   begins v =
       hears (self here) (self here) (PaxosV NoRound v)
       (record { acceptor = prepare roundBefore (here .old .acceptor) ownNumber; wish = here .old .wish; promised = 0; agreed = 0 })
 
-  -- Phase 1 (a): the prepare request to all. DIFFERENCE ("the first round of MultiPaxos and MultiPaxos3P"): the first leader needs no promises,
-  -- accepts, and sends the accept request.
+  -- The prepare request to all. DIFFERENCE ("the first round of MultiPaxos and MultiPaxos3P"): the first leader needs no promises, and sends the accept
+  -- request.
   unfoldable pub proposesOwn : ℕ → Seen
   proposesOwn v =
-      cond mayPropose
-      (cond (isMultiPaxos (here .asked .mode))
-      (leaves (accepts (self here) (self here) (proposalOf roundBefore (proposerIn ownNumber (begins v))) (begins v))
-      (oneMessage (sending toAll none (acceptRequest (proposalOf roundBefore (proposerIn ownNumber (begins v)))))))
-      (leaves (begins v) (oneMessage (sending toAll (begins v .wish) (asks roundBefore (proposerIn ownNumber (begins v)))))))
-      (refuses ProposalNotAllowed)
+      cond (isMultiPaxos (here .asked .mode))
+      (requesting (begins v) (some (proposalOf roundBefore (proposerIn ownNumber (begins v)))))
+      (leaves (begins v) (oneMessage (sending toAll (begins v .wish) (asks roundBefore (proposerIn ownNumber (begins v))))))
 
   -- ---- messages
 
-  -- DIFFERENCE ("how a chosen value is learned"): a Commit of the own slot is believed. Reads are no part of the paper (`InPaxos`).
-  unfoldable pub received : Bool → ConsensusMsg → Seen
-  received held (Prepare slot n rv) = receivesPrepare slot n rv
-  received held (Accept slot n v) = receivesAccept held slot (record { number = n; value = v })
-  received held (ForwardRequest v) = leaves (here .old) noMessages
-  received held (Commit slot v) = cond (ltb slot (here .core .slot)) (leaves (here .old) noMessages) (commits v noMessages)
-  received held (ReadRequest id) = leaves (here .old) noMessages
-  received held (ReadResponse id next) = leaves (here .old) noMessages
+  -- A Commit is what a distinguished learner informs with, and is believed. Reads are no part of the paper (`InPaxos`).
+  unfoldable pub received : ConsensusMsg → Seen
+  received (Prepare slot n rv) = receivesPrepare slot n rv
+  received (Accept slot n v) = receivesAccept slot (record { number = n; value = v })
+  received (ForwardRequest v) = nothing
+  received (Commit slot v) = cond (ltb slot (here .core .slot)) nothing (commits v noMessages)
+  received (ReadRequest id) = nothing
+  received (ReadResponse id next) = nothing
 
 -- ---- a call on a shard
 
@@ -291,11 +274,17 @@ placeOf shard h =
       old = replicaIn shard;
     }
 
--- a refusal leaves the replica
-abbrev pub refusedIn : Shard → Refusal → Seen
-refusedIn shard why =
+-- a call by the rules; a new read is not of the paper (`InPaxos`), whatever stands here
+unfoldable pub byRules : Shard → Call → Seen
+byRules shard (Propose v) = proposesOwn (placeOf shard nothingHeard) v
+byRules shard (StartRead tag arrival) = nothing (placeOf shard nothingHeard)
+byRules shard (Receive d) = received (placeOf shard (heardOf (shard .settings) d)) (d .message .msg)
+
+-- a refusal is its number, and nothing else happens
+abbrev pub refusedWith : ℕ → Shard → Seen
+refusedWith number shard =
     record {
-      outcome = Refused why;
+      outcome = number;
       slot = shard .state .rounds .core .slot;
       last = shard .state .rounds .core .«last_v»;
       replica = replicaIn shard;
@@ -303,23 +292,9 @@ refusedIn shard why =
       commit = NoCommit;
     }
 
-abbrev pub ifDone : Shard → Outcome → Seen → Seen
-ifDone shard Done s = s
-ifDone shard (Refused why) s = refusedIn shard why
-
--- a call on a made shard that is not spent: by the paper's rules; a new read is not one of them (`InPaxos`), whatever stands here
-unfoldable pub paperTaken : Shard → Call → Seen
-paperTaken shard (Propose v) =
-    cond (isNumber v)
-    (proposesOwn (placeOf shard nothingHeard) v)
-    (refusedIn shard NumberTooLarge)
-paperTaken shard (StartRead tag arrival) = refusedIn shard NoRoomForRead
-paperTaken shard (Receive d) =
-    ifDone shard (admit (shard .settings .«process_count») (shard .settings .«my_pid») (shard .state .rounds .core) d)
-    (received (placeOf shard (heardOf (shard .settings) d)) (d .said .«value_held») (d .message .msg))
-
--- What is seen of a call. Refusals 1 to 6 come first (document 01, "Order").
+-- What is seen of a call: it is refused with the number of the first cause that holds, and where none does it follows the rules.
 unfoldable pub paperCall : Shard → Call → Seen
 paperCall shard c =
-    ifDone shard (shard .made)
-    (cond (leb 9223372036854775807 (shard .state .rounds .core .slot)) (refusedIn shard NumberTooLarge) (paperTaken shard c))
+    cond (eqb (firstCause lowestBest shard c) 0)
+    (byRules shard c)
+    (refusedWith (firstCause lowestBest shard c) shard)

@@ -1,16 +1,16 @@
 -- A replica in the terms of *Paxos Made Simple* (crates/paxos/specs/PaxosMadeSimple.antt), its messages, and the steps that it makes: each is a
--- rule of the paper, with the engine's own ways named where they stand (DIFFERENCE; docs/DIFFERENCES.md, "The Rust and the paper").
+-- rule of the paper. What is not the paper's is marked DIFFERENCE, with the name of its row in docs/DIFFERENCES.md, "The Rust and the paper".
 -- Assumes nothing.
-use mathlib.Core.Bool.{Bool, true, false, cond, _&&_, _||_}
+use mathlib.Core.Bool.{Bool, true, false, cond, _||_}
 use mathlib.Core.List.{[], _∷_}
 use mathlib.Core.Option.{Option, none, some}
 use Prim.Native.Nat.{ℕ}
 use lib.Dec.{eqb}
 use Rattle.sets.specs.Sets.{insert, size}
-use Rattle.paxos.specs.PaxosMadeSimple.{Proposal, Acceptor, Message, Proposer, higher, responds, prepare, accept}
+use Rattle.paxos.specs.PaxosMadeSimple.{Proposal, Acceptor, Message, Proposer, higher, responds, prepare, ignores, accept}
 use Rattle.paxos.specs.PaxosMadeSimple.Message.{prepareRequest, promise, acceptRequest, acceptance}
 use Rattle.message.specs.Promises.{valueOf}
-use Rattle.message.specs.Rounds.{roundBefore, roundEqual}
+use Rattle.message.specs.Rounds.{roundBefore}
 use Rattle.message.specs.declared.ConsensusMsg.{ConsensusMsg}
 use Rattle.message.specs.declared.ConsensusMsg.the-variants.{Prepare, Accept}
 use Rattle.message.specs.declared.OptionalRound.{OptionalRound}
@@ -24,9 +24,9 @@ use Rattle.round_state.specs.declared.PaxosState.{PaxosState}
 
 -- ---- a replica in the paper's terms
 
--- One process is acceptor, proposer and learner (section 2.5). As an acceptor it is the paper's. As a proposer it remembers whose promises it has
--- counted in the number that it last responded to, and as a learner whose acceptances. The highest-numbered proposal that was reported to the
--- proposer is kept in the acceptor (DIFFERENCE: "the proposer's memory").
+-- Section 2.5: "each process plays the role of proposer, acceptor, and learner". As an acceptor a replica is the paper's. As a proposer it remembers
+-- whose promises it has counted in the number that it last responded to (`promised`), and as a learner whose acceptances (`agreed`).
+-- DIFFERENCE ("the proposer's memory"): the highest-numbered proposal that was reported to the proposer is kept in the acceptor.
 -- DIFFERENCE ("what is promised"): every Prepare brings a value. `wish` is the one that is kept while no proposal is: the own one, or the first
 -- that came.
 pub record Replica : Type 0 where
@@ -93,7 +93,7 @@ brings (some p) wish = PaxosV (Round (p .number)) (p .value)
 brings none (some rv) = rv
 brings none none = PaxosV NoRound 0
 
--- "any value": that of the wish
+-- "any value if the responses reported no proposals": that of the wish
 abbrev pub ownValue : Option RoundV → ℕ
 ownValue wish = valueOf (brings none wish)
 
@@ -104,15 +104,27 @@ written slot wish (promise n report) = Prepare slot n (brings report wish)
 written slot wish (acceptRequest p) = Accept slot (p .number) (p .value)
 written slot wish (acceptance p) = Accept slot (p .number) (p .value)
 
--- ---- steps of a replica
+-- ---- the acceptor: a prepare request
 
--- The acceptor responds to a prepare request of the number n. What was counted belongs to a lower number, and is forgotten.
+-- The acceptor has a prepare request of the number n. Where it responds, what was counted belongs to a lower number and is forgotten.
 unfoldable pub enters : PaxosRound → Replica → Replica
 enters n r =
     cond (responds roundBefore (r .acceptor) n)
     (record { acceptor = prepare roundBefore (r .acceptor) n; wish = r .wish; promised = 0; agreed = 0 })
     r
 
+-- Phase 1 (b): the promise, unless the paper's acceptor ignores the request. DIFFERENCE ("a prepare request with a number that was answered before"):
+-- one with the number to which it has responded last is answered again.
+unfoldable pub promises : PaxosRound → Replica → Option (Message PaxosRound ℕ)
+promises n r = cond (ignores roundBefore (r .acceptor) n) none (some (promise n (r .acceptor .accepted)))
+
+-- ---- the proposer
+
+-- DIFFERENCE ("an answer to an accept request"): the replica itself (me) is counted with each one that it hears, since it promises and accepts too
+abbrev pub alsoSelf : ℕ → ℕ → ℕ → ℕ
+alsoSelf me src set = insert (cond (eqb src me) set (insert set src)) me
+
+-- the wish: the first that came, until a proposal is kept
 abbrev pub firstWish : Option RoundV → RoundV → Option RoundV
 firstWish none rv = some rv
 firstWish (some w) rv = some w
@@ -121,42 +133,8 @@ abbrev pub unlessAccepted : Option (Proposal PaxosRound ℕ) → Option RoundV �
 unlessAccepted none wish = wish
 unlessAccepted (some p) wish = none
 
--- a proposal is kept, or a wish
-abbrev pub isThere : {A : Type 0} → Option A → Bool
-isThere none = false
-isThere (some x) = true
-
-abbrev pub keepsSomething : Replica → Bool
-keepsSomething r = isThere (r .acceptor .accepted) || isThere (r .wish)
-
--- a proposal with the number n was accepted
-abbrev pub acceptedIn : PaxosRound → Option (Proposal PaxosRound ℕ) → Bool
-acceptedIn n none = false
-acceptedIn n (some p) = roundEqual (p .number) n
-
--- DIFFERENCE ("an accept request with the number of an accepted proposal and another value"): a proposal is accepted where its number is greater
--- than that of the accepted one, or where it is the accepted one; any other is refused
-abbrev pub fits : Option (Proposal PaxosRound ℕ) → Proposal PaxosRound ℕ → Bool
-fits none p = true
-fits (some q) p = roundBefore (q .number) (p .number) || (roundEqual (q .number) (p .number) && eqb (q .value) (p .value))
-
--- the proposer that a replica is in the number n; of the reports it keeps the highest-numbered alone, which changes no choice (`choice-kept`,
--- crates/paxos/proofs/Choice.antt)
-abbrev pub proposerIn : PaxosRound → Replica → Proposer PaxosRound ℕ
-proposerIn n r = record { number = n; own = ownValue (r .wish); responders = size (r .promised); reports = r .acceptor .accepted ∷ [] }
-
--- what it proposes now and did not propose before
-abbrev pub newly : Option (Proposal PaxosRound ℕ) → Option (Proposal PaxosRound ℕ) → Option (Proposal PaxosRound ℕ)
-newly (some p) now = none
-newly none now = now
-
--- A set of processes with one more. The replica itself (me) is always counted with the other, since it promises and accepts as it hears
--- (DIFFERENCE: "an answer to an accept request").
-abbrev pub alsoSelf : ℕ → ℕ → ℕ → ℕ
-alsoSelf me src set = insert (cond (eqb src me) set (insert set src)) me
-
--- The proposer hears a promise of src: who has promised is counted, and the highest-numbered proposal is kept. DIFFERENCE ("the proposer's
--- memory"): it is kept in the acceptor, as if it had been accepted.
+-- A promise of src is heard: who has promised is counted, and the highest-numbered proposal is kept (DIFFERENCE, "the proposer's memory": in the
+-- acceptor, as if it had been accepted).
 unfoldable pub hears : ℕ → ℕ → RoundV → Replica → Replica
 hears me src rv r =
     record {
@@ -166,18 +144,37 @@ hears me src rv r =
       agreed = r .agreed;
     }
 
--- the acceptor accepts, and who has accepted is counted
-unfoldable pub accepts : ℕ → ℕ → Proposal PaxosRound ℕ → Replica → Replica
-accepts me src p r =
-    record { acceptor = accept roundBefore (r .acceptor) p; wish = none; promised = r .promised; agreed = alsoSelf me src (r .agreed) }
+-- a proposal is kept, or a wish
+abbrev pub isThere : {A : Type 0} → Option A → Bool
+isThere none = false
+isThere (some x) = true
 
--- two numbers, or none
-abbrev pub sameNumber : Option PaxosRound → Option PaxosRound → Bool
-sameNumber none none = true
-sameNumber none (some m) = false
-sameNumber (some n) none = false
-sameNumber (some n) (some m) = roundEqual n m
+abbrev pub keepsSomething : Replica → Bool
+keepsSomething r = isThere (r .acceptor .accepted) || isThere (r .wish)
 
+-- DIFFERENCE ("a Prepare that brings an accepted proposal to one that holds nothing"): a replica that keeps nothing keeps what a Prepare brings, a
+-- reported proposal as if it had accepted it, and counts its own promise
+unfoldable pub takesUp : ℕ → RoundV → Replica → Replica
+takesUp me rv r = cond (keepsSomething r) r (hears me me rv r)
+
+-- the proposer that a replica is in the number n; of the reports it keeps the highest-numbered alone, which changes no choice (`choice-kept`,
+-- crates/paxos/proofs/Choice.antt)
+abbrev pub proposerIn : PaxosRound → Replica → Proposer PaxosRound ℕ
+proposerIn n r = record { number = n; own = ownValue (r .wish); responders = size (r .promised); reports = r .acceptor .accepted ∷ [] }
+
+-- DIFFERENCE ("when the proposer proposes"): with the promise that makes a majority, and no other: what it proposes now and did not before
+abbrev pub newly : Option (Proposal PaxosRound ℕ) → Option (Proposal PaxosRound ℕ) → Option (Proposal PaxosRound ℕ)
+newly (some p) now = none
+newly none now = now
+
+-- a number, or another where there is none
 abbrev pub numberOr : PaxosRound → Option PaxosRound → PaxosRound
 numberOr n none = n
 numberOr n (some m) = m
+
+-- ---- the acceptor and the learner: an accept request
+
+-- Phase 2 (b): the acceptor accepts; as a learner the replica counts who has accepted
+unfoldable pub acceptsWith : ℕ → ℕ → Proposal PaxosRound ℕ → Replica → Replica
+acceptsWith me src p r =
+    record { acceptor = accept roundBefore (r .acceptor) p; wish = none; promised = r .promised; agreed = alsoSelf me src (r .agreed) }

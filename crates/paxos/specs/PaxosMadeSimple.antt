@@ -1,22 +1,24 @@
--- The rules of *Paxos Made Simple* (Leslie Lamport, 2001), in the paper's own words, over any type of proposal numbers and
--- any type of values. Nothing of the engine stands here: other crates show where the engine follows these rules.
+-- The rules of *Paxos Made Simple* (Leslie Lamport, 2001), in the paper's words and by its sections, over any type of proposal numbers and any
+-- type of values. Nothing of the engine stands here: crates/paper puts the engine's calls together from these rules.
+-- Section 2.1 says what is asked of a group (one value is chosen, it was proposed, and no other is learned): demand 3, crates/group. Section 2.4 says
+-- who should propose so that something is chosen, and section 3 that each slot has rules of its own: crates/paper/specs/PaperCall.antt.
 -- Assumes nothing.
 use mathlib.Core.Path.{_≡_}
-use mathlib.Core.Bool.{Bool, true, false, cond, not}
+use mathlib.Core.Bool.{Bool, true, false, cond, not, _||_}
 use mathlib.Core.List.{List, [], _∷_}
 use mathlib.Core.Option.{Option, none, some}
 use Prim.Native.Nat.{ℕ, _+_}
 use lib.Dec.{ltb}
 
--- ---- proposal numbers
+-- ---- 2.2 Choosing a value: proposals
 
--- one order over all of them
+-- one order over all numbers
 pub record Ordered {A : Type 0} (before : A → A → Bool) : Type 0 where
   pub irreflexive : (a : A) → before a a ≡ false
   pub transitive : (a b c : A) → before a b ≡ true → before b c ≡ true → before a c ≡ true
   pub connected : (a b : A) → before a b ≡ false → before b a ≡ false → a ≡ b
 
--- "Different proposers choose their numbers from disjoint sets of numbers, so two different proposers never issue a proposal with the
+-- Section 2.5: "Different proposers choose their numbers from disjoint sets of numbers, so two different proposers never issue a proposal with the
 -- same number": `own p n` says that n is in the set of p.
 pub record ProposalNumbers {Number : Type 0} (before : Number → Number → Bool) (own : ℕ → Number → Bool) : Type 0 where
   pub ordered : Ordered before
@@ -27,21 +29,19 @@ pub record Proposal (Number Value : Type 0) : Type 0 where
   pub number : Number
   pub value : Value
 
--- "a majority of acceptors": k of n are more than half
+-- "we can let a large enough set consist of any majority of the agents": k of n are more than half
 unfoldable pub isMajority : ℕ → ℕ → Bool
 isMajority n k = ltb n (k + k)
 
--- ---- messages
-
--- Section 2.2: a proposer sends prepare requests and accept requests; an acceptor responds to a prepare request with a promise and "with the
--- highest-numbered proposal (if any) that it has accepted". Section 2.3: an acceptor that accepts a proposal tells the learners.
+-- A proposer sends prepare requests and accept requests; an acceptor responds to a prepare request with a promise and what it has accepted, and (2.3)
+-- tells the learners what it accepts.
 pub data Message (Number Value : Type 0) : Type 0 where
   prepareRequest : Number → Message Number Value
   promise : Number → Option (Proposal Number Value) → Message Number Value
   acceptRequest : Proposal Number Value → Message Number Value
   acceptance : Proposal Number Value → Message Number Value
 
--- ---- the acceptor
+-- ---- 2.2: the acceptor
 
 -- "an acceptor needs to remember only the highest-numbered proposal that it has ever accepted and the number of the highest-numbered
 -- prepare request to which it has responded"
@@ -79,8 +79,18 @@ module _ {Number Value : Type 0} (before : Number → Number → Bool) where
   unfoldable pub response : Acceptor Number Value → Number → Option (Message Number Value)
   response a n = cond (responds a n) (some (promise n (a .accepted))) none
 
+  -- What it may leave unanswered. One that "has already responded to a prepare request numbered greater than n": "we have the acceptor ignore such a
+  -- prepare request. We also have it ignore a prepare request for a proposal it has already accepted."
+  abbrev pub acceptedIn : Number → Option (Proposal Number Value) → Bool
+  acceptedIn n none = false
+  acceptedIn n (some p) = not (before (p .number) n || before n (p .number))
+
+  unfoldable pub ignores : Acceptor Number Value → Number → Bool
+  ignores a n = exceeded before (a .responded) n || acceptedIn n (a .accepted)
+
   -- Phase 2 (b): "If an acceptor receives an accept request for a proposal numbered n, it accepts the proposal unless it has already
-  -- responded to a prepare request having a number greater than n."
+  -- responded to a prepare request having a number greater than n." That is P1a: "An acceptor can accept a proposal numbered n iff it has not
+  -- responded to a prepare request having a number greater than n"; so it accepts the first proposal that it receives (P1).
   unfoldable pub accepts : Acceptor Number Value → Proposal Number Value → Bool
   accepts a p = not (exceeded before (a .responded) (p .number))
 
@@ -91,7 +101,7 @@ module _ {Number Value : Type 0} (before : Number → Number → Bool) where
   unfoldable pub announcement : Acceptor Number Value → Proposal Number Value → Option (Message Number Value)
   announcement a p = cond (accepts a p) (some (acceptance p)) none
 
-  -- ---- the proposer
+  -- ---- 2.2: the proposer
 
   -- the highest-numbered proposal among some responses, each the highest-numbered proposal (if any) that one acceptor has accepted
   unfoldable pub highest : Option (Proposal Number Value) → List (Option (Proposal Number Value)) → Option (Proposal Number Value)
@@ -102,8 +112,9 @@ module _ {Number Value : Type 0} (before : Number → Number → Bool) where
   valueOr own none = own
   valueOr own (some p) = p .value
 
-  -- Phase 2 (a): once a majority has responded, the proposer sends "a proposal numbered n with a value v, where v is the value of the
-  -- highest-numbered proposal among the responses, or is any value if the responses reported no proposals"
+  -- Phase 2 (a): "v is the value of the highest-numbered proposal among the responses, or is any value if the responses reported no proposals".
+  -- So P2c holds, from which P2b, P2a and P2 follow: of a majority, (a) none has accepted a proposal numbered less than n, or (b) v is the value of the
+  -- highest-numbered proposal among all proposals numbered less than n that they have accepted.
   unfoldable pub choice : Value → List (Option (Proposal Number Value)) → Value
   choice own responses = valueOr own (highest none responses)
 
@@ -129,7 +140,7 @@ module _ {Number Value : Type 0} (before : Number → Number → Bool) where
   unfoldable pub proposes : ℕ → Proposer Number Value → Option (Proposal Number Value)
   proposes acceptors p = cond (isMajority acceptors (p .responders)) (some (proposalOf p)) none
 
-  -- ---- the learner
+  -- ---- 2.3 Learning a chosen value
 
   -- "To learn that a value has been chosen, a learner must find out that a proposal has been accepted by a majority of acceptors": k of them have
   -- accepted p

@@ -1,0 +1,75 @@
+-- Calls one after the other: the shards that there are, and a proposer that gathers promises. The statements of proofs/ are about these.
+-- Assumes nothing.
+use mathlib.Core.Path.{_≡_}
+use mathlib.Core.Bool.{true, false}
+use mathlib.Core.List.{List, [], _∷_, _++_}
+use mathlib.Core.Option.{Option}
+use Prim.Native.Nat.{ℕ}
+use lib.Dec.{eqb, ltb}
+use Rattle.sets.specs.Sets.{size}
+use Rattle.paxos.specs.PaxosMadeSimple.{Proposal, Proposer}
+use Rattle.message.specs.declared.ConsensusMsg.the-variants.{Prepare}
+use Rattle.message.specs.declared.Outcome.the-variants.{Done}
+use Rattle.message.specs.declared.PaxosRound.{PaxosRound}
+use Rattle.message.specs.declared.RoundV.{RoundV}
+use Rattle.fast_state.specs.Adopt.{lowestBest}
+use Rattle.settings.specs.Questions.{isReplica}
+use Rattle.settings.specs.declared.Settings.{Settings}
+use Rattle.steps.specs.Steps.{noMessages}
+use Rattle.delivery.specs.declared.Delivery.{Delivery}
+use Rattle.calls.specs.Asked.{heardOf}
+use Rattle.calls.specs.declared.Call.{Call}
+use Rattle.calls.specs.declared.Call.the-variants.{Receive}
+use Rattle.consensus.specs.Call.{newShard, callOf}
+use Rattle.consensus.specs.FirstCause.{firstCause}
+use Rattle.consensus.specs.declared.Shard.{Shard}
+use Rattle.paper.specs.Replica.{Replica, reportOf, ownValue, hears}
+
+-- a shard as it was made, or as a call of it has left it
+pub data Reached : Shard → Type 0 where
+  new : (s : Settings) → newShard s .made ≡ Done → Reached (newShard s)
+  called : (shard : Shard) (c : Call) → Reached shard → Reached (callOf shard c .shard)
+
+-- a message of the own slot, at a live replica, that no cause refuses
+pub record Handled (shard : Shard) (d : Delivery) (slot : ℕ) : Type 0 where
+  pub free : firstCause lowestBest shard (Receive d) ≡ 0
+  pub replica : isReplica (shard .settings) ≡ true
+  pub own : ltb slot (shard .state .rounds .core .slot) ≡ false
+
+-- ---- the proposer
+
+-- a promise that was heard: whose, and what it brought
+pub record Response : Type 0 where
+  pub src : ℕ
+  pub brought : RoundV
+
+abbrev pub reportsOf : List Response → List (Option (Proposal PaxosRound ℕ))
+reportsOf [] = []
+reportsOf (p ∷ ps) = reportOf (p .brought) ∷ reportsOf ps
+
+-- promises that are heard one after the other, at the process me
+abbrev pub hearsAll : ℕ → Replica → List Response → Replica
+hearsAll me r [] = r
+hearsAll me r (p ∷ ps) = hearsAll me (hears me (p .src) (p .brought) r) ps
+
+-- the paper's proposer with every report: the own acceptor's, and then those of the promises
+abbrev pub withAll : ℕ → PaxosRound → Replica → List Response → Proposer PaxosRound ℕ
+withAll me n r ps =
+    record { number = n; own = ownValue (r .wish); responders = size (hearsAll me r ps .promised); reports = r .acceptor .accepted ∷ reportsOf ps }
+
+-- a Prepare of the number n at the proposer
+pub record Promised (n : PaxosRound) (shard : Shard) (d : Delivery) (rv : RoundV) : Type 0 where
+  pub slot : ℕ
+  pub handled : Handled shard d slot
+  pub message : d .message .msg ≡ Prepare slot n rv
+  pub gatherer : eqb (heardOf (shard .settings) d .delegate) (shard .settings .«my_pid») ≡ true
+
+abbrev pub responseOf : Delivery → RoundV → Response
+responseOf d rv = record { src = d .message .src; brought = rv }
+
+-- the shard has taken promises one after the other, and has sent nothing
+pub data Gathered (n : PaxosRound) (first : Shard) : List Response → Shard → Type 0 where
+  nothing-yet : Gathered n first [] first
+  one-more : {ps : List Response} {shard : Shard} (d : Delivery) (rv : RoundV) → Gathered n first ps shard → Promised n shard d rv
+      → callOf shard (Receive d) .reply .messages ≡ noMessages
+      → Gathered n first (ps ++ (responseOf d rv ∷ [])) (callOf shard (Receive d) .shard)
