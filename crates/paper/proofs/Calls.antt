@@ -66,13 +66,18 @@ use Rattle.paper.proofs.Proposals.{proposal-paper}
 
 more-than-half : (m k : ℕ) → leb (m / 2 + 1) k ≡ ltb m (k + k)
 more-than-half m k =
-    same-test (λ e. lt-ltb m (k + k) (let z = leb-true (m / 2 + 1) k e in omega arith)) (λ e. le-leb (m / 2 + 1) k (let z = ltb-true m (k + k) e in omega arith))
+    same-test (λ e. lt-ltb m (k + k) (let z =
+    leb-true (m / 2 + 1) k e in omega arith)) (λ e. le-leb (m / 2 + 1) k (let z = ltb-true m (k + k) e in omega arith))
 
 -- the engine's majority is more than half of the replicas
 pub majority-paper : (s : Settings) → withinLimits s ≡ true → (k : ℕ) → leb (quorumsOf s .majority) k ≡ isMajority (s .«replica_count») k
 unfolding withinLimits countsFit isMajority
 majority-paper s within k =
-    more-than-half (min (s .«replica_count») 64) k ∙ ap (λ (m : ℕ). ltb m (k + k)) (small (leb-true _ _ (and-right (leb 1 (s .«process_count») && leb (s .«process_count») 64 && leb 1 (s .«replica_count»)) _ counts)) (leb-true _ _ (and-right (leb 1 (s .«process_count»)) _ (and-left (leb 1 (s .«process_count») && leb (s .«process_count») 64) _ (and-left (leb 1 (s .«process_count») && leb (s .«process_count») 64 && leb 1 (s .«replica_count»)) _ counts)))))
+    more-than-half (min (s .«replica_count») 64) k ∙ ap (λ (m : ℕ). ltb m (k + k))
+    (small (leb-true _ _ (and-right (leb 1 (s .«process_count») && leb (s .«process_count») 64 && leb 1 (s .«replica_count»)) _ counts))
+    (leb-true _ _ (and-right (leb 1 (s .«process_count»)) _
+    (and-left (leb 1 (s .«process_count») && leb (s .«process_count») 64) _
+    (and-left (leb 1 (s .«process_count») && leb (s .«process_count») 64 && leb 1 (s .«replica_count»)) _ counts)))))
   where
     counts : countsFit s ≡ true
     counts = and-left (countsFit s) _ (and-left (countsFit s && _) _ (and-left (countsFit s && _ && _) _ within))
@@ -120,7 +125,8 @@ module _ (shard : Shard) (classic : hasFastPath (shard .settings .mode) ≡ fals
         (prepared-paper shard a h there acceptors classic quorum replica n rv (inRound n core .paxos) (not-exceeded n core free))
         (ap (λ (r : Replica). inPrepare here n rv (takesUp (self here) rv r)) (round-entered n core)))
 
-    accept-paper : (slot : ℕ) (n : PaxosRound) (v : ℕ) → Agrees (seenStep (onAccept a h slot n v core)) (receivesAccept here slot (record { number = n; value = v }))
+    accept-paper : (slot : ℕ) (n : PaxosRound) (v : ℕ)
+        → Agrees (seenStep (onAccept a h slot n v core)) (receivesAccept here slot (record { number = n; value = v }))
     unfolding onAccept receivesAccept accepts
     accept-paper slot n v =
         enter-paper shard a h there acceptors classic quorum slot n (accepting a h n v) (inAccept here (record { number = n; value = v }) (enters n old))
@@ -133,7 +139,8 @@ module _ (shard : Shard) (classic : hasFastPath (shard .settings .mode) ≡ fals
     by-core : (m : ConsensusMsg) → d .message .msg ≡ m → seen (processMessage lowestBest shard d) ≡ seenStep (processClassic a h m core)
     unfolding processMessage processed
     by-core m e =
-        taken-no (λ (step : RoundsStep). seen (finish shard a there step)) (hasFastPath (a .mode)) (processFast lowestBest a h (d .message .msg) (shard .state .rounds))
+        taken-no (λ (step : RoundsStep). seen (finish shard a there step)) (hasFastPath (a .mode))
+        (processFast lowestBest a h (d .message .msg) (shard .state .rounds))
         (onRounds (shard .state .rounds .fast) (processClassic a h (d .message .msg) core)) classic
         ∙ ap (λ (x : ConsensusMsg). seenStep (processClassic a h x core)) e
 
@@ -144,7 +151,16 @@ module _ (shard : Shard) (classic : hasFastPath (shard .settings .mode) ≡ fals
     handled-paper (ForwardRequest v) e p = agrees (by-core (ForwardRequest v) e)
     handled-paper (Commit slot v) e p =
         agree-both seen (ltb slot (core .slot)) (ltb slot (core .slot)) refl (λ o. agrees refl)
-        (λ o. agrees (ap (λ (t : Bool). record { outcome = 0; slot = increment (core .slot); last = Value v; replica = commits here v noMessages .replica; messages = noMessages; commit = Committed (core .slot) v (t && not (core .«slot_left_fast_path»)) }) classic))
+        (λ o. agrees (ap (λ (t : Bool). record {
+          outcome = 0;
+          slot = increment
+              (core .slot);
+          last = Value v;
+          replica = commits here v noMessages .replica;
+          messages = noMessages;
+          commit = Committed (core .slot) v
+              (t && not (core .«slot_left_fast_path»));
+        }) classic))
     handled-paper (ReadRequest id) e p = absurd p
     handled-paper (ReadResponse id next) e p = absurd p
 
@@ -211,9 +227,12 @@ new-within s e = go (withinLimits s) e
     go true d = refl
     go false d = absurd (not-both (ap isDone d) refl)
 
+pub settings-kept : (shard : Shard) (c : Call) → callOf shard c .shard .settings ≡ shard .settings
+settings-kept shard c = ap (λ (x : Answer). x .shard .settings) (sym (by-parts shard c))
+
 reached-within : (shard : Shard) → Reached shard → withinLimits (shard .settings) ≡ true
 reached-within shard (new s e) = new-within s e
-reached-within shard (called before c r) = ap (λ (x : Answer). withinLimits (x .shard .settings)) (sym (by-parts before c)) ∙ reached-within before r
+reached-within shard (called before c r) = ap withinLimits (settings-kept before c) ∙ reached-within before r
 
 -- Every call of Paxos on every shard that there is, in Paxos, MultiPaxos, MultiPaxos3P and Pando.
 pub every-call-as-paper : (shard : Shard) → Reached shard → hasFastPath (shard .settings .mode) ≡ false → (c : Call) → InPaxos c

@@ -46,8 +46,15 @@ held-back (Held (PaxosV (Round n) v)) = refl
 
 pub state-back : (p : PaxosState) → stateOf (replicaOf p) ≡ p
 state-back p =
-    ap (λ (o : OptionalRound). record { round = o; «max_rv» = heldOf (acceptedOf (p .«max_rv»)) (wishOf (p .«max_rv»)); «prepared_set» = p .«prepared_set»; «accepted_set» = p .«accepted_set» }) (round-back (p .round))
-    ∙ ap (λ (held : HeldPromise). record { round = p .round; «max_rv» = held; «prepared_set» = p .«prepared_set»; «accepted_set» = p .«accepted_set» }) (held-back (p .«max_rv»))
+    ap (λ (o : OptionalRound). record {
+      round = o;
+      «max_rv» = heldOf (acceptedOf (p .«max_rv»))
+          (wishOf (p .«max_rv»));
+      «prepared_set» = p .«prepared_set»;
+      «accepted_set» = p .«accepted_set»;
+    }) (round-back (p .round))
+    ∙ ap (λ (held : HeldPromise). record { round = p .round; «max_rv» = held; «prepared_set» = p .«prepared_set»; «accepted_set» = p .«accepted_set» })
+    (held-back (p .«max_rv»))
 
 -- the round, what is held, and who is counted, in the shard that a call leaves
 pub call-leaves : (shard : Shard) → hasFastPath (shard .settings .mode) ≡ false → withinLimits (shard .settings) ≡ true → (c : Call) → InPaxos c
@@ -68,13 +75,15 @@ own-unused x y p (some q ∷ rs) = go (roundBefore (p .number) (q .number)) (own
     value : ℕ → Option (Proposal PaxosRound ℕ) → ℕ
     value v best = valueOr roundBefore v (highest roundBefore best rs)
 
-    go : (t : Bool) → value x (some q) ≡ value y (some q) → value x (some p) ≡ value y (some p) → value x (cond t (some q) (some p)) ≡ value y (cond t (some q) (some p))
+    go : (t : Bool) → value x (some q) ≡ value y (some q) → value x (some p) ≡ value y (some p)
+        → value x (cond t (some q) (some p)) ≡ value y (cond t (some q) (some p))
     go true d e = d
     go false d e = e
 
 abbrev KeepsOwn : Option RoundV → RoundV → List (Option (Proposal PaxosRound ℕ)) → Option (Proposal PaxosRound ℕ) → Type 0
 KeepsOwn wish rv rs best =
-    valueOr roundBefore (ownValue (unlessAccepted best (firstWish wish rv))) (highest roundBefore best rs) ≡ valueOr roundBefore (ownValue wish) (highest roundBefore best rs)
+    valueOr roundBefore (ownValue (unlessAccepted best (firstWish wish rv))) (highest roundBefore best rs) ≡ valueOr roundBefore (ownValue wish)
+    (highest roundBefore best rs)
 
 own-kept : (accepted : Option (Proposal PaxosRound ℕ)) (wish : Option RoundV) (rv : RoundV) (rs : List (Option (Proposal PaxosRound ℕ)))
     → (isThere accepted || isThere wish) ≡ true → KeepsOwn wish rv rs (higher roundBefore accepted (reportOf rv))
@@ -94,18 +103,21 @@ own-kept (some p) wish rv rs e = go (reportOf rv)
     go none = own-unused _ _ p rs
     go (some q) = test (roundBefore (p .number) (q .number)) q
 
-still-keeps : (best : Option (Proposal PaxosRound ℕ)) (wish : Option RoundV) (rv : RoundV) → (isThere best || isThere (unlessAccepted best (firstWish wish rv))) ≡ true
+still-keeps : (best : Option (Proposal PaxosRound ℕ)) (wish : Option RoundV) (rv : RoundV)
+    → (isThere best || isThere (unlessAccepted best (firstWish wish rv))) ≡ true
 still-keeps (some p) wish rv = refl
 still-keeps none none rv = refl
 still-keeps none (some w) rv = refl
 
 module _ (me : ℕ) where
   heard-value : (r : Replica) (ps : List Response) → keepsSomething r ≡ true
-      → valueOr roundBefore (ownValue (hearsAll me r ps .wish)) (hearsAll me r ps .acceptor .accepted) ≡ valueOr roundBefore (ownValue (r .wish)) (highest roundBefore (r .acceptor .accepted) (reportsOf ps))
+      → valueOr roundBefore (ownValue (hearsAll me r ps .wish)) (hearsAll me r ps .acceptor .accepted)
+      ≡ valueOr roundBefore (ownValue (r .wish)) (highest roundBefore (r .acceptor .accepted) (reportsOf ps))
   unfolding highest hears
   heard-value r [] e = refl
   heard-value r (p ∷ ps) e =
-      heard-value (hears me (p .src) (p .brought) r) ps (still-keeps (higher roundBefore (r .acceptor .accepted) (reportOf (p .brought))) (r .wish) (p .brought))
+      heard-value (hears me (p .src) (p .brought) r) ps
+      (still-keeps (higher roundBefore (r .acceptor .accepted) (reportOf (p .brought))) (r .wish) (p .brought))
       ∙ own-kept (r .acceptor .accepted) (r .wish) (p .brought) (reportsOf ps) e
 
   heard-keeps-one : (r : Replica) (p : Response) → keepsSomething (hears me (p .src) (p .brought) r) ≡ true
@@ -129,6 +141,23 @@ module _ (me : ℕ) where
   proposes-of-all acceptors n r ps e =
       ap (λ (v : ℕ). cond (isMajority acceptors (size (hearsAll me r ps .promised))) (some (record { number = n; value = v })) none) (heard-value r ps e)
 
+  -- one more is counted, and oneself
+  pub also-members : (src set q : ℕ) → contains (alsoSelf me src set) q ≡ true → (contains set q ≡ true) ⊎ (q ≡ me) ⊎ (q ≡ src)
+  also-members src set q e = by-self (eqb me q) refl
+    where
+      Goal : Type 0
+      Goal = (contains set q ≡ true) ⊎ (q ≡ me) ⊎ (q ≡ src)
+
+      by-sender : (s t : Bool) → eqb src q ≡ t → contains (cond s set (insert set src)) q ≡ true → Goal
+      by-sender true t d f = inl f
+      by-sender false true d f = inr (inr (sym (eqb-true src q d)))
+      by-sender false false d f = inl (sym (contains-insert-other set src q (eqb-false src q d)) ∙ f)
+
+      by-self : (t : Bool) → eqb me q ≡ t → Goal
+      by-self true d = inr (inl (sym (eqb-true me q d)))
+      by-self false d =
+          by-sender (eqb src me) (eqb src q) refl (sym (contains-insert-other (cond (eqb src me) set (insert set src)) me q (eqb-false me q d)) ∙ e)
+
   -- it counts those alone that it has heard, and itself
   pub responders-heard : (r : Replica) (ps : List Response) (q : ℕ) → contains (hearsAll me r ps .promised) q ≡ true
       → (contains (r .promised) q ≡ true) ⊎ (q ≡ me) ⊎ ((p : Response) × In p ps × (q ≡ p .src))
@@ -139,18 +168,12 @@ module _ (me : ℕ) where
       Goal : Type 0
       Goal = (contains (r .promised) q ≡ true) ⊎ (q ≡ me) ⊎ ((x : Response) × In x (p ∷ ps) × (q ≡ x .src))
 
-      by-sender : (s t : Bool) → eqb (p .src) q ≡ t → contains (cond s (r .promised) (insert (r .promised) (p .src))) q ≡ true → Goal
-      by-sender true t d f = inl f
-      by-sender false true d f = inr (inr (p, inl refl, sym (eqb-true (p .src) q d)))
-      by-sender false false d f = inl (sym (contains-insert-other (r .promised) (p .src) q (eqb-false (p .src) q d)) ∙ f)
-
-      by-self : (t : Bool) → eqb me q ≡ t → contains (alsoSelf me (p .src) (r .promised)) q ≡ true → Goal
-      by-self true d f = inr (inl (sym (eqb-true me q d)))
-      by-self false d f =
-          by-sender (eqb (p .src) me) (eqb (p .src) q) refl
-          (sym (contains-insert-other (cond (eqb (p .src) me) (r .promised) (insert (r .promised) (p .src))) me q (eqb-false me q d)) ∙ f)
+      first : (contains (r .promised) q ≡ true) ⊎ (q ≡ me) ⊎ (q ≡ p .src) → Goal
+      first (inl f) = inl f
+      first (inr (inl f)) = inr (inl f)
+      first (inr (inr f)) = inr (inr (p, inl refl, f))
 
       go : (contains (alsoSelf me (p .src) (r .promised)) q ≡ true) ⊎ (q ≡ me) ⊎ ((x : Response) × In x ps × (q ≡ x .src)) → Goal
-      go (inl f) = by-self (eqb me q) refl f
+      go (inl f) = first (also-members (p .src) (r .promised) q f)
       go (inr (inl f)) = inr (inl f)
       go (inr (inr (x, i, f))) = inr (inr (x, inr i, f))

@@ -22,12 +22,11 @@ use Rattle.delivery.specs.declared.Delivery.{Delivery}
 use Rattle.calls.specs.Asked.{heardOf}
 use Rattle.calls.specs.declared.Call.the-variants.{Receive}
 use Rattle.consensus.specs.Call.{callOf}
-use Rattle.consensus.proofs.ByParts.{by-parts}
-use Rattle.consensus.specs.declared.Answer.{Answer}
 use Rattle.consensus.specs.declared.Shard.{Shard}
 use Rattle.paper.specs.Replica.{Replica, keepsSomething, proposerIn, newly, hears}
 use Rattle.paper.specs.PaperCall.{Seen, Place, placeOf, seen, requesting, replicaIn}
 use Rattle.paper.specs.Runs.{Response, hearsAll, withAll, Promised, responseOf, Gathered, nothing-yet, one-more}
+use Rattle.paper.proofs.Calls.{settings-kept}
 use Rattle.paper.proofs.Consequences.{heard-keeps, heard-last}
 use Rattle.paper.proofs.Roles.{proposer-proposes, proposer-proposes-of-all}
 
@@ -43,9 +42,6 @@ quiet : (here : Place) (r : Replica) (o : Option (Proposal PaxosRound ℕ)) → 
 unfolding requesting
 quiet here r none = λ f. refl
 quiet here r (some p) = λ f. absurd (not-both refl (ap (λ (m : Messages). isSent (m .first)) f))
-
-settings-kept : (shard : Shard) (d : Delivery) → callOf shard (Receive d) .shard .settings ≡ shard .settings
-settings-kept shard d = ap (λ (x : Answer). x .shard .settings) (sym (by-parts shard (Receive d)))
 
 module _ (n : PaxosRound) (first : Shard) (classic : hasFastPath (first .settings .mode) ≡ false) (within : withinLimits (first .settings) ≡ true)
     (keeps : keepsSomething (replicaIn first) ≡ true) (entry : replicaIn first .acceptor .responded ≡ some n) where
@@ -83,7 +79,7 @@ module _ (n : PaxosRound) (first : Shard) (classic : hasFastPath (first .setting
         → Since (ps ++ (responseOf d rv ∷ [])) (callOf shard (Receive d) .shard)
     heard-more d rv p sent =
         record {
-          settings = settings-kept shard d ∙ s .settings;
+          settings = settings-kept shard (Receive d) ∙ s .settings;
           heard =
               ap (λ (x : Seen). x .replica) call
               ∙ quiet here (hears (shard .settings .«my_pid») (d .message .src) rv (replicaIn shard)) request
@@ -115,10 +111,13 @@ module _ (n : PaxosRound) (first : Shard) (classic : hasFastPath (first .setting
         (newly (proposes roundBefore acceptors (withAll me n (replicaIn first) ps))
         (proposes roundBefore acceptors (withAll me n (replicaIn first) (ps ++ (responseOf d rv ∷ [])))))
     next-proposes d rv p =
-        proposer-proposes-of-all shard classic-since within-since d (p .slot) n (p .handled) rv (p .message) (p .gatherer) entry-since (replicaIn first) ps keeps
+        proposer-proposes-of-all shard classic-since within-since d (p .slot) n (p .handled) rv (p .message) (p .gatherer) entry-since
+        (replicaIn first) ps keeps
         (s .heard ∙ ap (λ (x : Settings). hearsAll (x .«my_pid») (replicaIn first) ps) (sym (s .settings)))
-        ∙ ap (λ (x : Settings). requesting here (hears (x .«my_pid») (d .message .src) rv (replicaIn shard)) (request (x .«my_pid») (x .«replica_count»))) (s .settings)
-        ∙ ap (λ (x : Replica). requesting here x (request me acceptors)) (ap (hears me (d .message .src) rv) (s .heard) ∙ heard-last me (replicaIn first) ps (d .message .src) rv)
+        ∙ ap (λ (x : Settings). requesting here (hears (x .«my_pid») (d .message .src) rv (replicaIn shard)) (request (x .«my_pid») (x .«replica_count»)))
+        (s .settings)
+        ∙ ap (λ (x : Replica). requesting here x (request me acceptors))
+        (ap (hears me (d .message .src) rv) (s .heard) ∙ heard-last me (replicaIn first) ps (d .message .src) rv)
       where
         here : Place
         here = placeOf shard (heardOf (shard .settings) d)

@@ -118,7 +118,8 @@ module _ (shard : Shard) (a : Asked) (h : Heard) (there : Bool) (acceptors : ℕ
 
   pub enter-paper : (slot : ℕ) (n : PaxosRound) (rest : Core → CoreStep) (rule : Seen)
       → (a .member .replica ≡ true → before (Round n) (core .paxos .round) ≡ false → Agrees (seenStep (rest (inRound n core))) rule)
-      → Agrees (seenStep (andThen (enter a h slot n core) rest)) (cond (takesPart here slot && not (exceeded roundBefore (old .acceptor .responded) n)) rule (nothing here))
+      → Agrees (seenStep (andThen (enter a h slot n core) rest))
+      (cond (takesPart here slot && not (exceeded roundBefore (old .acceptor .responded) n)) rule (nothing here))
   unfolding enter isOlder fromLive
   enter-paper slot n rest rule go =
       through refl
@@ -129,7 +130,8 @@ module _ (shard : Shard) (a : Asked) (h : Heard) (there : Bool) (acceptors : ℕ
       (λ o. agrees refl)
       (λ o.
       agree-unless f (h .«source_live» || isSwiftPaxos (a .mode))
-      (λ l. go (sym (or-false (a .member .replica) (isSwiftPaxos (a .mode)) swift) ∙ r) (neither-right (ltb slot (core .slot)) (before (Round n) (core .paxos .round)) o))
+      (λ l. go (sym (or-false (a .member .replica) (isSwiftPaxos (a .mode)) swift) ∙ r)
+      (neither-right (ltb slot (core .slot)) (before (Round n) (core .paxos .round)) o))
       (λ l. no-refusal refl)))
       (λ r. agrees refl))
       (nested (a .member .replica) (ltb slot (core .slot)) (exceeded roundBefore (old .acceptor .responded) n) rule (nothing here))
@@ -141,7 +143,9 @@ module _ (shard : Shard) (a : Asked) (h : Heard) (there : Bool) (acceptors : ℕ
   unfolding inRound
   entered-core n = go (before (core .paxos .round) (Round n))
     where
-      go : (t : Bool) → cond t (withPaxos (gotoRound (Round n) (core .paxos)) core) core ≡ withPaxos (cond t (withPaxos (gotoRound (Round n) (core .paxos)) core) core .paxos) core
+      go : (t : Bool)
+          → cond t (withPaxos (gotoRound (Round n) (core .paxos)) core) core
+          ≡ withPaxos (cond t (withPaxos (gotoRound (Round n) (core .paxos)) core) core .paxos) core
       go true = refl
       go false = refl
 
@@ -163,7 +167,8 @@ module _ (shard : Shard) (a : Asked) (h : Heard) (there : Bool) (acceptors : ℕ
           (λ fit. agrees
           (ap (λ (c : Core). seenStep (stays c request)) (off-paxos (withPaxos (afterAccept (a .member) (a .member .«my_pid») n v q) core))
           ∙ ap (λ (r : Replica). leaves here r request) (accept-counted a replica (a .member .«my_pid») n v q free fit)
-          ∙ ap (λ (w : ℕ). leaves here (acceptsWith (self here) (a .member .«my_pid») (record { number = n; value = w }) (replicaOf q)) (oneMessage (sends a core toAll (Accept (core .slot) n w)))) (held-value (q .«max_rv»))))
+          ∙ ap (λ (w : ℕ). leaves here (acceptsWith (self here) (a .member .«my_pid») (record { number = n; value = w }) (replicaOf q))
+          (oneMessage (sends a core toAll (Accept (core .slot) n w)))) (held-value (q .«max_rv»))))
           (λ fit. no-refusal refl))
           refl)
           (λ e. no-refusal refl)
@@ -194,7 +199,8 @@ module _ (shard : Shard) (a : Asked) (h : Heard) (there : Bool) (acceptors : ℕ
           (λ e. agrees (requests-none (replicaOf q))))
           (once (requesting here (replicaOf q)) (isMajority acceptors (size (p .«prepared_set»))) (isMajority acceptors (size (q .«prepared_set»)))
           (proposalOf roundBefore (proposerIn n (replicaOf p))) (proposalOf roundBefore (proposerIn n (replicaOf q)))
-          ∙ ap (λ (r : Replica). requesting here r (newly (proposes roundBefore acceptors (proposerIn n (replicaOf p))) (proposes roundBefore acceptors (proposerIn n r)))) heard)
+          ∙ ap (λ (r : Replica). requesting here r (newly (proposes roundBefore acceptors (proposerIn n (replicaOf p)))
+          (proposes roundBefore acceptors (proposerIn n r)))) heard)
         where
           q : PaxosState
           q = receivePromise (a .member) (h .src) rv p .state
@@ -221,7 +227,8 @@ module _ (shard : Shard) (a : Asked) (h : Heard) (there : Bool) (acceptors : ℕ
           (λ d. agrees refl)
           (λ d.
           agree-unless seenThen (mayAnswer h n)
-          (λ m. agrees (ap (λ (x : RoundV). leaves here (replicaOf p) (oneMessage (sends a core (One (h .delegate)) (Prepare (core .slot) n x)))) (held-brings (p .«max_rv»))))
+          (λ m. agrees (ap (λ (x : RoundV). leaves here (replicaOf p) (oneMessage (sends a core (One (h .delegate)) (Prepare (core .slot) n x))))
+          (held-brings (p .«max_rv»))))
           (λ m. no-refusal refl)))
           (push (responding here (replicaOf p)) (ignores roundBefore (replicaOf p .acceptor) n) none (some (promise n (acceptedOf (p .«max_rv»))))))
         where
@@ -267,7 +274,8 @@ module _ (shard : Shard) (a : Asked) (h : Heard) (there : Bool) (acceptors : ℕ
       unfolding answerAccept committerHears toLearners
       answer-paper NoProcess = refl
       answer-paper (Process q) =
-          ap (λ (t : Bool). cond (t && (not (eqb q (n .leader)) && not (eqb q (a .member .«my_pid»)))) both-told leader-told) (tells-committer (a .mode) classic)
+          ap (λ (t : Bool). cond (t && (not (eqb q (n .leader)) && not (eqb q (a .member .«my_pid»)))) both-told leader-told)
+          (tells-committer (a .mode) classic)
         where
           leader-told : Messages
           leader-told = oneMessage (acceptTo a off n (n .leader))
@@ -278,13 +286,22 @@ module _ (shard : Shard) (a : Asked) (h : Heard) (there : Bool) (acceptors : ℕ
       tells-paper : (ms : Messages) → commitMessages a h n off ms ≡ informs here proposal ms
       unfolding commitMessages tellsCommit informs
       tells-paper ms =
-          ap (λ (t : Bool). cond t (also ms (commitMessage a off (h .requester))) ms) (cond-or (eqb (n .leader) (a .member .«my_pid»)) (not (isProcess (h .requester) (a .member .«my_pid»))))
+          ap (λ (t : Bool). cond t (also ms (commitMessage a off (h .requester))) ms)
+          (cond-or (eqb (n .leader) (a .member .«my_pid»)) (not (isProcess (h .requester) (a .member .«my_pid»))))
 
       commit-paper : (ms : Messages) → Agrees (seenStep (commitsStep v (leftFastPath off) ms)) (commits here v ms)
       unfolding committed commitSlot
       commit-paper ms =
           agree-unless seen there
-          (λ e. agrees (ap (λ (t : Bool). record { outcome = 0; slot = increment (core .slot); last = Value v; replica = commits here v ms .replica; messages = ms; commit = Committed (core .slot) v (t && false) }) classic))
+          (λ e. agrees (ap (λ (t : Bool). record {
+            outcome = 0;
+            slot = increment
+                (core .slot);
+            last = Value v;
+            replica = commits here v ms .replica;
+            messages = ms;
+            commit = Committed (core .slot) v (t && false);
+          }) classic))
           (λ e. no-refusal refl)
 
       learns-paper : (ms : Messages) → Agrees (seenStep (tryCommit a h n v off ms)) (counts here proposal (replicaOf after) ms)
@@ -323,19 +340,22 @@ module _ (shard : Shard) (a : Asked) (h : Heard) (there : Bool) (acceptors : ℕ
       by-roles true d c = learns-paper noMessages
       by-roles false true true =
           through
-          (taken-no seenStep (isSwiftPaxos (a .mode)) (continues off (answerAccept a n off (h .committer))) (tryCommit a h n v off (answerAccept a n off (h .committer))) swift)
+          (taken-no seenStep (isSwiftPaxos (a .mode)) (continues off (answerAccept a n off (h .committer)))
+          (tryCommit a h n v off (answerAccept a n off (h .committer))) swift)
           (learns-paper (answerAccept a n off (h .committer)))
           (ap (counts here proposal (replicaOf after)) (answer-paper (h .committer)))
       by-roles false true false = agrees (ap (leaves here (replicaOf after)) (answer-paper (h .committer)))
       by-roles false false true = learns-paper noMessages
       by-roles false false false = no-refusal refl
 
-      accepted-paper : Agrees (seenStep (acceptedStep a h n v off)) (rule (replicaOf after) (toLearners here n (h .committer) (acceptance proposal)) leads fromProposer committing)
+      accepted-paper : Agrees (seenStep (acceptedStep a h n v off))
+          (rule (replicaOf after) (toLearners here n (h .committer) (acceptance proposal)) leads fromProposer committing)
       unfolding acceptedStep follower answered
       accepted-paper = through (ap (λ (c : Bool). seenStep (step leads fromProposer c)) committer-here) (by-roles leads fromProposer committing) refl
 
       -- what was entered is accepted, and so is announced
-      announced : before (Round n) (p .round) ≡ false → announcing here n (announcement roundBefore (replicaOf p .acceptor) proposal) ≡ toLearners here n (h .committer) (acceptance proposal)
+      announced : before (Round n) (p .round) ≡ false
+          → announcing here n (announcement roundBefore (replicaOf p .acceptor) proposal) ≡ toLearners here n (h .committer) (acceptance proposal)
       unfolding announcement accepts
       announced free =
           ap (λ (t : Bool). announcing here n (cond (not t) (some (acceptance proposal)) none)) (sym (exceeded-older (p .round) n) ∙ free)
@@ -348,7 +368,8 @@ module _ (shard : Shard) (a : Asked) (h : Heard) (there : Bool) (acceptors : ℕ
           (λ fit.
           through (ap (λ (c : Core). seenStep (acceptedStep a h n v c)) (off-paxos (withPaxos after core)))
           accepted-paper
-          (ap (λ (r : Replica). rule r (toLearners here n (h .committer) (acceptance proposal)) leads fromProposer committing) (accept-counted a replica (h .src) n v p free fit)
+          (ap (λ (r : Replica). rule r (toLearners here n (h .committer) (acceptance proposal)) leads fromProposer committing)
+          (accept-counted a replica (h .src) n v p free fit)
           ∙ ap (λ (ms : Messages). rule (acceptsWith (self here) (h .src) proposal (replicaOf p)) ms leads fromProposer committing) (sym (announced free))))
           (λ fit. no-refusal refl)
         where

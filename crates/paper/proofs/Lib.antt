@@ -5,3 +5,4 @@ pub mod Calls
 pub mod Consequences
 pub mod Roles
 pub mod Gathering
+pub mod Learning

@@ -55,7 +55,8 @@ not-or true t e d = e
 not-or false t e d = absurd (not-both d refl)
 
 -- the proposer's own acceptor has responded to its number
-begun : (o start : OptionalRound) (n : PaxosRound) (x : Option (Proposal PaxosRound ℕ)) → equal o start ≡ true → (start ≡ NoRound) ⊎ (equal (Round n) start ≡ true)
+begun : (o start : OptionalRound) (n : PaxosRound) (x : Option (Proposal PaxosRound ℕ)) → equal o start ≡ true
+    → (start ≡ NoRound) ⊎ (equal (Round n) start ≡ true)
     → prepare roundBefore (record { responded = respondedOf o; accepted = x }) n ≡ record { responded = some n; accepted = x }
 unfolding prepare responds
 begun NoRound start n x e d = refl
@@ -128,12 +129,14 @@ module _ (shard : Shard) (acceptors : ℕ) (classic : hasFastPath (shard .settin
         ap (λ (x : Acceptor PaxosRound ℕ). record { acceptor = x; wish = old .wish; promised = 0; agreed = 0 })
         (begun (core .paxos .round) (a .«starting_round») n (acceptedOf (core .paxos .«max_rv»))
         (and-right (canPropose a) atStart (and-left (canPropose a && atStart) inStarting (passed .1))) (go (isMultiPaxos (a .mode)) refl))
-        ∙ ap (λ (held : HeldPromise). record { acceptor = record { responded = some n; accepted = acceptedOf held }; wish = wishOf held; promised = 0; agreed = 0 }) (passed .0)
+        ∙ ap (λ (held : HeldPromise). record { acceptor = record { responded = some n; accepted = acceptedOf held }; wish = wishOf held; promised = 0; agreed = 0 })
+        (passed .0)
       where
         go : (t : Bool) → isMultiPaxos (a .mode) ≡ t → (a .«starting_round» ≡ NoRound) ⊎ (equal (Round n) (a .«starting_round») ≡ true)
         go true e =
             inr (ap (λ (k : PaxosRound). equal (Round k) (a .«starting_round»)) (sym number)
-            ∙ not-or (isMultiPaxos (a .mode)) (equal (Round (proposalRound a core)) (a .«starting_round»)) (and-right (canPropose a && atStart) inStarting (passed .1)) e)
+            ∙ not-or (isMultiPaxos (a .mode)) (equal (Round (proposalRound a core)) (a .«starting_round»))
+            (and-right (canPropose a && atStart) inStarting (passed .1)) e)
         go false e = inl (none-at-start (a .mode) (a .«first_leader») e)
 
     abbrev rv : RoundV
@@ -154,7 +157,8 @@ module _ (shard : Shard) (acceptors : ℕ) (classic : hasFastPath (shard .settin
         (oneMessage (sends a core toAll (Prepare (core .slot) n (brings none (begins here v .wish)))))
     unfolding proposePrepare paxosProposeV hears
     prepare-request =
-        ap (λ (p : PaxosState). seenStep (proposed a (Prepare (core .slot) n rv) core (paxosProposeV (a .member) rv p .state) (paxosProposeV (a .member) rv p .outcome))) in-round
+        ap (λ (p : PaxosState). seenStep (proposed a (Prepare (core .slot) n rv) core (paxosProposeV (a .member) rv p .state)
+        (paxosProposeV (a .member) rv p .outcome))) in-round
         ∙ ap (λ (r : Replica). leaves here r (oneMessage (sends a core toAll (Prepare (core .slot) n rv)))) own-heard
         ∙ ap (λ (r : Replica). leaves here (heard r) (oneMessage (sends a core toAll (Prepare (core .slot) n (brings none (heard r .wish)))))) (sym started)
 
@@ -165,10 +169,12 @@ module _ (shard : Shard) (acceptors : ℕ) (classic : hasFastPath (shard .settin
         (oneMessage (sends a core toAll (Accept (core .slot) n (proposalOf roundBefore (proposerIn n (begins here v)) .value))))
     unfolding proposeAccept paxosProposeV selfAccept acceptOwn receiveAccept acceptFits receivePromise heldAfterPromise hears choice highest
     accept-request =
-        ap (λ (p : PaxosState). seenStep (afterOwnPromise a n v core (paxosProposeV (a .member) rv p .state) (paxosProposeV (a .member) rv p .outcome))) in-round
+        ap (λ (p : PaxosState). seenStep (afterOwnPromise a n v core (paxosProposeV (a .member) rv p .state)
+        (paxosProposeV (a .member) rv p .outcome))) in-round
         ∙ ap (λ (r : Replica). leaves here r request) (accept-counted a replica (a .member .«my_pid») n v mine (rounds-ordered .irreflexive n) refl)
         ∙ ap (λ (r : Replica). leaves here (acceptsWith (self here) (a .member .«my_pid») (record { number = n; value = v }) r) request) own-heard
-        ∙ ap (λ (r : Replica). leaves here (acceptsWith (self here) (a .member .«my_pid») (proposalOf roundBefore (proposerIn n (heard r))) (heard r)) (oneMessage (sends a core toAll (Accept (core .slot) n (proposalOf roundBefore (proposerIn n (heard r)) .value))))) (sym started)
+        ∙ ap (λ (r : Replica). leaves here (acceptsWith (self here) (a .member .«my_pid») (proposalOf roundBefore (proposerIn n (heard r))) (heard r))
+        (oneMessage (sends a core toAll (Accept (core .slot) n (proposalOf roundBefore (proposerIn n (heard r)) .value))))) (sym started)
       where
         request : Messages
         request = oneMessage (sends a core toAll (Accept (core .slot) n v))

@@ -60,12 +60,13 @@ abbrev committedValue : OptionalCommit → ℕ
 committedValue NoCommit = 0
 committedValue (Committed slot v fast) = v
 
-entered-acceptor : (n : PaxosRound) (r : Replica) → enters n r .acceptor ≡ prepare roundBefore (r .acceptor) n
+pub entered-acceptor : (n : PaxosRound) (r : Replica) → enters n r .acceptor ≡ prepare roundBefore (r .acceptor) n
 unfolding enters prepare
 entered-acceptor n r = go (responds roundBefore (r .acceptor) n) refl
   where
     go : (t : Bool) → responds roundBefore (r .acceptor) n ≡ t
-        → cond t (record { acceptor = prepare roundBefore (r .acceptor) n; wish = r .wish; promised = 0; agreed = 0 }) r .acceptor ≡ prepare roundBefore (r .acceptor) n
+        → cond t (record { acceptor = prepare roundBefore (r .acceptor) n; wish = r .wish; promised = 0; agreed = 0 }) r .acceptor
+        ≡ prepare roundBefore (r .acceptor) n
     go true e = refl
     go false e = ap (λ (t : Bool). cond t (record { responded = some n; accepted = r .acceptor .accepted }) (r .acceptor)) (sym e)
 
@@ -74,7 +75,8 @@ older-accept : (x : Acceptor PaxosRound ℕ) (p : Proposal PaxosRound ℕ) → e
     → accept roundBefore (prepare roundBefore x (p .number)) p ≡ x
 unfolding prepare responds accept accepts
 older-accept x p e =
-    ap (λ (t : Bool). accept roundBefore (cond t (record { responded = some (p .number); accepted = x .accepted }) x) p) (exceeded-not-later (x .responded) (p .number) e)
+    ap (λ (t : Bool). accept roundBefore (cond t (record { responded = some (p .number); accepted = x .accepted }) x) p)
+    (exceeded-not-later (x .responded) (p .number) e)
     ∙ ap (λ (t : Bool). cond (not t) (record { responded = x .responded; accepted = higher roundBefore (x .accepted) (some p) }) x) e
 
 -- one that accepts behind a prepare request of the number has responded to no greater one
@@ -86,7 +88,8 @@ prepared-accepts x p f =
     (λ g.
     not-both f
     (ap not
-    (ap (λ (t : Bool). exceeded roundBefore (cond t (record { responded = some (p .number); accepted = x .accepted }) x .responded) (p .number)) (exceeded-not-later (x .responded) (p .number) g)
+    (ap (λ (t : Bool). exceeded roundBefore (cond t (record { responded = some (p .number); accepted = x .accepted }) x .responded) (p .number))
+    (exceeded-not-later (x .responded) (p .number) g)
     ∙ g)))
 
 module _ (shard : Shard) (classic : hasFastPath (shard .settings .mode) ≡ false) (within : withinLimits (shard .settings) ≡ true) (d : Delivery) (slot : ℕ)
@@ -144,7 +147,8 @@ module _ (shard : Shard) (classic : hasFastPath (shard .settings .mode) ≡ fals
     responded f =
         prepare-handled
         ∙ ap (λ (t : Bool). cond t (nothing here) (inPrepare here n rv (takesUp me rv (enters n old)))) (later-not-exceeded (old .acceptor .responded) n f)
-        ∙ ap (λ (t : Bool). inPrepare here n rv (takesUp me rv (cond t (record { acceptor = cond t (now .acceptor) (old .acceptor); wish = old .wish; promised = 0; agreed = 0 }) old))) f
+        ∙ ap (λ (t : Bool). inPrepare here n rv (takesUp me rv
+        (cond t (record { acceptor = cond t (now .acceptor) (old .acceptor); wish = old .wish; promised = 0; agreed = 0 }) old))) f
 
     prepared-acceptor : responds roundBefore (old .acceptor) n ≡ true → now .acceptor ≡ prepare roundBefore (old .acceptor) n
     unfolding prepare responds
@@ -184,7 +188,8 @@ module _ (shard : Shard) (classic : hasFastPath (shard .settings .mode) ≡ fals
             ∙ ap (λ (t : Bool). inPrepare here n rv (cond t now (hears me me rv now))) keeps
             ∙ promised-in now other refl fresh
             ∙ ap (λ (x : Message PaxosRound ℕ). leaves here now (oneMessage (sending here (One (h .delegate)) (old .wish) x))) (ap (valueIn answer) g)
-            ∙ ap (λ (x : Acceptor PaxosRound ℕ). leaves here (record { acceptor = x; wish = old .wish; promised = 0; agreed = 0 }) (oneMessage (sending here (One (h .delegate)) (old .wish) m))) (prepared-acceptor f)
+            ∙ ap (λ (x : Acceptor PaxosRound ℕ). leaves here (record { acceptor = x; wish = old .wish; promised = 0; agreed = 0 })
+            (oneMessage (sending here (One (h .delegate)) (old .wish) m))) (prepared-acceptor f)
 
     -- The same at one that keeps nothing, where the Prepare reports no proposal: the value that it brings is kept as the wish, and goes with the
     -- response.
@@ -211,7 +216,14 @@ module _ (shard : Shard) (classic : hasFastPath (shard .settings .mode) ≡ fals
         with x w = record { acceptor = record { responded = some n; accepted = x }; wish = w; promised = 0; agreed = 0 }
 
         heard : Option (Proposal PaxosRound ℕ) → Replica
-        heard report = record { acceptor = record { responded = some n; accepted = report }; wish = unlessAccepted report (some rv); promised = alsoSelf me me 0; agreed = 0 }
+        heard report =
+            record {
+              acceptor = record { responded = some n; accepted = report };
+              wish = unlessAccepted report
+                  (some rv);
+              promised = alsoSelf me me 0;
+              agreed = 0;
+            }
 
         answer : Message PaxosRound ℕ
         answer = promise n (old .acceptor .accepted)
@@ -247,7 +259,8 @@ module _ (shard : Shard) (classic : hasFastPath (shard .settings .mode) ≡ fals
         prepare-handled
         ∙ ap (λ (t : Bool). cond t (nothing here) (inPrepare here n rv (takesUp me rv (enters n old))))
         (ap (λ (o : Option PaxosRound). exceeded roundBefore o n) entry ∙ rounds-ordered .irreflexive n)
-        ∙ ap (λ (t : Bool). inPrepare here n rv (takesUp me rv (cond t (record { acceptor = prepare roundBefore (old .acceptor) n; wish = old .wish; promised = 0; agreed = 0 }) old)))
+        ∙ ap (λ (t : Bool). inPrepare here n rv (takesUp me rv
+        (cond t (record { acceptor = prepare roundBefore (old .acceptor) n; wish = old .wish; promised = 0; agreed = 0 }) old)))
         (ap (λ (o : Option PaxosRound). greater roundBefore n o) entry ∙ rounds-ordered .irreflexive n)
         ∙ ap (λ (t : Bool). inPrepare here n rv (cond t old (hears me me rv old))) keeps
         ∙ ap (λ (t : Bool). cond t (gathers here n rv old) (responding here old (promises n old))) gathering
@@ -262,10 +275,14 @@ module _ (shard : Shard) (classic : hasFastPath (shard .settings .mode) ≡ fals
         (proposes roundBefore acceptors (withAll me n r (ps ++ (record { src = h .src; brought = rv } ∷ [])))))
     proposer-proposes-of-all gathering entry r ps keeps since =
         proposer-proposes gathering (ap keepsSomething since ∙ heard-keeps me r ps keeps) entry
-        ∙ ap (λ (x : Replica). request (proposes roundBefore acceptors (proposerIn n x)) (proposes roundBefore acceptors (proposerIn n (hears me (h .src) rv x)))) since
-        ∙ ap (λ (x : Option (Proposal PaxosRound ℕ)). request x (proposes roundBefore acceptors (proposerIn n (hears me (h .src) rv (hearsAll me r ps))))) (proposes-of-all me acceptors n r ps keeps)
-        ∙ ap (λ (x : Replica). request (proposes roundBefore acceptors (withAll me n r ps)) (proposes roundBefore acceptors (proposerIn n x))) (heard-last me r ps (h .src) rv)
-        ∙ ap (request (proposes roundBefore acceptors (withAll me n r ps))) (proposes-of-all me acceptors n r (ps ++ (record { src = h .src; brought = rv } ∷ [])) keeps)
+        ∙ ap (λ (x : Replica). request (proposes roundBefore acceptors (proposerIn n x))
+        (proposes roundBefore acceptors (proposerIn n (hears me (h .src) rv x)))) since
+        ∙ ap (λ (x : Option (Proposal PaxosRound ℕ)). request x (proposes roundBefore acceptors (proposerIn n (hears me (h .src) rv (hearsAll me r ps)))))
+        (proposes-of-all me acceptors n r ps keeps)
+        ∙ ap (λ (x : Replica). request (proposes roundBefore acceptors (withAll me n r ps)) (proposes roundBefore acceptors (proposerIn n x)))
+        (heard-last me r ps (h .src) rv)
+        ∙ ap (request (proposes roundBefore acceptors (withAll me n r ps)))
+        (proposes-of-all me acceptors n r (ps ++ (record { src = h .src; brought = rv } ∷ [])) keeps)
       where
         request : Option (Proposal PaxosRound ℕ) → Option (Proposal PaxosRound ℕ) → Seen
         request x y = requesting here (hears me (h .src) rv old) (newly x y)
@@ -324,10 +341,19 @@ module _ (shard : Shard) (classic : hasFastPath (shard .settings .mode) ≡ fals
             accept-handled
             ∙ ap (λ (t : Bool). cond t (nothing here) (inAccept here p (enters n old))) (prepared-accepts (old .acceptor) p f)
             ∙ ap (λ (t : Bool). cond t (counts here p counted (announces here p (enters n old))) (leaves here counted (announces here p (enters n old)))) other
-            ∙ ap (λ (t : Bool). leaves here counted (cond (not t && eqb (h .src) (h .delegate)) (told (accepts roundBefore (enters n old .acceptor) p)) noMessages)) (not-leader other)
+            ∙ ap (λ (t : Bool). leaves here counted (cond (not t && eqb (h .src) (h .delegate))
+            (told (accepts roundBefore (enters n old .acceptor) p)) noMessages)) (not-leader other)
             ∙ ap (λ (t : Bool). leaves here counted (cond t (told (accepts roundBefore (enters n old .acceptor) p)) noMessages)) asked
             ∙ ap (λ (t : Bool). leaves here counted (told t)) (entry ∙ f)
             ∙ ap (λ (x : Message PaxosRound ℕ). leaves here counted (toLearners here n (h .committer) x)) (ap (valueIn (acceptance p)) g)
+
+    -- the replica after one that commits nothing, in a number that is not exceeded
+    pub accept-leaves : older ≡ false → callOf shard (Receive d) .reply .commit ≡ NoCommit → replicaIn (callOf shard (Receive d) .shard) ≡ counted
+    accept-leaves newer =
+        of-accept (λ (s : Seen). s .commit ≡ NoCommit → s .replica ≡ counted)
+        (λ e c. absurd (not-both e newer))
+        (λ ms c. refl)
+        (λ ms m c. absurd (not-both refl (ap isCommit c)))
 
     -- Phase 2 (b): an Accept that commits nothing leaves the paper's acceptor behind a prepare request of the number and the accept request; one of an
     -- older number leaves it as it was, as in the paper.

@@ -64,7 +64,8 @@ agree-both {A} f t s {x} {y} {p} {q} e pos neg = go t s refl e
     go false false d g = neg d
 
 -- by a test of the engine alone
-pub agree-unless : {A : Type 0} (f : A → Seen) (t : Bool) {x y : A} {p : Seen} → (t ≡ true → Agrees (f x) p) → (t ≡ false → Agrees (f y) p) → Agrees (f (cond t x y)) p
+pub agree-unless : {A : Type 0} (f : A → Seen) (t : Bool) {x y : A} {p : Seen} → (t ≡ true → Agrees (f x) p) → (t ≡ false → Agrees (f y) p)
+    → Agrees (f (cond t x y)) p
 agree-unless {A} f t {x} {y} {p} pos neg = go t refl
   where
     go : (b : Bool) → t ≡ b → Agrees (f (cond b x y)) p
@@ -147,7 +148,8 @@ unfolding inRound enters prepare responds
 round-entered n core =
     both (λ (c : Core). replicaOf (c .paxos)) (before (core .paxos .round) (Round n)) (responds roundBefore (replicaOf (core .paxos) .acceptor) n)
     (greater-later (core .paxos .round) n)
-    (λ e. ap (λ (t : Bool). with (cond t (record { responded = some n; accepted = acceptedOf (core .paxos .«max_rv») }) (replicaOf (core .paxos) .acceptor))) (sym e ∙ greater-later (core .paxos .round) n))
+    (λ e. ap (λ (t : Bool). with (cond t (record { responded = some n; accepted = acceptedOf (core .paxos .«max_rv») }) (replicaOf (core .paxos) .acceptor)))
+    (sym e ∙ greater-later (core .paxos .round) n))
     (λ e. refl)
   where
     with : Acceptor PaxosRound ℕ → Replica
@@ -203,16 +205,42 @@ promise-wish (Held (PaxosV (Round s) v)) (FastV q w) = refl
 promise-wish (Held (PaxosV (Round s) v)) (PaxosV NoRound w) = refl
 promise-wish (Held (PaxosV (Round s) v)) (PaxosV (Round r) w) = wish-cond (roundBefore s r) r s w v (some (PaxosV (Round r) w))
 
+-- ---- an accept
+
+-- one that fits is higher than what was accepted, or the same
+later-higher : (held : HeldPromise) (n : PaxosRound) (v : ℕ) → before (getLastAcceptedRound held) (Round n) ≡ true
+    → some (record { number = n; value = v }) ≡ higher roundBefore (acceptedOf held) (some (record { number = n; value = v }))
+later-higher NothingHeld n v e = refl
+later-higher (Held (FastV p w)) n v e = refl
+later-higher (Held (PaxosV NoRound w)) n v e = refl
+later-higher (Held (PaxosV (Round r) w)) n v e =
+    ap (λ (t : Bool). cond t (some (record { number = n; value = v })) (some (record { number = r; value = w }))) (sym e)
+
+pub accept-higher : (held : HeldPromise) (n : PaxosRound) (v : ℕ) → acceptFits held n v ≡ true
+    → some (record { number = n; value = v }) ≡ higher roundBefore (acceptedOf held) (some (record { number = n; value = v }))
+accept-higher held n v e = go (accept-fits held n v e)
+  where
+    go : (before (getLastAcceptedRound held) (Round n) ≡ true) ⊎ (held ≡ Held (PaxosV (Round n) v))
+        → some (record { number = n; value = v }) ≡ higher roundBefore (acceptedOf held) (some (record { number = n; value = v }))
+    go (inl l) = later-higher held n v l
+    go (inr s) =
+        ap (λ (t : Bool). cond t (some (record { number = n; value = v })) (some (record { number = n; value = v }))) (sym (rounds-ordered .irreflexive n))
+        ∙ ap (λ (x : HeldPromise). higher roundBefore (acceptedOf x) (some (record { number = n; value = v }))) (sym s)
+
+-- ---- both, at a live replica
+
 module _ (a : Asked) (replica : a .member .replica ≡ true) where
   -- who is counted
   pub counted-also : (src set : ℕ) → counted (a .member) src set ≡ alsoSelf (a .member .«my_pid») src set
   unfolding withOwn withSender
   counted-also src set = ap (λ (t : Bool). cond t (insert (withSender (a .member) src set) (a .member .«my_pid»)) (withSender (a .member) src set)) replica
 
-  pub promise-heard : (src : ℕ) (rv : RoundV) (p : PaxosState) → replicaOf (receivePromise (a .member) src rv p .state) ≡ hears (a .member .«my_pid») src rv (replicaOf p)
+  pub promise-heard : (src : ℕ) (rv : RoundV) (p : PaxosState)
+      → replicaOf (receivePromise (a .member) src rv p .state) ≡ hears (a .member .«my_pid») src rv (replicaOf p)
   unfolding receivePromise hears
   promise-heard src rv p =
-      ap (λ (x : Option (Proposal PaxosRound ℕ)). made x (wishOf (heldAfterPromise (p .«max_rv») rv)) (counted (a .member) src (p .«prepared_set»))) (promise-higher (p .«max_rv») rv)
+      ap (λ (x : Option (Proposal PaxosRound ℕ)). made x (wishOf (heldAfterPromise (p .«max_rv») rv)) (counted (a .member) src (p .«prepared_set»)))
+      (promise-higher (p .«max_rv») rv)
       ∙ ap (λ (x : Option RoundV). made now x (counted (a .member) src (p .«prepared_set»))) (promise-wish (p .«max_rv») rv)
       ∙ ap (made now (unlessAccepted now (firstWish (wishOf (p .«max_rv»)) rv))) (counted-also src (p .«prepared_set»))
     where
@@ -222,34 +250,16 @@ module _ (a : Asked) (replica : a .member .replica ≡ true) where
       made : Option (Proposal PaxosRound ℕ) → Option RoundV → ℕ → Replica
       made x w set = record { acceptor = record { responded = respondedOf (p .round); accepted = x }; wish = w; promised = set; agreed = p .«accepted_set» }
 
-  -- ---- an accept
-
-  later-higher : (held : HeldPromise) (n : PaxosRound) (v : ℕ) → before (getLastAcceptedRound held) (Round n) ≡ true
-      → some (record { number = n; value = v }) ≡ higher roundBefore (acceptedOf held) (some (record { number = n; value = v }))
-  later-higher NothingHeld n v e = refl
-  later-higher (Held (FastV p w)) n v e = refl
-  later-higher (Held (PaxosV NoRound w)) n v e = refl
-  later-higher (Held (PaxosV (Round r) w)) n v e = ap (λ (t : Bool). cond t (some (record { number = n; value = v })) (some (record { number = r; value = w }))) (sym e)
-
-  accept-higher : (held : HeldPromise) (n : PaxosRound) (v : ℕ) → acceptFits held n v ≡ true
-      → some (record { number = n; value = v }) ≡ higher roundBefore (acceptedOf held) (some (record { number = n; value = v }))
-  accept-higher held n v e = go (accept-fits held n v e)
-    where
-      go : (before (getLastAcceptedRound held) (Round n) ≡ true) ⊎ (held ≡ Held (PaxosV (Round n) v))
-          → some (record { number = n; value = v }) ≡ higher roundBefore (acceptedOf held) (some (record { number = n; value = v }))
-      go (inl l) = later-higher held n v l
-      go (inr s) =
-          ap (λ (t : Bool). cond t (some (record { number = n; value = v })) (some (record { number = n; value = v }))) (sym (rounds-ordered .irreflexive n))
-          ∙ ap (λ (x : HeldPromise). higher roundBefore (acceptedOf x) (some (record { number = n; value = v }))) (sym s)
-
   -- an accept that fits, in a number that is not exceeded
   pub accept-counted : (src : ℕ) (n : PaxosRound) (v : ℕ) (p : PaxosState) → before (Round n) (p .round) ≡ false → acceptFits (p .«max_rv») n v ≡ true
       → replicaOf (afterAccept (a .member) src n v p) ≡ acceptsWith (a .member .«my_pid») src (record { number = n; value = v }) (replicaOf p)
   unfolding acceptsWith accept accepts
   accept-counted src n v p free fit =
-      ap (λ (x : Option (Proposal PaxosRound ℕ)). made (record { responded = respondedOf (p .round); accepted = x }) (counted (a .member) src (p .«accepted_set»))) (accept-higher (p .«max_rv») n v fit)
+      ap (λ (x : Option (Proposal PaxosRound ℕ)). made (record { responded = respondedOf (p .round); accepted = x })
+      (counted (a .member) src (p .«accepted_set»))) (accept-higher (p .«max_rv») n v fit)
       ∙ ap (made taken) (counted-also src (p .«accepted_set»))
-      ∙ ap (λ (t : Bool). made (cond (not t) taken (replicaOf p .acceptor)) (alsoSelf (a .member .«my_pid») src (p .«accepted_set»))) (sym free ∙ exceeded-older (p .round) n)
+      ∙ ap (λ (t : Bool). made (cond (not t) taken (replicaOf p .acceptor)) (alsoSelf (a .member .«my_pid») src (p .«accepted_set»)))
+      (sym free ∙ exceeded-older (p .round) n)
     where
       taken : Acceptor PaxosRound ℕ
       taken = record { responded = respondedOf (p .round); accepted = higher roundBefore (acceptedOf (p .«max_rv»)) (some (record { number = n; value = v })) }

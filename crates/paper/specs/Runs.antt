@@ -1,4 +1,5 @@
--- Calls one after the other: the shards that there are, and a proposer that gathers promises. The statements of proofs/ are about these.
+-- Calls one after the other: the shards that there are, a proposer that gathers promises, and a learner that counts acceptances. The statements of
+-- proofs/ are about these.
 -- Assumes nothing.
 use mathlib.Core.Path.{_≡_}
 use mathlib.Core.Bool.{true, false}
@@ -8,7 +9,7 @@ use Prim.Native.Nat.{ℕ}
 use lib.Dec.{eqb, ltb}
 use Rattle.sets.specs.Sets.{size}
 use Rattle.paxos.specs.PaxosMadeSimple.{Proposal, Proposer}
-use Rattle.message.specs.declared.ConsensusMsg.the-variants.{Prepare}
+use Rattle.message.specs.declared.ConsensusMsg.the-variants.{Prepare, Accept}
 use Rattle.message.specs.declared.Outcome.the-variants.{Done}
 use Rattle.message.specs.declared.PaxosRound.{PaxosRound}
 use Rattle.message.specs.declared.RoundV.{RoundV}
@@ -20,10 +21,11 @@ use Rattle.delivery.specs.declared.Delivery.{Delivery}
 use Rattle.calls.specs.Asked.{heardOf}
 use Rattle.calls.specs.declared.Call.{Call}
 use Rattle.calls.specs.declared.Call.the-variants.{Receive}
+use Rattle.calls.specs.declared.OptionalCommit.the-variants.{NoCommit}
 use Rattle.consensus.specs.Call.{newShard, callOf}
 use Rattle.consensus.specs.FirstCause.{firstCause}
 use Rattle.consensus.specs.declared.Shard.{Shard}
-use Rattle.paper.specs.Replica.{Replica, reportOf, ownValue, hears}
+use Rattle.paper.specs.Replica.{Replica, reportOf, ownValue, hears, acceptsWith}
 
 -- a shard as it was made, or as a call of it has left it
 pub data Reached : Shard → Type 0 where
@@ -73,3 +75,31 @@ pub data Gathered (n : PaxosRound) (first : Shard) : List Response → Shard →
   one-more : {ps : List Response} {shard : Shard} (d : Delivery) (rv : RoundV) → Gathered n first ps shard → Promised n shard d rv
       → callOf shard (Receive d) .reply .messages ≡ noMessages
       → Gathered n first (ps ++ (responseOf d rv ∷ [])) (callOf shard (Receive d) .shard)
+
+-- ---- the learner
+
+-- an Accept that was taken: whose, and of which value
+pub record Acceptance : Type 0 where
+  pub src : ℕ
+  pub value : ℕ
+
+-- those of the number n, one after the other, at the process me
+abbrev pub acceptsAll : ℕ → PaxosRound → Replica → List Acceptance → Replica
+acceptsAll me n r [] = r
+acceptsAll me n r (x ∷ xs) = acceptsAll me n (acceptsWith me (x .src) (record { number = n; value = x .value }) r) xs
+
+-- an Accept of the number n
+pub record Announced (n : PaxosRound) (shard : Shard) (d : Delivery) (v : ℕ) : Type 0 where
+  pub slot : ℕ
+  pub handled : Handled shard d slot
+  pub message : d .message .msg ≡ Accept slot n v
+
+abbrev pub acceptanceOf : Delivery → ℕ → Acceptance
+acceptanceOf d v = record { src = d .message .src; value = v }
+
+-- the shard has taken them one after the other, and has committed nothing
+pub data Counted (n : PaxosRound) (first : Shard) : List Acceptance → Shard → Type 0 where
+  none-yet : Counted n first [] first
+  one-counted : {xs : List Acceptance} {shard : Shard} (d : Delivery) (v : ℕ) → Counted n first xs shard → Announced n shard d v
+      → callOf shard (Receive d) .reply .commit ≡ NoCommit
+      → Counted n first (xs ++ (acceptanceOf d v ∷ [])) (callOf shard (Receive d) .shard)
