@@ -1,4 +1,3 @@
 pub mod Older
 pub mod Gathering
 pub mod Clearing
-pub mod Paper
