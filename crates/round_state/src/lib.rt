@@ -149,8 +149,8 @@ impl Member {
     }
 }
 
-// `mut self` is the form that document 01 names for operations that hand back the next state. They build it anew and store to no field: the prover does
-// not cover a store to a field that is an enum, and where one field of a struct is stored to the compiler copies the whole.
+// `mut self` is the form that document 01 names for operations that hand back the next state: they store the numbers that they change. What is held
+// is an enum, and the prover covers no store to a field that is one; so `holding` makes a new state with it.
 impl PaxosState {
     fn taken(self) -> PaxosStep
         ensures { λ r. ⌜ r ≡ taken self ⌝ }
@@ -186,13 +186,21 @@ impl PaxosState {
     pub fn next_round(mut self) -> PaxosState
         ensures { λ r. ⌜ r ≡ nextRound self ⌝ }
     {
+        self.prepared_set = 0;
+        self.accepted_set = 0;
+        self
+    }
+
+    // The state with another promise held, or none.
+    fn holding(self, promise: HeldPromise) -> PaxosState
+        ensures { λ r. ⌜ r ≡ withHeld promise self ⌝ }
+    {
         let round = self.round;
-        let max_rv = self.max_rv;
         PaxosState {
             round,
-            max_rv,
-            prepared_set: 0,
-            accepted_set: 0,
+            max_rv: promise,
+            prepared_set: self.prepared_set,
+            accepted_set: self.accepted_set,
         }
     }
 
@@ -214,29 +222,16 @@ impl PaxosState {
     pub fn full_clear(mut self) -> PaxosState
         ensures { λ r. ⌜ r ≡ fullClear self ⌝ }
     {
-        let cleared = self.next_round();
-        let round = cleared.round;
-        PaxosState {
-            round,
-            max_rv: HeldPromise::NothingHeld,
-            prepared_set: cleared.prepared_set,
-            accepted_set: cleared.accepted_set,
-        }
+        self = self.next_round();
+        self.holding(HeldPromise::NothingHeld)
     }
 
     pub fn receive_promise(mut self, me: Member, src: u64, rv: RoundV) -> Promised
         ensures { λ r. ⌜ r ≡ receivePromise me src rv self ⌝ }
     {
-        let round = self.round;
         let held = self.max_rv;
-        let max_rv = held.after_promise(rv);
-        let prepared_set = me.counted(src, self.prepared_set);
-        let state = PaxosState {
-            round,
-            max_rv,
-            prepared_set,
-            accepted_set: self.accepted_set,
-        };
+        self.prepared_set = me.counted(src, self.prepared_set);
+        let state = self.holding(held.after_promise(rv));
         Promised { state }
     }
 
@@ -261,17 +256,11 @@ impl PaxosState {
     {
         let held = self.max_rv;
         if held.accept_fits(round, v) {
-            let round_now = self.round;
-            let accepted_set = me.counted(src, self.accepted_set);
-            let accepted = PaxosState {
-                round: round_now,
-                max_rv: HeldPromise::Held(RoundV::PaxosV {
-                    accept_round: OptionalRound::Round(round),
-                    v,
-                }),
-                prepared_set: self.prepared_set,
-                accepted_set,
-            };
+            self.accepted_set = me.counted(src, self.accepted_set);
+            let accepted = self.holding(HeldPromise::Held(RoundV::PaxosV {
+                accept_round: OptionalRound::Round(round),
+                v,
+            }));
             return accepted.taken();
         }
         self.refused(Refusal::AcceptUnlikeHeld)
@@ -301,16 +290,10 @@ impl PaxosState {
     pub fn adopt_from_epaxos(self, me: Member, round: PaxosRound, v: u64) -> PaxosStep
         ensures { λ r. ⌜ r ≡ adoptFromEpaxos me round v self ⌝ }
     {
-        let round_now = self.round;
-        let holding = PaxosState {
-            round: round_now,
-            max_rv: HeldPromise::Held(RoundV::PaxosV {
-                accept_round: OptionalRound::NoRound,
-                v,
-            }),
-            prepared_set: self.prepared_set,
-            accepted_set: self.accepted_set,
-        };
-        holding.self_accept(me, round)
+        let adopted = self.holding(HeldPromise::Held(RoundV::PaxosV {
+            accept_round: OptionalRound::NoRound,
+            v,
+        }));
+        adopted.self_accept(me, round)
     }
 }

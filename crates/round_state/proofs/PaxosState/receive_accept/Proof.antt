@@ -11,12 +11,16 @@ accept-fits-requires c κs = search needs
 counted-requires : tie.Need-counted-requires
 counted-requires c κs = search needs
 
+holding-requires : tie.Need-holding-requires
+holding-requires c κs = search needs
+
 taken-requires : tie.Need-taken-requires
 taken-requires c κs = search needs
 
 returns : tie.Need-returns
 unfolding receiveAccept
-returns c = simp (← c .before .before .before .accept-fits .ensures, c .before .before .if1 .taken, ← c .before .counted .ensures, ← c .taken .ensures)
+returns c =
+    simp (← c .before .before .before .before .accept-fits .ensures, c .before .before .before .if1 .taken, ← c .before .before .counted .ensures, ← c .before .holding .ensures, ← c .taken .ensures)
 
 refused-requires : tie.Need-refused-requires
 refused-requires c κs = search needs
@@ -31,6 +35,7 @@ receive-accept-spec =
     (tie.spec
     accept-fits-requires
     counted-requires
+    holding-requires
     taken-requires
     returns
     refused-requires
