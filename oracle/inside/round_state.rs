@@ -1,6 +1,7 @@
 //! One shard of the real engine: its state as plain numbers, and one call. A child of round_state, so that it sees the private fields of the
 //! round state, of paxos_family and of consensus.
 use super::PaxosFamilyRoundState;
+use crate::asserted::asserted;
 use crate::calls::{
     Call, Commit, Done, Frame, Message, Mode, Outcome, Outgoing, PLACES, Promise, Proposer, Round, Served, Settings, State, Words,
 };
@@ -224,6 +225,7 @@ impl Engine {
 
     /// A refused call leaves the shard: what the Rust changed before its panic is undone.
     pub fn call(&mut self, call: &Call) -> Outcome {
+        host::PANIC.take();
         if let Some(number) = limits::refusal(&self.settings, &self.state, call) {
             return Err(number);
         }
@@ -307,24 +309,15 @@ fn refusal_of_panic(call: &Call) -> u32 {
     if matches!(call, Call::Propose(_)) {
         return 11;
     }
-    let panic = host::PANIC.take();
+    let panic = asserted();
     let rows = [
         ("last_v should be the same", 4),
         ("Removing command that does not exist", 6),
         ("self.alive_replicas.contains(src)", 7),
+        // of receive_accept and of self_accept
+        ("assert_eq!(self.max_rv, rv)", 9),
+        ("assert_eq!(self.accepted, 0)", 9),
         ("Should never receive two preaccept", 10),
     ];
-    if let Some((_, number)) = rows.iter().find(|(text, _)| panic.text.contains(text)) {
-        *number
-    } else if panic.file.ends_with("round_state.rs") && is_unlike_accept(panic.line) {
-        9
-    } else {
-        8
-    }
-}
-
-/// Both assertions of row 9 compare numbers and carry no text, so they are known by their lines.
-fn is_unlike_accept(line: u32) -> bool {
-    let text = include_str!("../round_state.rs").lines().nth(line as usize - 1).unwrap_or("");
-    text.contains("assert_eq!(self.max_rv, rv)") || text.contains("assert_eq!(self.accepted, 0)")
+    rows.iter().find(|(text, _)| panic.contains(text)).map_or(8, |(_, number)| *number)
 }

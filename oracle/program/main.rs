@@ -2,6 +2,7 @@
 mod answer;
 mod any_call;
 mod any_settings;
+mod asserted;
 mod calls;
 mod compare;
 mod connector;
@@ -18,6 +19,9 @@ mod limits;
 mod message;
 #[allow(dead_code)]
 mod multi_sink;
+mod pair_causes;
+mod pair_paths;
+mod pairs;
 mod printer;
 #[cfg_attr(feature = "hash", allow(dead_code))]
 mod proposer_map;

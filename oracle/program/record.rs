@@ -5,6 +5,8 @@ use crate::calls::{Call, Frame, LARGEST_NUMBER, Line, MODES, Message, Mode, OPEN
 use crate::counts::Counts;
 use crate::damage;
 use crate::generate;
+use crate::pair_paths;
+use crate::pairs;
 use crate::printer::push_line;
 use crate::random::Random;
 use crate::recording::{Recorder, Recording};
@@ -203,6 +205,17 @@ fn every_field(sample: &mut Sample, settings: &Settings, line: &Line) {
     }
 }
 
+/// Fails where the Rust does not give the number of the first cause.
+fn two_causes(sample: &mut Sample) -> io::Result<()> {
+    let (recordings, pairs) = pairs::record(&pair_paths::paths()).map_err(io::Error::other)?;
+    for (title, recording) in recordings {
+        sample.title(&title);
+        sample.add(recording);
+    }
+    eprintln!("pairs of causes at once: {pairs}");
+    Ok(())
+}
+
 fn plain_settings(mode: Mode, process_count: usize) -> Settings {
     Settings {
         process_count,
@@ -299,6 +312,7 @@ pub fn run() -> io::Result<bool> {
     widest_answers(&mut sample);
     slots_at_their_limit(&mut sample);
     limits_of_fields(&mut sample);
+    two_causes(&mut sample)?;
     let mut random = Random::new(1);
     for mode in MODES {
         plain_calls(&mut sample, mode);
