@@ -161,11 +161,23 @@ fn about_to_propose(random: &mut Random, state: &mut State) {
 }
 
 /// The own proposal is out, and answers are awaited.
-fn gathering(settings: &Settings, state: &mut State) {
+fn gathering(random: &mut Random, settings: &Settings, state: &mut State) {
     let my_pid = settings.my_pid;
-    state.round = Some(Round { group: 0, leader: my_pid });
+    let leader = if settings.mode == Mode::SwiftPaxos { settings.first_leader } else { my_pid };
+    state.round = Some(Round { group: 0, leader });
     state.held = Some(Promise::Fast { proposer: my_pid, v: 1 });
     state.fast_proposers |= 1 << my_pid;
+    if settings.mode == Mode::SwiftPaxos && random.chance(70) {
+        nearly_committed(random, settings, state);
+    }
+}
+
+/// In SwiftPaxos: nobody else has proposed, the leader's answer has come, and often the next one is enough.
+fn nearly_committed(random: &mut Random, settings: &Settings, state: &mut State) {
+    state.fast_proposers = 1 << settings.my_pid;
+    state.swift_leader_answer = Some(1);
+    state.fast_answer_set = set_of(random, settings, 70);
+    state.fast_preaccepted = settings.replica_count - random.below(settings.replica_count.min(3));
 }
 
 pub fn state(random: &mut Random, settings: &Settings) -> State {
@@ -191,7 +203,7 @@ pub fn state(random: &mut Random, settings: &Settings) -> State {
         fill_fast_half(random, settings, &mut state);
         match random.below(6) {
             0 => about_to_propose(random, &mut state),
-            1 => gathering(settings, &mut state),
+            1 => gathering(random, settings, &mut state),
             _ => {}
         }
     }

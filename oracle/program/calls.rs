@@ -88,7 +88,7 @@ impl Promise {
     }
 }
 
-#[derive(Clone, Copy, PartialEq, Eq, Debug)]
+#[derive(Clone, Copy, PartialEq, Eq, Hash, Debug)]
 pub struct Proposer {
     pub proposer: usize,
     pub v: usize,
@@ -96,7 +96,7 @@ pub struct Proposer {
     pub swift_score: usize,
 }
 
-#[derive(Clone, Copy, PartialEq, Eq, Debug)]
+#[derive(Clone, Copy, PartialEq, Eq, Hash, Debug)]
 pub struct OpenRead {
     pub id: usize,
     pub tag: usize,
@@ -105,7 +105,7 @@ pub struct OpenRead {
     pub local_ready: bool,
 }
 
-#[derive(Clone, PartialEq, Eq, Debug)]
+#[derive(Clone, PartialEq, Eq, Hash, Debug)]
 pub struct State {
     pub slot: usize,
     pub last_v: Option<usize>,

@@ -57,7 +57,7 @@ fn print_lines(title: &str, lines: &[u8]) {
     println!("{title}\n{}", String::from_utf8_lossy(lines).trim_end_matches('\n'));
 }
 
-fn report(program: &str, recording: &Recording, difference: &replay::Difference) -> io::Result<()> {
+pub fn report(program: &str, recording: &Recording, difference: &replay::Difference) -> io::Result<()> {
     match shrink::shortest(program, recording, difference.position)? {
         Some(short) => {
             let lines = short.parts.concat();
@@ -77,7 +77,7 @@ fn report(program: &str, recording: &Recording, difference: &replay::Difference)
 }
 
 /// The places of upstream, with the edits of the build, at which the Rust met a panic.
-fn print_panics() {
+pub fn print_panics() {
     println!("panics that the Rust met:");
     for ((file, line), count) in host::panic_places() {
         println!("{count:>13}  {file}:{line}");

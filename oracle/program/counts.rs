@@ -5,6 +5,23 @@ use std::fmt::{Display, Formatter, Result};
 const KINDS: [&str; 11] =
     ["", "settings", "state", "proposal", "new read", "Prepare", "Accept", "ForwardRequest", "Commit", "ReadRequest", "ReadResponse"];
 
+/// What a generator is there to bring about.
+#[derive(Clone, Copy)]
+pub enum Mark {
+    /// A Prepare commits, on a state that was set directly.
+    FastFromSetState,
+    /// A ForwardRequest is delivered in a group run.
+    Forwarded,
+    /// A message is delivered that a call with changed numbers handed back.
+    AfterDamage,
+    /// A value within 1000 of 2^63−1 is committed.
+    LargeValue,
+    /// A Prepare or an Accept commits in a group of more than 16 processes.
+    LargeGroup,
+}
+
+const MARKS: [&str; 5] = ["fast, state set", "forwarded", "after damage", "large values", "large groups"];
+
 #[derive(Clone, Copy, Default)]
 pub struct OfMode {
     pub kinds: [u64; KINDS.len()],
@@ -14,6 +31,7 @@ pub struct OfMode {
     pub served: u64,
     pub adoptions: u64,
     pub ties: u64,
+    pub marks: [u64; MARKS.len()],
 }
 
 #[derive(Clone, Copy, Default)]
@@ -32,6 +50,7 @@ impl Counts {
             sum.served += more.served;
             sum.adoptions += more.adoptions;
             sum.ties += more.ties;
+            sum.marks.iter_mut().zip(more.marks).for_each(|(sum, more)| *sum += more);
         }
         self.bad_lines += other.bad_lines;
     }
@@ -67,6 +86,9 @@ impl Display for Counts {
         row(f, "reads served", &|mode| mode.served)?;
         row(f, "adoptions", &|mode| mode.adoptions)?;
         row(f, "of them ties", &|mode| mode.ties)?;
+        for (mark, name) in MARKS.iter().enumerate() {
+            row(f, name, &move |mode| mode.marks[mark])?;
+        }
         write!(f, "bad lines {}", self.bad_lines)
     }
 }

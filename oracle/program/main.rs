@@ -11,6 +11,7 @@ mod consensus;
 mod counts;
 mod damage;
 mod eval;
+mod exhaust;
 mod generate;
 mod group;
 mod host;
@@ -47,7 +48,11 @@ fn run(arguments: &[String]) -> std::io::Result<bool> {
             Some(options) => compare::run(&options),
             None => Err(std::io::Error::other(compare::USAGE)),
         },
-        Some(name) => Err(std::io::Error::other(format!("oracle answer | record | swift | compare, not {name}"))),
+        Some("exhaust") => match exhaust::Options::read(&arguments[1..]) {
+            Some(options) => exhaust::run(&options),
+            None => Err(std::io::Error::other(exhaust::USAGE)),
+        },
+        Some(name) => Err(std::io::Error::other(format!("oracle answer | record | swift | compare | exhaust, not {name}"))),
     }
 }
 

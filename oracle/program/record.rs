@@ -31,7 +31,9 @@ impl Sample {
     /// Lines as they stand; the first may be anything.
     fn add_text(&mut self, lines: &str) {
         let mut recorder = Recorder::default();
-        lines.split('\n').for_each(|line| recorder.text(line.as_bytes()));
+        for line in lines.split('\n') {
+            recorder.text(line.as_bytes());
+        }
         self.add(recorder.recording);
     }
 }
@@ -280,7 +282,9 @@ fn random_runs(sample: &mut Sample, mode: Mode, random: &mut Random) {
     sample.add(generate::damaged_settings(random, &settings));
     let line = Line::Call(any_call::call(random, &settings, Recorder::new(&settings).state().unwrap()));
     let mut recorder = Recorder::new(&settings);
-    (0..6).for_each(|_| recorder.text(&damage::bytes(random, &line)));
+    for _ in 0..6 {
+        recorder.text(&damage::bytes(random, &line));
+    }
     sample.add(recorder.recording);
 }
 

@@ -1,7 +1,7 @@
 //! Call lines with the Rust's answers to them.
 use crate::answer::Place;
-use crate::calls::{Call, Line, MODES, Message, Mode, Outcome, Promise, Settings, State};
-use crate::counts::Counts;
+use crate::calls::{Call, Commit, Done, LARGEST_NUMBER, Line, MODES, Message, Mode, Outcome, Promise, Settings, State};
+use crate::counts::{Counts, Mark};
 use crate::printer::{call_kind, push_line};
 use crate::reader::read_line;
 use crate::ties;
@@ -62,6 +62,9 @@ pub struct Recorder {
     pub place: Place,
     pub recording: Recording,
     mode: usize,
+    process_count: usize,
+    /// The state was set directly.
+    set_directly: bool,
     /// With std's map a tie may go another way than to the lowest proposer: the recording ends before it.
     pub ended: bool,
 }
@@ -94,30 +97,39 @@ impl Recorder {
         self.answer(line)
     }
 
-    /// A line of any bytes but line feeds.
-    pub fn text(&mut self, text: &[u8]) {
+    /// A line of any bytes but line feeds. What it hands back, where it is a call that is taken.
+    pub fn text(&mut self, text: &[u8]) -> Option<Done> {
         if self.ended {
-            return;
+            return None;
         }
         self.recording.lines.extend_from_slice(text);
         self.recording.lines.push(b'\n');
         match read_line(text) {
-            Ok(line) => {
-                let _ = self.answer(&line);
-            }
+            Ok(line) => self.answer(&line).ok(),
             Err(_) => {
                 self.place.text(text, &mut self.recording.answers);
                 self.recording.end_line();
                 self.recording.counts.bad_lines += 1;
+                None
             }
         }
+    }
+
+    pub fn mark(&mut self, mark: Mark) {
+        self.recording.counts.modes[self.mode].marks[mark as usize] += 1;
     }
 
     fn answer(&mut self, line: &Line) -> Outcome {
         if let Line::Settings(settings) = line {
             self.recording.segments.push(self.recording.ends.len());
             self.mode = MODES.iter().position(|mode| *mode == settings.mode).unwrap();
+            self.process_count = settings.process_count;
         }
+        self.set_directly = match line {
+            Line::Settings(_) => false,
+            Line::State(_) => true,
+            Line::Call(_) => self.set_directly,
+        };
         let adopting = self.state_before_adoption(line);
         let outcome = self.place.line(line, &mut self.recording.answers);
         self.recording.end_line();
@@ -167,8 +179,25 @@ impl Recorder {
                 counts.commits += done.commit.is_some() as u64;
                 counts.fast_commits += done.commit.is_some_and(|commit| commit.fast) as u64;
                 counts.served += done.served.len() as u64;
+                if let (Line::Call(call), Some(commit)) = (line, done.commit) {
+                    self.mark_commit(call, commit);
+                }
             }
             Err(number) => counts.refusals[*number as usize] += 1,
+        }
+    }
+
+    fn mark_commit(&mut self, call: &Call, commit: Commit) {
+        let Call::Receive(frame, _) = call else { return };
+        let by_prepare = matches!(frame.message, Message::Prepare { .. });
+        if by_prepare && self.set_directly {
+            self.mark(Mark::FastFromSetState);
+        }
+        if commit.v >= LARGEST_NUMBER - 1000 {
+            self.mark(Mark::LargeValue);
+        }
+        if self.process_count > 16 && (by_prepare || matches!(frame.message, Message::Accept { .. })) {
+            self.mark(Mark::LargeGroup);
         }
     }
 }
