@@ -68,13 +68,13 @@ impl Settings {
     }
 }
 
-#[derive(Clone, Copy, PartialEq, Eq, Hash, Debug)]
+#[derive(Clone, Copy, PartialEq, Eq, PartialOrd, Ord, Hash, Debug)]
 pub struct Round {
     pub group: usize,
     pub leader: usize,
 }
 
-#[derive(Clone, Copy, PartialEq, Eq, Hash, Debug)]
+#[derive(Clone, Copy, PartialEq, Eq, PartialOrd, Ord, Hash, Debug)]
 pub enum Promise {
     Fast { proposer: usize, v: usize },
     Paxos { accept_round: Option<Round>, v: usize },
@@ -124,7 +124,7 @@ pub struct State {
     pub reads: Vec<OpenRead>,
 }
 
-#[derive(Clone, Copy, PartialEq, Eq, Hash, Debug)]
+#[derive(Clone, Copy, PartialEq, Eq, PartialOrd, Ord, Hash, Debug)]
 pub enum Message {
     Prepare { slot: usize, round: Round, promise: Promise },
     Accept { slot: usize, round: Round, v: usize },

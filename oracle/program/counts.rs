@@ -31,6 +31,8 @@ pub struct OfMode {
     pub served: u64,
     pub adoptions: u64,
     pub ties: u64,
+    /// Not to the lowest of the best.
+    pub other_ties: u64,
     pub marks: [u64; MARKS.len()],
 }
 
@@ -50,6 +52,7 @@ impl Counts {
             sum.served += more.served;
             sum.adoptions += more.adoptions;
             sum.ties += more.ties;
+            sum.other_ties += more.other_ties;
             sum.marks.iter_mut().zip(more.marks).for_each(|(sum, more)| *sum += more);
         }
         self.bad_lines += other.bad_lines;
@@ -86,6 +89,7 @@ impl Display for Counts {
         row(f, "reads served", &|mode| mode.served)?;
         row(f, "adoptions", &|mode| mode.adoptions)?;
         row(f, "of them ties", &|mode| mode.ties)?;
+        row(f, "to another", &|mode| mode.other_ties)?;
         for (mark, name) in MARKS.iter().enumerate() {
             row(f, name, &move |mode| mode.marks[mark])?;
         }

@@ -1,9 +1,11 @@
 //! Random runs of a group by the rules of document 01, "Group runs". A shard depends on its own calls alone, so the recording of a run has the
 //! calls of one member after those of another, each in the order of the run.
 use crate::any_call;
-use crate::calls::{Call, Done, Frame, LARGEST_NUMBER, Line, Message, Settings, Words};
+use crate::calls::{Call, Done, Frame, LARGEST_NUMBER, Line, Message, PLACES, Settings, Words};
+use crate::claim::Claim;
 use crate::counts::Mark;
 use crate::damage;
+use crate::proposer_map::{ORDER, Order};
 use crate::random::Random;
 use crate::recording::{Recorder, Recording};
 use std::collections::{HashMap, HashSet};
@@ -59,6 +61,8 @@ pub struct Group {
     blocked: Vec<u64>,
     requesters: HashMap<usize, usize>,
     proposals: usize,
+    /// Of the calls with all their numbers.
+    pub claim: Claim,
 }
 
 impl Group {
@@ -74,6 +78,7 @@ impl Group {
             blocked: vec![0; settings.process_count],
             requesters: HashMap::new(),
             proposals: 0,
+            claim: Claim::default(),
         }
     }
 
@@ -94,8 +99,13 @@ impl Group {
 
     /// The number where it is refused.
     pub fn call(&mut self, member: usize, call: &Call) -> Option<u32> {
+        let slot = self.members[member].state().map_or(0, |state| state.slot);
         match self.members[member].call(call) {
             Ok(done) => {
+                if let Call::Propose(v) = call {
+                    self.claim.propose(slot, *v);
+                }
+                done.commit.iter().for_each(|commit| self.claim.commit(commit.slot, commit.v));
                 self.send_all(member, done, false);
                 None
             }
@@ -190,6 +200,16 @@ impl Group {
         for links in &mut self.blocked {
             *links = (0..count).filter(|_| random.chance(chances.blocked_links)).fold(0, |links, member| links | 1 << member);
         }
+    }
+
+    /// Each tie of EPaxos goes to one of the best that is drawn.
+    pub fn run_with_any_tie(&mut self, random: &mut Random, chances: &Chances) {
+        self.members.iter_mut().for_each(|member| member.any_tie = true);
+        for step in 0..chances.steps {
+            ORDER.set(Order::Rotated(random.below(PLACES)));
+            self.step(random, chances, step);
+        }
+        ORDER.set(Order::LowestFirst);
     }
 
     pub fn run(&mut self, random: &mut Random, chances: &Chances) {

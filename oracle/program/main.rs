@@ -4,6 +4,7 @@ mod any_call;
 mod any_settings;
 mod asserted;
 mod calls;
+mod claim;
 mod compare;
 mod connector;
 #[allow(dead_code, unused_imports)] // upstream: the oracle runs the handlers alone
@@ -20,6 +21,7 @@ mod limits;
 mod message;
 #[allow(dead_code)]
 mod multi_sink;
+mod one_slot;
 mod pair_causes;
 mod pair_paths;
 mod pairs;
@@ -33,6 +35,7 @@ mod replay;
 mod shrink;
 mod swift;
 mod recording;
+mod tie_runs;
 mod ties;
 #[allow(dead_code)]
 mod topology;
@@ -52,7 +55,15 @@ fn run(arguments: &[String]) -> std::io::Result<bool> {
             Some(options) => exhaust::run(&options),
             None => Err(std::io::Error::other(exhaust::USAGE)),
         },
-        Some(name) => Err(std::io::Error::other(format!("oracle answer | record | swift | compare | exhaust, not {name}"))),
+        Some("ties") => match tie_runs::Options::read(&arguments[1..]) {
+            Some(options) => Ok(tie_runs::run(&options)),
+            None => Err(std::io::Error::other(tie_runs::USAGE)),
+        },
+        Some("slot") => match one_slot::Options::read(&arguments[1..]) {
+            Some(options) => Ok(one_slot::run(&options)),
+            None => Err(std::io::Error::other(one_slot::USAGE)),
+        },
+        Some(name) => Err(std::io::Error::other(format!("oracle answer | record | swift | compare | exhaust | ties | slot, not {name}"))),
     }
 }
 

@@ -4,7 +4,7 @@ use crate::calls::{Call, Commit, Done, LARGEST_NUMBER, Line, MODES, Message, Mod
 use crate::counts::{Counts, Mark};
 use crate::printer::{call_kind, push_line};
 use crate::reader::read_line;
-use crate::ties;
+use crate::ties::{self, Tie};
 
 #[derive(Default)]
 pub struct Recording {
@@ -65,7 +65,9 @@ pub struct Recorder {
     process_count: usize,
     /// The state was set directly.
     set_directly: bool,
-    /// With std's map a tie may go another way than to the lowest proposer: the recording ends before it.
+    /// A tie may go to each of the best, and the run goes on.
+    pub any_tie: bool,
+    /// With std's map a tie may go another way than to the lowest proposer: the recording ends before it, unless any tie will do.
     pub ended: bool,
 }
 
@@ -155,14 +157,12 @@ impl Recorder {
         let counts = &mut self.recording.counts.modes[self.mode];
         counts.adoptions += 1;
         let engine = self.place.engine.as_mut().expect("an unmade shard adopts nothing");
-        match ties::look(engine, before, call) {
-            ties::Tie::None => {}
-            ties::Tie::ToLowest => counts.ties += 1,
-            ties::Tie::ToAnother => {
-                counts.ties += 1;
-                self.recording.drop_line();
-                self.ended = true;
-            }
+        let tie = if self.any_tie { ties::taken(&engine.state) } else { ties::look(engine, before, call) };
+        counts.ties += !matches!(tie, Tie::None) as u64;
+        counts.other_ties += matches!(tie, Tie::ToAnother) as u64;
+        if matches!(tie, Tie::ToAnother) && !self.any_tie {
+            self.recording.drop_line();
+            self.ended = true;
         }
     }
 

@@ -4,7 +4,6 @@ use crate::consensus::paxos_family::inside::Engine;
 #[cfg(not(feature = "hash"))]
 use crate::proposer_map::{ORDER, Order};
 
-#[cfg_attr(not(feature = "hash"), allow(dead_code))]
 pub enum Tie {
     /// One value has the best score.
     None,
@@ -26,15 +25,29 @@ fn adopted_value(state: &State) -> usize {
     }
 }
 
+/// Which way the adoption that has just happened went; it must be to one of the best.
+pub fn taken(state: &State) -> Tie {
+    let values = best_values(state);
+    let adopted = adopted_value(state);
+    assert!(values.contains(&adopted), "what is adopted is not among the best");
+    if values.iter().all(|v| *v == values[0]) {
+        Tie::None
+    } else if adopted == values[0] {
+        Tie::ToLowest
+    } else {
+        Tie::ToAnother
+    }
+}
+
 /// Looks at an adoption that has just happened; the engine stays as it is. The call is tried again with the map walked in other orders: each
 /// choice must be among the best, and lowest first must choose the lowest.
 #[cfg(not(feature = "hash"))]
 pub fn look(engine: &mut Engine, before: &State, call: &Call) -> Tie {
     let after = engine.state.clone();
-    let values = best_values(&after);
-    assert_eq!(adopted_value(&after), values[0], "lowest first adopts the value of the lowest of the best");
-    if values.iter().all(|v| *v == values[0]) {
-        return Tie::None;
+    let tie = taken(&after);
+    assert!(!matches!(tie, Tie::ToAnother), "lowest first adopts the value of the lowest of the best");
+    if matches!(tie, Tie::None) {
+        return tie;
     }
     let count = after.fast_proposers.count_ones() as usize;
     let rotations = (1..count.min(5)).map(Order::Rotated);
@@ -43,7 +56,7 @@ pub fn look(engine: &mut Engine, before: &State, call: &Call) -> Tie {
         engine.set_state(before);
         let outcome = engine.call(call);
         assert!(outcome.is_ok(), "another order refuses: {outcome:?}");
-        assert!(values.contains(&adopted_value(&engine.state)), "another order adopts what is not among the best");
+        let _ = taken(&engine.state);
     }
     ORDER.set(Order::LowestFirst);
     engine.set_state(&after);
@@ -53,14 +66,5 @@ pub fn look(engine: &mut Engine, before: &State, call: &Call) -> Tie {
 /// With std's own map there is one order, and it is not ours to choose.
 #[cfg(feature = "hash")]
 pub fn look(engine: &mut Engine, _: &State, _: &Call) -> Tie {
-    let values = best_values(&engine.state);
-    let adopted = adopted_value(&engine.state);
-    assert!(values.contains(&adopted), "std's order adopts what is not among the best");
-    if values.iter().all(|v| *v == values[0]) {
-        Tie::None
-    } else if adopted == values[0] {
-        Tie::ToLowest
-    } else {
-        Tie::ToAnother
-    }
+    taken(&engine.state)
 }
