@@ -107,7 +107,7 @@ fn count_response(
         ≡ countResponse setup (came core) (readsCame reads served) f (replyCame first second third rest) ⌝ }
 {
     let c = arrays::core_in(core);
-    let row = quorum::row_by_rule(setup.replica_count);
+    let row = quorum::row(setup.replica_count);
     let id = ReadId(f.message.id);
     let fast = flat::is_yes(f.fast);
     let counted = array_reads::receive_ready(
@@ -158,7 +158,7 @@ pub fn serve_ready(
     ensures { λ _. ⌜ serving (left core) (readsLeft reads served) (left rest) ≡ serveReady setup (came core) (readsCame reads served) (came rest) ⌝ }
 {
     let c = arrays::core_in(core);
-    let row = quorum::row_by_rule(setup.replica_count);
+    let row = quorum::row(setup.replica_count);
     let ready = array_reads::commit_slot(reads, served, tracker_of(c), row.majority, c.slot);
     let tracker = ready.tracker;
     arrays::put_core(core, with_tracker(c, tracker));

@@ -263,7 +263,7 @@ pub fn asked_of(setup: Setup) -> Asked
     let member = Member {
         my_pid: setup.my_pid,
         replica: sets::contains(setup.alive_replicas, setup.my_pid),
-        quorums: quorum::row_by_rule(setup.replica_count),
+        quorums: quorum::row(setup.replica_count),
     };
     Asked {
         member,

@@ -1,3 +1,2 @@
--- The laws of the quorums, and the table's test.
+-- The laws of the quorums.
 pub mod Rules
-pub mod Table

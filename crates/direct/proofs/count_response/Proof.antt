@@ -11,8 +11,8 @@ use Rattle.direct.proofs.count_response.Tie as tie
 core-in-requires : tie.Need-core-in-requires
 core-in-requires c κs = search needs
 
-row-by-rule-requires : tie.Need-row-by-rule-requires
-row-by-rule-requires c κs = search needs
+row-requires : tie.Need-row-requires
+row-requires c κs = search needs
 
 is-yes-requires : tie.Need-is-yes-requires
 is-yes-requires c κs = search needs
@@ -35,14 +35,14 @@ put-served-requires c κs = search needs
 returns : tie.Need-returns
 returns c =
     let a = c .before .before .before .before .before .before .before .before .before .before .before .before .before .before .before .before .before .args in
-    count-response (a .setup) (now (a .core)) (tableOf (now (a .reads)) (now (a .served))) (c .before .before .before .before .before .before .before .before .before .before .before .before .before .before .before .core-in .ensures) (c .before .before .before .before .before .before .before .before .before .before .before .before .before .before .row-by-rule .ensures) (c .before .before .before .before .before .before .before .before .before .before .tracker-of .ensures) (a .f) (written (now (a .first)) (now (a .second)) (now (a .third)) (now (a .rest))) (c .before .before .before .before .before .before .before .before .before .before .before .before .before .is-yes .ensures) (c .before .before .before .before .before .before .before .before .before .receive-ready .ensures) (c .before .before .before .before .before .before .with-tracker .ensures) (c .before .before .before .before .before .put-core .ensures) (c .put-served .ensures)
+    count-response (a .setup) (now (a .core)) (tableOf (now (a .reads)) (now (a .served))) (c .before .before .before .before .before .before .before .before .before .before .before .before .before .before .before .core-in .ensures) (c .before .before .before .before .before .before .before .before .before .before .before .before .before .before .row .ensures) (c .before .before .before .before .before .before .before .before .before .before .tracker-of .ensures) (a .f) (written (now (a .first)) (now (a .second)) (now (a .third)) (now (a .rest))) (c .before .before .before .before .before .before .before .before .before .before .before .before .before .is-yes .ensures) (c .before .before .before .before .before .before .before .before .before .receive-ready .ensures) (c .before .before .before .before .before .before .with-tracker .ensures) (c .before .before .before .before .before .put-core .ensures) (c .put-served .ensures)
 
 pub count-response-spec : {M : Type 1} → statement M
 count-response-spec =
     tie.close
     (tie.spec
     core-in-requires
-    row-by-rule-requires
+    row-requires
     is-yes-requires
     tracker-of-requires
     receive-ready-requires

@@ -10,8 +10,8 @@ use Rattle.direct.proofs.serve_ready.Tie as tie
 core-in-requires : tie.Need-core-in-requires
 core-in-requires c κs = search needs
 
-row-by-rule-requires : tie.Need-row-by-rule-requires
-row-by-rule-requires c κs = search needs
+row-requires : tie.Need-row-requires
+row-requires c κs = search needs
 
 tracker-of-requires : tie.Need-tracker-of-requires
 tracker-of-requires c κs = search needs
@@ -31,14 +31,14 @@ element-write-rest c = search needs
 returns : tie.Need-returns
 returns c =
     let a = c .before .before .before .before .before .before .before .before .before .before .before .args in
-    serve-ready (a .setup) (now (a .core)) (tableOf (now (a .reads)) (now (a .served))) (c .before .before .before .before .before .before .before .before .before .core-in .ensures) (c .before .before .before .before .before .before .before .before .row-by-rule .ensures) (c .before .before .before .before .before .tracker-of .ensures) (now (a .rest)) (c .before .before .before .before .commit-slot .ensures) (c .before .with-tracker .ensures) (c .put-core .ensures)
+    serve-ready (a .setup) (now (a .core)) (tableOf (now (a .reads)) (now (a .served))) (c .before .before .before .before .before .before .before .before .before .core-in .ensures) (c .before .before .before .before .before .before .before .before .row .ensures) (c .before .before .before .before .before .tracker-of .ensures) (now (a .rest)) (c .before .before .before .before .commit-slot .ensures) (c .before .with-tracker .ensures) (c .put-core .ensures)
 
 pub serve-ready-spec : {M : Type 1} → statement M
 serve-ready-spec =
     tie.close
     (tie.spec
     core-in-requires
-    row-by-rule-requires
+    row-requires
     tracker-of-requires
     commit-slot-requires
     with-tracker-requires

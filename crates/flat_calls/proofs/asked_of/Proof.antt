@@ -10,8 +10,8 @@ decode-mode-requires c κs = search needs
 contains-requires : tie.Need-contains-requires
 contains-requires c κs = search needs
 
-row-by-rule-requires : tie.Need-row-by-rule-requires
-row-by-rule-requires c κs = search needs
+row-requires : tie.Need-row-requires
+row-requires c κs = search needs
 
 starting-requires : tie.Need-starting-requires
 starting-requires c κs = search needs
@@ -20,7 +20,7 @@ decode-set-requires : tie.Need-decode-set-requires
 decode-set-requires c κs = search needs
 
 returns : tie.Need-returns
-returns c = simp (← c .before .before .before .before .decode-mode .ensures, ← c .before .before .before .contains .ensures, ← c .before .before .row-by-rule .ensures, ← c .before .starting .ensures, ← c .decode-set .ensures)
+returns c = simp (← c .before .before .before .before .decode-mode .ensures, ← c .before .before .before .contains .ensures, ← c .before .before .row .ensures, ← c .before .starting .ensures, ← c .decode-set .ensures)
 
 pub asked-of-spec : {M : Type 1} → statement M
 asked-of-spec =
@@ -28,7 +28,7 @@ asked-of-spec =
     (tie.spec
     decode-mode-requires
     contains-requires
-    row-by-rule-requires
+    row-requires
     starting-requires
     decode-set-requires
     returns)

@@ -1,28 +1,44 @@
--- `quorum::row` meets its contract: the table has the rule's row at each place, and the place is that of the count.
+-- `quorum::row` meets its contract: the formula's numbers, at the number that is taken for the count.
 -- Assumes nothing.
-use mathlib.Core.Path.{_∙_}
-use native.Mathlib.Omega.{arith}
+use mathlib.Core.Path.{_∙_, refl}
 use borrow.Author.Needs.{needs}
-use Rattle.quorum.proofs.Rules.{same-rule}
+use Rattle.quorum.proofs.Rules.{equal, same-rule}
 use Rattle.quorum.proofs.row.Statement.{statement}
 use Rattle.quorum.proofs.row.Tie as tie
 
-rows-requires : tie.Need-rows-requires
-rows-requires c κs = search needs
+from-1-to-64-requires : tie.Need-from-1-to-64-requires
+from-1-to-64-requires c κs = search needs
 
-place-requires : tie.Need-place-requires
-place-requires c κs = search needs
+add-majority : tie.Need-add-majority
+add-majority c = search needs
 
-mul-result : tie.Need-mul-result
-mul-result c = search needs
+mul-most : tie.Need-mul-most
+mul-most c = search needs
 
-array-copy-out-result : tie.Need-array-copy-out-result
-array-copy-out-result c = search needs
+sub-most : tie.Need-sub-most
+sub-most c = search needs
+
+larger-requires : tie.Need-larger-requires
+larger-requires c κs = search needs
+
+add-larger : tie.Need-add-larger
+add-larger c = search needs
+
+larger-requires-2 : tie.Need-larger-requires-2
+larger-requires-2 c κs = search needs
 
 returns : tie.Need-returns
-returns c =
-    let i = c .before .place in
-    c .before .before .rows .ensures .ruled _ (i .result) (omega (arith, i .ensures)) ∙ same-rule _ _ (i .ensures)
+returns c = equal refl (c .before .larger .ensures) (c .larger2 .ensures) ∙ same-rule _ _ (c .before .before .from-1-to-64 .ensures)
 
 pub row-spec : {M : Type 1} → statement M
-row-spec = tie.close (tie.spec rows-requires place-requires mul-result array-copy-out-result returns)
+row-spec =
+    tie.close
+    (tie.spec
+    from-1-to-64-requires
+    add-majority
+    mul-most
+    sub-most
+    larger-requires
+    add-larger
+    larger-requires-2
+    returns)
