@@ -6,6 +6,7 @@ use mathlib.Core.Logic.{inl, inr}
 use mathlib.Core.Bool.{Bool, true, false, _||_}
 use mathlib.Core.List.{List, [], _∷_}
 use Prim.Native.Nat.{ℕ, _<_, _≤_}
+use native.Mathlib.Omega.{arith}
 use lib.Dec.{eqb, ltb, leb}
 use borrow.Author.Tests.{ltb-true, ltb-false, leb-true, leb-false, eqb-false, not-true}
 use Rattle.basics.specs.Lists.{In}
@@ -16,7 +17,14 @@ use Rattle.message.specs.declared.ConsensusMsg.the-variants.{Prepare, Accept, F
 use Rattle.message.specs.declared.OptionalSlot.the-variants.{Slot}
 use Rattle.message.specs.declared.OptionalValue.{OptionalValue}
 use Rattle.message.specs.declared.OptionalValue.the-variants.{NoValue, Value}
+use Rattle.message.specs.declared.OptionalProcess.{OptionalProcess}
+use Rattle.message.specs.declared.OptionalProcess.the-variants.{NoProcess, Process}
+use Rattle.sets.specs.Sets.{contains}
+use Rattle.fast_state.specs.Adopt.{bestBelow, lowestBest}
+use Rattle.fast_state.specs.declared.FastAnswers.{FastAnswers}
+use Rattle.fast_state.proofs.Adopting.{IsBest, best-below}
 use Rattle.consensus.specs.FirstCause.{anyAbove, anyFrom, aheadOf, givenAndDifferent}
+use Rattle.consensus.specs.Panics.{isOne}
 
 -- ---- 2 and 3
 
@@ -82,3 +90,28 @@ different-value (Value v) (Value w) e = (v, refl, λ q. eqb-false v w (not-true 
     given : OptionalValue → ℕ
     given NoValue = 0
     given (Value x) = x
+
+-- ---- EPaxos: the engine's choice takes one where some proposer has a score above 0
+
+abbrev scored : FastAnswers → (ℕ → ℕ) → ℕ → Type 0
+scored answers scores p = (p < 64) × (contains (answers .«fast_proposers») p ≡ true) × (0 < scores p)
+
+module _ (answers : FastAnswers) (scores : ℕ → ℕ) where
+  best : IsBest (answers .«fast_proposers») scores 64 (bestBelow (answers .«fast_proposers») scores 64)
+  best = best-below (answers .«fast_proposers») scores 64
+
+  pub one-scored : isOne (lowestBest answers scores) ≡ true → (p : ℕ) × scored answers scores p
+  one-scored e = go (lowestBest answers scores) refl e
+    where
+      go : (o : OptionalProcess) → lowestBest answers scores ≡ o → isOne o ≡ true → (p : ℕ) × scored answers scores p
+      go NoProcess d e = absurd (not-both e refl)
+      go (Process p) d e = let k = best .chosen p d in (p, (k .1, k .0 .0, subst (λ (n : ℕ). 0 < n) (sym (k .0 .1)) (k .2)))
+
+  pub none-scored : isOne (lowestBest answers scores) ≡ false → (p : ℕ) → scored answers scores p → ⊥
+  none-scored e p (below, there, above) = go (lowestBest answers scores) refl e
+    where
+      go : (o : OptionalProcess) → lowestBest answers scores ≡ o → isOne o ≡ false → ⊥
+      go NoProcess d e =
+          let most : scores p ≤ bestBelow (answers .«fast_proposers») scores 64 .score = best .none-higher p (scores p) below (there, refl) in
+          let none : bestBelow (answers .«fast_proposers») scores 64 .score ≡ 0 = best .nobody d in omega arith
+      go (Process q) d e = not-both refl e

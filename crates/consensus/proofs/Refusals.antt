@@ -20,17 +20,19 @@ use Rattle.message.specs.declared.Refusal.the-variants.{SettingsOutsideLimits, 
 use Rattle.message.specs.declared.RoundV.{RoundV}
 use Rattle.message.specs.declared.RoundV.the-variants.{FastV, PaxosV}
 use Rattle.settings.specs.declared.Settings.{Settings}
-use Rattle.fast_state.specs.Adopt.{Choice}
+use Rattle.fast_state.specs.Adopt.{Choice, lowestBest}
 use Rattle.steps.specs.declared.Rounds.{Rounds}
 use Rattle.delivery.specs.declared.Delivery.{Delivery}
 use Rattle.calls.specs.declared.Call.{Call}
 use Rattle.calls.specs.declared.Call.the-variants.{Propose, StartRead, Receive}
-use Rattle.consensus.specs.Call.{callWith, newShard, dispatch, unlessSpent, ifMade}
-use Rattle.consensus.specs.FirstCause.{numberOf, quorumOutside, modeOutside, settingsCauses, admissionCauses, handlingCauses, causes, firstCause, unmade, ignored, allCauses, ByFirstCause}
+use Rattle.consensus.specs.Call.{callWith, callOf, afterCalls, newShard, dispatch, unlessSpent, ifMade}
+use Rattle.consensus.specs.FirstCause.{numberOf, quorumOutside, modeOutside, settingsCauses, admissionCauses, handlingCauses, causes, firstCause, isSpent, unmade, ignored, allCauses, ByFirstCause, MadeBySettings, OfSettings}
 use Rattle.consensus.specs.Answers.{refused}
 use Rattle.consensus.specs.Panics.{Facts, preparePanics, acceptPanics}
 use Rattle.consensus.specs.Rows.{Row, then, NoneHolds, FirstHolds, firstOf}
+use Rattle.consensus.specs.declared.Answer.{Answer}
 use Rattle.consensus.specs.declared.Shard.{Shard}
+use Rattle.consensus.proofs.ByParts.{by-parts}
 use Rattle.consensus.proofs.FirstCause.{Gives, first-cause}
 use Rattle.settings.specs.Settings.{countsFit, membersFit, committersFit, quorumFits, modeFits, withinLimits}
 use Rattle.sets.specs.Sets.{size, fits}
@@ -211,7 +213,7 @@ module _ (choose : Choice) (shard : Shard) where
   unmade-refuses c why e = ap (ifMade choose shard c) e
 
   -- A spent slot refuses every call with 2.
-  pub spent-refuses : (c : Call) → shard .made ≡ Done → leb 9223372036854775807 (shard .state .rounds .core .slot) ≡ true → callWith choose shard c ≡ refused NumberTooLarge shard
+  pub spent-refuses : (c : Call) → shard .made ≡ Done → isSpent shard ≡ true → callWith choose shard c ≡ refused NumberTooLarge shard
   unfolding callWith unlessSpent
   spent-refuses c e f = ap (ifMade choose shard c) e ∙ ap (λ (t : Bool). cond t (refused NumberTooLarge shard) (dispatch choose shard c)) f
 
@@ -252,10 +254,9 @@ limits-table true true true true true true true true true true false = refl
 limits-table true true true true true true true true false below true = refl
 limits-table true true true true true true true true false below false = refl
 
--- A new shard is marked with the number of the first cause in its settings, and that is 1; where none holds it is made.
-pub new-by-settings : (s : Settings) → numberOf (newShard s .made) ≡ firstOf (settingsCauses s)
+settings-number : (s : Settings) → numberOf (newShard s .made) ≡ firstOf (settingsCauses s)
 unfolding newShard withinLimits countsFit membersFit committersFit firstOf
-new-by-settings s =
+settings-number s =
     simp (
       above-test (s .«process_count») 1,
       above-test 64 (s .«process_count»),
@@ -270,7 +271,45 @@ new-by-settings s =
     (ltb (s .«my_pid») (s .«process_count»)) (ltb (s .«first_leader») (s .«process_count»)) (fits (s .«alive_replicas») (s .«process_count»))
     (leb (size (s .«alive_replicas»)) (s .«replica_count»)) (s .«has_committers») (allBelow (s .committers) (s .«process_count»)) (modeOutside s (s .mode)))
 
--- Settings outside the limits are marked with 1.
-pub unmade-outside : (s : Settings) → withinLimits s ≡ false → newShard s .made ≡ Refused SettingsOutsideLimits
-unfolding newShard
-unmade-outside s e = ap (λ (t : Bool). cond t Done (Refused SettingsOutsideLimits)) e
+-- A new shard is made exactly where no cause holds in its settings, and else marked with 1.
+pub new-by-settings : (s : Settings) → MadeBySettings s (newShard s .made)
+unfolding newShard numbered
+new-by-settings s = go (withinLimits s) (settings-number s) (none-or-first (settingsCauses s))
+  where
+    go : (t : Bool) → numberOf (cond t Done (Refused SettingsOutsideLimits)) ≡ firstOf (settingsCauses s)
+        → (NoneHolds (settingsCauses s) × (firstOf (settingsCauses s) ≡ 0)) ⊎ FirstHolds (settingsCauses s) (firstOf (settingsCauses s))
+        → MadeBySettings s (cond t Done (Refused SettingsOutsideLimits))
+    go true e (inl (none, _)) = inl (refl, none)
+    go true e (inr first) = absurd (not-both (first-above (settingsCauses s) _ refl first) (ap (ltb 0) (sym e)))
+    go false e (inl (none, z)) = absurd (not-both refl (ap (ltb 0) (e ∙ z)))
+    go false e (inr first) = inr (refl, subst (FirstHolds (settingsCauses s)) (sym e) first)
+
+-- ---- a shard from its making on, through any list of calls
+
+-- no call changes the mark
+mark-stays : (shard : Shard) (c : Call) → callOf shard c .shard .made ≡ shard .made
+mark-stays shard c = ap (λ (r : Answer). r .shard .made) (sym (by-parts shard c))
+
+pub marked-once : (shard : Shard) (cs : List Call) → afterCalls shard cs .made ≡ shard .made
+unfolding afterCalls
+marked-once shard [] = refl
+marked-once shard (c ∷ cs) = marked-once (callOf shard c .shard) cs ∙ mark-stays shard c
+
+-- what refuses every call stays as it is
+refusing-stays : (shard : Shard) (why : Refusal) → ((c : Call) → callOf shard c ≡ refused why shard) → (cs : List Call) → afterCalls shard cs ≡ shard
+unfolding afterCalls
+refusing-stays shard why all [] = refl
+refusing-stays shard why all (c ∷ cs) =
+    ap (λ (r : Answer). afterCalls (r .shard) cs) (all c) ∙ refusing-stays shard why all cs
+
+-- "a shard marked unmade; all its calls give 1"; "own slot 2^63−1, which is spent (then every call)". There is no other mark, whatever calls came before.
+pub made-or-unmade : (s : Settings) (cs : List Call) → OfSettings s (afterCalls (newShard s) cs)
+made-or-unmade s cs = go (new-by-settings s)
+  where
+    go : MadeBySettings s (newShard s .made) → OfSettings s (afterCalls (newShard s) cs)
+    go (inl (e, none)) =
+        let made = marked-once (newShard s) cs ∙ e in inl (none, made, λ spent c. spent-refuses lowestBest (afterCalls (newShard s) cs) c made spent)
+    go (inr (e, first)) = subst (OfSettings s) (sym (refusing-stays (newShard s) SettingsOutsideLimits all cs)) (inr (first, refl, all))
+      where
+        all : (c : Call) → callOf (newShard s) c ≡ refused SettingsOutsideLimits (newShard s)
+        all c = unmade-refuses lowestBest (newShard s) c SettingsOutsideLimits e

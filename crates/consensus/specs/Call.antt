@@ -2,6 +2,7 @@
 -- points cite these definitions, and the theorem on group runs is about them.
 -- Assumes nothing.
 use mathlib.Core.Bool.{true, false, cond, _&&_}
+use mathlib.Core.List.{List, [], _∷_}
 use Prim.Native.Nat.{ℕ}
 use lib.Dec.{leb}
 use Rattle.message.specs.Modes.{hasFastPath}
@@ -67,8 +68,9 @@ propose shard v =
 unfoldable pub read : Shard → ℕ → ℕ → Answer
 read shard tag arrival = cond (isNumber tag && isSlot arrival) (startRead shard tag arrival) (refused NumberTooLarge shard)
 
--- ---- messages and calls; the choice among the best proposers of EPaxos is a parameter
+-- ---- messages and calls
 
+-- the choice among the best proposers of EPaxos is a parameter
 module _ (choose : Choice) where
   abbrev pub admitted : Shard → Delivery → Outcome → Answer
   admitted shard d Done = handle choose shard d (d .message .msg)
@@ -97,3 +99,8 @@ module _ (choose : Choice) where
 -- ours takes the lowest of the best proposers
 abbrev pub callOf : Shard → Call → Answer
 callOf shard c = callWith lowestBest shard c
+
+-- the shard after calls, one after another
+unfoldable pub afterCalls : Shard → List Call → Shard
+afterCalls shard [] = shard
+afterCalls shard (c ∷ cs) = afterCalls (callOf shard c .shard) cs

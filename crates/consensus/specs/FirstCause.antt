@@ -30,6 +30,7 @@ use Rattle.message.specs.declared.PFMode.{PFMode}
 use Rattle.message.specs.declared.PFMode.the-variants.{Paxos, MultiPaxos, MultiPaxos3P, EPaxos, Pando, SwiftPaxos}
 use Rattle.message.specs.declared.PaxosRound.{PaxosRound}
 use Rattle.message.specs.declared.Refusal.{Refusal}
+use Rattle.message.specs.declared.Refusal.the-variants.{SettingsOutsideLimits, NumberTooLarge}
 use Rattle.message.specs.declared.RoundV.{RoundV}
 use Rattle.message.specs.declared.RoundV.the-variants.{FastV, PaxosV}
 use Rattle.quorum.specs.Quorum.{rowOf}
@@ -42,6 +43,7 @@ use Rattle.delivery.specs.declared.Delivery.{Delivery}
 use Rattle.calls.specs.declared.Call.{Call}
 use Rattle.calls.specs.declared.Call.the-variants.{Propose, StartRead, Receive}
 use Rattle.consensus.specs.Answers.{refused}
+use Rattle.consensus.specs.Call.{newShard, callOf}
 use Rattle.consensus.specs.Panics.{Facts, nothingHeld, preparePanics, acceptPanics}
 use Rattle.consensus.specs.Rows.{Row, gives, then, NoneHolds, FirstHolds, firstOf}
 use Rattle.consensus.specs.declared.Answer.{Answer}
@@ -307,6 +309,10 @@ admissionCauses shard d =
     && not (d .said .«value_held»))
     ∷ []
 
+-- "own slot 2^63−1, which is spent"
+abbrev pub isSpent : Shard → Bool
+isSpent shard = leb 9223372036854775807 (shard .state .rounds .core .slot)
+
 -- "a shard marked unmade; all its calls give 1"
 abbrev pub unmade : Outcome → List Row
 unmade Done = []
@@ -336,7 +342,7 @@ module _ (choose : Choice) where
 
   -- before all others: an unmade shard gives the number that it was marked with; "own slot 2^63−1, which is spent (then every call)" gives 2
   abbrev pub allCauses : Shard → Call → List Row
-  allCauses shard c = then (unmade (shard .made)) (gives 2 (leb 9223372036854775807 (shard .state .rounds .core .slot)) ∷ causes shard c)
+  allCauses shard c = then (unmade (shard .made)) (gives 2 (isSpent shard) ∷ causes shard c)
 
   -- the number that a call gives, 0 where it is taken
   unfoldable pub firstCause : Shard → Call → ℕ
@@ -348,3 +354,16 @@ module _ (choose : Choice) where
   ByFirstCause shard c r =
       ((r .reply .outcome ≡ Done) × NoneHolds (allCauses shard c))
       ⊎ ((why : Refusal) × (r ≡ refused why shard) × FirstHolds (allCauses shard c) (refusalNumber why))
+
+-- ---- a shard by its settings
+
+-- the mark of a new shard: it is made, and no cause holds in its settings; or one does, and it is marked unmade with 1
+abbrev pub MadeBySettings : Settings → Outcome → Type 0
+MadeBySettings s made =
+    ((made ≡ Done) × NoneHolds (settingsCauses s)) ⊎ ((made ≡ Refused SettingsOutsideLimits) × FirstHolds (settingsCauses s) 1)
+
+-- A shard of these settings at any later time: made, and where its slot is spent every call gives 2; or as it was made, and "all its calls give 1".
+abbrev pub OfSettings : Settings → Shard → Type 0
+OfSettings s shard =
+    (NoneHolds (settingsCauses s) × (shard .made ≡ Done) × (isSpent shard ≡ true → (c : Call) → callOf shard c ≡ refused NumberTooLarge shard))
+    ⊎ (FirstHolds (settingsCauses s) 1 × (shard ≡ newShard s) × ((c : Call) → callOf shard c ≡ refused SettingsOutsideLimits shard))
