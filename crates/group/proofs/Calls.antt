@@ -275,6 +275,18 @@ delegate-same s i EPaxos l = refl
 delegate-same s i Pando l = refl
 delegate-same s i SwiftPaxos l = refl
 
+-- of a shard that was made, the leaders of rounds are below 64
+pub leaders-small : (shard : Shard) → Lasts shard → shard .made ≡ Done → Leaders (shard .state .rounds .core)
+leaders-small shard lasts done =
+    record {
+      in-round = led-fits (shard .state .rounds .core .paxos .round) (lasts .sets-fit .round-led);
+      in-held = led-fits (getLastAcceptedRound (shard .state .rounds .core .paxos .«max_rv»)) (lasts .sets-fit .held-led);
+    }
+  where
+    led-fits : (r : OptionalRound) → LeaderIn (LeadsIn (shard .made)) r → LeaderFits r
+    led-fits NoRound led = tt
+    led-fits (Round r) led = led done
+
 module _ (s : Settings) (i : ℕ) (classic : NotSwift (s .mode)) (choose : Choice) (picks-best : PicksBest choose) (limits : withinLimits (memberSettings s i) ≡ true) where
   few : s .«process_count» ≤ 64
   few = within-counts (memberSettings s i) limits .most-processes
@@ -320,11 +332,7 @@ module _ (s : Settings) (i : ℕ) (classic : NotSwift (s .mode)) (choose : Choic
     fastState = state .rounds .fast
 
     ok : Leaders core
-    ok = record { in-round = led-fits (core .paxos .round) (lasts .sets-fit .round-led); in-held = led-fits (getLastAcceptedRound (core .paxos .«max_rv»)) (lasts .sets-fit .held-led) }
-      where
-        led-fits : (r : OptionalRound) → LeaderIn (LeadsIn made) r → LeaderFits r
-        led-fits NoRound led = tt
-        led-fits (Round r) led = led done
+    ok = leaders-small shard lasts done
 
     fits : FastFits fastState
     fits = lasts .fast-fits

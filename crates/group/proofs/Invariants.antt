@@ -210,7 +210,7 @@ start-fits Pando l = tt
 start-fits SwiftPaxos l = tt
 
 -- the first leader may lead, so it may lead the starting round
-start-led : (Leads : ℕ → Type 0) (mode : PFMode) (l : ℕ) → Leads l → LeaderIn Leads (startingRound mode l)
+pub start-led : (Leads : ℕ → Type 0) (mode : PFMode) (l : ℕ) → Leads l → LeaderIn Leads (startingRound mode l)
 unfolding nextLeaderRound
 start-led Leads Paxos l led = tt
 start-led Leads MultiPaxos l led = led

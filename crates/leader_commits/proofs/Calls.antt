@@ -50,8 +50,10 @@ use Rattle.leader_commits.proofs.Led.{Led, FromLed, Expected, Proposing
 -- it is led by the first leader
 leader-starts : (m : PFMode) (l : ℕ) → isMultiPaxos m ≡ true → l < 64 → leaderOf (roundNumber (startingRound m l)) ≡ l
 leader-starts Paxos l e h = absurd (not-both e refl)
-leader-starts MultiPaxos l e h = leader-of (nextLeaderRound defaultRound l) (subst (λ (p : ℕ). p < 64) (sym (next-leader-own defaultRound l)) h) ∙ next-leader-own defaultRound l
-leader-starts MultiPaxos3P l e h = leader-of (nextLeaderRound defaultRound l) (subst (λ (p : ℕ). p < 64) (sym (next-leader-own defaultRound l)) h) ∙ next-leader-own defaultRound l
+leader-starts MultiPaxos l e h =
+    leader-of (nextLeaderRound defaultRound l) (subst (λ (p : ℕ). p < 64) (sym (next-leader-own defaultRound l)) h) ∙ next-leader-own defaultRound l
+leader-starts MultiPaxos3P l e h =
+    leader-of (nextLeaderRound defaultRound l) (subst (λ (p : ℕ). p < 64) (sym (next-leader-own defaultRound l)) h) ∙ next-leader-own defaultRound l
 leader-starts EPaxos l e h = absurd (not-both e refl)
 leader-starts Pando l e h = absurd (not-both e refl)
 leader-starts SwiftPaxos l e h = absurd (not-both e refl)
@@ -101,7 +103,8 @@ numbers-within s i limits =
     }
 
 -- a shard that was not made refuses its calls; where one was made, the settings are within the limits
-pub made-or-refused : (s : Settings) (i : ℕ) (shard : Shard) → Valid s i shard → (c : Call) → ((why : Refusal) × (callOf shard c ≡ refused why shard)) ⊎ (withinLimits (memberSettings s i) ≡ true)
+pub made-or-refused : (s : Settings) (i : ℕ) (shard : Shard) → Valid s i shard → (c : Call)
+    → ((why : Refusal) × (callOf shard c ≡ refused why shard)) ⊎ (withinLimits (memberSettings s i) ≡ true)
 unfolding callWith
 made-or-refused s i shard valid c = go (shard .made) refl
   where
@@ -206,7 +209,8 @@ module _ (s : Settings) (multi : isMultiPaxos (s .mode) ≡ true) (none : s .«h
       where
         left : seenIn x ≡ quiet y → Does s x
         left r =
-            when-quiet s x (Receive d) e refl (ap (λ (o : model.Outcome). o .view) r) (ap (λ (o : model.Outcome). o .decision) r) (λ t le. no-answer t k f (no-accept t))
+            when-quiet s x (Receive d) e refl (ap (λ (o : model.Outcome). o .view) r) (ap (λ (o : model.Outcome). o .decision) r)
+            (λ t le. no-answer t k f (no-accept t))
 
         taken : (h : Host) (b : Bool) → seenIn x ≡ cond b (onMessage (setupOf s) l y (d .message .src) h (meaningOf (d .message))) (refuse y) → Does s x
         taken h true r = left (r ∙ ap (onMessage (setupOf s) l y (d .message .src) h) no-part)
@@ -226,7 +230,8 @@ module _ (s : Settings) (multi : isMultiPaxos (s .mode) ≡ true) (none : s .«h
 
         handled : (h : Host) → seenIn x ≡ onAccept (setupOf s) l y (d .message .src) slot start v h
             → ((slot < y .slot) × (onAccept (setupOf s) l y (d .message .src) slot start v h ≡ quiet y))
-            ⊎ ((onAccept (setupOf s) l y (d .message .src) slot start v h ≡ refuse y) ⊎ Accepting (setupOf s) l y (d .message .src) slot v (onAccept (setupOf s) l y (d .message .src) slot start v h))
+            ⊎ ((onAccept (setupOf s) l y (d .message .src) slot start v h ≡ refuse y) ⊎ Accepting (setupOf s) l y (d .message .src) slot v
+            (onAccept (setupOf s) l y (d .message .src) slot start v h))
             → Does s x
         handled h r (inl older) =
             when-quiet s x (Receive d) e refl (ap (λ (o : model.Outcome). o .view) (r ∙ older .1)) (ap (λ (o : model.Outcome). o .decision) (r ∙ older .1))
@@ -235,16 +240,19 @@ module _ (s : Settings) (multi : isMultiPaxos (s .mode) ≡ true) (none : s .«h
         handled h r (inr (inr a)) = accepts d slot round v (ap heardIn e) f (subst (Accepting (setupOf s) l y (d .message .src) slot v) (sym r) a) numbers
 
         taken : (h : Host) (b : Bool) → seenIn x ≡ cond b (onMessage (setupOf s) l y (d .message .src) h (meaningOf (d .message))) (refuse y) → Does s x
-        taken h true r = handled h (r ∙ ap (onMessage (setupOf s) l y (d .message .src) h) is-accept) (accept-leader (setupOf s) l led y at live (d .message .src) slot v h)
+        taken h true r =
+            handled h (r ∙ ap (onMessage (setupOf s) l y (d .message .src) h) is-accept) (accept-leader (setupOf s) l led y at live (d .message .src) slot v h)
         taken h false r = when-refused s x r
 
         go : AsModel meaningOf (setupOf s) l y (kindOf (Receive d)) (seenIn x) → Does s x
         go (inl (h, r)) = taken h (h .allows) r
         go (inr r) = absurd (not-both refl (ap isAcceptMessage (sym is-accept ∙ r .0)))
 
-    by-message : Expected meaningOf start l (kindOf (Receive d)) → ((slot v : ℕ) → d .message .msg ≡ Commit slot v → ⊥) → (k : ConsensusMsg) → d .message .msg ≡ k → Does s x
+    by-message : Expected meaningOf start l (kindOf (Receive d)) → ((slot v : ℕ) → d .message .msg ≡ Commit slot v → ⊥) → (k : ConsensusMsg)
+        → d .message .msg ≡ k → Does s x
     by-message f no-commit (Prepare slot round rv) g = absurd (subst (FromLed start l (f .0) (f .1)) (meaning-is (d .message) (Prepare slot round rv) g) (f .2))
-    by-message f no-commit (Accept slot round v) g = by-accept slot round v g (subst (FromLed start l (f .0) (f .1)) (meaning-is (d .message) (Accept slot round v) g) (f .2))
+    by-message f no-commit (Accept slot round v) g =
+        by-accept slot round v g (subst (FromLed start l (f .0) (f .1)) (meaning-is (d .message) (Accept slot round v) g) (f .2))
     by-message f no-commit (ForwardRequest v) g = by-other (ForwardRequest v) g (meaning-is (d .message) (ForwardRequest v) g) (λ t. refl)
     by-message f no-commit (Commit slot v) g = absurd (no-commit slot v g)
     by-message f no-commit (ReadRequest id) g = by-other (ReadRequest id) g (meaning-is (d .message) (ReadRequest id) g) (λ t. refl)

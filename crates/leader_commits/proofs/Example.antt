@@ -1,7 +1,7 @@
 -- Runs of three and of five members in MultiPaxos mode, computed: they are legal, and the leader commits on exactly the answer that the theorem says, not
 -- on a repeated one. So the theorem is about something.
 -- Assumes nothing.
-use mathlib.Core.Path.{_≡_, refl}
+use mathlib.Core.Path.{_≡_, refl, sym, subst}
 use mathlib.Core.Bool.{false}
 use mathlib.Core.List.{List, [], _∷_}
 use mathlib.Core.Logic.{inl, inr}
@@ -25,16 +25,17 @@ use Rattle.paxos_family.specs.Process.{onAccept, processClassic}
 use Rattle.propose.specs.Propose.{electing, mayPropose, proposeAccept, proposeClassic}
 use Rattle.delivery.specs.Admit.{otherLastValue, valueAwaited, ready, admit}
 use Rattle.consensus.specs.Answers.{committed}
+use Rattle.consensus.specs.FirstCause.{anyFrom, joined}
 use Rattle.consensus.specs.Call.{newShard, proposing, propose, receive, dispatch, unlessSpent, callWith}
 use Rattle.calls.specs.Asked.{gathererIn}
 use Rattle.consensus.specs.Handle.{onCommit, processed, processMessage, handle}
 use Rattle.delivery.specs.Limits.{roundNumbers, rvNumbers, msgNumbers, valueNumbers, processNumbers, numbersFit, rvProcesses, msgProcesses, requesterBelow, processesFit}
 use Rattle.agreement.proofs.Tests.{neqb→ne}
 use Rattle.group.specs.Claim.{MemberCall, entriesFrom, entries, LegalFrom, Legal, At}
-use Rattle.group.specs.Steps.{Step, stepsFrom, steps}
+use Rattle.group.specs.Steps.{Step, heard, stepsFrom, steps}
 use Rattle.group.proofs.Example.{three, proposes, hears, commitsOf, none, commits, first}
-use Rattle.leader_commits.specs.Answers.{Terms, sources, answersHeard, Commits}
-use Rattle.leader_commits.proofs.LeaderCommits.{leader-commits}
+use Rattle.leader_commits.specs.Answers.{Terms, sources, answersCame, Commits, HostHolds, SoundRequesters, SoundAnswers}
+use Rattle.leader_commits.proofs.LeaderCommits.{on-the-very-answer}
 
 -- five members, all live
 abbrev five : Settings
@@ -114,8 +115,22 @@ five-terms : Terms five
 unfolding contains
 five-terms = record { multi-paxos = refl; no-committer = refl; at-least-two = omega arith; live-leader = refl }
 
--- the last step: before it the leader has heard one answer, with it two, which is majority less one; so the theorem says that it commits 10
-pub five-by-theorem : (x : Step) × (past : List Step) × At x past (steps five callsOfFive) × (answersHeard five 0 past ≡ 1) × (answersHeard five 0 (x ∷ past) ≡ 2) × Commits x 0 10
+abbrev Sound : Step → Type 0
+Sound x = HostHolds (heard x) × SoundRequesters five (heard x)
+
+-- what the host adds to its answers is sound
+five-sound : SoundAnswers five 0 (steps five callsOfFive)
+unfolding stepsFrom anyFrom joined
+five-sound x (inl e) came = subst Sound (sym e) (refl, refl)
+five-sound x (inr (inl e)) came = subst Sound (sym e) (refl, refl)
+five-sound x (inr (inr (inl e))) came = subst Sound (sym e) (refl, refl)
+five-sound x (inr (inr (inr (inl e)))) came = subst Sound (sym e) (refl, refl)
+five-sound x (inr (inr (inr (inr (inl e))))) came = subst Sound (sym e) (refl, refl)
+five-sound x (inr (inr (inr (inr (inr (inl e)))))) came = subst Sound (sym e) (tt, tt)
+five-sound x (inr (inr (inr (inr (inr (inr k)))))) came = absurd k
+
+-- the last step: before it one answer has come, with it two, which is majority less one; so the theorem says that the leader commits 10
+pub five-by-theorem : (x : Step) × (past : List Step) × At x past (steps five callsOfFive) × (answersCame five 0 past ≡ 1) × (answersCame five 0 (x ∷ past) ≡ 2) × Commits x 0 10
 unfolding stepsFrom sources newShard callWith unlessSpent dispatch propose receive admit numbersFit processesFit ready otherLastValue valueAwaited roundNumbers rvNumbers msgNumbers valueNumbers processNumbers rvProcesses msgProcesses requesterBelow handle committed processMessage processed gathererIn proposing proposeClassic mayPropose electing proposeAccept processClassic onAccept enter fromLive isOlder inRound accepting accepted follower answered tryCommit isCommitter commitSlot paxosProposeV receivePromise heldAfterPromise receiveAccept acceptFits acceptOwn selfAccept withSender withOwn nextLeaderRound roundBefore roundEqual increment delegateIn withinLimits countsFit membersFit committersFit modeFits contains count size insert
 five-by-theorem = (
   _,
@@ -123,7 +138,8 @@ five-by-theorem = (
   inl (refl, refl),
   refl,
   refl,
-  leader-commits five five-terms callsOfFive five-legal 0 10 _ _
+  on-the-very-answer five five-terms callsOfFive five-legal 0 10 _ _
       (record { stands = inl (refl, refl); leader = refl; proposed = (_, _, inr (inr (inr (inr (inl (refl, refl))))), refl, refl, refl, refl); in-slot = refl })
+      five-sound
       .exactly .1 refl,
 )

@@ -27,7 +27,8 @@ pub sources-same : (test : Step → Bool) (x : Step) (past : List Step) → test
 unfolding sources
 sources-same test x past e = simp e
 
-pub sources-more : (test : Step → Bool) (x : Step) (past : List Step) → test x ≡ true → sources test (x ∷ past) ≡ insert (sources test past) (sourceOf (heard x))
+pub sources-more : (test : Step → Bool) (x : Step) (past : List Step) → test x ≡ true
+    → sources test (x ∷ past) ≡ insert (sources test past) (sourceOf (heard x))
 unfolding sources
 sources-more test x past e = simp e
 
@@ -41,7 +42,10 @@ size-insert-most a p = go (decLe 64 p)
   where
     go : Dec (64 ≤ p) → size (insert a p) ≤ size a + 1
     go (yes h) = let same : size (insert a p) ≡ size a = ap size (insert-none a p h) in omega arith
-    go (no h) = let grown : size (insert a p) ≡ size a + one (not (contains a p)) = size-insert a p (lt-of-not-le h) in let most = one-most (not (contains a p)) in omega arith
+    go (no h) =
+        let grown : size (insert a p) ≡ size a + one (not (contains a p)) = size-insert a p (lt-of-not-le h) in
+        let most = one-most (not (contains a p)) in
+        omega arith
 
 pub grows-by-one : (test : Step → Bool) (x : Step) (past : List Step) → size (sources test (x ∷ past)) ≤ size (sources test past) + 1
 grows-by-one test x past = go (either (test x))
@@ -63,7 +67,10 @@ other-source s t (Delivered d) e =
     (and-right (isLiveReplica s (d .message .src)) (not (eqb (d .message .src) (s .«first_leader»)))
     (and-right (isAcceptOf t (d .message .msg)) (isLiveReplica s (d .message .src) && not (eqb (d .message .src) (s .«first_leader»))) e)))
 
--- those that are heard are live replicas
+-- an answer is an accept, of a live replica
+pub is-accept : (s : Settings) (t : ℕ) (d : Delivery) → isAnswer s t (Delivered d) ≡ true → isAcceptOf t (d .message .msg) ≡ true
+is-accept s t d e = and-left (isAcceptOf t (d .message .msg)) (isLiveReplica s (d .message .src) && not (eqb (d .message .src) (s .«first_leader»))) e
+
 pub live-source : (s : Settings) (t : ℕ) (o : OptionalDelivery) → isAnswer s t o ≡ true → isLiveReplica s (sourceOf o) ≡ true
 live-source s t NoDelivery e = absurd (not-both e refl)
 live-source s t (Delivered d) e =
@@ -80,7 +87,8 @@ leader-not-counted s t (x ∷ past) = go (leader-not-counted s t past) (either (
     go rest (inl e) =
         ap (λ (a : ℕ). contains a (s .«first_leader»)) (sources-more (hears s t) x past e)
         ∙ contains-insert-other (sources (hears s t) past) (sourceOf (heard x)) (s .«first_leader»)
-        (other-source s t (heard x) (and-left (isAnswer s t (heard x)) (eqb (x .member) (s .«first_leader»)) (and-left (comes s t x) (isDone (replyOf x .outcome)) e)))
+        (other-source s t (heard x) (and-left (isAnswer s t (heard x)) (eqb (x .member) (s .«first_leader»))
+        (and-left (comes s t x) (isDone (replyOf x .outcome)) e)))
         ∙ rest
     go rest (inr e) = ap (λ (a : ℕ). contains a (s .«first_leader»)) (sources-same (hears s t) x past e) ∙ rest
 

@@ -31,11 +31,13 @@ use Rattle.group.specs.Steps.{Step, replyOf, isDone, heardIn, heard, stepOf, st
 use Rattle.group.proofs.Calls.{decisionOf, viewShard}
 use Rattle.group.proofs.Invariants.{shardsAfter}
 use Rattle.group.proofs.View.{setupOf}
-use Rattle.leader_commits.specs.Answers.{Terms, isAnswer, comes, hears, sources, sourceOf, answersHeard, LeaderProposed, AfterProposal, Commits, CommitsOnAnswer, BringsCommit, NoCommitCame, NoAnswerRefused, AsAsked}
+use Rattle.leader_commits.specs.Answers.{Terms, isAnswer, comes, hears, sources, sourceOf, answersHeard, answersCame, LeaderProposed, AfterProposal, Commits, CommitsOnAnswer, SoundAnswers, BringsCommit, NoCommitCame, NoAnswerRefused, AsAsked}
 use Rattle.leader_commits.proofs.Calls.{Numbers, numbers-within, made-or-refused, seenIn, viewBefore, Does, rests, proposes, accepts}
 use Rattle.leader_commits.proofs.Hearing.{sources-same, sources-more, grows-by-one, live-source}
 use Rattle.leader_commits.proofs.Leading.{isDecided, slotIn, valueIn, commit-in, Leading, fit-same, accept-commits, accept-waits}
-use Rattle.leader_commits.proofs.Runs.{Invariant, no-commit-to-leader, step-does, leading-before, each-step, run-invariant}
+use Rattle.leader_commits.proofs.NoneRefused.{none-refused}
+use Rattle.leader_commits.proofs.Places.{in-at}
+use Rattle.leader_commits.proofs.Runs.{Follows, no-commit-to-leader, step-does, leading-before, each-step, run-invariant}
 
 -- ---- commits, as the model sees them
 
@@ -61,7 +63,7 @@ module _ (s : Settings) (x : Step) (past : List Step) (own : x .member ≡ s .«
   few : answersHeard s t past + 1 < majority
   few = k .too-few (held .0)
 
-  on-answer : Does s x → CommitsOnAnswer s t v x past
+  on-answer : Does s x → CommitsOnAnswer (answersHeard s t) s t v x past
   on-answer (rests same no-commit unheard no-proposal) =
       let still : answersHeard s t (x ∷ past) ≡ answersHeard s t past = ap size (sources-same (hears s t) x past (unheard t (le-refl t))) in
       record {
@@ -78,9 +80,10 @@ module _ (s : Settings) (x : Step) (past : List Step) (own : x .member ≡ s .«
       most : answersHeard s t (x ∷ past) ≤ answersHeard s t past + 1
       most = grows-by-one (hears s t) x past
 
-      go : Dec (majority ≤ answersHeard s t (x ∷ past) + 1) → CommitsOnAnswer s t v x past
+      go : Dec (majority ≤ answersHeard s t (x ∷ past) + 1) → CommitsOnAnswer (answersHeard s t) s t v x past
       go (yes h) =
-          let c : seenIn x .decision ≡ decided t w = accept-commits s (numbers .leader-small) (numbers .live-small) (viewBefore x) x past k own d slot round w is acc a h .1 in
+          let c : seenIn x .decision ≡ decided t w =
+          accept-commits s (numbers .leader-small) (numbers .live-small) (viewBefore x) x past k own d slot round w is acc a h .1 in
           let f : (fast : Bool) × (replyOf x .commit ≡ Committed t w fast) = commit-in (replyOf x .commit) t w c in
           record {
             not-yet = few;
@@ -91,7 +94,8 @@ module _ (s : Settings) (x : Step) (past : List Step) (own : x .member ≡ s .«
           }
       go (no h) =
           let waits : answersHeard s t (x ∷ past) + 1 < majority = lt-of-not-le h in
-          let u : seenIn x .decision ≡ undecided = accept-waits s (numbers .leader-small) (numbers .live-small) (viewBefore x) x past k own d slot round w is acc a waits .1 in
+          let u : seenIn x .decision ≡ undecided =
+          accept-waits s (numbers .leader-small) (numbers .live-small) (viewBefore x) x past k own d slot round w is acc a waits .1 in
           record {
             not-yet = few;
             exactly = (λ c. absurd (not-undecided x t v c u), λ e. absurd (omega (arith, waits, e)));
@@ -103,22 +107,25 @@ module _ (s : Settings) (x : Step) (past : List Step) (own : x .member ≡ s .«
 module _ (s : Settings) (terms : Terms s) (cs : List MemberCall) (legal : Legal s cs) where
   -- At every step of the leader in a slot after its proposal there: it has heard fewer than majority less one so far, it commits exactly where the
   -- step brings these to majority less one, and what it commits is its proposal.
-  pub leader-commits : (t v : ℕ) (x : Step) (past : List Step) → AfterProposal s cs t v x past → CommitsOnAnswer s t v x past
+  pub leader-commits : (t v : ℕ) (x : Step) (past : List Step) → AfterProposal s cs t v x past → CommitsOnAnswer (answersHeard s t) s t v x past
   leader-commits t v x past after = each-step s terms P follows cs legal x past (after .stands) (after .leader) t v (after .proposed) (after .in-slot)
     where
       P : Step → List Step → Type 0
       P x past =
-          x .member ≡ s .«first_leader» → (t v : ℕ) → LeaderProposed s t v past → slotAt (s .«first_leader») (entriesOf past) ≡ t → CommitsOnAnswer s t v x past
+          x .member ≡ s .«first_leader» → (t v : ℕ) → LeaderProposed s t v past → slotAt (s .«first_leader») (entriesOf past) ≡ t
+          → CommitsOnAnswer (answersHeard s t) s t v x past
 
-      follows : (shards : ℕ → Shard) (past : List Step) → Invariant s terms shards past → (c : MemberCall) → MayStand (entriesOf past) (c .member) (c .call) → P (stepOf shards c) past
+      follows : Follows s terms P
       follows shards past k c stands own t v p here =
           let lead = leading-before s terms shards past k c stands own in
           let same : viewBefore (stepOf shards c) .slot ≡ t = lead .slot ∙ here in
-          subst (λ (n : ℕ). CommitsOnAnswer s n v (stepOf shards c) past) same
-          (on-answer s (stepOf shards c) past own (k .in-round (c .member)) lead v (subst (λ (n : ℕ). LeaderProposed s n v past) (sym same) p) (step-does s terms shards past k c stands own))
+          subst (λ (n : ℕ). CommitsOnAnswer (answersHeard s n) s n v (stepOf shards c) past) same
+          (on-answer s (stepOf shards c) past own (k .in-round (c .member)) lead v (subst (λ (n : ℕ). LeaderProposed s n v past) (sym same) p)
+          (step-does s terms shards past k c stands own))
 
   -- A slot hangs no longer: as long as the leader is in the slot in which it has proposed, it has heard fewer than majority less one.
-  pub slot-hangs : (t v : ℕ) → LeaderProposed s t v (steps s cs) → slotAt (s .«first_leader») (entriesOf (steps s cs)) ≡ t → answersHeard s t (steps s cs) + 1 < quorumsOf s .majority
+  pub slot-hangs : (t v : ℕ) → LeaderProposed s t v (steps s cs) → slotAt (s .«first_leader») (entriesOf (steps s cs)) ≡ t
+      → answersHeard s t (steps s cs) + 1 < quorumsOf s .majority
   slot-hangs t v p here =
       let lead = run-invariant s terms cs legal .leading in
       let same : viewShard (shardsAfter (begun s) cs (s .«first_leader»)) .slot ≡ t = lead .slot ∙ here in
@@ -132,7 +139,7 @@ module _ (s : Settings) (terms : Terms s) (cs : List MemberCall) (legal : Legal 
       P : Step → List Step → Type 0
       P x past = isDone (replyOf x .outcome) ≡ true → Numbers s
 
-      follows : (shards : ℕ → Shard) (past : List Step) → Invariant s terms shards past → (c : MemberCall) → MayStand (entriesOf past) (c .member) (c .call) → P (stepOf shards c) past
+      follows : Follows s terms P
       follows shards past k c stands done = go (made-or-refused s (c .member) (shards (c .member)) (k .valid (c .member)) (c .call))
         where
           go : ((why : Refusal) × (callOf (shards (c .member)) (c .call) ≡ refused why (shards (c .member)))) ⊎ (withinLimits (memberSettings s (c .member)) ≡ true) → Numbers s
@@ -142,9 +149,10 @@ module _ (s : Settings) (terms : Terms s) (cs : List MemberCall) (legal : Legal 
   -- The same by the answer: the leader commits on an answer that it hears from a member that it had not heard, the last that was missing.
   pub completing-answer : (t v : ℕ) (x : Step) (past : List Step) → AfterProposal s cs t v x past
       → Commits x t v ↔ ((hears s t x ≡ true) × (contains (sources (hears s t) past) (sourceOf (heard x)) ≡ false) × (answersHeard s t past + 2 ≡ quorumsOf s .majority))
-  completing-answer t v x past after = (λ c. completes (on-answer .exactly .0 c) (either (hears s t x)), λ h. on-answer .exactly .1 (reaches (h .0) (h .1) (h .2)))
+  completing-answer t v x past after =
+      (λ c. completes (on-answer .exactly .0 c) (either (hears s t x)), λ h. on-answer .exactly .1 (reaches (h .0) (h .1) (h .2)))
     where
-      on-answer : CommitsOnAnswer s t v x past
+      on-answer : CommitsOnAnswer (answersHeard s t) s t v x past
       on-answer = leader-commits t v x past after
 
       heard-before : ℕ
@@ -159,9 +167,11 @@ module _ (s : Settings) (terms : Terms s) (cs : List MemberCall) (legal : Legal 
           ap size (sources-more (hears s t) x past e)
           ∙ size-insert heard-before source
           (numbers-of x past (after .stands) (and-right (comes s t x) (isDone (replyOf x .outcome)) e) .live-small source
-          (live-source s t (heard x) (and-left (isAnswer s t (heard x)) (eqb (x .member) (s .«first_leader»)) (and-left (comes s t x) (isDone (replyOf x .outcome)) e))))
+          (live-source s t (heard x) (and-left (isAnswer s t (heard x)) (eqb (x .member) (s .«first_leader»))
+          (and-left (comes s t x) (isDone (replyOf x .outcome)) e))))
 
-      reaches : hears s t x ≡ true → contains heard-before source ≡ false → answersHeard s t past + 2 ≡ quorumsOf s .majority → answersHeard s t (x ∷ past) + 1 ≡ quorumsOf s .majority
+      reaches : hears s t x ≡ true → contains heard-before source ≡ false → answersHeard s t past + 2 ≡ quorumsOf s .majority
+          → answersHeard s t (x ∷ past) + 1 ≡ quorumsOf s .majority
       reaches e new last =
           let more : one (not (contains heard-before source)) ≡ 1 = ap (λ (b : Bool). one (not b)) new in
           omega (arith, grown e, more, last)
@@ -184,26 +194,22 @@ module _ (s : Settings) (terms : Terms s) (cs : List MemberCall) (legal : Legal 
 
   -- No Commit ever comes to the leader.
   pub no-commit-comes : (t : ℕ) → NoCommitCame s t (steps s cs)
-  no-commit-comes t x k own came = each-step s terms P follows cs legal x (found (steps s cs) k .0) (found (steps s cs) k .1) own came
+  no-commit-comes t x k own came = let place = in-at x (steps s cs) k in each-step s terms P follows cs legal x (place .0) (place .1) own came
     where
-      found : (run : List Step) → In x run → (earlier : List Step) × At x earlier run
-      found [] k = absurd k
-      found (y ∷ run) (inl e) = (run, inl (e, refl))
-      found (y ∷ run) (inr k) = let r = found run k in (r .0, inr (r .1))
-
       P : Step → List Step → Type 0
       P x past = x .member ≡ s .«first_leader» → BringsCommit t (heard x) → ⊥
 
-      follows : (shards : ℕ → Shard) (past : List Step) → Invariant s terms shards past → (c : MemberCall) → MayStand (entriesOf past) (c .member) (c .call) → P (stepOf shards c) past
+      follows : Follows s terms P
       follows shards past k c stands own = by-call (c .call) stands
         where
           by-call : (call : Call) → MayStand (entriesOf past) (c .member) call → BringsCommit t (heardIn call) → ⊥
           by-call (Propose v) stands came = came
           by-call (StartRead tag arrival) stands came = came
           by-call (Receive d) stands came =
-              no-commit-to-leader s terms (entriesOf past) (k .sent) d t (came .0) (came .1) (subst (λ (i : ℕ). WasSent (entriesOf past) (d .message) i) own stands)
+              no-commit-to-leader s terms (entriesOf past) (k .sent) d t (came .0) (came .1)
+              (subst (λ (i : ℕ). WasSent (entriesOf past) (d .message) i) own stands)
 
-  -- ---- the document's words
+  -- ---- all answers that came
 
   -- where no answer was refused, those that came were heard
   came-heard : (t : ℕ) (past : List Step) → NoAnswerRefused s t past → sources (comes s t) past ≡ sources (hears s t) past
@@ -211,12 +217,30 @@ module _ (s : Settings) (terms : Terms s) (cs : List MemberCall) (legal : Legal 
   came-heard t [] ok = refl
   came-heard t (x ∷ past) ok = go (came-heard t past (λ y k. ok y (inr k))) (either (comes s t x))
     where
-      go : sources (comes s t) past ≡ sources (hears s t) past → (comes s t x ≡ true) ⊎ (comes s t x ≡ false) → sources (comes s t) (x ∷ past) ≡ sources (hears s t) (x ∷ past)
+      go : sources (comes s t) past ≡ sources (hears s t) past → (comes s t x ≡ true) ⊎ (comes s t x ≡ false)
+          → sources (comes s t) (x ∷ past) ≡ sources (hears s t) (x ∷ past)
       go rest (inl e) =
           sources-more (comes s t) x past e ∙ ap (λ (a : ℕ). insert a (sourceOf (heard x))) rest
           ∙ sym (sources-more (hears s t) x past (and-both e (ok x (inl refl) e)))
       go rest (inr e) =
           sources-same (comes s t) x past e ∙ rest ∙ sym (sources-same (hears s t) x past (ap (λ (b : Bool). b && isDone (replyOf x .outcome)) e))
+
+  -- Where the host holds the value and each requester that it gives is a process, no answer is refused: then the leader commits exactly on the answer that
+  -- brings those that came to majority less one.
+  pub on-the-very-answer : (t v : ℕ) (x : Step) (past : List Step) → AfterProposal s cs t v x past → SoundAnswers s t (x ∷ past)
+      → CommitsOnAnswer (answersCame s t) s t v x past
+  on-the-very-answer t v x past after sound =
+      let on-answer = leader-commits t v x past after in
+      let taken : NoAnswerRefused s t (x ∷ past) = none-refused s terms cs legal t v x past after sound in
+      let before : answersCame s t past ≡ answersHeard s t past = ap size (came-heard t past (λ y k. taken y (inr k))) in
+      let now : answersCame s t (x ∷ past) ≡ answersHeard s t (x ∷ past) = ap size (came-heard t (x ∷ past) taken) in
+      record {
+        not-yet = omega (arith, before, on-answer .not-yet);
+        exactly = (λ c. ap (λ (a : ℕ). a + 1) now ∙ on-answer .exactly .0 c, λ e. on-answer .exactly .1 (ap (λ (a : ℕ). a + 1) (sym now) ∙ e));
+        no-other = on-answer .no-other;
+      }
+
+  -- ---- the document's words
 
   -- What the document says. That the host holds the value is in no answer being refused, and that no Commit comes is `no-commit-comes`.
   pub as-asked : (t v : ℕ) (x : Step) (past : List Step) → AfterProposal s cs t v x past → AsAsked s t v x past
@@ -226,6 +250,7 @@ module _ (s : Settings) (terms : Terms s) (cs : List MemberCall) (legal : Legal 
         commits = λ holds none taken before now. on-answer .exactly .1 (ap (λ (a : ℕ). size a + 1) (sym (came-heard t (x ∷ past) taken)) ∙ now);
         not-before = λ none waits slot w c.
             let only = on-answer .no-other slot w c in
-            let reached : answersHeard s t (x ∷ past) + 1 ≡ quorumsOf s .majority = on-answer .exactly .0 (subst (λ (n : ℕ). Commits x n v) (only .0) (subst (Commits x slot) (only .1) c)) in
+            let reached : answersHeard s t (x ∷ past) + 1 ≡ quorumsOf s .majority =
+            on-answer .exactly .0 (subst (λ (n : ℕ). Commits x n v) (only .0) (subst (Commits x slot) (only .1) c)) in
             omega (arith, waits, reached);
       }

@@ -41,7 +41,8 @@ use Rattle.leader_commits.proofs.Hearing.{sources-same, sources-more, l
 pub slot-of-other : (i : ℕ) (x : Step) (past : List Step) → (x .member ≡ i → ⊥) → slotAt i (entriesOf (x ∷ past)) ≡ slotAt i (entriesOf past)
 slot-of-other i x past other = simp (ne-eqb i (x .member) (λ e. other (sym e)))
 
-pub slot-of-own : (i : ℕ) (x : Step) (past : List Step) → x .member ≡ i → slotAt i (entriesOf (x ∷ past)) ≡ plusCommit (replyOf x .commit) (slotAt i (entriesOf past))
+pub slot-of-own : (i : ℕ) (x : Step) (past : List Step) → x .member ≡ i
+    → slotAt i (entriesOf (x ∷ past)) ≡ plusCommit (replyOf x .commit) (slotAt i (entriesOf past))
 slot-of-own i x past own = simp (eq-eqb i (x .member) (sym own))
 
 -- what the model sees of a commit
@@ -77,14 +78,15 @@ slot-grows i x past = go (eqb i (x .member))
     go true = grows (replyOf x .commit) (slotAt i (entriesOf past))
     go false = le-refl (slotAt i (entriesOf past))
 
-slot-before : (i : ℕ) (x : Step) (earlier past : List Step) → At x earlier past → slotAt i (entriesOf earlier) ≤ slotAt i (entriesOf past)
+pub slot-before : (i : ℕ) (x : Step) (earlier past : List Step) → At x earlier past → slotAt i (entriesOf earlier) ≤ slotAt i (entriesOf past)
 slot-before i x earlier [] a = absurd a
-slot-before i x earlier (y ∷ past) (inl a) = subst (λ (l : List Step). slotAt i (entriesOf l) ≤ slotAt i (entriesOf (y ∷ past))) (sym (a .1)) (slot-grows i y past)
+slot-before i x earlier (y ∷ past) (inl a) =
+    subst (λ (l : List Step). slotAt i (entriesOf l) ≤ slotAt i (entriesOf (y ∷ past))) (sym (a .1)) (slot-grows i y past)
 slot-before i x earlier (y ∷ past) (inr a) = le-trans (slot-before i x earlier past a) (slot-grows i y past)
 
 -- ---- proposals
 
-abbrev isDelivered : OptionalDelivery → Bool
+abbrev pub isDelivered : OptionalDelivery → Bool
 isDelivered NoDelivery = false
 isDelivered (Delivered d) = true
 
@@ -92,7 +94,8 @@ isDelivered (Delivered d) = true
 pub proposed-before : (s : Settings) (t v : ℕ) (x : Step) (past : List Step) → LeaderProposed s t v (x ∷ past)
     → ((x .member ≡ s .«first_leader») × (x .call ≡ Propose v) × (replyOf x .outcome ≡ Done)) ⊎ LeaderProposed s t v past
 proposed-before s t v x past (z, earlier, inl a, own, is, done, slot) =
-    inl (ap (λ (y : Step). y .member) (sym (a .0)) ∙ own, ap (λ (y : Step). y .call) (sym (a .0)) ∙ is, ap (λ (y : Step). replyOf y .outcome) (sym (a .0)) ∙ done)
+    let same = sym (a .0) in
+    inl (ap (λ (y : Step). y .member) same ∙ own, ap (λ (y : Step). y .call) same ∙ is, ap (λ (y : Step). replyOf y .outcome) same ∙ done)
 proposed-before s t v x past (z, earlier, inr a, own, is, done, slot) = inr (z, earlier, a, own, is, done, slot)
 
 -- ---- the leader's part of the invariant
@@ -136,7 +139,8 @@ module _ (s : Settings) where
       own : sources (hears s (x .slot)) (y ∷ past) ≡ sources (hears s (x .slot)) past
       own = sources-same (hears s (x .slot)) y past (unheard (x .slot) (le-refl (x .slot)))
 
-      go : (v : ℕ) → ((y .member ≡ l) × (y .call ≡ Propose v) × (replyOf y .outcome ≡ Done)) ⊎ LeaderProposed s (x .slot) v past → (x .holds ≡ true) × (x .heldValue ≡ v)
+      go : (v : ℕ) → ((y .member ≡ l) × (y .call ≡ Propose v) × (replyOf y .outcome ≡ Done)) ⊎ LeaderProposed s (x .slot) v past
+          → (x .holds ≡ true) × (x .heldValue ≡ v)
       go v (inl p) = absurd (no-proposal v (p .0) (p .1) (p .2))
       go v (inr p) = k .holds-own v p
 
@@ -244,16 +248,19 @@ module _ (s : Settings) where
     enough : enoughAccepted (setupOf s) acceptedView ≡ leb majority (size after + 1)
     enough = ap (leb majority) (ap (λ (f : ℕ → Bool). count f 64) accepted-now ∙ with-leader after l small (leader-not-counted s (x .slot) (y ∷ past)))
 
-    commit-yes : enoughAccepted (setupOf s) acceptedView ≡ true → (commits (setupOf s) acceptedView [] true .view ≡ advanced start acceptedView) × (commits (setupOf s) acceptedView [] true .decision ≡ decided (x .slot) v)
+    commit-yes : enoughAccepted (setupOf s) acceptedView ≡ true
+        → (commits (setupOf s) acceptedView [] true .view ≡ advanced start acceptedView) × (commits (setupOf s) acceptedView [] true .decision ≡ decided (x .slot) v)
     unfolding commits
     commit-yes e = (simp e, simp e)
 
-    commit-no : enoughAccepted (setupOf s) acceptedView ≡ false → (commits (setupOf s) acceptedView [] true .view ≡ acceptedView) × (commits (setupOf s) acceptedView [] true .decision ≡ undecided)
+    commit-no : enoughAccepted (setupOf s) acceptedView ≡ false
+        → (commits (setupOf s) acceptedView [] true .view ≡ acceptedView) × (commits (setupOf s) acceptedView [] true .decision ≡ undecided)
     unfolding commits
     commit-no e = (simp e, simp e)
 
     -- it commits its value where the leader has heard majority less one
-    pub accept-commits : quorumsOf s .majority ≤ answersHeard s (x .slot) (y ∷ past) + 1 → (seenIn y .view ≡ advanced (setupOf s .voters .start) acceptedView) × (seenIn y .decision ≡ decided (x .slot) v)
+    pub accept-commits : quorumsOf s .majority ≤ answersHeard s (x .slot) (y ∷ past) + 1
+        → (seenIn y .view ≡ advanced (setupOf s .voters .start) acceptedView) × (seenIn y .decision ≡ decided (x .slot) v)
     accept-commits h =
         let c = commit-yes (enough ∙ le-leb majority (size after + 1) h) in
         (ap (λ (o : model.Outcome). o .view) (a .result) ∙ c .0, ap (λ (o : model.Outcome). o .decision) (a .result) ∙ c .1)
@@ -285,7 +292,8 @@ module _ (s : Settings) where
     next-slot : (c : OptionalCommit) → decisionOf c ≡ decided (x .slot) v → (n : ℕ) → plusCommit c n ≡ suc n
     next-slot c e n = let f = commit-in c (x .slot) v e in ap (λ (c : OptionalCommit). plusCommit c n) (f .1)
 
-    pub leading-commits : quorumsOf s .majority ≤ answersHeard s (x .slot) (y ∷ past) + 1 → Leading (advanced (setupOf s .voters .start) acceptedView) (y ∷ past)
+    pub leading-commits : quorumsOf s .majority ≤ answersHeard s (x .slot) (y ∷ past) + 1
+        → Leading (advanced (setupOf s .voters .start) acceptedView) (y ∷ past)
     leading-commits h =
         record {
           slot = ap suc (k .slot) ∙ sym (slot-of-own l y past own ∙ next-slot (replyOf y .commit) (accept-commits h .1) (slotAt l (entriesOf past)));

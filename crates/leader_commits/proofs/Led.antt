@@ -40,7 +40,7 @@ Expected meaning start l (delivers source c) = (i : ℕ) × (d : Destination) ×
 Expected meaning start l reads = Unit {0}
 
 -- what a choice is where its test passes
-when {ℓ} : {A : Type 0} (P : A → Type ℓ) {t : Bool} {x : A} (y : A) → t ≡ true → P x → P (cond t x y)
+pub when {ℓ} : {A : Type 0} (P : A → Type ℓ) {t : Bool} {x : A} (y : A) → t ≡ true → P x → P (cond t x y)
 when P {t} {x} y e p = subst (λ (b : Bool). P (cond b x y)) (sym e) p
 
 only-other-led : (start l i : ℕ) (os : List Outgoing) → OnlyOther os → AllFromLed start l i os
@@ -88,7 +88,8 @@ module _ (S : Setup) (l : ℕ) (led : Led S l) (i : ℕ) (x : View) (at : x .rou
 
   no-third : (h : Host) → T (eqb (cond (S .threePhases) (S .committer (h .requester)) 0) (suc i)) → ⊥
   no-third h t =
-      let none : cond (S .threePhases) (S .committer (h .requester)) 0 ≡ 0 = of-both (λ (n : ℕ). n ≡ 0) (S .threePhases) (led .no-committer (h .requester)) refl in
+      let none : cond (S .threePhases) (S .committer (h .requester)) 0 ≡ 0 =
+      of-both (λ (n : ℕ). n ≡ 0) (S .threePhases) (led .no-committer (h .requester)) refl in
       let own : cond (S .threePhases) (S .committer (h .requester)) 0 ≡ suc i = eqb→eq _ _ t in
       omega arith
 
@@ -98,11 +99,13 @@ module _ (S : Setup) (l : ℕ) (led : Led S l) (i : ℕ) (x : View) (at : x .rou
       let c : ℕ = cond (S .threePhases) (S .committer (h .requester)) 0 in
       let tell : Bool = not (eqb (h .requester) (suc i)) in
       by-test K (eqb i (S .leader (y .round))) (commits S y [] true)
-      (cond (eqb source (S .voters .delegate (y .round))) (cond (eqb c (suc i)) (commits S y (replies S i c y) tell) (say y (replies S i c y))) (cond (eqb c (suc i)) (commits S y [] tell) (refuse x)))
+      (cond (eqb source (S .voters .delegate (y .round))) (cond (eqb c (suc i)) (commits S y (replies S i c y) tell) (say y (replies S i c y)))
+      (cond (eqb c (suc i)) (commits S y [] tell) (refuse x)))
       (λ t. commits-kept (eqb→eq i (S .leader (y .round)) t ∙ ap (S .leader) e ∙ led .leads) y e)
       (λ t.
       of-both K (eqb source (S .voters .delegate (y .round)))
-      (by-test K (eqb c (suc i)) (commits S y (replies S i c y) tell) (say y (replies S i c y)) (λ k. absurd (no-third h k)) (λ k. record { in-round = e; sends = replies-led c y e }))
+      (by-test K (eqb c (suc i)) (commits S y (replies S i c y) tell) (say y (replies S i c y)) (λ k. absurd (no-third h k))
+      (λ k. record { in-round = e; sends = replies-led c y e }))
       (by-test K (eqb c (suc i)) (commits S y [] tell) (refuse x) (λ k. absurd (no-third h k)) (λ k. refused)))
 
   accept-kept : (source s v : ℕ) (h : Host) → K (onAccept S i x source s start v h)
@@ -128,7 +131,8 @@ module _ (S : Setup) (l : ℕ) (led : Led S l) (i : ℕ) (x : View) (at : x .rou
   message-kept source h other j d f = idle
 
   -- Every call keeps the member in the starting round.
-  pub as-model-kept : {M : Type 0} (meaning : M → Message) (k : Kind M) (r : Outcome) → AsModel meaning S i x k r → Expected meaning (S .voters .start) l k → Kept (S .voters .start) l i r
+  pub as-model-kept : {M : Type 0} (meaning : M → Message) (k : Kind M) (r : Outcome) → AsModel meaning S i x k r → Expected meaning (S .voters .start) l k
+      → Kept (S .voters .start) l i r
   unfolding outcome
   as-model-kept meaning (proposes v) r e f = subst K (sym (e .1)) (of-both K (e .0 .allows) (propose-kept v) refused)
   as-model-kept meaning (delivers source c) r (inl e) f =
@@ -167,10 +171,13 @@ module _ (S : Setup) (l : ℕ) (led : Led S l) (x : View) (at : x .round ≡ S .
       go : ((S .voters .live l && (eqb (x .round) (S .voters .start) && not (x .holds))) ≡ true) ⊎ ((S .voters .live l && (eqb (x .round) (S .voters .start) && not (x .holds))) ≡ false)
           → (onPropose S l x v ≡ refuse x) ⊎ Proposing l x v (onPropose S l x v)
       go (inl e) =
-          let r : onPropose S l x v ≡ say (proposedView l x v) (record { destination = all; message = accept (x .slot) (x .round) v } ∷ []) = simp (e, led .starts-led, own) in
+          let r : onPropose S l x v ≡ say (proposedView l x v) (record { destination = all; message = accept (x .slot) (x .round) v } ∷ []) =
+          simp (e, led .starts-led, own) in
           inr
           (record {
-            was-free = not-true (x .holds) (and-right (eqb (x .round) (S .voters .start)) (not (x .holds)) (and-right (S .voters .live l) (eqb (x .round) (S .voters .start) && not (x .holds)) e));
+            was-free =
+                not-true (x .holds) (and-right (eqb (x .round) (S .voters .start)) (not (x .holds))
+                (and-right (S .voters .live l) (eqb (x .round) (S .voters .start) && not (x .holds)) e));
             then-view = ap (λ (o : Outcome). o .view) r;
             no-commit = ap (λ (o : Outcome). o .decision) r;
           })
@@ -198,7 +205,8 @@ module _ (S : Setup) (l : ℕ) (led : Led S l) (x : View) (at : x .round ≡ S .
       leads = eq-eqb l (S .leader (x .round)) (sym (ap (S .leader) at ∙ led .leads))
 
       fit : ltb t (x .slot) ≡ false → eqb t (x .slot) ≡ true → S .voters .live source ≡ true → (fitsHeld x v ≡ true) ⊎ (fitsHeld x v ≡ false) → goal
-      fit a b c (inl d) = inr (inr (record { own-slot = eqb-true t (x .slot) b; live-source = c; fitting = d; result = simp (live, a, not-older, b, c, not-later, d, leads) }))
+      fit a b c (inl d) =
+          inr (inr (record { own-slot = eqb-true t (x .slot) b; live-source = c; fitting = d; result = simp (live, a, not-older, b, c, not-later, d, leads) }))
       fit a b c (inr d) = inr (inl (simp (live, a, not-older, b, c, not-later, d)))
 
       from : ltb t (x .slot) ≡ false → eqb t (x .slot) ≡ true → (S .voters .live source ≡ true) ⊎ (S .voters .live source ≡ false) → goal

@@ -1,7 +1,12 @@
+pub mod Places
 pub mod Led
+pub mod Carrying
+pub mod Sent
+pub mod HostCauses
 pub mod Calls
 pub mod Hearing
 pub mod Leading
 pub mod Runs
+pub mod NoneRefused
 pub mod LeaderCommits
 pub mod Example

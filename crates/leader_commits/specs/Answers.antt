@@ -18,6 +18,8 @@ use Rattle.settings.specs.declared.Settings.{Settings}
 use Rattle.delivery.specs.declared.Delivery.{Delivery}
 use Rattle.calls.specs.declared.Call.the-variants.{Propose}
 use Rattle.calls.specs.declared.OptionalCommit.the-variants.{Committed}
+use Rattle.consensus.specs.FirstCause.{givenProcess, joined, anyAbove, anyFrom}
+use Rattle.consensus.specs.Rows.{Row, gives}
 use Rattle.group.specs.Claim.{MemberCall, At, slotAt}
 use Rattle.group.specs.Steps.{Step, replyOf, isDone, OptionalDelivery, NoDelivery, Delivered, heard, steps, entriesOf}
 
@@ -49,10 +51,11 @@ abbrev pub sourceOf : OptionalDelivery → ℕ
 sourceOf NoDelivery = 0
 sourceOf (Delivered d) = d .message .src
 
--- an answer comes to the leader, and the leader hears it: it is not refused
+-- an answer comes to the leader
 abbrev pub comes : Settings → ℕ → Step → Bool
 comes s t x = isAnswer s t (heard x) && eqb (x .member) (s .«first_leader»)
 
+-- and the leader hears it: it is not refused
 abbrev pub hears : Settings → ℕ → Step → Bool
 hears s t x = comes s t x && isDone (replyOf x .outcome)
 
@@ -89,19 +92,42 @@ Commits x t v = (fast : Bool) × (replyOf x .commit ≡ Committed t v fast)
 
 -- ---- the claim
 
--- Before the step the leader has heard fewer answers than majority less one. It commits v in the step exactly where the step brings them to
--- majority less one; and it commits nothing else.
-pub record CommitsOnAnswer (s : Settings) (t v : ℕ) (x : Step) (past : List Step) : Type 0 where
-  pub not-yet : answersHeard s t past + 1 < quorumsOf s .majority
-  pub exactly : Commits x t v ↔ (answersHeard s t (x ∷ past) + 1 ≡ quorumsOf s .majority)
+-- Before the step there are fewer answers than majority less one. The leader commits v in the step exactly where the step brings them to majority less
+-- one; and it commits nothing else. Counted are the answers that were heard, or all that came.
+pub record CommitsOnAnswer (answers : List Step → ℕ) (s : Settings) (t v : ℕ) (x : Step) (past : List Step) : Type 0 where
+  pub not-yet : answers past + 1 < quorumsOf s .majority
+  pub exactly : Commits x t v ↔ (answers (x ∷ past) + 1 ≡ quorumsOf s .majority)
   pub no-other : (slot w : ℕ) → Commits x slot w → (slot ≡ t) × (w ≡ v)
 
--- ---- the document's words
+-- ---- what the host adds to an answer
+
+-- the requesters that it gives: of the answer's value, and of the value of the held promise
+abbrev pub requestersIn : Delivery → List ℕ
+requestersIn d = joined (givenProcess (d .said .requester)) (givenProcess (d .«held_requester»))
+
+-- the causes that are the host's: a requester above the number limit, one that is not below the process count, the value not held
+abbrev pub hostCauses : Settings → Delivery → List Row
+hostCauses s d =
+    gives 2 (anyAbove 9223372036854775807 (requestersIn d))
+    ∷ gives 3 (anyFrom (s .«process_count») (requestersIn d))
+    ∷ gives 6 (not (d .said .«value_held»))
+    ∷ []
 
 -- "given that the host holds the value"
 abbrev pub HostHolds : OptionalDelivery → Type 0
 HostHolds NoDelivery = Unit {0}
 HostHolds (Delivered d) = d .said .«value_held» ≡ true
+
+-- each requester that it gives is a process
+abbrev pub SoundRequesters : Settings → OptionalDelivery → Type 0
+SoundRequesters s NoDelivery = Unit {0}
+SoundRequesters s (Delivered d) = anyFrom (s .«process_count») (requestersIn d) ≡ false
+
+-- both with every answer of slot t that has come: the host is sound
+abbrev pub SoundAnswers : Settings → ℕ → List Step → Type 0
+SoundAnswers s t past = (x : Step) → In x past → comes s t x ≡ true → HostHolds (heard x) × SoundRequesters s (heard x)
+
+-- ---- the document's words
 
 abbrev pub BringsCommit : ℕ → OptionalDelivery → Type 0
 BringsCommit t NoDelivery = ⊥
