@@ -61,7 +61,7 @@ pub struct Group {
     blocked: Vec<u64>,
     requesters: HashMap<usize, usize>,
     proposals: usize,
-    /// Of the calls with all their numbers.
+    /// Of the calls whose numbers are as they were sent.
     pub claim: Claim,
 }
 
