@@ -148,15 +148,13 @@ module _ (me : ℕ) where
       Goal : Type 0
       Goal = (contains set q ≡ true) ⊎ (q ≡ me) ⊎ (q ≡ src)
 
-      by-sender : (s t : Bool) → eqb src q ≡ t → contains (cond s set (insert set src)) q ≡ true → Goal
-      by-sender true t d f = inl f
-      by-sender false true d f = inr (inr (sym (eqb-true src q d)))
-      by-sender false false d f = inl (sym (contains-insert-other set src q (eqb-false src q d)) ∙ f)
+      by-sender : (t : Bool) → eqb src q ≡ t → contains (insert set src) q ≡ true → Goal
+      by-sender true d f = inr (inr (sym (eqb-true src q d)))
+      by-sender false d f = inl (sym (contains-insert-other set src q (eqb-false src q d)) ∙ f)
 
       by-self : (t : Bool) → eqb me q ≡ t → Goal
       by-self true d = inr (inl (sym (eqb-true me q d)))
-      by-self false d =
-          by-sender (eqb src me) (eqb src q) refl (sym (contains-insert-other (cond (eqb src me) set (insert set src)) me q (eqb-false me q d)) ∙ e)
+      by-self false d = by-sender (eqb src q) refl (sym (contains-insert-other (insert set src) me q (eqb-false me q d)) ∙ e)
 
   -- it counts those alone that it has heard, and itself
   pub responders-heard : (r : Replica) (ps : List Response) (q : ℕ) → contains (hearsAll me r ps .promised) q ≡ true

@@ -129,9 +129,11 @@ module _ (shard : Shard) (acceptors : ℕ) (classic : hasFastPath (shard .settin
         ap (λ (x : Acceptor PaxosRound ℕ). record { acceptor = x; wish = old .wish; promised = 0; agreed = 0 })
         (begun (core .paxos .round) (a .«starting_round») n (acceptedOf (core .paxos .«max_rv»))
         (and-right (canPropose a) atStart (and-left (canPropose a && atStart) inStarting (passed .1))) (go (isMultiPaxos (a .mode)) refl))
-        ∙ ap (λ (held : HeldPromise). record { acceptor = record { responded = some n; accepted = acceptedOf held }; wish = wishOf held; promised = 0; agreed = 0 })
-        (passed .0)
+        ∙ ap (λ (held : HeldPromise). begin (acceptedOf held) (wishOf held)) (passed .0)
       where
+        begin : Option (Proposal PaxosRound ℕ) → Option RoundV → Replica
+        begin x w = record { acceptor = record { responded = some n; accepted = x }; wish = w; promised = 0; agreed = 0 }
+
         go : (t : Bool) → isMultiPaxos (a .mode) ≡ t → (a .«starting_round» ≡ NoRound) ⊎ (equal (Round n) (a .«starting_round») ≡ true)
         go true e =
             inr (ap (λ (k : PaxosRound). equal (Round k) (a .«starting_round»)) (sym number)

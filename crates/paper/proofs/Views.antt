@@ -1,12 +1,16 @@
 -- The engine's state in the paper's terms: what each operation of the round state does to the replica that is seen in it.
 -- Assumes nothing.
-use mathlib.Core.Path.{_≡_, refl, sym, ap, _∙_}
+use mathlib.Core.Path.{_≡_, refl, sym, ap, subst, _∙_}
 use mathlib.Core.Logic.{_⊎_, inl, inr}
 use mathlib.Core.Bool.{Bool, true, false, cond, not, _&&_, _||_}
 use mathlib.Core.List.{[], _∷_}
 use mathlib.Core.Option.{Option, none, some}
-use Prim.Native.Nat.{ℕ}
-use lib.Dec.{ltb}
+use Prim.Native.Nat.{ℕ, zero, suc, _+_, _*_, _/_, _%_, _^_, _≤_, _<_, max}
+use native.Mathlib.Nat.{le-refl}
+use native.Mathlib.Omega.{arith}
+use lib.Bits.{bitOr, or-step, or-zero-r}
+use lib.Dec.{eqb, ltb}
+use borrow.Author.Tests.{eqb-true}
 use Rattle.basics.proofs.Tests.{not-both, same-test, of-both}
 use Rattle.sets.specs.Sets.{insert}
 use Rattle.paxos.specs.PaxosMadeSimple.{Proposal, Acceptor, greater, exceeded, higher, responds, prepare, acceptedIn, accepts, accept, highest, choice}
@@ -227,13 +231,67 @@ accept-higher held n v e = go (accept-fits held n v e)
         ap (λ (t : Bool). cond t (some (record { number = n; value = v })) (some (record { number = n; value = v }))) (sym (rounds-ordered .irreflexive n))
         ∙ ap (λ (x : HeldPromise). higher roundBefore (acceptedOf x) (some (record { number = n; value = v }))) (sym s)
 
+-- ---- who is counted
+
+or-again-up-to : (k a b : ℕ) → b ≤ k → bitOr (bitOr a b) b ≡ bitOr a b
+or-again-up-to zero a b h = subst (λ (c : ℕ). bitOr (bitOr a c) c ≡ bitOr a c) (none-left b h) (or-zero-r (bitOr a zero))
+  where
+    none-left : (x : ℕ) → x ≤ zero → zero ≡ x
+    none-left x g = let z = g in omega arith
+or-again-up-to (suc k) a b h =
+    or-step (bitOr a b) b
+    ∙ ap (λ (c : ℕ). bitOr (c / 2) (b / 2) * 2 + max (c % 2) (b % 2)) (or-step a b)
+    ∙ halves (bitOr (a / 2) (b / 2)) (max (a % 2) (b % 2)) (digit a b) (b / 2) (b % 2)
+    ∙ ap (λ (c : ℕ). c * 2 + max (max (a % 2) (b % 2)) (b % 2)) (or-again-up-to k (a / 2) (b / 2) (half b h))
+    ∙ ap (λ (c : ℕ). bitOr (a / 2) (b / 2) * 2 + c) (again (a % 2) (b % 2))
+    ∙ sym (or-step a b)
+  where
+    digit : (x y : ℕ) → max (x % 2) (y % 2) < 2
+    digit x y = omega arith
+
+    half : (x : ℕ) → x ≤ suc k → x / 2 ≤ k
+    half x g = let z = g in omega arith
+
+    again : (x y : ℕ) → max (max x y) y ≡ max x y
+    again x y = omega arith
+
+    half-of : (h d : ℕ) → d < 2 → (h * 2 + d) / 2 ≡ h
+    half-of h d l = let z = l in omega arith
+
+    rest-of : (h d : ℕ) → d < 2 → (h * 2 + d) % 2 ≡ d
+    rest-of h d l = let z = l in omega arith
+
+    halves : (h d : ℕ) → d < 2 → (y e : ℕ) → bitOr ((h * 2 + d) / 2) y * 2 + max ((h * 2 + d) % 2) e ≡ bitOr h y * 2 + max d e
+    halves h d l y e =
+        ap (λ (c : ℕ). bitOr c y * 2 + max ((h * 2 + d) % 2) e) (half-of h d l) ∙ ap (λ (c : ℕ). bitOr h y * 2 + max c e) (rest-of h d l)
+
+-- one that is put in twice
+insert-again : (s p : ℕ) → insert (insert s p) p ≡ insert s p
+unfolding insert
+insert-again s p = go (ltb p 64)
+  where
+    put : Bool → ℕ → ℕ
+    put t x = cond t (bitOr x (2 ^ p)) x
+
+    go : (t : Bool) → put t (put t s) ≡ put t s
+    go true = or-again-up-to (2 ^ p) s (2 ^ p) (le-refl (2 ^ p))
+    go false = refl
+
 -- ---- both, at a live replica
 
 module _ (a : Asked) (replica : a .member .replica ≡ true) where
-  -- who is counted
   pub counted-also : (src set : ℕ) → counted (a .member) src set ≡ alsoSelf (a .member .«my_pid») src set
   unfolding withOwn withSender
-  counted-also src set = ap (λ (t : Bool). cond t (insert (withSender (a .member) src set) (a .member .«my_pid»)) (withSender (a .member) src set)) replica
+  counted-also src set =
+      ap (λ (t : Bool). cond t (insert (withSender (a .member) src set) (a .member .«my_pid»)) (withSender (a .member) src set)) replica
+      ∙ go (eqb src (a .member .«my_pid»)) refl
+    where
+      me : ℕ
+      me = a .member .«my_pid»
+
+      go : (t : Bool) → eqb src me ≡ t → insert (cond t set (insert set src)) me ≡ insert (insert set src) me
+      go true e = sym (insert-again set me) ∙ ap (λ (p : ℕ). insert (insert set p) me) (sym (eqb-true src me e))
+      go false e = refl
 
   pub promise-heard : (src : ℕ) (rv : RoundV) (p : PaxosState)
       → replicaOf (receivePromise (a .member) src rv p .state) ≡ hears (a .member .«my_pid») src rv (replicaOf p)

@@ -128,7 +128,7 @@ module _ (here : Place) where
   abbrev pub proposer : ℕ
   proposer = here .heard .delegate
 
-  -- Phase 1 (b): the response to it
+  -- Phase 1 (b): the response, to the proposer
   unfoldable pub responding : Replica → Option (Message PaxosRound ℕ) → Seen
   responding r none = leaves r noMessages
   responding r (some m) = leaves r (oneMessage (sending (One proposer) (r .wish) m))
@@ -200,6 +200,7 @@ module _ (here : Place) where
   abbrev pub counts : Proposal PaxosRound ℕ → Replica → Messages → Seen
   counts p r messages = learning p r messages (learns roundBefore (here .acceptors) (size (r .agreed)) p)
 
+  -- DIFFERENCE ("an answer to an accept request"): a learner that gets an acceptance accepts as well, as if it were an accept request
   unfoldable pub inAccept : Proposal PaxosRound ℕ → Replica → Seen
   inAccept p r =
       cond (isLearner (p .number))
@@ -234,7 +235,7 @@ module _ (here : Place) where
 
   -- ---- messages
 
-  -- A Commit is what a distinguished learner informs with, and is believed. Reads are no part of the paper (`InPaxos`).
+  -- A Commit is what a distinguished learner informs with, and is believed. A ForwardRequest is for the host. Reads are no part of the paper (`InPaxos`).
   unfoldable pub received : ConsensusMsg → Seen
   received (Prepare slot n rv) = receivesPrepare slot n rv
   received (Accept slot n v) = receivesAccept slot (record { number = n; value = v })

@@ -5,7 +5,6 @@ use mathlib.Core.Bool.{Bool, true, false, cond, _||_}
 use mathlib.Core.List.{[], _∷_}
 use mathlib.Core.Option.{Option, none, some}
 use Prim.Native.Nat.{ℕ}
-use lib.Dec.{eqb}
 use Rattle.sets.specs.Sets.{insert, size}
 use Rattle.paxos.specs.PaxosMadeSimple.{Proposal, Acceptor, Message, Proposer, higher, responds, prepare, ignores, accept}
 use Rattle.paxos.specs.PaxosMadeSimple.Message.{prepareRequest, promise, acceptRequest, acceptance}
@@ -122,7 +121,7 @@ promises n r = cond (ignores roundBefore (r .acceptor) n) none (some (promise n 
 
 -- DIFFERENCE ("an answer to an accept request"): the replica itself (me) is counted with each one that it hears, since it promises and accepts too
 abbrev pub alsoSelf : ℕ → ℕ → ℕ → ℕ
-alsoSelf me src set = insert (cond (eqb src me) set (insert set src)) me
+alsoSelf me src set = insert (insert set src) me
 
 -- the wish: the first that came, until a proposal is kept
 abbrev pub firstWish : Option RoundV → RoundV → Option RoundV
