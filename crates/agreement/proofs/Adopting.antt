@@ -15,7 +15,7 @@ use Rattle.agreement.specs.Voting.{Voters, World, Blocked, Clear, Consis
 use Rattle.agreement.specs.Model.{Answers}
 use Rattle.agreement.proofs.Tests.{passes, and-both}
 use Rattle.agreement.proofs.Growth.{names, TrueAnswers}
-use Rattle.agreement.proofs.Answers.{count-nobody, count-sum, proposer-first}
+use Rattle.agreement.proofs.Answers.{count-none, count-nobody, count-sum, proposer-first}
 
 -- who may yet hold p's proposal first: a live member that has not answered, but for those left out (e), and one that has answered for p (a)
 abbrev rest : Bool → Bool → Bool → Bool → Bool
@@ -111,19 +111,16 @@ module _ (g : Voters) (rules : VotersRules g) (fast : T (g .fastPath)) (w : Worl
     both-named = count-sum (λ m. false) (for b) (for p) (f .answered) (λ m. false) (g .count)
         (λ m. apart (f .answered m) (eqb (o .name m) b) (eqb (o .name m) p) (λ t u. ne (sym (eqb→eq (o .name m) p u) ∙ eqb→eq (o .name m) b t)))
 
-    nobody : count (λ (m : ℕ). false) (g .count) ≡ 0
-    nobody = count-nobody (λ m. false) (g .count) (λ m t. t)
-
     -- b has answered: the answers for b are two more than those for p
     if-answered : f .scores p ≤ f .scores b → T (f .answered b) → Blocked g w s p
     if-answered le t = blocked-by (λ m. false) (λ m t. absurd t) (λ h.
-        let sp = silent-score p silent in let sb = answered-score t in let two = both-named in let z = nobody in
+        let sp = silent-score p silent in let sb = answered-score t in let two = both-named in let z = count-none (g .count) in
         let c1 = rules .few in let c2 = rules .fastEnough fast in omega arith)
 
     -- b has not: the answers for b are no fewer than those for p, and b itself is left out
     if-silent : f .scores p ≤ f .scores b → T (not (f .answered b)) → Blocked g w s p
     if-silent le t = blocked-by (λ m. eqb m b) (λ m e. out m (eqb→eq m b e)) (λ h.
-        let sp = silent-score p silent in let sb = silent-score b t in let two = both-named in let z = nobody in
+        let sp = silent-score p silent in let sb = silent-score b t in let two = both-named in let z = count-none (g .count) in
         let alone = count-some (λ m. eqb m b) b (eq-eqb b b refl) (g .count) (rules .below fast b (ok .firstLive b s (suc b) (f .values b) first-b)) in
         let c1 = rules .few in let c2 = rules .fastEnough fast in omega arith)
       where
@@ -134,7 +131,7 @@ module _ (g : Voters) (rules : VotersRules g) (fast : T (g .fastPath)) (w : Worl
     -- nobody has answered for p
     if-unnamed : T (not (f .proposers p)) → Blocked g w s p
     if-unnamed t = blocked-by (λ m. false) (λ m t. absurd t) (λ h.
-        let none = count-nobody (for p) (g .count) (λ m u. unnamed m (and-both (f .answered m) (eqb (o .name m) p) u)) in let z = nobody in
+        let none = count-nobody (for p) (g .count) (λ m u. unnamed m (and-both (f .answered m) (eqb (o .name m) p) u)) in let z = count-none (g .count) in
         let c1 = rules .few in let c2 = rules .majority in let c3 = rules .fastLarge fast in omega arith)
       where
         unnamed : (m : ℕ) → T (f .answered m) × T (eqb (o .name m) p) → ⊥
@@ -151,7 +148,7 @@ module _ (g : Voters) (rules : VotersRules g) (fast : T (g .fastPath)) (w : Worl
         go true e = by-answer (best p (passes (f .proposers p) e)) (f .answered b) refl
         go false e = if-unnamed (subst (λ (c : Bool). T (not c)) (sym e) tt)
 
-  -- no fast commit is a danger to the value of b at the adopter's round
+  -- a fast commit by p, if there is one, is of the value of b, which is adopted at the round of i
   pub adopt-clear : (p : ℕ) → Clear g w s (suc i) (f .values b) p
   adopt-clear p = go (ℕ-discrete p b)
     where

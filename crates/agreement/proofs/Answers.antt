@@ -1,4 +1,4 @@
--- The answers on the fast path: with one more, and why the value of a best proposer is no danger to a fast commit, whichever is taken.
+-- The answers on the fast path stay true: at first there are none, and then one more.
 -- Assumes nothing.
 use Prim.Native.Nat.{ℕ, zero, suc, _+_, _-_, _≤_, _<_}
 use mathlib.Core.Path.{_≡_, refl, sym, _∙_, subst, ap}
@@ -8,7 +8,7 @@ use lib.Dec.{T, eqb, T-not}
 use native.Mathlib.Omega.{arith}
 use native.Mathlib.Decide.{ℕ-discrete}
 use borrow.Author.Tests.{eqb-true, eq-eqb, ne-eqb}
-use Rattle.basics.proofs.Tests.{or-cases, or-left, or-right}
+use Rattle.basics.proofs.Tests.{not-both, or-cases, or-left, or-right}
 use Rattle.sets.specs.Sets.{one, count}
 use Rattle.sets.proofs.Counting.{count-ext, count-one-more}
 use Rattle.agreement.specs.Voting.{Voters, World, Consistent}
@@ -35,7 +35,7 @@ add-old m f k t = passes (add m f k) (or-right (eqb k m) (is-true (f k) t))
 -- ---- counts
 
 -- nothing passes a test that always fails
-count-none : (n : ℕ) → count (λ m. false) n ≡ 0
+pub count-none : (n : ℕ) → count (λ m. false) n ≡ 0
 unfolding count
 count-none zero = refl
 count-none (suc n) = let e = count-none n in omega arith
@@ -158,17 +158,14 @@ module _ (g : Voters) (w : World) (ok : Consistent g w) (i s : ℕ) (f : Answers
         let now : one (names f⁺ name⁺ p p) ≡ 1 = ap one (subst (λ (j : ℕ). names f⁺ name⁺ p j ≡ true) d (new-names p ∙ eq-eqb p p refl)) in
         let was : one (names f (o .name) p p) ≡ 0 = ap one (subst (λ (j : ℕ). names f (o .name) p j ≡ false) d (old-names p)) in
         let step : one (eqb p p) ≡ 1 = ap one (eq-eqb p p refl) in
-        let score : scoreAfter m p (f .scores p) ≡ f .scores p - 1 = ap (λ (b : Bool). cond b (f .scores p - 1) (suc (f .scores p))) e in
+        let score : scoreAfter m p (f .scores p) ≡ f .scores p - 1 = simp e in
         let c = counted p in let z = o .scored p in omega arith
     score-named false e =
-        let ne : m ≡ p → ⊥ = λ d. no-both (eq-eqb m p d) e in
+        let ne : m ≡ p → ⊥ = λ d. not-both (eq-eqb m p d) e in
         let same : one (names f⁺ name⁺ p p) ≡ one (names f (o .name) p p) = ap one (others-same p p ne) in
         let step : one (eqb p p) ≡ 1 = ap one (eq-eqb p p refl) in
-        let score : scoreAfter m p (f .scores p) ≡ suc (f .scores p) = ap (λ (b : Bool). cond b (f .scores p - 1) (suc (f .scores p))) e in
+        let score : scoreAfter m p (f .scores p) ≡ suc (f .scores p) = simp e in
         let c = counted p in let z = o .scored p in omega arith
-      where
-        no-both : eqb m p ≡ true → eqb m p ≡ false → ⊥
-        no-both a b = let z : _≡_ {A = ℕ} 1 0 = ap one (sym a ∙ b) in omega arith
 
     scored : (q : ℕ) → f⁺ .scores q + (one (names f⁺ name⁺ q q) + one (names f⁺ name⁺ q q)) ≡ 2 + count (names f⁺ name⁺ q) (g .count)
     scored q = go (ℕ-discrete q p)

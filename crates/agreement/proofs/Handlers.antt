@@ -206,10 +206,10 @@ module _ (S : Setup) (rules : SetupRules S) where
               decision = tt;
             })
 
-        -- the delegate picks what it holds: a quorum has promised, so that is safe, and without a fast path no fast commit is a danger to it
+        -- the delegate picks what it holds: a quorum has promised, so that is safe, and without a fast path there is no fast commit
         picks-correct : (old : View) → (x .heldRound ≡ 0 → T (not (g .fastPath))) → Keeps (picks S i x0 old x)
         unfolding picks
-        picks-correct old calm = by-test Keeps (ltb (count (old .prepared) (g .count)) (g .quorum) && enoughPrepared S x) _ _
+        picks-correct old slow = by-test Keeps (ltb (count (old .prepared) (g .count)) (g .quorum) && enoughPrepared S x) _ _
             (λ t. let enough = leb→le (g .quorum) (count (x .prepared) (g .count)) (and-both (ltb (count (old .prepared) (g .count)) (g .quorum)) (enoughPrepared S x) t .1) in
             casts-correct (x .heldValue) (o .held .heldProposed holds) (λ unvoted. inr (
               x .prepared,
@@ -217,7 +217,7 @@ module _ (S : Setup) (rules : SetupRules S) where
               enough,
               o .promises,
               (λ l. (later unvoted l (decLt (x .heldRound) (x .round)), o .held .heldVoted l)),
-              λ z p l. inr (inr (g .live, rules .voters .noFast (calm z), λ m t. inl t)),
+              λ z p l. inr (inr (g .live, rules .voters .noFast (slow z), λ m t. inl t)),
             )))
             (λ t. say-correct [] tt)
           where

@@ -114,7 +114,7 @@ module _ (g : Voters) (rules : VotersRules g) (w : World) (ok : Consistent g w) 
       let same = ok .firstOnce (x .0) s (h .0) (h .1) (suc p) v′ (h .2) (c .2 (x .0) (x .2)) .0 in
       let le = h .3 in omega arith
 
-  -- a fast commit that is no danger to a value is of that value
+  -- so a fast commit by p is of v
   clear-same : (s r v p v′ : ℕ) → suc p < r → FastChosen g w s p v′ → Clear g w s r v p → v ≡ v′
   clear-same s r v p v′ lt c (inl h) = ok .firstOnce p s (suc p) v (suc p) v′ h (fast-own s p v′ c) .1
   clear-same s r v p v′ lt c (inr (inl h)) = let le = c .5 r h in absurd (omega arith)

@@ -53,12 +53,13 @@ abbrev pub Blocked : Voters → World → ℕ → ℕ → Type 0
 Blocked g w s p = (f : ℕ → Bool) × (count f (g .count) < g .fastQuorum)
     × ((m : ℕ) → T (g .live m) → T (f m) ⊎ ((c : ℕ) × (u : ℕ) × w .First m s c u × (c ≡ suc p → ⊥)))
 
--- why a fast commit by p is no danger to v at (s, r): v is what p proposed; or p has come to r without one; or it is blocked
+-- why a fast commit by p, if there is one, is of v, where v is voted for at (s, r): v is what p proposed; or p has come to r without one; or it is
+-- blocked
 abbrev pub Clear : Voters → World → ℕ → ℕ → ℕ → ℕ → Type 0
 Clear g w s r v p = w .First p s (suc p) v ⊎ (w .Reached p s r ⊎ Blocked g w s p)
 
--- a quorum promises that its votes in s below r are at most at a; v is what was voted at a, where a is a round at all, and else no earlier
--- fast commit is a danger to it
+-- a quorum promises that its votes in s below r are at most at a; v is what was voted at a, where a is a round at all, and else every
+-- earlier fast commit is of v
 abbrev pub SafeByQuorum : Voters → World → ℕ → ℕ → ℕ → Type 0
 SafeByQuorum g w s r v = (f : ℕ → Bool) × (a : ℕ) × (g .quorum ≤ count f (g .count)) × ((m : ℕ) → T (f m) → Promise g w m s r a)
     × (1 ≤ a → (a < r) × Voted w s a v) × (a ≡ 0 → (p : ℕ) → suc p < r → Clear g w s r v p)
@@ -68,9 +69,9 @@ abbrev pub Safe : Voters → World → ℕ → ℕ → ℕ → Type 0
 Safe g w s r v = (r ≤ g .start) ⊎ SafeByQuorum g w s r v
 
 -- the rules of voting: one value in a round, and it is safe; a vote is cast in a round, no earlier than the starting one, by a live
--- member that has reached it; its value was proposed in the slot; and the round's delegate has reached the round too. A live member that
--- has come to the slot holds one thing first, which was proposed there, and what it holds of a proposer that one holds itself. On the fast path every round is
--- its delegate's own.
+-- member that has reached it; its value was proposed in the slot; and the round's delegate has reached the round too. What a member held first in a
+-- slot is one thing: the member is live and has come to the slot, the value was proposed there, and a proposer that is named held it first
+-- too. On the fast path every round is its delegate's own.
 pub record Consistent (g : Voters) (w : World) : Type 0 where
   pub oneValue : (m m′ s r v v′ : ℕ) → w .Votes m s r v → w .Votes m′ s r v′ → v ≡ v′
   pub safe : (m s r v : ℕ) → w .Votes m s r v → Safe g w s r v

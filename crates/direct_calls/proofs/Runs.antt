@@ -145,8 +145,8 @@ host-run shards memories same past (c ∷ cs) = (
 -- Demand 3 of hosts that lend arrays: what they are told over a legal list, on memory that stands for new shards, meets the claim.
 pub host-agreement : (s : Settings) → NotSwift (s .mode) → (memories : ℕ → Memory) → ((j : ℕ) → shardOf (memories j) ≡ begun s j) → (cs : List HostCall)
     → Legal s (callsFrom memories cs) → (all : List Entry) × HostRun memories [] cs all × Claim all
-host-agreement s classic memories new cs legal =
-    (entries s (callsFrom memories cs), host-run (begun s) memories new [] cs, agreement s classic (callsFrom memories cs) legal)
+host-agreement s claimed memories new cs legal =
+    (entries s (callsFrom memories cs), host-run (begun s) memories new [] cs, agreement s claimed (callsFrom memories cs) legal)
 
 -- and so memory begins that `chanbook_shard_new` hands back
 pub host-begins : (s : Settings) (j : ℕ) (t : FlatSettings) → leb (t .mode) 5 ≡ true → decodedSettings t ≡ memberSettings s j → shardOf (memoryOf (flatNew t)) ≡ begun s j

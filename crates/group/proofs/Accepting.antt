@@ -87,7 +87,7 @@ committer-same s i p = refl
 eqb-swap : (a b : ℕ) → eqb b a ≡ eqb a b
 eqb-swap a b = same-test (λ e. eq-eqb a b (sym (eqb-true b a e))) (λ e. eq-eqb b a (sym (eqb-true a b e)))
 
-module _ (ans : Answers) (s : Settings) (i : ℕ) (classic : isSwiftPaxos (s .mode) ≡ false) (alive : contains (s .«alive_replicas») i ≡ true) (small : i < 64) (h : Heard) (src-small : h .src < 64) (by-requester : h .committer ≡ committerOf s (h .requester)) (round : PaxosRound) (below : round .leader < 64) where
+module _ (ans : Answers) (s : Settings) (i : ℕ) (no-swift : isSwiftPaxos (s .mode) ≡ false) (alive : contains (s .«alive_replicas») i ≡ true) (small : i < 64) (h : Heard) (src-small : h .src < 64) (by-requester : h .committer ≡ committerOf s (h .requester)) (round : PaxosRound) (below : round .leader < 64) where
   -- what the host says, as the model's host
   abbrev host : Host
   host = record { allows = true; requester = processNumber (h .requester); adoptee = 0 }
@@ -276,7 +276,7 @@ module _ (ans : Answers) (s : Settings) (i : ℕ) (classic : isSwiftPaxos (s .mo
   accepted-committer : (v : ℕ) (core : Core) → eqb i (round .leader) ≡ false → eqb (h .src) (h .delegate) ≡ true → isCommitter (askedBy s i) h ≡ true
       → accepted (askedBy s i) h round v core ≡ tryCommit (askedBy s i) h round v core (answerAccept (askedBy s i) round core (h .committer))
   unfolding accepted follower answered
-  accepted-committer v core e d c = simp (e, d, c, classic)
+  accepted-committer v core e d c = simp (e, d, c, no-swift)
 
   accepted-other : (v : ℕ) (core : Core) → eqb i (round .leader) ≡ false → eqb (h .src) (h .delegate) ≡ false → isCommitter (askedBy s i) h ≡ true
       → accepted (askedBy s i) h round v core ≡ tryCommit (askedBy s i) h round v core noMessages
@@ -349,7 +349,7 @@ module _ (ans : Answers) (s : Settings) (i : ℕ) (classic : isSwiftPaxos (s .mo
   accepting-fits : (v : ℕ) (core : Core) → acceptFits (core .paxos .«max_rv») round v ≡ true
       → accepting (askedBy s i) h round v core ≡ accepted (askedBy s i) h round v (acceptedCore v core)
   unfolding accepting receiveAccept
-  accepting-fits v core e = simp (e, classic)
+  accepting-fits v core e = simp (e, no-swift)
 
   accepting-unfit : (v : ℕ) (core : Core) → acceptFits (core .paxos .«max_rv») round v ≡ false → accepting (askedBy s i) h round v core ≡ refuses AcceptUnlikeHeld core
   unfolding accepting receiveAccept
@@ -409,7 +409,7 @@ ends S ans X lift Fits lifted step r rest f = go (step .next) refl (f .seen-as)
     go (Refuses why) e g = subst (λ (t : Bool). Fits (cond t (rest (step .core)) (lift step)) r) (ap (λ (n : Next). goesOn n) (sym e)) (lifted step r f)
 
 -- An Accept is the model's, with the host's requester; X is what the handler makes of it, as in Entering.antt.
-module _ (ans : Answers) (s : Settings) (i : ℕ) (classic : isSwiftPaxos (s .mode) ≡ false) (small : i < 64) (h : Heard) (src : h .src < 64) (slot : ℕ) (round : PaxosRound) (below : round .leader < 64) (v : ℕ)
+module _ (ans : Answers) (s : Settings) (i : ℕ) (no-swift : isSwiftPaxos (s .mode) ≡ false) (small : i < 64) (h : Heard) (src : h .src < 64) (slot : ℕ) (round : PaxosRound) (below : round .leader < 64) (v : ℕ)
     (live : h .«source_live» ≡ contains (s .«alive_replicas») (h .src)) (delegate-of : h .delegate ≡ delegateOf s (s .mode) (round .leader)) (by-requester : h .committer ≡ committerOf s (h .requester))
     (X : Type 0) (lift : CoreStep → X) (Fits : X → Outcome → Type 0) (lifted : (step : CoreStep) (r : Outcome) → Follows (setupOf s) ans step r → Fits (lift step) r)
     (rest : Core → X) (rest-follows : contains (s .«alive_replicas») i ≡ true → (core : Core) (r : Outcome) → Follows (setupOf s) ans (accepting (askedBy s i) h round v core) r → Fits (rest core) r) where
@@ -418,7 +418,7 @@ module _ (ans : Answers) (s : Settings) (i : ℕ) (classic : isSwiftPaxos (s .mo
       (model.onAccept (setupOf s) i (viewOf ans core) (h .src) slot (roundNumber (Round round)) v (record { allows = true; requester = processNumber (h .requester); adoptee = 0 }))
   unfolding model.onAccept
   on-accept-follows core ok le =
-      enter-follows ans s i classic core h slot round X lift Fits lifted ok below live le rest _
+      enter-follows ans s i no-swift core h slot round X lift Fits lifted ok below live le rest _
       (λ alive same no-older.
       rest-follows alive (inRound round core) _
-      (accepting-follows ans s i classic alive small h src by-requester round below delegate-of v (inRound round core) (in-round-leaders round core ok below) (in-round-round round core no-older) (viewOf ans core)))
+      (accepting-follows ans s i no-swift alive small h src by-requester round below delegate-of v (inRound round core) (in-round-leaders round core ok below) (in-round-round round core no-older) (viewOf ans core)))

@@ -216,15 +216,15 @@ unfolding newShard
 begun-valid s i = record { own-settings = refl; lasting = begun-lasts (memberSettings s i) }
 
 made-refines : (s : Settings) → NotSwift (s .mode) → Refines (setupOf s) (engineOf s)
-made-refines s classic =
+made-refines s claimed =
     record {
       view = viewShard;
       meaning = meaningOf;
       Valid = Valid s;
       initial-view = λ i l. begun-view s i;
       initial-valid = λ i l. begun-valid s i;
-      answer-valid = λ c x v. call-ok s (c .of-member .member) classic (c .choose) (c .picks-best) x v (c .of-member .call) .valid;
-      answer-as-model = λ c x v. call-ok s (c .of-member .member) classic (c .choose) (c .picks-best) x v (c .of-member .call) .as-model;
+      answer-valid = λ c x v. call-ok s (c .of-member .member) claimed (c .choose) (c .picks-best) x v (c .of-member .call) .valid;
+      answer-as-model = λ c x v. call-ok s (c .of-member .member) claimed (c .choose) (c .picks-best) x v (c .of-member .call) .as-model;
     }
 
 -- a shard that was not made
@@ -255,11 +255,11 @@ unmade-refines s outside =
 
 log-claim : (s : Settings) → NotSwift (s .mode) → (cs : List ChosenCall) → engine.Legal (engineOf s) (engine.begin (engineOf s)) cs
     → engine.Claim (engine.runs (engineOf s) (engine.begin (engineOf s)) cs .log)
-log-claim s classic cs legal = go (either (withinLimits (memberSettings s 0)))
+log-claim s claimed cs legal = go (either (withinLimits (memberSettings s 0)))
   where
     go : (withinLimits (memberSettings s 0) ≡ true) ⊎ (withinLimits (memberSettings s 0) ≡ false)
         → engine.Claim (engine.runs (engineOf s) (engine.begin (engineOf s)) cs .log)
-    go (inl e) = refines-claim (setupOf s) (setup-rules s e) (engineOf s) (made-refines s classic) cs legal
+    go (inl e) = refines-claim (setupOf s) (setup-rules s e) (engineOf s) (made-refines s claimed) cs legal
     go (inr e) = refines-claim (unmadeSetup s) (unmade-rules s) (engineOf s) (unmade-refines s e) cs legal
 
 -- ---- from the entries of a run to the engine's log
@@ -505,11 +505,11 @@ claim-of run claim =
 -- In every mode but SwiftPaxos, with every settings, every legal list of calls meets the claim, whichever of the best each adoption takes.
 pub agreement-ties : (s : Settings) → NotSwift (s .mode) → (choices : Choices) → ((place : ℕ) → PicksBest (choices place)) → (cs : List MemberCall)
     → LegalWith choices s cs → Claim (entriesWith choices s cs)
-agreement-ties s classic choices best cs legal =
+agreement-ties s claimed choices best cs legal =
     claim-of (entriesWith choices s cs)
     (subst engine.Claim (run-log s choices best (begun s) [] cs)
-    (log-claim s classic (chosen choices best cs) (legal-run s choices best (begun s) [] cs legal)))
+    (log-claim s claimed (chosen choices best cs) (legal-run s choices best (begun s) [] cs legal)))
 
 -- So does every legal list of calls on the engine, which takes the lowest of them.
 pub agreement : (s : Settings) → NotSwift (s .mode) → (cs : List MemberCall) → Legal s cs → Claim (entries s cs)
-agreement s classic cs legal = agreement-ties s classic ours (λ place. lowest-picks-best) cs legal
+agreement s claimed cs legal = agreement-ties s claimed ours (λ place. lowest-picks-best) cs legal

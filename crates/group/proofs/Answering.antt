@@ -53,6 +53,7 @@ use Rattle.steps.specs.declared.CoreStep.{CoreStep}
 use Rattle.steps.specs.declared.Heard.{Heard}
 use Rattle.agreement.specs.Model.{View, Answers, Host, Outcome, withAnswer, withAnswers, quiet, refuse, say, voted}
 use Rattle.agreement.specs.Model as model
+use Rattle.agreement.proofs.Answers.{count-none}
 use Rattle.group.specs.Claim.{PicksBest}
 use Rattle.group.proofs.View.{roundNumber, processNumber, insert-add, proposerOf, isEPaxos, answersIn, viewOf, setupOf, Follows}
 use Rattle.group.proofs.Preparing.{askedBy, follows-both, own-accept-view, broadcast-classic}
@@ -218,11 +219,6 @@ not-ltb a b e = lt-leb b a (ltb-true a b e)
 not-ltb′ : (a b : ℕ) → ltb a b ≡ false → leb b a ≡ true
 not-ltb′ a b e = le-leb b a (ltb-false a b e)
 
-zero-count : (n : ℕ) → count (λ q. false) n ≡ 0
-unfolding count
-zero-count zero = refl
-zero-count (suc n) = let e = zero-count n in omega arith
-
 -- the host of a call whose answers are f and scores are `score`
 abbrev pub hostWith : Choice → FastChange → List ℕ → Host
 hostWith choose change scores =
@@ -244,7 +240,7 @@ abbrev pub ProposerFits : RoundV → Type 0
 ProposerFits (FastV p v) = p < 64
 ProposerFits (PaxosV at v) = Unit {0}
 
-module _ (choose : Choice) (picks-best : PicksBest choose) (s : Settings) (i : ℕ) (classic : isSwiftPaxos (s .mode) ≡ false) (epaxos : isEPaxos (s .mode) ≡ true)
+module _ (choose : Choice) (picks-best : PicksBest choose) (s : Settings) (i : ℕ) (no-swift : isSwiftPaxos (s .mode) ≡ false) (epaxos : isEPaxos (s .mode) ≡ true)
     (alive : contains (s .«alive_replicas») i ≡ true) (small : i < 64) (h : Heard) (src-small : h .src < 64) (round : PaxosRound) (below : round .leader < 64) (x0 : View)
     (core : Core) (at : core .paxos .round ≡ Round round) where
   -- ---- the adopted value
@@ -284,7 +280,7 @@ module _ (choose : Choice) (picks-best : PicksBest choose) (s : Settings) (i : �
       go : (isEmpty (core .paxos .«accepted_set») ≡ true) ⊎ (isEmpty (core .paxos .«accepted_set») ≡ false) → Follows (setupOf s) ans (adopting (askedBy s i) round v core) (model.casts (setupOf s) i x0 v (viewOf ans core))
       go (inr e) = follows-both (adopting-step v _ p (adopted-full v e)) refl (record { seen-as = tt })
       go (inl e) =
-          follows-both (adopting-step v _ p (adopted-state v e) ∙ broadcast-classic ans s i classic alive small h src-small round below (record { allows = true; requester = 0; adoptee = 0 }) accepted) (model-casts ans v e)
+          follows-both (adopting-step v _ p (adopted-state v e) ∙ broadcast-classic ans s i no-swift alive small h src-small round below (record { allows = true; requester = 0; adoptee = 0 }) accepted) (model-casts ans v e)
           (record {
             seen-as =
                 ap₂ (λ (x : View) (r : ℕ). say x (record { destination = model.all; message = model.accept (core .slot) r v } ∷ [])) (own-accept-view ans s i alive small round core v at) (ap roundNumber (sym at));
@@ -316,7 +312,7 @@ module _ (choose : Choice) (picks-best : PicksBest choose) (s : Settings) (i : �
 
     -- whom the choice takes is a best proposer of the model
     best-model : (p : ℕ) → chosen ≡ Process p → model.isBest (setupOf s) p ans ≡ true
-    best-model p e = and-both (picks-best .proposer _ _ p e .1) (eq-eqb (count better 64) 0 (count-ext better (λ q. false) 64 none ∙ zero-count 64))
+    best-model p e = and-both (picks-best .proposer _ _ p e .1) (eq-eqb (count better 64) 0 (count-ext better (λ q. false) 64 none ∙ count-none 64))
       where
         better : ℕ → Bool
         better q = ans .proposers q && ltb (ans .scores p) (ans .scores q)

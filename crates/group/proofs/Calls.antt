@@ -287,7 +287,7 @@ leaders-small shard lasts done =
     led-fits NoRound led = tt
     led-fits (Round r) led = led done
 
-module _ (s : Settings) (i : ℕ) (classic : NotSwift (s .mode)) (choose : Choice) (picks-best : PicksBest choose) (limits : withinLimits (memberSettings s i) ≡ true) where
+module _ (s : Settings) (i : ℕ) (claimed : NotSwift (s .mode)) (choose : Choice) (picks-best : PicksBest choose) (limits : withinLimits (memberSettings s i) ≡ true) where
   few : s .«process_count» ≤ 64
   few = within-counts (memberSettings s i) limits .most-processes
 
@@ -308,7 +308,7 @@ module _ (s : Settings) (i : ℕ) (classic : NotSwift (s .mode)) (choose : Choic
   gatherer : (slot : ℕ) (round : PaxosRound) (rv : RoundV) → gathererOf (memberSettings s i) (Prepare slot round rv) ≡ delegateOf s (s .mode) (round .leader)
   unfolding gathererIn
   gatherer slot round (FastV proposer v) =
-      ap (λ (t : Bool). cond (t && not (eqb (round .leader) i)) proposer (delegateOf (memberSettings s i) (s .mode) (round .leader))) (not-swift (s .mode) classic)
+      ap (λ (t : Bool). cond (t && not (eqb (round .leader) i)) proposer (delegateOf (memberSettings s i) (s .mode) (round .leader))) (not-swift (s .mode) claimed)
       ∙ delegate-same s i (s .mode) (round .leader)
   gatherer slot round (PaxosV at v) = delegate-same s i (s .mode) (round .leader)
 
@@ -388,7 +388,7 @@ module _ (s : Settings) (i : ℕ) (classic : NotSwift (s .mode)) (choose : Choic
           × StepFollows s (processed choose (askedBy s i) h (Prepare slot round rv) (state .rounds))
           (outcome (setupOf s) (viewShard shard) (deliver i (d .message .src) (model.prepare slot (roundNumber (Round round)) (roundNumber (acceptRoundOf rv)) (proposerOf rv) (valueOf rv)) host))
       unfolding processClassic processChange outcome model.onMessage
-      prepare-ok slot round rv e = go (mode-is (s .mode) classic)
+      prepare-ok slot round rv e = go (mode-is (s .mode) claimed)
         where
           parts : MessageFits (λ p. p < 64) (Prepare slot round rv)
           parts = subst (MessageFits (λ p. p < 64)) e (numbers-small core d adm)
@@ -411,7 +411,7 @@ module _ (s : Settings) (i : ℕ) (classic : NotSwift (s .mode)) (choose : Choic
           go (isClassic no-fast no-epaxos) = (
             slow-host,
             subst (goal slow-host) (sym (processed-slow h (Prepare slot round rv) no-fast))
-                (on-prepare-follows (answersFor (s .mode) fastState) s i (not-swift (s .mode) classic) no-epaxos own-small h (source-small d (adm .processes)) slot round (parts .0 .1) rv (parts .1) refl delegate-of core ok le slow-host),
+                (on-prepare-follows (answersFor (s .mode) fastState) s i (not-swift (s .mode) claimed) no-epaxos own-small h (source-small d (adm .processes)) slot round (parts .0 .1) rv (parts .1) refl delegate-of core ok le slow-host),
           )
           go (isFast has-fast epaxos single) = (
             hostFor choose s i (d .message .src) fastState rv,
@@ -423,14 +423,14 @@ module _ (s : Settings) (i : ℕ) (classic : NotSwift (s .mode)) (choose : Choic
                 (fast-step epaxos
                 (onFastPrepare choose (askedBy s i) h slot round rv core (answersOf fastState) (fastState .«fast_proposer_to_v») (fastState .«epaxos_proposer_scores») (fastState .«swift_proposer_scores»))
                 (λ x. model.onPrepare (setupOf s) i x (d .message .src) slot (roundNumber (Round round)) (roundNumber (acceptRoundOf rv)) (proposerOf rv) (valueOf rv) (hostFor choose s i (d .message .src) fastState rv))
-                (fast-prepare-follows choose picks-best s i (not-swift (s .mode) classic) epaxos own-small fastState fits h (source-small d (adm .processes)) round (parts .0 .1) slot rv (parts .1) (parts .2) refl delegate-of core ok le))),
+                (fast-prepare-follows choose picks-best s i (not-swift (s .mode) claimed) epaxos own-small fastState fits h (source-small d (adm .processes)) round (parts .0 .1) slot rv (parts .1) (parts .2) refl delegate-of core ok le))),
           )
 
       accept-ok : (slot : ℕ) (round : PaxosRound) (v : ℕ) → d .message .msg ≡ Accept slot round v
           → StepFollows s (processed choose (askedBy s i) h (Accept slot round v) (state .rounds))
           (outcome (setupOf s) (viewShard shard) (deliver i (d .message .src) (model.accept slot (roundNumber (Round round)) v) (record { allows = true; requester = processNumber (d .said .requester); adoptee = 0 })))
       unfolding processClassic processChange outcome model.onMessage onAccept
-      accept-ok slot round v e = go (mode-is (s .mode) classic)
+      accept-ok slot round v e = go (mode-is (s .mode) claimed)
         where
           leader : round .leader < 64
           leader = subst (MessageFits (λ p. p < 64)) e (numbers-small core d adm) .1
@@ -450,18 +450,18 @@ module _ (s : Settings) (i : ℕ) (classic : NotSwift (s .mode)) (choose : Choic
           go : ModeIs (s .mode) → goal (processed choose (askedBy s i) h (Accept slot round v) (state .rounds))
           go (isClassic no-fast no-epaxos) =
               subst goal (sym (processed-slow h (Accept slot round v) no-fast))
-              (on-accept-follows (answersFor (s .mode) fastState) s i (not-swift (s .mode) classic) own-small h (source-small d (adm .processes)) slot round leader v refl delegate-of (committer-same s i (d .said .requester))
+              (on-accept-follows (answersFor (s .mode) fastState) s i (not-swift (s .mode) claimed) own-small h (source-small d (adm .processes)) slot round leader v refl delegate-of (committer-same s i (d .said .requester))
               CoreStep (λ t. t) (Follows (setupOf s) (answersFor (s .mode) fastState)) (λ step r f. f) (accepting (askedBy s i) h round v) (λ alive c r f. f) core ok le)
           go (isFast has-fast epaxos single) =
               subst goal (sym (processed-fast h (Accept slot round v) has-fast))
               (fast-step epaxos (onFastAccept (askedBy s i) h slot round v core (answersOf fastState) (fastState .«swift_proposer_scores»))
               (λ x. model.onAccept (setupOf s) i x (d .message .src) slot (roundNumber (Round round)) v host)
-              (fast-accept-follows choose picks-best s i (not-swift (s .mode) classic) epaxos own-small fastState fits h (source-small d (adm .processes)) round leader slot v refl delegate-of (committer-same s i (d .said .requester)) core ok le))
+              (fast-accept-follows choose picks-best s i (not-swift (s .mode) claimed) epaxos own-small fastState fits h (source-small d (adm .processes)) round leader slot v refl delegate-of (committer-same s i (d .said .requester)) core ok le))
 
       -- a ForwardRequest does nothing
       forward-ok : (v : ℕ) → StepFollows s (processed choose (askedBy s i) h (ForwardRequest v) (state .rounds)) (quiet (viewShard shard))
       unfolding processClassic processChange
-      forward-ok v = go (mode-is (s .mode) classic)
+      forward-ok v = go (mode-is (s .mode) claimed)
         where
           goal : RoundsStep → Type 0
           goal step = StepFollows s step (quiet (viewShard shard))
@@ -569,7 +569,7 @@ module _ (s : Settings) (i : ℕ) (classic : NotSwift (s .mode)) (choose : Choic
     proposing-fast v e = simp e
 
     propose-ok : (v : ℕ) → StepFollows s (proposing (askedBy s i) v (state .rounds)) (model.onPropose (setupOf s) i (viewShard shard) v)
-    propose-ok v = go (mode-is (s .mode) classic)
+    propose-ok v = go (mode-is (s .mode) claimed)
       where
         goal : RoundsStep → Type 0
         goal step = StepFollows s step (model.onPropose (setupOf s) i (viewShard shard) v)
@@ -577,12 +577,12 @@ module _ (s : Settings) (i : ℕ) (classic : NotSwift (s .mode)) (choose : Choic
         go : ModeIs (s .mode) → goal (proposing (askedBy s i) v (state .rounds))
         go (isClassic no-fast no-epaxos) =
             subst goal (sym (proposing-slow v no-fast))
-            (propose-follows (answersFor (s .mode) fastState) s i (not-swift (s .mode) classic) own-small leader-small v core ok no-epaxos)
+            (propose-follows (answersFor (s .mode) fastState) s i (not-swift (s .mode) claimed) own-small leader-small v core ok no-epaxos)
         go (isFast has-fast epaxos single) =
             subst goal (sym (proposing-fast v has-fast))
             (fast-step epaxos (proposeChange (askedBy s i) v core (answersOf fastState) (fastState .«epaxos_proposer_scores») (fastState .«swift_proposer_scores»))
             (λ x. model.onPropose (setupOf s) i x v)
-            (fast-propose-follows choose picks-best s i (not-swift (s .mode) classic) epaxos own-small fastState fits leader-small v core ok single))
+            (fast-propose-follows choose picks-best s i (not-swift (s .mode) claimed) epaxos own-small fastState fits leader-small v core ok single))
 
     propose-ends : (v : ℕ) → asModel (proposes v) (finish shard (askedBy s i) true (proposing (askedBy s i) v (state .rounds)))
     unfolding outcome
@@ -641,17 +641,17 @@ pub record CallOk (s : Settings) (i : ℕ) (shard : Shard) (k : Kind ConsensusMe
 not-spent-as-model : (s : Settings) (i : ℕ) → NotSwift (s .mode) → (choose : Choice) → PicksBest choose → (made : Outcome) (state : State) → Lasts (shardOf s i made state) → made ≡ Done → (c : Call)
     → AsModel meaningOf (setupOf s) i (viewShard (shardOf s i made state)) (kindOf c) (seenAnswer (unlessSpent choose (shardOf s i made state) c))
 unfolding unlessSpent
-not-spent-as-model s i classic choose picks-best made state lasts done c = go (leb 9223372036854775807 (state .rounds .core .slot)) refl
+not-spent-as-model s i claimed choose picks-best made state lasts done c = go (leb 9223372036854775807 (state .rounds .core .slot)) refl
   where
     go : (t : Bool) → leb 9223372036854775807 (state .rounds .core .slot) ≡ t
         → AsModel meaningOf (setupOf s) i (viewShard (shardOf s i made state)) (kindOf c) (seenAnswer (cond t (refused NumberTooLarge (shardOf s i made state)) (dispatch choose (shardOf s i made state) c)))
     go true e = refuse-as-model (setupOf s) i (viewShard (shardOf s i made state)) (kindOf c)
-    go false e = dispatched s i classic choose picks-best (lasts .made-within done) made state lasts done (leb-false 9223372036854775807 (state .rounds .core .slot) e) c
+    go false e = dispatched s i claimed choose picks-best (lasts .made-within done) made state lasts done (leb-false 9223372036854775807 (state .rounds .core .slot) e) c
 
 -- Each call is the model's, and the shard stays valid.
 pub call-ok : (s : Settings) (i : ℕ) → NotSwift (s .mode) → (choose : Choice) → PicksBest choose → (shard : Shard) → Valid s i shard → (c : Call) → CallOk s i shard (kindOf c) (callWith choose shard c)
 unfolding callWith
-call-ok s i classic choose picks-best shard valid c =
+call-ok s i claimed choose picks-best shard valid c =
     record { as-model = go (shard .made) refl; valid = record { own-settings = left .same-settings ∙ valid .own-settings; lasting = left .lasts } }
   where
     left : CallLasts shard (callWith choose shard c)
@@ -664,6 +664,6 @@ call-ok s i classic choose picks-best shard valid c =
         (y : Lasts (record { made = shard .made; settings = x; state = shard .state }))
         → AsModel meaningOf (setupOf s) i (viewShard (record { made = shard .made; settings = x; state = shard .state })) (kindOf c) (seenAnswer (unlessSpent choose (record { made = shard .made; settings = x; state = shard .state }) c)))
         (sym (valid .own-settings))
-        (λ y. not-spent-as-model s i classic choose picks-best (shard .made) (shard .state) y e c)
+        (λ y. not-spent-as-model s i claimed choose picks-best (shard .made) (shard .state) y e c)
         (valid .lasting)
     go (Refused why) e = refuse-as-model (setupOf s) i (viewShard shard) (kindOf c)

@@ -114,10 +114,10 @@ counted-add me src set r l k = ap contains (with-own-replica me src (withSender 
 
 -- ---- entering
 
-module _ (ans : Answers) (s : Settings) (i : ℕ) (classic : isSwiftPaxos (s .mode) ≡ false) (core : Core) (h : Heard) (slot : ℕ) (round : PaxosRound) where
+module _ (ans : Answers) (s : Settings) (i : ℕ) (no-swift : isSwiftPaxos (s .mode) ≡ false) (core : Core) (h : Heard) (slot : ℕ) (round : PaxosRound) where
   enter-client : contains (s .«alive_replicas») i ≡ false → enter (askedOf (memberSettings s i)) h slot round core ≡ stays core noMessages
   unfolding enter
-  enter-client e = simp (e, classic)
+  enter-client e = simp (e, no-swift)
 
   enter-older : contains (s .«alive_replicas») i ≡ true → isOlder slot round core ≡ true → enter (askedOf (memberSettings s i)) h slot round core ≡ stays core noMessages
   unfolding enter
@@ -131,7 +131,7 @@ module _ (ans : Answers) (s : Settings) (i : ℕ) (classic : isSwiftPaxos (s .mo
   enter-not-live : contains (s .«alive_replicas») i ≡ true → isOlder slot round core ≡ false → h .«source_live» ≡ false
       → enter (askedOf (memberSettings s i)) h slot round core ≡ refuses SourceNotLive core
   unfolding enter fromLive
-  enter-not-live e o l = simp (e, o, l, classic)
+  enter-not-live e o l = simp (e, o, l, no-swift)
 
   older-number : Leaders core → round .leader < 64
       → isOlder slot round core ≡ (ltb slot (core .slot) || ltb (roundNumber (Round round)) (viewOf ans core .round))

@@ -32,10 +32,10 @@ use Rattle.calls.specs.Asked.{gathererIn}
 use Rattle.consensus.specs.Handle.{onCommit, processed, processMessage, handle}
 use Rattle.delivery.specs.Limits.{roundNumbers, rvNumbers, msgNumbers, valueNumbers, processNumbers, numbersFit, rvProcesses, msgProcesses, requesterBelow, processesFit}
 use Rattle.agreement.proofs.Tests.{neqb→ne}
-use Rattle.group.specs.Claim.{Choices, MemberCall, entriesFrom, entriesWith, entries, LegalFrom, LegalWith, Legal, Claim}
+use Rattle.group.specs.Claim.{Choices, ours, MemberCall, entriesFrom, entriesWith, entries, LegalFrom, LegalWith, Claim}
 use Rattle.group.proofs.Agreement.{agreement, agreement-ties}
 use Rattle.group.proofs.Ties.{prefer, prefer-picks-best}
-use Rattle.group.proofs.Example.{three, proposes, hears, commitsOf, none, commits, first}
+use Rattle.group.proofs.Example.{three, proposes, hears, MemberCommit, commitsOf, none, commits, first}
 
 -- slot 0: member 0 proposes 10, member 1 answers for it, and that is a fast quorum
 -- slot 1: members 0 and 1 propose 20 and 21; member 1 hears that 0 holds 20: one answer for each, a tie; it adopts 20, and 2 accepts that
@@ -54,29 +54,6 @@ calls =
     ∷ hears 1 2 (Value 10) (Accept 1 (roundOf 0 1) 20)
     ∷ []
 
-pub fast-example-commits : commitsOf (entries (three EPaxos) calls)
-    ≡ (commits 1 1 20 false ∷ none 2 ∷ none 1 ∷ none 0 ∷ none 1 ∷ none 0 ∷ commits 2 0 10 true ∷ commits 1 0 10 true ∷ commits 0 0 10 true ∷ none 1 ∷ none 0 ∷ [])
-unfolding entriesFrom newShard callWith unlessSpent dispatch propose receive admit numbersFit processesFit ready otherLastValue valueAwaited roundNumbers rvNumbers msgNumbers valueNumbers processNumbers rvProcesses msgProcesses requesterBelow handle onCommit committed processMessage processed gathererIn proposing proposeFast proposeChange leadsFromStart ownAnswer epaxosProposeV isUnanswered mayPropose electing proposePrepare processFast processChange onFastPrepare inFastPrepare fastPrepared fastGather startsAccept waits leadsRound fastPromised fastAnswered epaxosAnswer epaxosAnswered preacceptedAfter scoreAfter epaxosDecide epaxosTryAdopt adopted valueIn scoreIn better bestBelow adopting onFastAccept inFastAccept replicaAccept toVAfter epaxosScoresAfter swiftScoresAfter lookUp store enter fromLive isOlder inRound prepared holdFirst preparing answersNothing answerPrepare becomesPrepared acceptPhase broadcastAccept accepting accepted follower answered tryCommit commitMessages tellsCommit isCommitter answerAccept commitSlot paxosProposeV receivePromise heldAfterPromise receiveAccept acceptFits acceptOwn selfAccept withSender withOwn nextLeaderRound roundBefore roundEqual increment delegateIn committerIn committerFor withinLimits countsFit membersFit committersFit modeFits contains count size insert
-fast-example-commits = refl
-
-pub fast-example-legal : Legal (three EPaxos) calls
-unfolding LegalFrom newShard callWith unlessSpent dispatch propose receive admit numbersFit processesFit ready otherLastValue valueAwaited roundNumbers rvNumbers msgNumbers valueNumbers processNumbers rvProcesses msgProcesses requesterBelow handle onCommit committed processMessage processed gathererIn proposing proposeFast proposeChange leadsFromStart ownAnswer epaxosProposeV isUnanswered mayPropose electing proposePrepare processFast processChange onFastPrepare inFastPrepare fastPrepared fastGather startsAccept waits leadsRound fastPromised fastAnswered epaxosAnswer epaxosAnswered preacceptedAfter scoreAfter epaxosDecide epaxosTryAdopt adopted valueIn scoreIn better bestBelow adopting onFastAccept inFastAccept replicaAccept toVAfter epaxosScoresAfter swiftScoresAfter lookUp store enter fromLive isOlder inRound prepared holdFirst preparing answersNothing answerPrepare becomesPrepared acceptPhase broadcastAccept accepting accepted follower answered tryCommit commitMessages tellsCommit isCommitter answerAccept commitSlot paxosProposeV receivePromise heldAfterPromise receiveAccept acceptFits acceptOwn selfAccept withSender withOwn nextLeaderRound roundBefore roundEqual increment delegateIn committerIn committerFor withinLimits countsFit membersFit committersFit modeFits contains count size insert
-fast-example-legal =
-    first (lit< tt) tt
-    (first (lit< tt) (_, _, inl refl, refl, inl refl, refl, neqb→ne 0 1 tt)
-    (first (lit< tt) (_, _, inl refl, refl, inl refl, refl, refl)
-    (first (lit< tt) (_, _, inl refl, refl, inl refl, refl, neqb→ne 0 1 tt)
-    (first (lit< tt) (_, _, inr (inl refl), refl, inl refl, refl, neqb→ne 0 2 tt)
-    (first (lit< tt) tt
-    (first (lit< tt) tt
-    (first (lit< tt) (_, _, inl refl, refl, inl refl, refl, neqb→ne 1 0 tt)
-    (first (lit< tt) (_, _, inl refl, refl, inl refl, refl, refl)
-    (first (lit< tt) (_, _, inl refl, refl, inl refl, refl, neqb→ne 1 2 tt)
-    (first (lit< tt) (_, _, inl refl, refl, inl refl, refl, refl) tt))))))))))
-
-pub fast-example-claim : Claim (entries (three EPaxos) calls)
-fast-example-claim = agreement (three EPaxos) tt calls fast-example-legal
-
 -- ---- the tie, the other way
 
 -- member 1 adopts its own value
@@ -93,19 +70,47 @@ tied =
     ∷ hears 1 2 NoValue (Accept 0 (roundOf 0 1) 21)
     ∷ []
 
-pub tie-commits : commitsOf (entriesWith preferOne (three EPaxos) tied) ≡ (commits 1 0 21 false ∷ none 2 ∷ none 1 ∷ none 0 ∷ none 1 ∷ none 0 ∷ [])
-unfolding entriesFrom prefer newShard callWith unlessSpent dispatch propose receive admit numbersFit processesFit ready otherLastValue valueAwaited roundNumbers rvNumbers msgNumbers valueNumbers processNumbers rvProcesses msgProcesses requesterBelow handle onCommit committed processMessage processed gathererIn proposing proposeFast proposeChange leadsFromStart ownAnswer epaxosProposeV isUnanswered mayPropose electing proposePrepare processFast processChange onFastPrepare inFastPrepare fastPrepared fastGather startsAccept waits leadsRound fastPromised fastAnswered epaxosAnswer epaxosAnswered preacceptedAfter scoreAfter epaxosDecide epaxosTryAdopt adopted valueIn scoreIn better bestBelow adopting onFastAccept inFastAccept replicaAccept toVAfter epaxosScoresAfter swiftScoresAfter lookUp store enter fromLive isOlder inRound prepared holdFirst preparing answersNothing answerPrepare becomesPrepared acceptPhase broadcastAccept accepting accepted follower answered tryCommit commitMessages tellsCommit isCommitter answerAccept commitSlot paxosProposeV receivePromise heldAfterPromise receiveAccept acceptFits acceptOwn selfAccept withSender withOwn nextLeaderRound roundBefore roundEqual increment delegateIn committerIn committerFor withinLimits countsFit membersFit committersFit modeFits contains count size insert
-tie-commits = refl
+-- ---- both
 
-pub tie-legal : LegalWith preferOne (three EPaxos) tied
-unfolding LegalFrom prefer newShard callWith unlessSpent dispatch propose receive admit numbersFit processesFit ready otherLastValue valueAwaited roundNumbers rvNumbers msgNumbers valueNumbers processNumbers rvProcesses msgProcesses requesterBelow handle onCommit committed processMessage processed gathererIn proposing proposeFast proposeChange leadsFromStart ownAnswer epaxosProposeV isUnanswered mayPropose electing proposePrepare processFast processChange onFastPrepare inFastPrepare fastPrepared fastGather startsAccept waits leadsRound fastPromised fastAnswered epaxosAnswer epaxosAnswered preacceptedAfter scoreAfter epaxosDecide epaxosTryAdopt adopted valueIn scoreIn better bestBelow adopting onFastAccept inFastAccept replicaAccept toVAfter epaxosScoresAfter swiftScoresAfter lookUp store enter fromLive isOlder inRound prepared holdFirst preparing answersNothing answerPrepare becomesPrepared acceptPhase broadcastAccept accepting accepted follower answered tryCommit commitMessages tellsCommit isCommitter answerAccept commitSlot paxosProposeV receivePromise heldAfterPromise receiveAccept acceptFits acceptOwn selfAccept withSender withOwn nextLeaderRound roundBefore roundEqual increment delegateIn committerIn committerFor withinLimits countsFit membersFit committersFit modeFits contains count size insert
-tie-legal =
-    first (lit< tt) tt
-    (first (lit< tt) tt
-    (first (lit< tt) (_, _, inl refl, refl, inl refl, refl, neqb→ne 1 0 tt)
-    (first (lit< tt) (_, _, inl refl, refl, inl refl, refl, refl)
-    (first (lit< tt) (_, _, inl refl, refl, inl refl, refl, neqb→ne 1 2 tt)
-    (first (lit< tt) (_, _, inl refl, refl, inl refl, refl, refl) tt)))))
+-- what is shown of a run with some choices
+pub record FastShown (choices : Choices) (cs : List MemberCall) (listed : List MemberCommit) : Type 0 where
+  pub legal : LegalWith choices (three EPaxos) cs
+  pub commits-listed : commitsOf (entriesWith choices (three EPaxos) cs) ≡ listed
+
+pub fast-examples-shown : FastShown ours calls
+    (commits 1 1 20 false ∷ none 2 ∷ none 1 ∷ none 0 ∷ none 1 ∷ none 0 ∷ commits 2 0 10 true ∷ commits 1 0 10 true ∷ commits 0 0 10 true ∷ none 1 ∷ none 0 ∷ [])
+    × FastShown preferOne tied (commits 1 0 21 false ∷ none 2 ∷ none 1 ∷ none 0 ∷ none 1 ∷ none 0 ∷ [])
+unfolding entriesFrom LegalFrom prefer newShard callWith unlessSpent dispatch propose receive admit numbersFit processesFit ready otherLastValue valueAwaited roundNumbers rvNumbers msgNumbers valueNumbers processNumbers rvProcesses msgProcesses requesterBelow handle onCommit committed processMessage processed gathererIn proposing proposeFast proposeChange leadsFromStart ownAnswer epaxosProposeV isUnanswered mayPropose electing proposePrepare processFast processChange onFastPrepare inFastPrepare fastPrepared fastGather startsAccept waits leadsRound fastPromised fastAnswered epaxosAnswer epaxosAnswered preacceptedAfter scoreAfter epaxosDecide epaxosTryAdopt adopted valueIn scoreIn better bestBelow adopting onFastAccept inFastAccept replicaAccept toVAfter epaxosScoresAfter swiftScoresAfter lookUp store enter fromLive isOlder inRound prepared holdFirst preparing answersNothing answerPrepare becomesPrepared acceptPhase broadcastAccept accepting accepted follower answered tryCommit commitMessages tellsCommit isCommitter answerAccept commitSlot paxosProposeV receivePromise heldAfterPromise receiveAccept acceptFits acceptOwn selfAccept withSender withOwn nextLeaderRound roundBefore roundEqual increment delegateIn committerIn committerFor withinLimits countsFit membersFit committersFit modeFits contains count size insert
+fast-examples-shown = (
+  record {
+    legal =
+        first (lit< tt) tt
+        (first (lit< tt) (_, _, inl refl, refl, inl refl, refl, neqb→ne 0 1 tt)
+        (first (lit< tt) (_, _, inl refl, refl, inl refl, refl, refl)
+        (first (lit< tt) (_, _, inl refl, refl, inl refl, refl, neqb→ne 0 1 tt)
+        (first (lit< tt) (_, _, inr (inl refl), refl, inl refl, refl, neqb→ne 0 2 tt)
+        (first (lit< tt) tt
+        (first (lit< tt) tt
+        (first (lit< tt) (_, _, inl refl, refl, inl refl, refl, neqb→ne 1 0 tt)
+        (first (lit< tt) (_, _, inl refl, refl, inl refl, refl, refl)
+        (first (lit< tt) (_, _, inl refl, refl, inl refl, refl, neqb→ne 1 2 tt)
+        (first (lit< tt) (_, _, inl refl, refl, inl refl, refl, refl) tt))))))))));
+    commits-listed = refl;
+  },
+  record {
+    legal =
+        first (lit< tt) tt
+        (first (lit< tt) tt
+        (first (lit< tt) (_, _, inl refl, refl, inl refl, refl, neqb→ne 1 0 tt)
+        (first (lit< tt) (_, _, inl refl, refl, inl refl, refl, refl)
+        (first (lit< tt) (_, _, inl refl, refl, inl refl, refl, neqb→ne 1 2 tt)
+        (first (lit< tt) (_, _, inl refl, refl, inl refl, refl, refl) tt)))));
+    commits-listed = refl;
+  },
+)
+
+pub fast-example-claim : Claim (entries (three EPaxos) calls)
+fast-example-claim = agreement (three EPaxos) tt calls (fast-examples-shown .0 .legal)
 
 pub tie-claim : Claim (entriesWith preferOne (three EPaxos) tied)
-tie-claim = agreement-ties (three EPaxos) tt preferOne (λ place. prefer-picks-best 1) tied tie-legal
+tie-claim = agreement-ties (three EPaxos) tt preferOne (λ place. prefer-picks-best 1) tied (fast-examples-shown .1 .legal)

@@ -73,8 +73,8 @@ module _ (choose : Choice) (a : Asked) (h : Heard) (round : PaxosRound) (rv : Ro
       → fastGather choose a h round rv core answers values scores swifts
       ≡ gathered answers values scores (withPromise a h rv core) (hasAccepted (withPromise a h rv core) && becomesPrepared a core (withPromise a h rv core)) (hasAccepted (withPromise a h rv core))
   unfolding fastGather startsAccept waits fastPromised fastAnswered
-  gather-by core answers values scores swifts replica classic =
-      ap (λ (t : Bool). by-mode (cond t (withPromise a h rv core) core) (isSwiftPaxos (a .mode))) replica ∙ ap (by-mode (withPromise a h rv core)) classic
+  gather-by core answers values scores swifts replica no-swift =
+      ap (λ (t : Bool). by-mode (cond t (withPromise a h rv core) core) (isSwiftPaxos (a .mode))) replica ∙ ap (by-mode (withPromise a h rv core)) no-swift
     where
       by-mode : Core → Bool → ChangeStep
       by-mode promised t =
@@ -93,7 +93,7 @@ no-answers : (fast : FastState) → isUnanswered (answersOf fast) ≡ true → e
 unfolding size
 no-answers fast e = eq-eqb (count (contains (fast .«fast_answer_set»)) 64) 0 (ap (λ (n : ℕ). count (contains n) 64) (empty-set fast e) ∙ size-empty)
 
-module _ (choose : Choice) (picks-best : PicksBest choose) (s : Settings) (i : ℕ) (classic : isSwiftPaxos (s .mode) ≡ false) (epaxos : isEPaxos (s .mode) ≡ true) (small : i < 64) (fast : FastState) (ok : FastFits fast) where
+module _ (choose : Choice) (picks-best : PicksBest choose) (s : Settings) (i : ℕ) (no-swift : isSwiftPaxos (s .mode) ≡ false) (epaxos : isEPaxos (s .mode) ≡ true) (small : i < 64) (fast : FastState) (ok : FastFits fast) where
   abbrev pub values : List ℕ
   values = fast .«fast_proposer_to_v»
 
@@ -121,7 +121,7 @@ module _ (choose : Choice) (picks-best : PicksBest choose) (s : Settings) (i : �
           → fastGather choose (askedBy s i) h round rv core (answersOf fast) values scores swifts ≡ lift (gather (askedBy s i) h round rv core)
       unfolding gather
       gather-slow e =
-          gather-by choose (askedBy s i) h round rv core (answersOf fast) values scores swifts alive classic
+          gather-by choose (askedBy s i) h round rv core (answersOf fast) values scores swifts alive no-swift
           ∙ ap (λ (t : Bool). gathered choose (askedBy s i) h round rv (answersOf fast) values scores promised-core (t && becomesPrepared (askedBy s i) core promised-core) t) e
           ∙ go (becomesPrepared (askedBy s i) core promised-core)
         where
@@ -132,7 +132,7 @@ module _ (choose : Choice) (picks-best : PicksBest choose) (s : Settings) (i : �
       gather-fast : hasAccepted promised-core ≡ false
           → fastGather choose (askedBy s i) h round rv core (answersOf fast) values scores swifts ≡ epaxosAnswer choose (askedBy s i) h round rv promised-core (answersOf fast) values scores
       gather-fast e =
-          gather-by choose (askedBy s i) h round rv core (answersOf fast) values scores swifts alive classic
+          gather-by choose (askedBy s i) h round rv core (answersOf fast) values scores swifts alive no-swift
           ∙ ap (λ (t : Bool). gathered choose (askedBy s i) h round rv (answersOf fast) values scores promised-core (t && becomesPrepared (askedBy s i) core promised-core) t) e
 
       abbrev counted-view : View
@@ -160,7 +160,7 @@ module _ (choose : Choice) (picks-best : PicksBest choose) (s : Settings) (i : �
       unfolding receivePromise
       fast-gather-follows =
           subst (λ (x : View). FollowsChange (setupOf s) fast (fastGather choose (askedBy s i) h round rv core (answersOf fast) values scores swifts) (model.gathers (setupOf s) i (h .src) (proposerOf rv) (valueOf rv) host x0 old-view x))
-          (promise-view (answersIn fast) s i classic alive small h src-small round below host core rv leaders held fits)
+          (promise-view (answersIn fast) s i no-swift alive small h src-small round below host core rv leaders held fits)
           (go (either (hasAccepted promised-core)))
         where
           go : (hasAccepted promised-core ≡ true) ⊎ (hasAccepted promised-core ≡ false)
@@ -170,12 +170,12 @@ module _ (choose : Choice) (picks-best : PicksBest choose) (s : Settings) (i : �
               (subst (FollowsChange (setupOf s) fast (lift (gather (askedBy s i) h round rv core))) (sym (model-slow e (proposerOf rv) (valueOf rv) old-view))
               (lifted (setupOf s) fast (gather (askedBy s i) h round rv core) (model.picks (setupOf s) i x0 old-view counted-view)
               (subst (λ (x : View). Follows (setupOf s) (answersIn fast) (gather (askedBy s i) h round rv core) (model.picks (setupOf s) i x0 old-view x))
-              (sym (promise-view (answersIn fast) s i classic alive small h src-small round below host core rv leaders held fits))
-              (gather-follows (answersIn fast) s i classic alive small h src-small round below host core rv leaders at held fits x0))))
+              (sym (promise-view (answersIn fast) s i no-swift alive small h src-small round below host core rv leaders held fits))
+              (gather-follows (answersIn fast) s i no-swift alive small h src-small round below host core rv leaders at held fits x0))))
           go (inr e) =
               subst (λ (t : ChangeStep). FollowsChange (setupOf s) fast t (model.gathers (setupOf s) i (h .src) (proposerOf rv) (valueOf rv) host x0 old-view counted-view)) (sym (gather-fast e))
               (subst (FollowsChange (setupOf s) fast (epaxosAnswer choose (askedBy s i) h round rv promised-core (answersOf fast) values scores)) (sym (model-fast e (proposerOf rv) (valueOf rv) old-view))
-              (answer-follows choose picks-best s i classic epaxos alive small h src-small round below x0 promised-core at fast ok rv proposer-fits))
+              (answer-follows choose picks-best s i no-swift epaxos alive small h src-small round below x0 promised-core at fast ok rv proposer-fits))
 
     -- ---- a Prepare
 
@@ -198,7 +198,7 @@ module _ (choose : Choice) (picks-best : PicksBest choose) (s : Settings) (i : �
         (model.promised (setupOf s) i (h .src) (roundNumber (acceptRoundOf rv)) (proposerOf rv) (valueOf rv) (hostFor choose s i (h .src) fast rv) x0
         (cond (viewOf (answersIn fast) core .holds) (viewOf (answersIn fast) core) (preparedBy i (adopted (roundNumber (acceptRoundOf rv)) (proposerOf rv) (valueOf rv) (viewOf (answersIn fast) core))))))
         (sym (in-prepare alive rv core))
-        (in-prepare-follows (answersIn fast) s i classic alive small h src-small round below (hostFor choose s i (h .src) fast rv) ChangeStep lift (FollowsChange (setupOf s) fast) (lifted (setupOf s) fast) rv fits d x0
+        (in-prepare-follows (answersIn fast) s i no-swift alive small h src-small round below (hostFor choose s i (h .src) fast rv) ChangeStep lift (FollowsChange (setupOf s) fast) (lifted (setupOf s) fast) rv fits d x0
         (λ c. fastGather choose (askedBy s i) h round rv c (answersOf fast) values scores swifts)
         (λ core1 leaders1 at1 held1. fast-gather-follows alive rv fits proposer-fits x0 core1 leaders1 at1 held1)
         core leaders at)
@@ -209,7 +209,7 @@ module _ (choose : Choice) (picks-best : PicksBest choose) (s : Settings) (i : �
         (model.onPrepare (setupOf s) i (viewOf (answersIn fast) core) (h .src) slot (roundNumber (Round round)) (roundNumber (acceptRoundOf rv)) (proposerOf rv) (valueOf rv) (hostFor choose s i (h .src) fast rv))
     unfolding onFastPrepare model.onPrepare
     fast-prepare-follows slot rv fits proposer-fits live d core leaders le =
-        enter-follows (answersIn fast) s i classic core h slot round ChangeStep lift (FollowsChange (setupOf s) fast) (lifted (setupOf s) fast) leaders below live le
+        enter-follows (answersIn fast) s i no-swift core h slot round ChangeStep lift (FollowsChange (setupOf s) fast) (lifted (setupOf s) fast) leaders below live le
         (λ c. inFastPrepare choose (askedBy s i) h round rv c (answersOf fast) values scores swifts) _
         (λ alive same no-older.
         in-fast-prepare-follows alive rv fits proposer-fits d (viewOf (answersIn fast) core) (inRound round core) (in-round-leaders round core leaders below) (in-round-round round core no-older))
@@ -229,7 +229,7 @@ module _ (choose : Choice) (picks-best : PicksBest choose) (s : Settings) (i : �
         (model.onAccept (setupOf s) i (viewOf (answersIn fast) core) (h .src) slot (roundNumber (Round round)) v (record { allows = true; requester = processNumber (h .requester); adoptee = 0 }))
     unfolding onFastAccept
     fast-accept-follows slot v live d c core leaders le =
-        on-accept-follows (answersIn fast) s i classic small h src-small slot round below v live d c ChangeStep lift (FollowsChange (setupOf s) fast) (lifted (setupOf s) fast)
+        on-accept-follows (answersIn fast) s i no-swift small h src-small slot round below v live d c ChangeStep lift (FollowsChange (setupOf s) fast) (lifted (setupOf s) fast)
         (λ c. inFastAccept (askedBy s i) h round v c (answersOf fast) swifts)
         (λ alive core1 r f.
         subst (λ (t : ChangeStep). FollowsChange (setupOf s) fast t r) (sym (in-accept alive v core1))
@@ -249,7 +249,7 @@ module _ (choose : Choice) (picks-best : PicksBest choose) (s : Settings) (i : �
     -- the own answer is the first, or is refused
     own-first : isUnanswered (answersOf fast) ≡ true → eqb (lookUp scores i) 2 ≡ true → own-answer ≡ fastHalf.taken counts-own
     unfolding ownAnswer epaxosProposeV epaxosAnswered
-    own-first e d = ap (λ (t : Bool). cond t (swift-own) (cond (isUnanswered (answersOf fast) && eqb (lookUp scores i) 2) first-own-step (fastHalf.refused Panic (answersOf fast)))) classic
+    own-first e d = ap (λ (t : Bool). cond t (swift-own) (cond (isUnanswered (answersOf fast) && eqb (lookUp scores i) 2) first-own-step (fastHalf.refused Panic (answersOf fast)))) no-swift
         ∙ ap₂ (λ (t u : Bool). cond (t && u) first-own-step (fastHalf.refused Panic (answersOf fast))) e d
         ∙ ap (λ (t : Bool). cond t (secondAnswer (askedBy s i .member) i (answersOf fast)) (fastHalf.taken counts-own)) nobody
       where
@@ -266,7 +266,7 @@ module _ (choose : Choice) (picks-best : PicksBest choose) (s : Settings) (i : �
     unfolding ownAnswer epaxosProposeV
     own-refused e =
         ap (λ (t : Bool). cond t (swiftProposeV (askedBy s i .member) v (askedBy s i .quorum) false (answersOf fast) swifts)
-        (cond (isUnanswered (answersOf fast) && eqb (lookUp scores i) 2) (epaxosAnswered (askedBy s i .member) i i v (answersOf fast) scores) (fastHalf.refused Panic (answersOf fast)))) classic
+        (cond (isUnanswered (answersOf fast) && eqb (lookUp scores i) 2) (epaxosAnswered (askedBy s i .member) i i v (answersOf fast) scores) (fastHalf.refused Panic (answersOf fast)))) no-swift
         ∙ ap (λ (t : Bool). cond t (epaxosAnswered (askedBy s i .member) i i v (answersOf fast) scores) (fastHalf.refused Panic (answersOf fast))) e
 
     -- the steps of a proposal
@@ -281,7 +281,7 @@ module _ (choose : Choice) (picks-best : PicksBest choose) (s : Settings) (i : �
         (afterOwnAnswer (askedBy s i) (proposalRound (askedBy s i) core) v core (own-answer .change) (own-answer .outcome)))
         (withChange (unchanged (answersOf fast)) (notAllowed core)))
         e
-        classic
+        no-swift
 
     change-refused : mayPropose (askedBy s i) core ≡ false → proposeChange (askedBy s i) v core (answersOf fast) scores swifts ≡ withChange (unchanged (answersOf fast)) (notAllowed core)
     unfolding proposeChange
@@ -302,33 +302,33 @@ module _ (choose : Choice) (picks-best : PicksBest choose) (s : Settings) (i : �
     abbrev view : View
     view = viewOf (answersIn fast) core
 
-    model-fast-proposal : Allowed (answersIn fast) s i classic small first-small v core leaders → isUnanswered (answersOf fast) ≡ true
+    model-fast-proposal : Allowed (answersIn fast) s i no-swift small first-small v core leaders → isUnanswered (answersOf fast) ≡ true
         → model.onPropose (setupOf s) i view v
         ≡ say (model.ownAnswer (setupOf s) i v (preparedBy i (adopted 0 (suc i) v (joined (suc i) view)))) (record { destination = model.all; message = model.prepare (core .slot) (suc i) 0 (suc i) v } ∷ [])
     unfolding model.onPropose
     model-fast-proposal may e =
-        let first = may-model (answersIn fast) s i classic small first-small v core leaders may in
+        let first = may-model (answersIn fast) s i no-swift small first-small v core leaders may in
         let none : eqb (count (contains (fast .«fast_answer_set»)) 64) 0 ≡ true = no-answers fast e in
         simp (first, single, epaxos, none)
 
     follows-proposal : mayPropose (askedBy s i) core ≡ true → isUnanswered (answersOf fast) ≡ true → eqb (lookUp scores i) 2 ≡ true
         → FollowsChange (setupOf s) fast (proposeChange (askedBy s i) v core (answersOf fast) scores swifts) (model.onPropose (setupOf s) i view v)
     follows-proposal m e d =
-        let may = allowed (answersIn fast) s i classic small first-small v core leaders m in
+        let may = allowed (answersIn fast) s i no-swift small first-small v core leaders m in
         let r : PaxosRound = proposalRound (askedBy s i) core in
         subst (λ (t : ChangeStep). FollowsChange (setupOf s) fast t (model.onPropose (setupOf s) i view v))
         (sym (after-step (fastHalf.taken counts-own) (own-first e d) m))
         (record {
           follows =
-              follows-both (prepare-step (answersIn fast) s i classic small first-small v core leaders may r (FastV i v)) (model-fast-proposal may e)
+              follows-both (prepare-step (answersIn fast) s i no-swift small first-small v core leaders may r (FastV i v)) (model-fast-proposal may e)
               (record {
                 seen-as =
                     ap (λ (x : View). say (withAnswers (answersIn (changed counts-own fast)) x) (record { destination = model.all; message = model.prepare (core .slot) (roundNumber (Round r)) 0 (suc i) v } ∷ []))
-                    (promised-view (answersIn fast) s i classic small first-small v core leaders may r (FastV i v))
+                    (promised-view (answersIn fast) s i no-swift small first-small v core leaders may r (FastV i v))
                     ∙ ap₂
                     (λ (n : ℕ) (a : Answers).
                     say (withAnswers a (preparedBy i (adopted 0 (suc i) v (joined n view)))) (record { destination = model.all; message = model.prepare (core .slot) n 0 (suc i) v } ∷ []))
-                    (first-own (answersIn fast) s i classic small first-small v core leaders may single)
+                    (first-own (answersIn fast) s i no-swift small first-small v core leaders may single)
                     (counted-answers (askedBy s i .member) i i v small small fast ok);
               });
         })

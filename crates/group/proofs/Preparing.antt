@@ -143,7 +143,7 @@ module _ (ans : Answers) (s : Settings) (i : ℕ) (alive : contains (s .«alive_
       (ap roundNumber (sym at))
       (counted-add (askedBy s i .member) i (core .paxos .«accepted_set») alive small small ∙ add-again i (contains (core .paxos .«accepted_set»)))
 
-module _ (ans : Answers) (s : Settings) (i : ℕ) (classic : isSwiftPaxos (s .mode) ≡ false) (alive : contains (s .«alive_replicas») i ≡ true) (small : i < 64) (h : Heard) (src-small : h .src < 64) (round : PaxosRound) (below : round .leader < 64) (host : Host) where
+module _ (ans : Answers) (s : Settings) (i : ℕ) (no-swift : isSwiftPaxos (s .mode) ≡ false) (alive : contains (s .«alive_replicas») i ≡ true) (small : i < 64) (h : Heard) (src-small : h .src < 64) (round : PaxosRound) (below : round .leader < 64) (host : Host) where
   -- ---- the accept phase
 
   own-accept-state : (core : Core) → isHeld (core .paxos .«max_rv») ≡ true → isEmpty (core .paxos .«accepted_set») ≡ true
@@ -164,7 +164,7 @@ module _ (ans : Answers) (s : Settings) (i : ℕ) (classic : isSwiftPaxos (s .mo
   pub broadcast-classic : (core : Core) → broadcastAccept (askedBy s i) round core
       ≡ stays (leftFastPath core) (oneMessage (sends (askedBy s i) core toAll (Accept (core .slot) round (heldV (core .paxos .«max_rv»)))))
   unfolding broadcastAccept
-  broadcast-classic core = simp classic
+  broadcast-classic core = simp no-swift
 
   broadcast-follows : (core : Core) → core .paxos .round ≡ Round round
       → Follows (setupOf s) ans (broadcastAccept (askedBy s i) round (withPaxos (afterAccept (askedBy s i .member) i round (heldV (core .paxos .«max_rv»)) (core .paxos)) core))
@@ -288,7 +288,7 @@ module _ (ans : Answers) (s : Settings) (i : ℕ) (classic : isSwiftPaxos (s .mo
       → answersNothing (askedBy s i) h round core ≡ eqb (viewOf ans core .heldRound) (viewOf ans core .round)
   unfolding answersNothing
   answers-nothing core ok at =
-      ap (λ (t : Bool). (t && eqb (h .delegate) (round .leader)) || equal (getLastAcceptedRound (core .paxos .«max_rv»)) (Round round)) classic
+      ap (λ (t : Bool). (t && eqb (h .delegate) (round .leader)) || equal (getLastAcceptedRound (core .paxos .«max_rv»)) (Round round)) no-swift
       ∙ ap (equal (getLastAcceptedRound (core .paxos .«max_rv»))) (sym at)
       ∙ equal-number (getLastAcceptedRound (core .paxos .«max_rv»)) (core .paxos .round) (ok .in-held) (ok .in-round)
 
@@ -440,11 +440,11 @@ pub on-prepare-follows : (ans : Answers) (s : Settings) (i : ℕ) → isSwiftPax
     → Follows (setupOf s) ans (onPrepare (askedBy s i) h slot round rv core)
     (model.onPrepare (setupOf s) i (viewOf ans core) (h .src) slot (roundNumber (Round round)) (roundNumber (acceptRoundOf rv)) (proposerOf rv) (valueOf rv) host)
 unfolding onPrepare model.onPrepare inPrepare
-on-prepare-follows ans s i classic slow small h src slot round below rv fits live d core ok le host =
-    enter-follows ans s i classic core h slot round CoreStep (λ t. t) (Follows (setupOf s) ans) (λ step r f. f) ok below live le (inPrepare (askedBy s i) h round rv) _
+on-prepare-follows ans s i no-swift slow small h src slot round below rv fits live d core ok le host =
+    enter-follows ans s i no-swift core h slot round CoreStep (λ t. t) (Follows (setupOf s) ans) (λ step r f. f) ok below live le (inPrepare (askedBy s i) h round rv) _
     (λ alive same no-older.
-    in-prepare-follows ans s i classic alive small h src round below host CoreStep (λ t. t) (Follows (setupOf s) ans) (λ step r f. f) rv fits d (viewOf ans core) (gather (askedBy s i) h round rv)
+    in-prepare-follows ans s i no-swift alive small h src round below host CoreStep (λ t. t) (Follows (setupOf s) ans) (λ step r f. f) rv fits d (viewOf ans core) (gather (askedBy s i) h round rv)
     (λ core1 ok1 at1 held1.
-    subst (Follows (setupOf s) ans (gather (askedBy s i) h round rv core1)) (sym (gathers-classic ans s i classic alive small h src round below host slow (proposerOf rv) (valueOf rv) (viewOf ans core) (viewOf ans core1) _))
-    (gather-follows ans s i classic alive small h src round below host core1 rv ok1 at1 held1 fits (viewOf ans core)))
+    subst (Follows (setupOf s) ans (gather (askedBy s i) h round rv core1)) (sym (gathers-classic ans s i no-swift alive small h src round below host slow (proposerOf rv) (valueOf rv) (viewOf ans core) (viewOf ans core1) _))
+    (gather-follows ans s i no-swift alive small h src round below host core1 rv ok1 at1 held1 fits (viewOf ans core)))
     (inRound round core) (in-round-leaders round core ok below) (in-round-round round core no-older))

@@ -67,10 +67,10 @@ next-leader : (r : PaxosRound) (p : ℕ) → nextLeaderRound r p .leader ≡ p
 unfolding nextLeaderRound
 next-leader r p = refl
 
-module _ (ans : Answers) (s : Settings) (i : ℕ) (classic : isSwiftPaxos (s .mode) ≡ false) (small : i < 64) (first-small : s .«first_leader» < 64) (v : ℕ) (core : Core) (ok : Leaders core) where
+module _ (ans : Answers) (s : Settings) (i : ℕ) (no-swift : isSwiftPaxos (s .mode) ≡ false) (small : i < 64) (first-small : s .«first_leader» < 64) (v : ℕ) (core : Core) (ok : Leaders core) where
   electing-own : electing (askedBy s i) ≡ i
   unfolding electing
-  electing-own = simp classic
+  electing-own = simp no-swift
 
   -- what a proposal that is allowed has
   pub record Allowed : Type 0 where
@@ -97,7 +97,7 @@ module _ (ans : Answers) (s : Settings) (i : ℕ) (classic : isSwiftPaxos (s .mo
         where
           pick : (contains (s .«alive_replicas») i ≡ true) ⊎ (isSwiftPaxos (s .mode) ≡ true) → contains (s .«alive_replicas») i ≡ true
           pick (inl l) = l
-          pick (inr l) = absurd (not-both l classic)
+          pick (inr l) = absurd (not-both l no-swift)
 
       leads : C ≡ true → isMultiPaxos (s .mode) ≡ true → Round (proposalRound (askedBy s i) core) ≡ startingRoundOf s
       leads c m = pick (or-cases (not (isMultiPaxos (s .mode))) (equal (Round (proposalRound (askedBy s i) core)) (startingRoundOf s)) c)

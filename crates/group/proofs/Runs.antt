@@ -90,4 +90,4 @@ module _ (d : Shard) where
 
   -- Demand 3 of the code: what `Group::new` and `Group::call` hand back over a legal list meets the claim.
   pub group-agreement : (s : Settings) → s .«process_count» ≤ 64 → NotSwift (s .mode) → (cs : List MemberCall) → Legal s cs → Claim (logOf d s cs)
-  group-agreement s few classic cs legal = subst Claim (sym (log-is-run s few cs legal)) (agreement s classic cs legal)
+  group-agreement s few claimed cs legal = subst Claim (sym (log-is-run s few cs legal)) (agreement s claimed cs legal)

@@ -23,4 +23,4 @@ lent-is-run shards past (c ∷ cs) made =
 
 -- Demand 3 of shards that are lent: what calls in place hand back over a legal list, on shards that began new, meets the claim.
 pub lent-agreement : (s : Settings) → NotSwift (s .mode) → (cs : List LentCall) → LentFrom (begun s) cs → Legal s (calls cs) → Claim (keptFrom [] cs)
-lent-agreement s classic cs made legal = subst Claim (sym (lent-is-run (begun s) [] cs made)) (agreement s classic (calls cs) legal)
+lent-agreement s claimed cs made legal = subst Claim (sym (lent-is-run (begun s) [] cs made)) (agreement s claimed (calls cs) legal)
