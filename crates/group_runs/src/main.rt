@@ -1,11 +1,14 @@
 // Random runs of groups, and demand 3's claim checked on the log of each. A run is legal: a message is delivered only to a member that it
 // was sent to. It may be lost, late, delivered twice, or before one that was sent earlier; members stop; and what the host adds is any.
+// Where document 02 says on which answer the leader commits (E14), its commits are counted by the answers that it has heard.
 use calls::Call;
 use calls::OptionalCommit;
 use calls::Reply;
 use delivery::Delivery;
 use delivery::Said;
 use group::Group;
+use message::ConsensusMessage;
+use message::ConsensusMsg;
 use message::OptionalProcess;
 use message::Outcome;
 use message::PFMode;
@@ -23,13 +26,16 @@ const RUNS: u64 = 1000;
 
 const TURNS: u64 = 100;
 
-// What is counted in the runs of a mode. Places 1 to 12 of refusals count the refusals of these numbers.
+// What is counted in the runs of a mode. Places 1 to 12 of refusals count the refusals of these numbers. Place n of on_answers counts the
+// leader's commits on the n-th answer, and otherwise those that do not come on the answer of majority less one.
 struct Counts {
     runs: u64,
     calls: u64,
     commits: u64,
     failed: u64,
     refusals: [u64; 64],
+    on_answers: [u64; 64],
+    otherwise: u64,
 }
 
 // How a run goes: how many turns of its beginning are proposals, so that several go on in one slot; in 256ths of its turns, up to where
@@ -44,14 +50,15 @@ struct Habits {
     requester: u64,
 }
 
-// What there is of a run besides the group: the generator's last number, the members that have stopped, the messages under way, the log
-// and the counts.
+// What there is of a run besides the group: the generator's last number, the members that have stopped, those whose answers the leader has
+// heard in its slot, the messages under way, the log and the counts.
 struct World {
     habits: Habits,
     random: u64,
     last_called: u64,
     stopped: u64,
     side: u64,
+    heard: u64,
     network: Network,
     log: Log,
     counts: Counts,
@@ -180,6 +187,8 @@ impl Counts {
             commits: 0,
             failed: 0,
             refusals: [0u64; 64],
+            on_answers: [0u64; 64],
+            otherwise: 0,
         }
     }
 
@@ -196,6 +205,22 @@ impl Counts {
         let old = self.refusals;
         let refusals = tables::store(old, n, message::increment(tables::look_up(old, n)));
         self.refusals = refusals;
+        self
+    }
+
+    // A commit of the leader that has heard so many answers.
+    fn with_leader_commit(mut self, majority: u64, answers: u64) -> Counts {
+        let old = self.on_answers;
+        let on_answers = tables::store(
+            old,
+            answers,
+            message::increment(tables::look_up(old, answers)),
+        );
+        self.on_answers = on_answers;
+        if message::increment(answers) == majority {
+            return self;
+        }
+        self.otherwise = message::increment(self.otherwise);
         self
     }
 
@@ -265,6 +290,77 @@ fn commits_in(commit: OptionalCommit, commits: u64) -> u64 {
     }
 }
 
+// The terms of E14: MultiPaxos or MultiPaxos3P, no committers, a majority of at least two, and a leader that is a live replica.
+fn has_terms(settings: Settings) -> bool {
+    let mode = settings.mode;
+    if settings.has_committers {
+        return false;
+    }
+    if settings.quorums().majority < 2 {
+        return false;
+    }
+    if mode.is_multi_paxos() {
+        return settings.is_live_replica(settings.first_leader);
+    }
+    false
+}
+
+// Who sent an Accept of the slot; of another message 64, which is no process.
+fn accept_source(slot: u64, msg: ConsensusMsg, src: u64) -> u64 {
+    match msg {
+        ConsensusMsg::Prepare {
+            slot: _,
+            round: _,
+            rv: _,
+        } => 64,
+        ConsensusMsg::Accept {
+            slot: named,
+            round: _,
+            v: _,
+        } => {
+            if named == slot {
+                return src;
+            }
+            64
+        }
+        ConsensusMsg::ForwardRequest { v: _ } => 64,
+        ConsensusMsg::Commit { slot: _, v: _ } => 64,
+        ConsensusMsg::ReadRequest { id: _ } => 64,
+        ConsensusMsg::ReadResponse {
+            id: _,
+            next_readable_slot: _,
+        } => 64,
+    }
+}
+
+// Those whose answers were heard, with the one that a message brings: the answer of a live replica other than the leader.
+fn with_answer(settings: Settings, heard: u64, slot: u64, message: ConsensusMessage) -> u64 {
+    let msg = message.msg;
+    let source = accept_source(slot, msg, message.src);
+    if source == settings.first_leader {
+        return heard;
+    }
+    if settings.is_live_replica(source) {
+        return sets::insert(heard, source);
+    }
+    heard
+}
+
+// The same after a call of the leader that was not refused.
+fn heard_in(settings: Settings, heard: u64, slot: u64, call: Call) -> u64 {
+    match call {
+        Call::Propose(_) => heard,
+        Call::StartRead {
+            tag: _,
+            arrival_slot: _,
+        } => heard,
+        Call::Receive(delivery) => {
+            let message = delivery.message;
+            with_answer(settings, heard, slot, message)
+        }
+    }
+}
+
 impl World {
     fn new(seed: u64, counts: Counts) -> World {
         World {
@@ -273,6 +369,7 @@ impl World {
             last_called: 0,
             stopped: 0,
             side: seed / 8,
+            heard: 0,
             network: Network::new(),
             log: Log::new(),
             counts,
@@ -452,8 +549,47 @@ impl World {
         self.message_turn(settings, kind > self.habits.delivered, a / 2048, b / 8)
     }
 
+    // A call of the leader: a commit is counted by the answers that it has heard, and a new slot begins without any.
+    fn led(
+        mut self,
+        settings: Settings,
+        call: Call,
+        outcome: Outcome,
+        commit: OptionalCommit,
+    ) -> World {
+        if !is_done(outcome) {
+            return self;
+        }
+        let log = self.log;
+        let heard = heard_in(
+            settings,
+            self.heard,
+            log.slot_of(settings.first_leader),
+            call,
+        );
+        self.heard = heard;
+        self.counted(settings, heard, commit)
+    }
+
+    fn counted(mut self, settings: Settings, heard: u64, commit: OptionalCommit) -> World {
+        match commit {
+            OptionalCommit::NoCommit => self,
+            OptionalCommit::Committed {
+                slot: _,
+                v: _,
+                fast: _,
+            } => {
+                let old = self.counts;
+                let counts = old.with_leader_commit(settings.quorums().majority, sets::size(heard));
+                self.counts = counts;
+                self.heard = 0;
+                self
+            }
+        }
+    }
+
     // What the call handed back goes into the log, the counts and the network.
-    fn answered(mut self, n: u64, member: u64, call: Call, reply: Reply) -> World {
+    fn logged(mut self, n: u64, member: u64, call: Call, reply: Reply) -> World {
         let outcome = reply.outcome;
         let commit = reply.commit;
         let messages = reply.messages;
@@ -474,6 +610,19 @@ impl World {
         self.counts = counts;
         self
     }
+
+    fn answered(self, settings: Settings, member: u64, call: Call, reply: Reply) -> World {
+        let n = settings.process_count;
+        if member == settings.first_leader {
+            if has_terms(settings) {
+                let outcome = reply.outcome;
+                let commit = reply.commit;
+                return self.led(settings, call, outcome, commit)
+                    .logged(n, member, call, reply);
+            }
+        }
+        self.logged(n, member, call, reply)
+    }
 }
 
 // One run.
@@ -491,7 +640,7 @@ fn run(settings: Settings, seed: u64, counts: Counts) -> Counts {
                 let answer = group.call(member, call);
                 let reply = answer.reply;
                 group = answer.group;
-                world = world.answered(settings.process_count, member, call, reply);
+                world = world.answered(settings, member, call, reply);
             }
         }
         i += 1;
@@ -518,32 +667,35 @@ fn field(n: u64) {
     io::print_decimal(1, n);
 }
 
-// The refusals by number.
-fn refusal_fields(refusals: [u64; 64]) {
+// The places of a table from 1 on, up to the end.
+fn fields(table: [u64; 64], end: u64) {
     let mut n: u64 = 1;
-    while n < 13 {
-        field(tables::look_up(refusals, n));
+    while n < end {
+        field(tables::look_up(table, n));
         n += 1;
     }
 }
 
-// A line of the table: the mode, its counts, and the refusals.
+// A line of the table: the mode, its counts, the refusals by number, and the leader's commits by the answers that they came on.
 fn line(name: &[u8], mode: PFMode, seed: u64) {
     let counts = runs(mode, seed);
     let refusals = counts.refusals;
+    let on_answers = counts.on_answers;
     io::write_all(1, name);
     field(counts.runs);
     field(counts.calls);
     field(counts.commits);
     field(counts.failed);
-    refusal_fields(refusals);
+    fields(refusals, 13);
+    fields(on_answers, 5);
+    field(counts.otherwise);
     io::write_all(1, b"\n");
 }
 
 fn main() {
     io::write_all(
         1,
-        b"mode,runs,calls,commits,failed,1,2,3,4,5,6,7,8,9,10,11,12\n",
+        b"mode,runs,calls,commits,failed,1,2,3,4,5,6,7,8,9,10,11,12,on 1,on 2,on 3,on 4,otherwise\n",
     );
     line(b"Paxos", PFMode::Paxos, 1);
     line(b"MultiPaxos", PFMode::MultiPaxos, 2);

@@ -181,7 +181,7 @@ impl Log {
     }
 
     // A member's slot: the number of its commits.
-    fn slot_of(self, member: u64) -> u64
+    pub fn slot_of(self, member: u64) -> u64
         ensures { λ r. ⌜ r ≡ slotIn self member ⌝ }
     {
         let e = Event {

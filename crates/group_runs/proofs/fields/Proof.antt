@@ -1,15 +1,15 @@
--- `group_runs::refusal_fields` is safe and ends: the numbers go from 1 to 12.
+-- `group_runs::fields` is safe and ends: the places go up to the end.
 -- Assumes nothing.
 use Prim.Native.Nat.{_≤_, _-_}
 use borrow.Author.Needs.{needs}
-use Rattle.group_runs.proofs.refusal_fields.Statement.{statement}
-use Rattle.group_runs.proofs.refusal_fields.Tie as tie
+use Rattle.group_runs.proofs.fields.Statement.{statement}
+use Rattle.group_runs.proofs.fields.Tie as tie
 
 abbrev Inv-loop : tie.InvT-loop
-Inv-loop refusals n₀ n = n ≤ 13
+Inv-loop table end n₀ n = 1 ≤ n
 
 abbrev μ-loop : tie.MeasureT-loop
-μ-loop refusals n₀ n = 13 - n
+μ-loop table end n₀ n = end - n
 
 loop-holds : tie.Need-loop-holds Inv-loop μ-loop
 loop-holds c = search needs
@@ -32,8 +32,8 @@ loop-again c = search needs
 returns : tie.Need-returns Inv-loop μ-loop
 returns c = search needs
 
-pub refusal-fields-spec : {M : Type 1} → statement M
-refusal-fields-spec =
+pub fields-spec : {M : Type 1} → statement M
+fields-spec =
     tie.close
     (tie.spec
     Inv-loop
