@@ -9,7 +9,7 @@ use mathlib.Core.List.{List, [], _∷_, _++_}
 use Prim.Native.Nat.{ℕ, suc, _+_, _-_, _≤_, _<_, min}
 use native.Mathlib.Omega.{arith}
 use lib.Dec.{T, eqb, eqb→eq, ltb, leb}
-use lib.ListN.{length, length-take}
+use lib.ListN.{take, length, length-take}
 use lib.Seq.{take-at, take-suc-set}
 use borrow.Author.Tests.{ltb-true, ltb-false, leb-true, leb-false, le-leb}
 use Rattle.basics.proofs.Tests.{not-both, and-left, and-right, or-cases, of-both}
@@ -17,7 +17,7 @@ use Rattle.sets.specs.Sets.{contains, size, Within}
 use Rattle.tables.specs.Tables.{lookUp}
 use Rattle.message.specs.Modes.{hasFastPath, isSwiftPaxos}
 use Rattle.message.specs.Promises.{acceptRoundOf}
-use Rattle.message.specs.Rounds.{increment, roundEqual, nextLeaderRound, startingRound, equal, unwrapOrDefault}
+use Rattle.message.specs.Rounds.{increment, roundEqual, nextLeaderRound, startingRound, equal, unwrapOrDefault, isRound}
 use Rattle.message.proofs.NextLeader.{increment-next}
 use Rattle.message.specs.declared.ConsensusMsg.{ConsensusMsg}
 use Rattle.message.specs.declared.ConsensusMsg.the-variants.{Prepare, Accept, ForwardRequest, Commit, ReadRequest, ReadResponse}
@@ -39,7 +39,9 @@ use Rattle.settings.specs.Questions.{isReplica, isLiveReplica, quorumsOf, start
 use Rattle.settings.specs.Settings.{withinLimits}
 use Rattle.settings.specs.declared.Settings.{Settings}
 use Rattle.settings.proofs.Limits.{within-counts, within-members}
-use Rattle.round_state.specs.Paxos.{isHeld}
+use Rattle.round_state.specs.Paxos.{isHeld, getLastAcceptedRound}
+use Rattle.round_state.specs.declared.HeldPromise.{HeldPromise}
+use Rattle.round_state.specs.declared.HeldPromise.the-variants.{NothingHeld, Held}
 use Rattle.fast_state.specs.Adopt.{Choice, lowestBest}
 use Rattle.fast_state.specs.Fast.{noAnswers}
 use Rattle.fast_state.specs.declared.FastState.{FastState}
@@ -53,7 +55,7 @@ use Rattle.read_tracker.specs.declared.ReadTracker.{ReadTracker}
 use Rattle.read_tracker.specs.declared.ServedRead.{ServedRead}
 use Rattle.serving.specs.Serving.{hasId, keptByReady, servedByReady, keptByCommit, servedByCommit, atFront, tracked, receiveReady, commitSlot as serveReads}
 use Rattle.serving.specs.declared.Tracked.{Tracked}
-use Rattle.serving.proofs.IdOrder.{InOrder, new-in-order, commit-slot-in-order, receive-ready-in-order, insert-in-order}
+use Rattle.serving.proofs.IdOrder.{Rising, servedIds, InOrder, new-in-order, commit-slot-in-order, receive-ready-in-order, insert-in-order}
 use Rattle.serving.proofs.NothingLost.{parted-length, commit-loses-nothing, ready-loses-nothing}
 use Rattle.enter.specs.Enter.{canPropose, sourceTaken}
 use Rattle.paxos_family.specs.Commit.{commitSlot}
@@ -84,7 +86,8 @@ use Rattle.group.specs.Claim.{memberSettings, begun, MemberCall, afterCa
 use Rattle.group.specs.Steps.{isDone}
 use Rattle.group.proofs.View.{LeaderIn}
 use Rattle.group.proofs.Answering.{FastFits, size-bound, no-answers-fit, ProposerFits}
-use Rattle.group.proofs.StepBounds.{GroupFits, RoundFits, StateFits, only-empty, CoreFits, MessageFits, RoundsFit, processed-fits, proposing-fits}
+use Rattle.group.proofs.StepBounds.{GroupFits, RoundFits, StateFits, none-accepted, only-empty, CoreFits, MessageFits, RoundsFit, processed-fits, proposing-fits}
+use Rattle.group.proofs.Sending.{Holds}
 
 not-true : (b : Bool) → T (not b) → b ≡ false
 not-true true t = absurd t
@@ -341,6 +344,10 @@ abbrev pub OfSlot : ℕ → OptionalCommit → Type 0
 OfSlot own NoCommit = Unit {0}
 OfSlot own (Committed slot v fast) = slot ≡ own
 
+-- the reads that a call serves stand first in the table of served reads, as many as its reply says
+abbrev pub servedBy : Answer → List ServedRead
+servedBy r = take (r .reply .«served_count») (r .shard .state .table .served)
+
 -- what a call leaves; a commit is of the own slot and moves it on, and nothing else does
 pub record CallLasts (old : Shard) (r : Answer) : Type 0 where
   pub lasts : Lasts (r .shard)
@@ -348,6 +355,7 @@ pub record CallLasts (old : Shard) (r : Answer) : Type 0 where
   pub same-settings : r .shard .settings ≡ old .settings
   pub slot-moves : r .shard .state .rounds .core .slot ≡ plusCommit (r .reply .commit) (old .state .rounds .core .slot)
   pub of-own-slot : OfSlot (old .state .rounds .core .slot) (r .reply .commit)
+  pub served-rising : Rising 0 (servedIds (servedBy r)) (old .state .rounds .core .tracker .«next_id»)
 
 leader-below : (s : Settings) → withinLimits s ≡ true → s .«first_leader» < 64
 leader-below s limits = let few = few-processes s limits in let first = within-members s limits .leader-below in omega arith
@@ -358,6 +366,8 @@ new-sets-fit s made led =
     record {
       only-prepared = only-empty (CountedIn s) (LeadsIn made);
       only-accepted = only-empty (CountedIn s) (LeadsIn made);
+      prepared-held = inr refl;
+      accepted-held = inr refl;
       group-fits = start-fits (s .mode) (s .«first_leader»);
       round-led = start-led (LeadsIn made) (s .mode) (s .«first_leader») led;
       held-led = tt;
@@ -385,14 +395,17 @@ module _ (choose : Choice) (shard : Shard) (k : Lasts shard) where
   abbrev asked : Asked
   asked = askedOf s
 
-  same-lasts : (r : Answer) → r .shard ≡ shard → r .reply .commit ≡ NoCommit → CallLasts shard r
-  same-lasts r e f =
+  same-lasts : (r : Answer) → r .shard ≡ shard → _≡_ {A = OptionalCommit × ℕ} (r .reply .commit, r .reply .«served_count») (NoCommit, 0) → CallLasts shard r
+  same-lasts r e both =
+      let f : r .reply .commit ≡ NoCommit = ap (λ (x : OptionalCommit × ℕ). x .0) both in
+      let none : r .reply .«served_count» ≡ 0 = ap (λ (x : OptionalCommit × ℕ). x .1) both in
       record {
         lasts = subst Lasts (sym e) k;
         cleared = subst (λ (c : OptionalCommit). ClearedBy c (r .shard)) (sym f) tt;
         same-settings = ap (λ (x : Shard). x .settings) e;
         slot-moves = ap (λ (x : Shard). x .state .rounds .core .slot) e ∙ sym (ap (λ (c : OptionalCommit). plusCommit c (shard .state .rounds .core .slot)) f);
         of-own-slot = subst (OfSlot (shard .state .rounds .core .slot)) (sym f) tt;
+        served-rising = subst (λ (n : ℕ). Rising 0 (servedIds (take n (r .shard .state .table .served))) (shard .state .rounds .core .tracker .«next_id»)) (sym none) (omega arith);
       }
 
   module _ (limits : withinLimits s ≡ true) (room : shard .state .rounds .core .slot < 9223372036854775807) where
@@ -430,16 +443,20 @@ module _ (choose : Choice) (shard : Shard) (k : Lasts shard) where
                 sets-fit = new-sets-fit s (shard .made) (λ e. leader-below s limits);
                 fast-fits = of-both FastFits (hasFastPath (s .mode)) no-answers-fit (f .fast-fits);
                 fast-as-new = λ e. cleared (hasFastPath (s .mode)) (λ d. d);
-                reads-fit =
-                    commit-reads-fit (rounds .core .tracker) (shard .state .table) (quorumsOf s .majority) _ (low-majority s limits)
-                    (subst (λ (t : ReadTracker). ReadsFit t (shard .state .table)) (sym (f .core-fits .same-tracker)) (k .reads-fit));
+                reads-fit = commit-reads-fit (rounds .core .tracker) (shard .state .table) (quorumsOf s .majority) _ (low-majority s limits) reads;
               };
           cleared = record { paxos-new = refl; fast-new = cleared (hasFastPath (s .mode)) (λ d. d); on-fast-path = refl };
           same-settings = refl;
           slot-moves = let e = f .core-fits .same-slot in let n = increment-next (rounds .core .slot) (omega arith) in omega arith;
           of-own-slot = f .core-fits .same-slot;
+          served-rising =
+              subst (λ (t : ReadTracker). Rising 0 (servedIds (servedBy (committed shard asked v rounds ms))) (t .«next_id»)) (f .core-fits .same-tracker)
+              (commit-slot-in-order (rounds .core .tracker) (shard .state .table) (quorumsOf s .majority) _ (reads .in-order) .1);
         }
       where
+        reads : ReadsFit (rounds .core .tracker) (shard .state .table)
+        reads = subst (λ (t : ReadTracker). ReadsFit t (shard .state .table)) (sym (f .core-fits .same-tracker)) (k .reads-fit)
+
         cleared : (t : Bool) → (t ≡ false → hasFastPath (s .mode) ≡ false) → cond t noAnswers (rounds .fast) ≡ noAnswers
         cleared true e = refl
         cleared false e = f .same-fast (e refl) ∙ k .fast-as-new (e refl)
@@ -448,8 +465,8 @@ module _ (choose : Choice) (shard : Shard) (k : Lasts shard) where
     finish-lasts held step f = go (step .next)
       where
         go : (n : Next) → CallLasts shard (finishAt shard asked held (step .rounds) (step .messages) n)
-        go Stays = record { lasts = stays-lasts (step .rounds) f; cleared = tt; same-settings = refl; slot-moves = f .core-fits .same-slot; of-own-slot = tt }
-        go Continues = record { lasts = stays-lasts (step .rounds) f; cleared = tt; same-settings = refl; slot-moves = f .core-fits .same-slot; of-own-slot = tt }
+        go Stays = record { lasts = stays-lasts (step .rounds) f; cleared = tt; same-settings = refl; slot-moves = f .core-fits .same-slot; of-own-slot = tt; served-rising = omega arith }
+        go Continues = record { lasts = stays-lasts (step .rounds) f; cleared = tt; same-settings = refl; slot-moves = f .core-fits .same-slot; of-own-slot = tt; served-rising = omega arith }
         go (Commits v) = of-both (CallLasts shard) held (commit-lasts v (step .rounds) (step .messages) f) (same-lasts _ refl refl)
         go (Refuses why) = same-lasts _ refl refl
 
@@ -483,6 +500,7 @@ module _ (choose : Choice) (shard : Shard) (k : Lasts shard) where
               same-settings = refl;
               slot-moves = refl;
               of-own-slot = tt;
+              served-rising = omega arith;
             }
 
     module _ (d : Delivery) (numbers : numbersFit d ≡ true) (processes : processesFit (s .«process_count») d ≡ true) where
@@ -531,6 +549,8 @@ module _ (choose : Choice) (shard : Shard) (k : Lasts shard) where
             same-settings = refl;
             slot-moves = refl;
             of-own-slot = tt;
+            served-rising =
+                receive-ready-in-order (shard .state .rounds .core .tracker) (shard .state .table) id (quorumsOf s .majority) (shard .state .rounds .core .slot) (d .said .fast) (k .reads-fit .in-order) .1;
           }
 
     dispatch-lasts : (c : Call) → CallLasts shard (dispatch choose shard c)
@@ -677,9 +697,13 @@ module _ (s : Settings) (cs : List MemberCall) (i : ℕ) where
   pub commit-clears : (c : Call) (slot v : ℕ) (mark : Bool) → callOf left c .reply .commit ≡ Committed slot v mark → Cleared (callOf left c .shard)
   commit-clears c slot v mark e = subst (λ (x : OptionalCommit). ClearedBy x (callOf left c .shard)) e (call-lasts lowestBest left ok c .cleared)
 
-  -- "Served reads come in id order": so do the open ones, at most 128, each id above the one before it and all below the next one.
+  -- The open reads stand in id order, at most 128, each id above the one before it and all below the next one.
   pub reads-in-order : InOrder (left .state .rounds .core .tracker) (left .state .table)
   reads-in-order = ok .reads-fit .in-order
+
+  -- "Served reads come in id order."
+  pub served-in-order : (c : Call) → Rising 0 (servedIds (servedBy (callOf left c))) (left .state .rounds .core .tracker .«next_id»)
+  served-in-order c = call-lasts lowestBest left ok c .served-rising
 
   counted : StateFits (CountedIn s) (LeadsIn (left .made)) (core .paxos)
   counted = subst (λ (x : Settings). StateFits (CountedIn x) (LeadsIn (left .made)) (core .paxos)) same (ok .sets-fit)
@@ -692,6 +716,20 @@ module _ (s : Settings) (cs : List MemberCall) (i : ℕ) where
   pub sets-hold-live-replicas : isSwiftPaxos (s .mode) ≡ false
       → Within (left .state .rounds .core .paxos .«prepared_set») (s .«alive_replicas») × Within (left .state .rounds .core .paxos .«accepted_set») (s .«alive_replicas»)
   sets-hold-live-replicas e = (λ p m. counted .only-prepared p m .1 e, λ p m. counted .only-accepted p m .1 e)
+
+  -- Promises are counted only while something is held: so a Prepare that finds nothing held finds none counted, as `paxos_propose_v` asserts.
+  pub promises-while-held : isHeld (left .state .rounds .core .paxos .«max_rv») ≡ false → left .state .rounds .core .paxos .«prepared_set» ≡ 0
+  promises-while-held e = go (core .paxos .«max_rv») e (counted .prepared-held)
+    where
+      go : (held : HeldPromise) → isHeld held ≡ false → Holds held ⊎ (core .paxos .«prepared_set» ≡ 0) → core .paxos .«prepared_set» ≡ 0
+      go held e (inr n) = n
+      go NothingHeld e (inl h) = absurd h
+      go (Held rv) e (inl h) = absurd (not-both refl e)
+
+  -- Accepts are counted only while something accepted is held: so the leader in SwiftPaxos and the delegate in EPaxos that find nothing accepted
+  -- find none counted, as `self_accept` asserts.
+  pub accepts-while-accepted : isRound (getLastAcceptedRound (left .state .rounds .core .paxos .«max_rv»)) ≡ false → left .state .rounds .core .paxos .«accepted_set» ≡ 0
+  accepts-while-accepted e = none-accepted (getLastAcceptedRound (core .paxos .«max_rv»)) (subst (λ (b : Bool). T (not b)) (sym e) tt) (counted .accepted-held)
 
   -- The numbers that calls add to or subtract from have room. That these are all of them is read off the definitions, and no law: `increment`
   -- is in commitCore, nextReadable, proposalRound, preacceptedAfter, scoreAfter, swiftCounted, afterResponse, afterCommit, each of a number of the

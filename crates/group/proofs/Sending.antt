@@ -81,7 +81,7 @@ use Rattle.consensus.specs.declared.Shard.{Shard}
 use Rattle.basics.specs.Lists.{In}
 use Rattle.basics.proofs.Tests.{of-both}
 use Rattle.agreement.proofs.Tests.{by-test, and-both, neqb→ne}
-use Rattle.group.specs.Claim.{listed, messagesOf}
+use Rattle.group.specs.Claim.{listed, messagesOf, Reaches, SentTo}
 
 -- ---- a message, and the messages of a call
 
@@ -114,6 +114,18 @@ pub record FromOwn (own : ℕ) (o : Outgoing) : Type 0 where
   pub source : o .message .src ≡ own
   pub to-others : NotTo own (o .destination)
   pub commit-to-all : CommitToAll (o .message .msg) (o .destination)
+
+not-reached : (own : ℕ) (d : Destination) → NotTo own d → Reaches own d own → ⊥
+not-reached own (One p) n t = n t
+not-reached own (All first) n t = t refl
+
+not-sent : (own : ℕ) (d : Destination) → NotTo own d → (m : ConsensusMsg) → SentTo own d own m → ⊥
+not-sent own d n (Prepare slot round rv) t = not-reached own d n t
+not-sent own d n (Accept slot round v) t = not-reached own d n t
+not-sent own d n (ForwardRequest v) t = not-reached own d n t
+not-sent own d n (Commit slot v) t = t refl
+not-sent own d n (ReadRequest id) t = not-reached own d n t
+not-sent own d n (ReadResponse id next) t = not-reached own d n t
 
 abbrev MaySend : ℕ → OptionalMessage → Type 0
 MaySend own NoMessage = Unit {0}
@@ -154,7 +166,7 @@ also-sends own ms m u w = go (ms .first) (ms .second) (ms .third) u
 
 -- ---- what is held
 
-abbrev Holds : HeldPromise → Type 0
+abbrev pub Holds : HeldPromise → Type 0
 Holds NothingHeld = ⊥
 Holds (Held rv) = Unit {0}
 
@@ -170,7 +182,7 @@ TakenHolds s (Refused why) = Unit {0}
 abbrev HoldsAfter : PaxosStep → Type 0
 HoldsAfter step = TakenHolds (step .state) (step .outcome)
 
-promise-held : (held : HeldPromise) (rv : RoundV) → Holds (heldAfterPromise held rv)
+pub promise-held : (held : HeldPromise) (rv : RoundV) → Holds (heldAfterPromise held rv)
 unfolding heldAfterPromise
 promise-held NothingHeld rv = tt
 promise-held (Held old) rv = of-both Holds (before (acceptRoundOf old) (acceptRoundOf rv)) tt tt
@@ -647,3 +659,7 @@ module _ (choose : Choice) (shard : Shard) where
       go (Send x) (Send y) NoMessage u (inr (inl e)) = same y (u .1) e
       go (Send x) (Send y) NoMessage u (inr (inr h)) = absurd h
       go x y (Send z) u h = absurd u
+
+  -- None is sent to its sender, as the claim has it.
+  pub none-to-its-sender : (c : Call) (o : Outgoing) → In o (messagesOf (callWith choose shard c .reply .messages)) → SentTo number (o .destination) number (o .message .msg) → ⊥
+  none-to-its-sender c o h = not-sent number (o .destination) (sent-from-own c o h .to-others) (o .message .msg)

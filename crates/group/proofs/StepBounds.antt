@@ -13,7 +13,7 @@ use Rattle.sets.specs.Sets.{contains, insert, size, isEmpty, one}
 use Rattle.sets.proofs.Laws.{contains-empty, contains-insert, contains-insert-same, insert-none, size-insert, within-insert}
 use Rattle.tables.specs.Tables.{lookUp, store}
 use Rattle.message.specs.Modes.{hasFastPath, isMultiPaxos, isSwiftPaxos}
-use Rattle.message.specs.Rounds.{increment, before}
+use Rattle.message.specs.Rounds.{increment, before, isRound}
 use Rattle.message.proofs.NextLeader.{increment-next}
 use Rattle.message.specs.declared.ConsensusMsg.{ConsensusMsg}
 use Rattle.message.specs.declared.ConsensusMsg.the-variants.{Prepare, Accept, ForwardRequest, Commit, ReadRequest, ReadResponse}
@@ -45,8 +45,8 @@ use Rattle.fast_state.specs.declared.FastStep.{FastStep}
 use Rattle.accept.specs.Accept.{isCommitter, answerAccept, tryCommit, answered, follower, accepted, afterAccepted, accepting}
 use Rattle.enter.specs.Enter.{canPropose, sourceTaken, inRound, isOlder, fromLive, enter}
 use Rattle.epaxos_path.specs.EPaxos.{adopting, epaxosAdopt, epaxosDecide, afterEpaxosAnswer, epaxosAnswer}
-use Rattle.prepare.specs.Prepare.{holdFirst, mayAnswer, answerPrepare, answersNothing, preparing, afterHeld, prepared, offFastPath, broadcastAccept, afterOwnAccept, acceptPhase, withPromise, becomesPrepared, gather}
-use Rattle.paxos_family.specs.Process.{inPrepare, onPrepare, onAccept, processClassic, fastPrepared, fastPromised, startsAccept, waits, fastAnswered, fastGather, inFastPrepare, onFastPrepare, replicaAccept, inFastAccept, onFastAccept, processChange, processFast}
+use Rattle.prepare.specs.Prepare.{holdFirst, mayAnswer, answerPrepare, answersNothing, preparing, afterHeld, prepared, offFastPath, broadcastAccept, afterOwnAccept, acceptPhase, withPromise, becomesPrepared, gather, hasAccepted}
+use Rattle.paxos_family.specs.Process.{inPrepare, onPrepare, onAccept, processClassic, fastPrepared, fastPromised, leadsRound, startsAccept, waits, fastAnswered, fastGather, inFastPrepare, onFastPrepare, replicaAccept, inFastAccept, onFastAccept, processChange, processFast}
 use Rattle.propose.specs.Propose.{proposalRound, mayPropose, proposed, proposePrepare, afterOwnPromise, proposeAccept, proposeClassic, afterOwnAnswer, ownAnswer, leadsFromStart, proposeChange, proposeFast}
 use Rattle.steps.specs.Steps.{goesOn, noMessages, stays, continues, refuses, andThen, andThenChange, withPaxos, leftFastPath, onRounds, changeRounds}
 use Rattle.steps.specs.declared.Asked.{Asked}
@@ -63,6 +63,7 @@ use Rattle.consensus.specs.Handle.{processed}
 use Rattle.agreement.proofs.Tests.{by-test, neqb→ne}
 use Rattle.group.proofs.View.{LeaderIn}
 use Rattle.group.proofs.Answering.{FastFits, size-bound, stored, stored-length, ProposerFits}
+use Rattle.group.proofs.Sending.{Holds, promise-held}
 
 -- ---- rounds
 
@@ -75,6 +76,30 @@ GroupFits (Round r) = r .«round_group» ≤ 9223372036854775807
 abbrev pub RoundFits : (ℕ → Type 0) → PaxosRound → Type 0
 RoundFits Leads r = GroupFits (Round r) × Leads (r .leader)
 
+-- ---- what was accepted
+
+abbrev pub HasRound : OptionalRound → Type 0
+HasRound NoRound = ⊥
+HasRound (Round r) = Unit {0}
+
+later-round : (x y : OptionalRound) → T (before x y) → HasRound y
+later-round NoRound NoRound t = t
+later-round (Round r) NoRound t = t
+later-round x (Round r) t = tt
+
+-- a promise replaces an accepted one only by one that was accepted later
+promise-accepted : {set : ℕ} (held : HeldPromise) (rv : RoundV) → HasRound (getLastAcceptedRound held) ⊎ (set ≡ 0) → HasRound (getLastAcceptedRound (heldAfterPromise held rv)) ⊎ (set ≡ 0)
+unfolding heldAfterPromise
+promise-accepted held rv (inr e) = inr e
+promise-accepted NothingHeld rv (inl h) = absurd h
+promise-accepted (Held old) rv (inl h) =
+    inl (by-test (λ (x : HeldPromise). HasRound (getLastAcceptedRound x)) (before (acceptRoundOf old) (acceptRoundOf rv)) (Held rv) (Held old) (later-round (acceptRoundOf old) (acceptRoundOf rv)) (λ t. h))
+
+pub none-accepted : {set : ℕ} (at : OptionalRound) → T (not (isRound at)) → HasRound at ⊎ (set ≡ 0) → set ≡ 0
+none-accepted at fresh (inr e) = e
+none-accepted NoRound fresh (inl h) = absurd h
+none-accepted (Round r) fresh (inl h) = absurd fresh
+
 -- ---- sets that hold only what may be counted, and rounds that are led by who may lead
 
 module _ (Counts Leads : ℕ → Type 0) where
@@ -84,6 +109,8 @@ module _ (Counts Leads : ℕ → Type 0) where
   pub record StateFits (s : PaxosState) : Type 0 where
     pub only-prepared : Only (s .«prepared_set»)
     pub only-accepted : Only (s .«accepted_set»)
+    pub prepared-held : Holds (s .«max_rv») ⊎ (s .«prepared_set» ≡ 0)
+    pub accepted-held : HasRound (getLastAcceptedRound (s .«max_rv»)) ⊎ (s .«accepted_set» ≡ 0)
     pub group-fits : GroupFits (s .round)
     pub round-led : LeaderIn Leads (s .round)
     pub held-led : LeaderIn Leads (getLastAcceptedRound (s .«max_rv»))
@@ -129,6 +156,8 @@ module _ (Counts Leads : ℕ → Type 0) where
         record {
           only-prepared = counted-only src (s .«prepared_set») c (f .only-prepared);
           only-accepted = f .only-accepted;
+          prepared-held = inl (promise-held (s .«max_rv») rv);
+          accepted-held = promise-accepted (s .«max_rv») rv (f .accepted-held);
           group-fits = f .group-fits;
           round-led = f .round-led;
           held-led = led-after (s .«max_rv») rv (f .held-led) led;
@@ -149,6 +178,8 @@ module _ (Counts Leads : ℕ → Type 0) where
         (record {
           only-prepared = f .only-prepared;
           only-accepted = counted-only src (s .«accepted_set») c (f .only-accepted);
+          prepared-held = inl tt;
+          accepted-held = inl tt;
           group-fits = f .group-fits;
           round-led = f .round-led;
           held-led = led;
@@ -163,7 +194,16 @@ module _ (Counts Leads : ℕ → Type 0) where
         go (Value v) = accept-fits (me .«my_pid») round v s own-other led f
 
   goto-fits : (round : PaxosRound) (s : PaxosState) → RoundFits Leads round → StateFits s → StateFits (gotoRound (Round round) s)
-  goto-fits round s fit f = record { only-prepared = only-empty; only-accepted = only-empty; group-fits = fit .0; round-led = fit .1; held-led = f .held-led }
+  goto-fits round s fit f =
+      record {
+        only-prepared = only-empty;
+        only-accepted = only-empty;
+        prepared-held = inr refl;
+        accepted-held = inr refl;
+        group-fits = fit .0;
+        round-led = fit .1;
+        held-led = f .held-led;
+      }
 
 -- ---- the fast half
 
@@ -441,23 +481,33 @@ module _ (Counts Leads : ℕ → Type 0) (a : Asked) (own-counts : T (a .member 
     then-changes : (step : CoreStep) (rest : Core → ChangeStep) → StepFits step → ((c : Core) → CoreFits c → ChangeFits (rest c)) → ChangeFits (andThenChange answersNow step rest)
     then-changes step rest k r = of-both ChangeFits (goesOn (step .next)) (r (step .core) k) (same-fits k)
 
-    adopt-fits : (round : PaxosRound) → Leads (round .leader) → (core : Core) (x : Adoption) → CoreFits core → StepFits (epaxosAdopt a round core x)
+    -- what is adopted takes the place of what nobody has accepted
+    adopt-fits : (round : PaxosRound) → Leads (round .leader) → (core : Core) (x : Adoption) → T (not (hasAccepted core)) → CoreFits core → StepFits (epaxosAdopt a round core x)
     unfolding adopting
-    adopt-fits round led core NoAdoption k = k
-    adopt-fits round led core (Adopt v) k =
+    adopt-fits round led core NoAdoption fresh k = k
+    adopt-fits round led core (Adopt v) fresh k =
         of-both StepFits (isPrepared me (core .paxos))
         (own-accept-fits round core (adoptFromEpaxos me round v (core .paxos) .state) (adoptFromEpaxos me round v (core .paxos) .outcome) k
         (self-fits Counts Leads me own-counts round (withHeld (Held (PaxosV NoRound v)) (core .paxos)) led held)) k
       where
         held : StateFits Counts Leads (withHeld (Held (PaxosV NoRound v)) (core .paxos))
-        held = record { only-prepared = k .state-fits .only-prepared; only-accepted = k .state-fits .only-accepted; group-fits = k .state-fits .group-fits; round-led = k .state-fits .round-led; held-led = tt }
-    adopt-fits round led core (AdoptionRefused why) k = k
+        held =
+            record {
+              only-prepared = k .state-fits .only-prepared;
+              only-accepted = k .state-fits .only-accepted;
+              prepared-held = inl tt;
+              accepted-held = inr (none-accepted (getLastAcceptedRound (core .paxos .«max_rv»)) fresh (k .state-fits .accepted-held));
+              group-fits = k .state-fits .group-fits;
+              round-led = k .state-fits .round-led;
+              held-led = tt;
+            }
+    adopt-fits round led core (AdoptionRefused why) fresh k = k
 
     module _ (h : Heard) (src-small : h .src < 64) (round : PaxosRound) (round-fits : RoundFits Leads round) where
-      epaxos-fits : (choose : Choice) (rv : RoundV) → ProposerFits rv → (core : Core) → CoreFits core
+      epaxos-fits : (choose : Choice) (rv : RoundV) → ProposerFits rv → (core : Core) → T (not (hasAccepted core)) → CoreFits core
           → ChangeFits (epaxosAnswer choose a h round rv core answersNow (f .«fast_proposer_to_v») (f .«epaxos_proposer_scores»))
       unfolding epaxosAnswer epaxosDecide
-      epaxos-fits choose (FastV p v) l core k = go (answer .change) (answer .outcome) (epaxos-answered-fits me own-small f ok (h .src) p v src-small l)
+      epaxos-fits choose (FastV p v) l core fresh k = go (answer .change) (answer .outcome) (epaxos-answered-fits me own-small f ok (h .src) p v src-small l)
         where
           answer : FastStep
           answer = epaxosAnswered me (h .src) p v answersNow (f .«epaxos_proposer_scores»)
@@ -466,11 +516,11 @@ module _ (Counts Leads : ℕ → Type 0) (a : Asked) (own-counts : T (a .member 
               → ChangeFits (afterEpaxosAnswer choose a h round v core (f .«fast_proposer_to_v») (f .«epaxos_proposer_scores») change o)
           go change Done q = (
             of-both StepFits (epaxosCanCommit me (change .answers)) k
-                (adopt-fits round (round-fits .1) core (epaxosTryAdoptAfter choose me change (f .«fast_proposer_to_v») (f .«epaxos_proposer_scores»)) k),
+                (adopt-fits round (round-fits .1) core (epaxosTryAdoptAfter choose me change (f .«fast_proposer_to_v») (f .«epaxos_proposer_scores»)) fresh k),
             q,
           )
           go change (Refused why) q = (k, q)
-      epaxos-fits choose (PaxosV at v) l core k = same-fits k
+      epaxos-fits choose (PaxosV at v) l core fresh k = same-fits k
 
       client-prepare-fits : (rv : RoundV) → ProposerFits rv → (core : Core) → CoreFits core → ChangeFits (swiftClientPrepare a h round rv core answersNow (f .«swift_proposer_scores»))
       unfolding swiftClientPrepare swiftAnswer
@@ -525,12 +575,17 @@ module _ (Counts Leads : ℕ → Type 0) (a : Asked) (own-counts : T (a .member 
 
         fast-gather-fits : (choose : Choice) (rv : RoundV) → LeaderIn Leads (acceptRoundOf rv) → ProposerFits rv → (core : Core) → CoreFits core
             → ChangeFits (fastGather choose a h round rv core answersNow (f .«fast_proposer_to_v») (f .«epaxos_proposer_scores») (f .«swift_proposer_scores»))
-        unfolding fastGather fastAnswered fastPromised
+        unfolding fastGather fastAnswered fastPromised waits
         fast-gather-fits choose rv led l core k =
             of-both ChangeFits (startsAccept a round core (fastPromised a h rv core)) (same-fits (phase-fits round (round-fits .1) (fastPromised a h rv core) q))
-            (of-both ChangeFits (waits a round (fastPromised a h rv core)) (same-fits q)
-            (of-both ChangeFits (isSwiftPaxos (a .mode)) (client-prepare-fits rv l (fastPromised a h rv core) q) (epaxos-fits choose rv l (fastPromised a h rv core) q)))
+            (by-test ChangeFits (waits a round (fastPromised a h rv core)) _ _ (λ t. same-fits q)
+            (λ t. by-test ChangeFits (isSwiftPaxos (a .mode)) _ _ (λ u. client-prepare-fits rv l (fastPromised a h rv core) q)
+            (λ u. epaxos-fits choose rv l (fastPromised a h rv core) (second (isSwiftPaxos (a .mode)) (leadsRound a round) (hasAccepted (fastPromised a h rv core)) t u) q)))
           where
+            second : (b x y : Bool) → T (not (cond b x y)) → T (not b) → T (not y)
+            second true x y t u = absurd u
+            second false x y t u = t
+
             q : CoreFits (fastPromised a h rv core)
             q = of-both CoreFits (me .replica) (promised-fits h round round-fits src-counts rv led core k) k
 
