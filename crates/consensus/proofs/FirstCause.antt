@@ -55,7 +55,7 @@ use Rattle.calls.specs.declared.Call.{Call}
 use Rattle.calls.specs.declared.Call.the-variants.{Propose, StartRead, Receive}
 use Rattle.consensus.specs.Answers.{refused, committed, finishAt, sent}
 use Rattle.consensus.specs.Call.{proposing, propose, read, admitted, receive, dispatch, unlessSpent, ifMade, callWith}
-use Rattle.consensus.specs.FirstCause.{numberOf, anyAbove, tooLarge, proposalCauses, notAllowedCauses, readCauses, causes, unmade, firstCause, handlingCauses}
+use Rattle.consensus.specs.FirstCause.{numberOf, anyAbove, tooLarge, proposalCauses, notAllowedCauses, readCauses, causes, unmade, firstCause, handlingCauses, isSpent}
 use Rattle.consensus.specs.Handle.{onCommit, onReadRequest, onReadResponse, startRead, afterInsert, processed, processMessage, handle}
 use Rattle.consensus.specs.Rows.{gives, firstOf, then}
 use Rattle.consensus.specs.declared.Answer.{Answer}
@@ -357,19 +357,22 @@ module _ (choose : Choice) (shard : Shard) where
   dispatch-gives (StartRead tag arrival) = read-gives tag arrival
   dispatch-gives (Receive d) = receive-gives d
 
-  -- Every call on every shard, whatever stands in it: taken where the number is 0, and else refused with that number, the shard as it was.
-  pub first-cause : (c : Call) → Gives shard (callWith choose shard c) (firstCause choose shard c)
-  unfolding callWith unlessSpent firstCause firstOf then
-  first-cause c = made (shard .made)
+  marked-gives : (c : Call) (o : Outcome) → Gives shard (ifMade choose shard c o) (firstOf (then (unmade o) (gives 2 (isSpent shard) ∷ causes choose shard c)))
+  unfolding unlessSpent firstOf then
+  marked-gives c Done = spent (isSpent shard)
     where
       spent : (t : Bool) → Gives shard (cond t (refused NumberTooLarge shard) (dispatch choose shard c)) (cond t 2 (firstOf (causes choose shard c)))
       spent true = inr (NumberTooLarge, refl, refl)
       spent false = dispatch-gives c
+  marked-gives c (Refused why) = inr (why, refl, refl)
 
-      made : (o : Outcome)
-          → Gives shard (ifMade choose shard c o) (firstOf (then (unmade o) (gives 2 (leb 9223372036854775807 (rounds .core .slot)) ∷ causes choose shard c)))
-      made Done = spent (leb 9223372036854775807 (rounds .core .slot))
-      made (Refused why) = inr (why, refl, refl)
+  -- Every call on every shard, whatever stands in it: taken where the number is 0, and else refused with that number, the shard as it was. It is said of each
+  -- kind of call by itself, so that an engine which treats one kind otherwise is refused there.
+  pub first-cause : (c : Call) → Gives shard (callWith choose shard c) (firstCause choose shard c)
+  unfolding callWith firstCause
+  first-cause (Propose v) = marked-gives (Propose v) (shard .made)
+  first-cause (StartRead tag arrival) = marked-gives (StartRead tag arrival) (shard .made)
+  first-cause (Receive d) = marked-gives (Receive d) (shard .made)
 
   -- The number that a call hands back, 0 where it is taken.
   pub number-is-first-cause : (c : Call) → numberOf (callWith choose shard c .reply .outcome) ≡ firstCause choose shard c

@@ -1,6 +1,7 @@
 -- Which number a call gives: for each kind of call the causes of document 01's table ("Message and answer"), in the order of its Order line. The call
 -- gives the number of the first cause that holds, and is taken where none does: `by-first-cause` (proofs/Refusals.antt). This page says what the causes are,
--- by the settings, what stands in the shard, and the call; no step of the engine is run.
+-- by the settings, what stands in the shard, and the call; no step of the engine is run. It cites what the panics' page cites (Panics.antt), and the rows of the
+-- quorums (`rowOf`), a table's entry for a process (`lookUp`), `fits` and `allBelow` (all members of a set or a table are below a count), and `roundOf`.
 -- Assumes nothing.
 use mathlib.Core.Path.{_≡_}
 use mathlib.Core.Logic.{_⊎_}
@@ -254,7 +255,7 @@ settingsCauses s =
     ∷ gives 1 (modeOutside s (s .mode))
     ∷ []
 
--- a proposal in the fast modes: some answer is counted or recorded already
+-- a proposal in the fast modes: some answer is counted or recorded already (docs/DIFFERENCES.md has these assertions of `propose` in the words below)
 abbrev pub answeredAlready : FastState → Bool
 answeredAlready fast = not (isEmpty (fast .«fast_answer_set»)) || not (eqb (fast .«fast_preaccepted») 0) || not (isEmpty (fast .«fast_proposers»))
 

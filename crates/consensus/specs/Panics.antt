@@ -1,6 +1,7 @@
 -- The panics of the Rust while it handles a Prepare or an Accept that is not ignored, path by path in the order in which it meets them
 -- (docs/DIFFERENCES.md, "Panics of the Rust while it handles a message"), and last the 6 of a commit. What is said here is said of what is held and
--- who is in which set when the message comes.
+-- who is in which set when the message comes. Cited from below: sets (`contains`, `insert`, `size`, `isEmpty`), the order of rounds (`before`, `equal`,
+-- `roundBefore`, `roundEqual`), one more (`increment`, which leaves the largest number), and the parts of a promise (`valueOf`, `acceptRoundOf`).
 -- Assumes nothing.
 use mathlib.Core.Bool.{Bool, true, false, cond, not, _&&_, _||_}
 use mathlib.Core.List.{List, [], _∷_}
@@ -171,7 +172,8 @@ abbrev pub isOne : OptionalProcess → Bool
 isOne NoProcess = false
 isOne (Process p) = true
 
--- "`epaxos_try_adopt` needs a majority of answers and two proposers; best score wins": one of them is chosen
+-- "`epaxos_try_adopt` needs a majority of answers and two proposers; best score wins": one of them is chosen. The engine chooses one exactly where some proposer
+-- that is present has a score above 0 (`one-scored` and `none-scored`, proofs/Reading.antt).
 abbrev pub adopts : Choice → Facts → ℕ → Bool
 adopts choose f proposer =
     majority f (epaxosAnswersThen f proposer .«fast_answer_set») && leb 2 (size (epaxosAnswersThen f proposer .«fast_proposers»))
