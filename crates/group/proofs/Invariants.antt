@@ -42,7 +42,7 @@ use Rattle.settings.proofs.Limits.{within-counts, within-members}
 use Rattle.round_state.specs.Paxos.{isHeld, getLastAcceptedRound}
 use Rattle.round_state.specs.declared.HeldPromise.{HeldPromise}
 use Rattle.round_state.specs.declared.HeldPromise.the-variants.{NothingHeld, Held}
-use Rattle.fast_state.specs.Adopt.{Choice, lowestBest}
+use Rattle.fast_state.specs.Adopt.{Choice}
 use Rattle.fast_state.specs.Fast.{noAnswers}
 use Rattle.fast_state.specs.declared.FastState.{FastState}
 use Rattle.read_tracker.specs.Reads.{readId, newRead, openPlaces, openReads, inserted, insert, afterResponse, afterCommit, hasQuorum}
@@ -76,13 +76,13 @@ use Rattle.calls.specs.declared.Call.the-variants.{Propose, StartRead, Receive}
 use Rattle.calls.specs.declared.OptionalCommit.{OptionalCommit}
 use Rattle.calls.specs.declared.OptionalCommit.the-variants.{NoCommit, Committed}
 use Rattle.consensus.specs.Answers.{committed, finishAt, finish}
-use Rattle.consensus.specs.Call.{newCore, newShard, proposing, propose, read, admitted, receive, dispatch, unlessSpent, ifMade, callWith, callOf}
+use Rattle.consensus.specs.Call.{newCore, newShard, proposing, propose, read, admitted, receive, dispatch, unlessSpent, ifMade, callWith}
 use Rattle.consensus.specs.Handle.{onCommit, onReadRequest, onReadResponse, afterInsert, readInserted, startRead, processed, processMessage, handle}
 use Rattle.consensus.specs.declared.Answer.{Answer}
 use Rattle.consensus.specs.declared.Shard.{Shard}
 use Rattle.basics.specs.Lists.{In}
 use Rattle.agreement.proofs.Tests.{by-test, and-both, is-true}
-use Rattle.group.specs.Claim.{memberSettings, begun, MemberCall, afterCall, plusCommit}
+use Rattle.group.specs.Claim.{memberSettings, begun, Choices, laterChoices, MemberCall, afterCall, plusCommit}
 use Rattle.group.specs.Steps.{isDone}
 use Rattle.group.proofs.View.{LeaderIn}
 use Rattle.group.proofs.Answering.{FastFits, size-bound, no-answers-fit, ProposerFits}
@@ -641,37 +641,37 @@ module _ (n : ℕ) (few : n ≤ 64) where
 
 -- ---- lists of calls, legal or not
 
--- the shards after the calls of a list
-unfoldable pub shardsAfter : (ℕ → Shard) → List MemberCall → ℕ → Shard
-shardsAfter shards [] = shards
-shardsAfter shards (c ∷ cs) = shardsAfter (afterCall lowestBest shards c) cs
+-- the shards after the calls of a list, with a choice for each place in it
+unfoldable pub shardsAfter : Choices → (ℕ → Shard) → List MemberCall → ℕ → Shard
+shardsAfter choices shards [] = shards
+shardsAfter choices shards (c ∷ cs) = shardsAfter (laterChoices choices) (afterCall (choices 0) shards c) cs
 
 record RunLasts (s : Settings) (shards : ℕ → Shard) : Type 0 where
   lasting : (i : ℕ) → Lasts (shards i)
   settings-stay : (i : ℕ) → shards i .settings ≡ memberSettings s i
 
-call-keeps : (s : Settings) (shards : ℕ → Shard) → RunLasts s shards → (c : MemberCall) → RunLasts s (afterCall lowestBest shards c)
-call-keeps s shards k c =
+call-keeps : (choose : Choice) (s : Settings) (shards : ℕ → Shard) → RunLasts s shards → (c : MemberCall) → RunLasts s (afterCall choose shards c)
+call-keeps choose s shards k c =
     record {
       lasting = λ j. of-both Lasts (eqb j (c .member)) (left .lasts) (k .lasting j);
       settings-stay = λ j.
-          by-test (λ (x : Shard). x .settings ≡ memberSettings s j) (eqb j (c .member)) (callOf (shards (c .member)) (c .call) .shard) (shards j)
-          (λ t. subst (λ (i : ℕ). callOf (shards (c .member)) (c .call) .shard .settings ≡ memberSettings s i) (sym (eqb→eq j (c .member) t)) (left .same-settings ∙ k .settings-stay (c .member)))
+          by-test (λ (x : Shard). x .settings ≡ memberSettings s j) (eqb j (c .member)) (callWith choose (shards (c .member)) (c .call) .shard) (shards j)
+          (λ t. subst (λ (i : ℕ). callWith choose (shards (c .member)) (c .call) .shard .settings ≡ memberSettings s i) (sym (eqb→eq j (c .member) t)) (left .same-settings ∙ k .settings-stay (c .member)))
           (λ t. k .settings-stay j);
     }
   where
-    left : CallLasts (shards (c .member)) (callOf (shards (c .member)) (c .call))
-    left = call-lasts lowestBest (shards (c .member)) (k .lasting (c .member)) (c .call)
+    left : CallLasts (shards (c .member)) (callWith choose (shards (c .member)) (c .call))
+    left = call-lasts choose (shards (c .member)) (k .lasting (c .member)) (c .call)
 
-run-keeps : (s : Settings) (shards : ℕ → Shard) → RunLasts s shards → (cs : List MemberCall) → RunLasts s (shardsAfter shards cs)
+run-keeps : (choices : Choices) (s : Settings) (shards : ℕ → Shard) → RunLasts s shards → (cs : List MemberCall) → RunLasts s (shardsAfter choices shards cs)
 unfolding shardsAfter
-run-keeps s shards k [] = k
-run-keeps s shards k (c ∷ cs) = run-keeps s (afterCall lowestBest shards c) (call-keeps s shards k c) cs
+run-keeps choices s shards k [] = k
+run-keeps choices s shards k (c ∷ cs) = run-keeps (laterChoices choices) s (afterCall (choices 0) shards c) (call-keeps (choices 0) s shards k c) cs
 
-module _ (s : Settings) (cs : List MemberCall) (i : ℕ) where
+module _ (choices : Choices) (s : Settings) (cs : List MemberCall) (i : ℕ) where
   -- the shard of member i after the calls
   abbrev left : Shard
-  left = shardsAfter (begun s) cs i
+  left = shardsAfter choices (begun s) cs i
 
   abbrev core : Core
   core = left .state .rounds .core
@@ -679,9 +679,9 @@ module _ (s : Settings) (cs : List MemberCall) (i : ℕ) where
   abbrev fast : FastState
   fast = left .state .rounds .fast
 
-  run-lasts : RunLasts s (shardsAfter (begun s) cs)
+  run-lasts : RunLasts s (shardsAfter choices (begun s) cs)
   unfolding newShard
-  run-lasts = run-keeps s (begun s) (record { lasting = λ j. begun-lasts (memberSettings s j); settings-stay = λ j. refl }) cs
+  run-lasts = run-keeps choices s (begun s) (record { lasting = λ j. begun-lasts (memberSettings s j); settings-stay = λ j. refl }) cs
 
   ok : Lasts left
   ok = run-lasts .lasting i
@@ -694,16 +694,16 @@ module _ (s : Settings) (cs : List MemberCall) (i : ℕ) where
   fast-half-as-new classic = ok .fast-as-new (ap (λ (x : Settings). hasFastPath (x .mode)) same ∙ classic)
 
   -- "A commit clears everything", in every mode.
-  pub commit-clears : (c : Call) (slot v : ℕ) (mark : Bool) → callOf left c .reply .commit ≡ Committed slot v mark → Cleared (callOf left c .shard)
-  commit-clears c slot v mark e = subst (λ (x : OptionalCommit). ClearedBy x (callOf left c .shard)) e (call-lasts lowestBest left ok c .cleared)
+  pub commit-clears : (choose : Choice) (c : Call) (slot v : ℕ) (mark : Bool) → callWith choose left c .reply .commit ≡ Committed slot v mark → Cleared (callWith choose left c .shard)
+  commit-clears choose c slot v mark e = subst (λ (x : OptionalCommit). ClearedBy x (callWith choose left c .shard)) e (call-lasts choose left ok c .cleared)
 
   -- The open reads stand in id order, at most 128, each id above the one before it and all below the next one.
   pub reads-in-order : InOrder (left .state .rounds .core .tracker) (left .state .table)
   reads-in-order = ok .reads-fit .in-order
 
   -- "Served reads come in id order."
-  pub served-in-order : (c : Call) → Rising 0 (servedIds (servedBy (callOf left c))) (left .state .rounds .core .tracker .«next_id»)
-  served-in-order c = call-lasts lowestBest left ok c .served-rising
+  pub served-in-order : (choose : Choice) (c : Call) → Rising 0 (servedIds (servedBy (callWith choose left c))) (left .state .rounds .core .tracker .«next_id»)
+  served-in-order choose c = call-lasts choose left ok c .served-rising
 
   counted : StateFits (CountedIn s) (LeadsIn (left .made)) (core .paxos)
   counted = subst (λ (x : Settings). StateFits (CountedIn x) (LeadsIn (left .made)) (core .paxos)) same (ok .sets-fit)

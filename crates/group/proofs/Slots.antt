@@ -9,11 +9,11 @@ use Prim.Native.Nat.{ℕ}
 use lib.Dec.{T, eqb, eqb→eq}
 use Rattle.basics.proofs.Tests.{of-both}
 use Rattle.settings.specs.declared.Settings.{Settings}
-use Rattle.fast_state.specs.Adopt.{lowestBest}
-use Rattle.consensus.specs.Call.{newShard, callOf}
+use Rattle.fast_state.specs.Adopt.{Choice}
+use Rattle.consensus.specs.Call.{newShard, callWith}
 use Rattle.calls.specs.declared.OptionalCommit.{OptionalCommit}
 use Rattle.consensus.specs.declared.Shard.{Shard}
-use Rattle.group.specs.Claim.{memberSettings, begun, ours, MemberCall, Entry, entryOf, afterCall, entriesFrom, entries, At, plusCommit, slotAt, CommitAt}
+use Rattle.group.specs.Claim.{memberSettings, begun, Choices, laterChoices, MemberCall, Entry, entryOf, afterCall, entriesFrom, entriesWith, At, plusCommit, slotAt, CommitAt}
 use Rattle.group.proofs.Invariants.{Lasts, OfSlot, CallLasts, begun-lasts, call-lasts, shardsAfter}
 
 abbrev slotOf : Shard → ℕ
@@ -29,8 +29,8 @@ record Counted (shards : ℕ → Shard) (past : List Entry) : Type 0 where
   slots : (i : ℕ) → slotOf (shards i) ≡ slotAt i past
   own-slots : OwnSlots past
 
-call-counted : (shards : ℕ → Shard) (past : List Entry) → Counted shards past → (c : MemberCall) → Counted (afterCall lowestBest shards c) (entryOf lowestBest shards c ∷ past)
-call-counted shards past k c =
+call-counted : (choose : Choice) (shards : ℕ → Shard) (past : List Entry) → Counted shards past → (c : MemberCall) → Counted (afterCall choose shards c) (entryOf choose shards c ∷ past)
+call-counted choose shards past k c =
     record {
       lasting = λ j. of-both Lasts (eqb j (c .member)) (left .lasts) (k .lasting j);
       slots = λ j. go j (eqb j (c .member)) (eqb→eq j (c .member));
@@ -40,40 +40,42 @@ call-counted shards past k c =
     old : Shard
     old = shards (c .member)
 
-    left : CallLasts old (callOf old (c .call))
-    left = call-lasts lowestBest old (k .lasting (c .member)) (c .call)
+    left : CallLasts old (callWith choose old (c .call))
+    left = call-lasts choose old (k .lasting (c .member)) (c .call)
 
     commit : OptionalCommit
-    commit = callOf old (c .call) .reply .commit
+    commit = callWith choose old (c .call) .reply .commit
 
     go : (j : ℕ) (t : Bool) → (T t → j ≡ c .member)
-        → slotOf (cond t (callOf old (c .call) .shard) (shards j)) ≡ cond t (plusCommit commit (slotAt j past)) (slotAt j past)
+        → slotOf (cond t (callWith choose old (c .call) .shard) (shards j)) ≡ cond t (plusCommit commit (slotAt j past)) (slotAt j past)
     go j true e = left .slot-moves ∙ ap (plusCommit commit) (k .slots (c .member) ∙ ap (λ (i : ℕ). slotAt i past) (sym (e tt)))
     go j false e = k .slots j
 
-    own : OwnSlots (entryOf lowestBest shards c ∷ past)
+    own : OwnSlots (entryOf choose shards c ∷ past)
     own slot v m = at (m .stands)
       where
-        at : At (m .entry) (m .earlier) (entryOf lowestBest shards c ∷ past) → slot ≡ slotAt (m .entry .member) (m .earlier)
+        at : At (m .entry) (m .earlier) (entryOf choose shards c ∷ past) → slot ≡ slotAt (m .entry .member) (m .earlier)
         at (inl e) =
             subst (OfSlot (slotOf old)) (sym (ap (λ (x : Entry). x .reply .commit) (e .0)) ∙ m .commit) (left .of-own-slot)
             ∙ k .slots (c .member) ∙ sym (ap (λ (x : Entry). slotAt (x .member) past) (e .0)) ∙ ap (slotAt (m .entry .member)) (sym (e .1))
         at (inr h) = k .own-slots slot v (record { entry = m .entry; earlier = m .earlier; stands = h; fast = m .fast; commit = m .commit })
 
-run-counted : (shards : ℕ → Shard) (past : List Entry) → Counted shards past → (cs : List MemberCall) → Counted (shardsAfter shards cs) (entriesFrom ours shards past cs)
+run-counted : (choices : Choices) (shards : ℕ → Shard) (past : List Entry) → Counted shards past → (cs : List MemberCall)
+    → Counted (shardsAfter choices shards cs) (entriesFrom choices shards past cs)
 unfolding shardsAfter entriesFrom
-run-counted shards past k [] = k
-run-counted shards past k (c ∷ cs) = run-counted (afterCall lowestBest shards c) (entryOf lowestBest shards c ∷ past) (call-counted shards past k c) cs
+run-counted choices shards past k [] = k
+run-counted choices shards past k (c ∷ cs) =
+    run-counted (laterChoices choices) (afterCall (choices 0) shards c) (entryOf (choices 0) shards c ∷ past) (call-counted (choices 0) shards past k c) cs
 
-module _ (s : Settings) (cs : List MemberCall) where
-  counted : Counted (shardsAfter (begun s) cs) (entries s cs)
+module _ (choices : Choices) (s : Settings) (cs : List MemberCall) where
+  counted : Counted (shardsAfter choices (begun s) cs) (entriesWith choices s cs)
   unfolding newShard
-  counted = run-counted (begun s) [] (record { lasting = λ i. begun-lasts (memberSettings s i); slots = λ i. refl; own-slots = λ slot v c. absurd (c .stands) }) cs
+  counted = run-counted choices (begun s) [] (record { lasting = λ i. begun-lasts (memberSettings s i); slots = λ i. refl; own-slots = λ slot v c. absurd (c .stands) }) cs
 
   -- After every list of calls each shard's slot is the number of commits that its member's calls handed back.
-  pub slot-counts-commits : (i : ℕ) → shardsAfter (begun s) cs i .state .rounds .core .slot ≡ slotAt i (entries s cs)
+  pub slot-counts-commits : (i : ℕ) → shardsAfter choices (begun s) cs i .state .rounds .core .slot ≡ slotAt i (entriesWith choices s cs)
   slot-counts-commits i = counted .slots i
 
   -- Each commit names its member's slot, as in the third part of the claim, whatever the mode.
-  pub commits-are-of-own-slot : (slot v : ℕ) (c : CommitAt slot v (entries s cs)) → slot ≡ slotAt (c .entry .member) (c .earlier)
+  pub commits-are-of-own-slot : (slot v : ℕ) (c : CommitAt slot v (entriesWith choices s cs)) → slot ≡ slotAt (c .entry .member) (c .earlier)
   commits-are-of-own-slot slot v c = counted .own-slots slot v c

@@ -30,7 +30,7 @@ use Rattle.calls.specs.Asked.{gathererIn}
 use Rattle.consensus.specs.Handle.{processed, processMessage, handle}
 use Rattle.delivery.specs.Limits.{roundNumbers, rvNumbers, msgNumbers, valueNumbers, processNumbers, numbersFit, rvProcesses, msgProcesses, requesterBelow, processesFit}
 use Rattle.agreement.proofs.Tests.{neqb→ne}
-use Rattle.group.specs.Claim.{begun, MemberCall, LegalFrom, Legal}
+use Rattle.group.specs.Claim.{begun, ours, MemberCall, LegalFrom, Legal}
 use Rattle.group.proofs.Example.{proposes, hears, first}
 use Rattle.group.proofs.Invariants.{shardsAfter}
 
@@ -53,6 +53,6 @@ abbrev calls : List MemberCall
 calls = proposes 2 10 ∷ hears 0 2 NoValue (Prepare 0 (roundOf 0 0) (FastV 2 10)) ∷ []
 
 -- 5 is the set of 0 and 2
-pub client-counted : Legal withClient calls × (shardsAfter (begun withClient) calls 0 .state .rounds .core .paxos .«prepared_set» ≡ 5)
+pub client-counted : Legal withClient calls × (shardsAfter ours (begun withClient) calls 0 .state .rounds .core .paxos .«prepared_set» ≡ 5)
 unfolding LegalFrom shardsAfter newShard callWith unlessSpent dispatch propose receive admit numbersFit processesFit ready otherLastValue valueAwaited roundNumbers rvNumbers msgNumbers valueNumbers processNumbers rvProcesses msgProcesses requesterBelow handle processMessage processed gathererIn proposing proposeFast proposeChange leadsFromStart ownAnswer swiftProposeV swiftUnanswered swiftOwn isUnanswered mayPropose electing proposePrepare processFast processChange onFastPrepare inFastPrepare fastPrepared fastGather startsAccept waits leadsRound fastPromised toVAfter epaxosScoresAfter swiftScoresAfter lookUp enter fromLive isOlder inRound prepared holdFirst preparing answersNothing answerPrepare becomesPrepared acceptPhase broadcastAccept paxosProposeV receivePromise heldAfterPromise receiveAccept acceptFits acceptOwn selfAccept withSender withOwn nextLeaderRound roundBefore roundEqual increment delegateIn committerIn committerFor withinLimits countsFit membersFit committersFit modeFits quorumFits contains count size insert
 client-counted = (first (lit< tt) tt (first (lit< tt) (_, _, inl refl, refl, inl refl, refl, neqb→ne 2 0 tt) tt), refl)

@@ -26,7 +26,7 @@ use Rattle.consensus.specs.Call.{callOf}
 use Rattle.consensus.specs.declared.Answer.{Answer}
 use Rattle.consensus.specs.declared.Shard.{Shard}
 use Rattle.agreement.specs.Model.{undecided, decided}
-use Rattle.group.specs.Claim.{memberSettings, begun, MemberCall, WasSent, MayStand, Legal, At, slotAt}
+use Rattle.group.specs.Claim.{memberSettings, begun, ours, MemberCall, WasSent, MayStand, Legal, At, slotAt}
 use Rattle.group.specs.Steps.{Step, replyOf, isDone, heardIn, heard, stepOf, steps, entriesOf}
 use Rattle.group.proofs.Calls.{decisionOf, viewShard}
 use Rattle.group.proofs.Invariants.{shardsAfter}
@@ -128,7 +128,7 @@ module _ (s : Settings) (terms : Terms s) (cs : List MemberCall) (legal : Legal 
       → answersHeard s t (steps s cs) + 1 < quorumsOf s .majority
   slot-hangs t v p here =
       let lead = run-invariant s terms cs legal .leading in
-      let same : viewShard (shardsAfter (begun s) cs (s .«first_leader»)) .slot ≡ t = lead .slot ∙ here in
+      let same : viewShard (shardsAfter ours (begun s) cs (s .«first_leader»)) .slot ≡ t = lead .slot ∙ here in
       subst (λ (n : ℕ). answersHeard s n (steps s cs) + 1 < quorumsOf s .majority) same
       (lead .too-few (lead .holds-own v (subst (λ (n : ℕ). LeaderProposed s n v (steps s cs)) (sym same) p) .0))
 

@@ -323,10 +323,10 @@ module _ (s : Settings) (terms : Terms s) where
 
   -- and the invariant holds after the run
   run-from : (shards : ℕ → Shard) (past : List Step) (cs : List MemberCall) → Invariant shards past → LegalFrom (s .«process_count») ours shards (entriesOf past) cs
-      → Invariant (shardsAfter shards cs) (stepsFrom shards past cs)
+      → Invariant (shardsAfter ours shards cs) (stepsFrom shards past cs)
   unfolding LegalFrom stepsFrom shardsAfter
   run-from shards past [] k legal = k
   run-from shards past (c ∷ cs) k legal = run-from (afterCall lowestBest shards c) (stepOf shards c ∷ past) cs (call-invariant shards past k c (legal .1)) (legal .2)
 
-  pub run-invariant : (cs : List MemberCall) → Legal s cs → Invariant (shardsAfter (begun s) cs) (steps s cs)
+  pub run-invariant : (cs : List MemberCall) → Legal s cs → Invariant (shardsAfter ours (begun s) cs) (steps s cs)
   run-invariant cs legal = run-from (begun s) [] cs begun-invariant legal
