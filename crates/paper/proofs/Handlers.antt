@@ -12,7 +12,7 @@ use Rattle.paxos.specs.PaxosMadeSimple.Message.{promise, acceptance}
 use Rattle.message.specs.Modes.{isSwiftPaxos, hasFastPath}
 use Rattle.message.specs.Promises.{isProcess}
 use Rattle.message.specs.Rounds.{increment, roundBefore, before, equal}
-use Rattle.message.specs.declared.ConsensusMsg.the-variants.{Prepare, Accept}
+use Rattle.message.specs.declared.ConsensusMsg.the-variants.{Prepare, Accept, Commit}
 use Rattle.message.specs.declared.OptionalProcess.{OptionalProcess}
 use Rattle.message.specs.declared.OptionalProcess.the-variants.{NoProcess, Process}
 use Rattle.message.specs.declared.OptionalRound.the-variants.{Round}
@@ -32,18 +32,21 @@ use Rattle.enter.specs.Enter.{inRound, isOlder, fromLive, enter}
 use Rattle.prepare.specs.Prepare.{holdFirst, mayAnswer, answerPrepare, answersNothing, preparing, afterHeld, prepared, offFastPath, broadcastAccept, afterOwnAccept, acceptPhase, withPromise, becomesPrepared, gather}
 use Rattle.accept.specs.Accept.{tellsCommitter, isCommitter, acceptTo, committerHears, answerAccept, commitMessage, tellsCommit, commitMessages, tryCommit, answered, follower, accepted as acceptedStep, afterAccepted, accepting}
 use Rattle.paxos_family.specs.Commit.{commitSlot}
-use Rattle.steps.specs.Steps.{noMessages, oneMessage, twoMessages, also, sends, toAll, heldV, withPaxos, leftFastPath, stays, continues, refuses, commits as commitsStep, andThen, onRounds}
+use Rattle.steps.specs.Steps.{noMessages, oneMessage, twoMessages, also, alsoAt, firstServed, sends, toAll, heldV, withPaxos, leftFastPath, stays, continues, refuses, commits as commitsStep, andThen, onRounds}
 use Rattle.steps.specs.declared.Asked.{Asked}
 use Rattle.steps.specs.declared.Core.{Core}
 use Rattle.steps.specs.declared.CoreStep.{CoreStep}
-use Rattle.steps.specs.declared.Destination.the-variants.{One}
+use Rattle.steps.specs.declared.Destination.the-variants.{One, All}
+use Rattle.steps.specs.declared.OptionalMessage.{OptionalMessage}
+use Rattle.steps.specs.declared.OptionalMessage.the-variants.{NoMessage, Send}
+use Rattle.steps.specs.declared.Outgoing.{Outgoing}
 use Rattle.steps.specs.declared.Heard.{Heard}
 use Rattle.steps.specs.declared.Messages.{Messages}
 use Rattle.calls.specs.declared.OptionalCommit.the-variants.{Committed}
 use Rattle.consensus.specs.Answers.{committed, finish}
 use Rattle.consensus.specs.declared.Shard.{Shard}
 use Rattle.paper.specs.Replica.{Replica, acceptedOf, replicaOf, promises, keepsSomething, proposerIn, newly, hears, takesUp, acceptsWith}
-use Rattle.paper.specs.PaperCall.{Seen, Place, self, seen, hasCommitter, leaves, nothing, commits, takesPart, responding, requesting, gathers, inPrepare, toLearners, announcing, announces, informs, learning, counts, inAccept}
+use Rattle.paper.specs.PaperCall.{Seen, Place, self, seen, hasCommitter, leaves, nothing, commits, takesPart, responding, requesting, gathers, inPrepare, toLearners, announcing, announces, informs, learning, counts, inAccept, nextPlace, addressed, servedFirst}
 use Rattle.paper.proofs.Views.{taken-no, push, once, Agrees, agrees, through, no-refusal, agree-both, agree-unless, held-kept, held-brings, held-value, held-accepted-in, exceeded-older, promise-heard, accept-counted}
 
 -- ---- the classic modes
@@ -288,6 +291,18 @@ module _ (shard : Shard) (a : Asked) (h : Heard) (there : Bool) (acceptors : ℕ
       tells-paper ms =
           ap (λ (t : Bool). cond t (also ms (commitMessage a off (h .requester))) ms)
           (cond-or (eqb (n .leader) (a .member .«my_pid»)) (not (isProcess (h .requester) (a .member .«my_pid»))))
+          ∙ ap (λ (x : Messages). cond (eqb (n .leader) (a .member .«my_pid») || not (isProcess (h .requester) (a .member .«my_pid»))) x ms)
+          (in-next-place (ms .first) (ms .second) (ms .third) (commitMessage a off (h .requester))
+          ∙ ap (λ (p : OptionalProcess). nextPlace (ms .first) (ms .second) (ms .third) (addressed here (All p) (Commit (core .slot) v))) (first-served (h .requester)))
+        where
+          in-next-place : (x y z : OptionalMessage) (m : Outgoing) → alsoAt x y z m ≡ nextPlace x y z m
+          in-next-place NoMessage y z m = refl
+          in-next-place (Send b) NoMessage z m = refl
+          in-next-place (Send b) (Send c) z m = refl
+
+          first-served : (p : OptionalProcess) → firstServed a p ≡ servedFirst here p
+          first-served NoProcess = refl
+          first-served (Process p) = refl
 
       commit-paper : (ms : Messages) → Agrees (seenStep (commitsStep v (leftFastPath off) ms)) (commits here v ms)
       unfolding committed commitSlot

@@ -27,13 +27,14 @@ use Rattle.message.specs.declared.PFMode.the-variants.{Paxos, MultiPaxos, Multi
 use Rattle.message.specs.declared.RoundV.{RoundV}
 use Rattle.message.specs.declared.RoundV.the-variants.{PaxosV}
 use Rattle.fast_state.specs.Adopt.{lowestBest}
-use Rattle.steps.specs.Steps.{noMessages, oneMessage, twoMessages, also, sends, toAll, firstServed}
 use Rattle.steps.specs.declared.Asked.{Asked}
 use Rattle.steps.specs.declared.Core.{Core}
 use Rattle.steps.specs.declared.Destination.{Destination}
 use Rattle.steps.specs.declared.Destination.the-variants.{One, All}
 use Rattle.steps.specs.declared.Heard.{Heard}
 use Rattle.steps.specs.declared.Messages.{Messages}
+use Rattle.steps.specs.declared.OptionalMessage.{OptionalMessage}
+use Rattle.steps.specs.declared.OptionalMessage.the-variants.{NoMessage, Send}
 use Rattle.steps.specs.declared.Outgoing.{Outgoing}
 use Rattle.calls.specs.Asked.{askedOf, heardOf, nothingHeard}
 use Rattle.calls.specs.declared.Call.{Call}
@@ -67,6 +68,23 @@ seen r =
       commit = r .reply .commit;
     }
 
+-- ---- the places of what is sent
+
+abbrev pub nothingSent : Messages
+nothingSent = record { first = NoMessage; second = NoMessage; third = NoMessage }
+
+abbrev pub onlySent : Outgoing → Messages
+onlySent m = record { first = Send m; second = NoMessage; third = NoMessage }
+
+abbrev pub bothSent : Outgoing → Outgoing → Messages
+bothSent m n = record { first = Send m; second = Send n; third = NoMessage }
+
+-- one message more, in the next place
+abbrev pub nextPlace : OptionalMessage → OptionalMessage → OptionalMessage → Outgoing → Messages
+nextPlace NoMessage second third m = record { first = Send m; second = second; third = third }
+nextPlace (Send a) NoMessage third m = record { first = Send a; second = Send m; third = third }
+nextPlace (Send a) (Send b) third m = record { first = Send a; second = Send b; third = Send m }
+
 -- ---- a call at a replica
 
 -- where a call is handled: what is asked of the settings, what was heard, slot and last value (core), the number of acceptors, and the replica
@@ -98,7 +116,7 @@ module _ (here : Place) where
       record { outcome = 0; slot = here .core .slot; last = here .core .«last_v»; replica = r; messages = messages; commit = NoCommit }
 
   abbrev pub nothing : Seen
-  nothing = leaves (here .old) noMessages
+  nothing = leaves (here .old) nothingSent
 
   -- The value is learned. Section 3: the next slot is an instance of its own, with a replica that has responded to nothing (in MultiPaxos and
   -- MultiPaxos3P, to the first leader's number) and accepted nothing.
@@ -114,9 +132,13 @@ module _ (here : Place) where
         commit = Committed (here .core .slot) v false;
       }
 
+  -- a message carries the own number as its source, and the last value that was committed
+  abbrev pub addressed : Destination → ConsensusMsg → Outgoing
+  addressed destination msg = record { destination = destination; message = record { msg = msg; src = self here; «last_v» = here .core .«last_v» } }
+
   -- one of the paper's messages
   abbrev pub sending : Destination → Option RoundV → Message PaxosRound ℕ → Outgoing
-  sending destination wish m = sends (here .asked) (here .core) destination (written (here .core .slot) wish m)
+  sending destination wish m = addressed destination (written (here .core .slot) wish m)
 
   -- An acceptor is a live replica. DIFFERENCE ("a message of a slot that is committed"): it takes part in its own slot alone, and ignores an older one.
   abbrev pub takesPart : ℕ → Bool
@@ -130,13 +152,13 @@ module _ (here : Place) where
 
   -- Phase 1 (b): the response, to the proposer
   unfoldable pub responding : Replica → Option (Message PaxosRound ℕ) → Seen
-  responding r none = leaves r noMessages
-  responding r (some m) = leaves r (oneMessage (sending (One proposer) (r .wish) m))
+  responding r none = leaves r nothingSent
+  responding r (some m) = leaves r (onlySent (sending (One proposer) (r .wish) m))
 
   -- Phase 2 (a): the accept request to all; its own acceptor accepts
   unfoldable pub requesting : Replica → Option (Proposal PaxosRound ℕ) → Seen
-  requesting r none = leaves r noMessages
-  requesting r (some p) = leaves (acceptsWith (self here) (self here) p r) (oneMessage (sending toAll none (acceptRequest p)))
+  requesting r none = leaves r nothingSent
+  requesting r (some p) = leaves (acceptsWith (self here) (self here) p r) (onlySent (sending (All NoProcess) none (acceptRequest p)))
 
   -- it hears the promise, and proposes when a majority has responded
   unfoldable pub gathers : PaxosRound → RoundV → Replica → Seen
@@ -168,14 +190,14 @@ module _ (here : Place) where
 
   -- to the leader, and to the committer where that is a third
   unfoldable pub toLearners : PaxosRound → OptionalProcess → Message PaxosRound ℕ → Messages
-  toLearners n NoProcess m = oneMessage (sending (One (n .leader)) none m)
+  toLearners n NoProcess m = onlySent (sending (One (n .leader)) none m)
   toLearners n (Process q) m =
       cond (hasCommitter (here .asked .mode) && (not (eqb q (n .leader)) && not (eqb q (self here))))
-      (twoMessages (sending (One q) none m) (sending (One (n .leader)) none m))
-      (oneMessage (sending (One (n .leader)) none m))
+      (bothSent (sending (One q) none m) (sending (One (n .leader)) none m))
+      (onlySent (sending (One (n .leader)) none m))
 
   abbrev pub announcing : PaxosRound → Option (Message PaxosRound ℕ) → Messages
-  announcing n none = noMessages
+  announcing n none = nothingSent
   announcing n (some m) = toLearners n (here .heard .committer) m
 
   -- an accept request comes from the proposer; any other Accept is an acceptance, and the leader need not tell itself
@@ -183,13 +205,18 @@ module _ (here : Place) where
   announces p r =
       cond (not (eqb (self here) (p .number .leader)) && eqb (here .heard .src) proposer)
       (announcing (p .number) (announcement roundBefore (r .acceptor) p))
-      noMessages
+      nothingSent
+
+  -- a Commit goes to the requester of its value first, where that is another process
+  abbrev pub servedFirst : OptionalProcess → OptionalProcess
+  servedFirst NoProcess = NoProcess
+  servedFirst (Process p) = cond (eqb p (self here)) NoProcess (Process p)
 
   -- a distinguished learner informs all. DIFFERENCE ("how a chosen value is learned"): not a committer that is itself the requester
   unfoldable pub informs : Proposal PaxosRound ℕ → Messages → Messages
   informs p messages =
       cond (eqb (p .number .leader) (self here) || not (isProcess (here .heard .requester) (self here)))
-      (also messages (sends (here .asked) (here .core) (All (firstServed (here .asked) (here .heard .requester))) (Commit (here .core .slot) (p .value))))
+      (nextPlace (messages .first) (messages .second) (messages .third) (addressed (All (servedFirst (here .heard .requester))) (Commit (here .core .slot) (p .value))))
       messages
 
   -- the value that a majority has accepted is committed
@@ -231,7 +258,7 @@ module _ (here : Place) where
   proposesOwn v =
       cond (isMultiPaxos (here .asked .mode))
       (requesting (begins v) (some (proposalOf roundBefore (proposerIn ownNumber (begins v)))))
-      (leaves (begins v) (oneMessage (sending toAll (begins v .wish) (asks roundBefore (proposerIn ownNumber (begins v))))))
+      (leaves (begins v) (onlySent (sending (All NoProcess) (begins v .wish) (asks roundBefore (proposerIn ownNumber (begins v))))))
 
   -- ---- messages
 
@@ -240,7 +267,7 @@ module _ (here : Place) where
   received (Prepare slot n rv) = receivesPrepare slot n rv
   received (Accept slot n v) = receivesAccept slot (record { number = n; value = v })
   received (ForwardRequest v) = nothing
-  received (Commit slot v) = cond (ltb slot (here .core .slot)) nothing (commits v noMessages)
+  received (Commit slot v) = cond (ltb slot (here .core .slot)) nothing (commits v nothingSent)
   received (ReadRequest id) = nothing
   received (ReadResponse id next) = nothing
 
@@ -289,7 +316,7 @@ refusedWith number shard =
       slot = shard .state .rounds .core .slot;
       last = shard .state .rounds .core .«last_v»;
       replica = replicaIn shard;
-      messages = noMessages;
+      messages = nothingSent;
       commit = NoCommit;
     }
 
