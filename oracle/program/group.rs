@@ -1,5 +1,5 @@
-//! Random runs of a group by the rules of document 01, "Group runs". A shard depends on its own calls alone, so the recording of a run has the
-//! calls of one member after those of another, each in the order of the run.
+//! Random runs of a group by the rules of document 01, "Group runs"; besides, hosts forward proposals, by a message that does nothing. A shard depends
+//! on its own calls alone, so the recording of a run has the calls of one member after those of another, each in the order of the run.
 use crate::any_call;
 use crate::calls::{Call, Done, Frame, LARGEST_NUMBER, Line, Message, PLACES, Settings, Words};
 use crate::claim::Claim;
