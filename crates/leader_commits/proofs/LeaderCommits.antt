@@ -31,11 +31,11 @@ use Rattle.group.specs.Steps.{Step, replyOf, isDone, heardIn, heard, stepOf, st
 use Rattle.group.proofs.Calls.{decisionOf, viewShard}
 use Rattle.group.proofs.Invariants.{shardsAfter}
 use Rattle.group.proofs.View.{setupOf}
-use Rattle.leader_commits.specs.Answers.{Terms, isAnswer, comes, hears, sources, sourceOf, answersHeard, answersCame, LeaderProposed, AfterProposal, Commits, CommitsOnAnswer, SoundAnswers, BringsCommit, NoCommitCame, NoAnswerRefused, AsAsked}
+use Rattle.leader_commits.specs.Answers.{Terms, isAnswer, comes, hears, sources, sourceOf, answersHeard, answersCame, LeaderProposed, AfterProposal, Commits, CommitsOnAnswer, HostHolds, SoundRequesters, SoundAnswers, BringsCommit, NoCommitCame, NoAnswerRefused, AsAsked}
 use Rattle.leader_commits.proofs.Calls.{Numbers, numbers-within, made-or-refused, seenIn, viewBefore, Does, rests, proposes, accepts}
 use Rattle.leader_commits.proofs.Hearing.{sources-same, sources-more, grows-by-one, live-source}
 use Rattle.leader_commits.proofs.Leading.{isDecided, slotIn, valueIn, commit-in, Leading, fit-same, accept-commits, accept-waits}
-use Rattle.leader_commits.proofs.NoneRefused.{none-refused}
+use Rattle.leader_commits.proofs.NoneRefused.{sound-taken, none-refused}
 use Rattle.leader_commits.proofs.Places.{in-at}
 use Rattle.leader_commits.proofs.Runs.{Follows, no-commit-to-leader, step-does, leading-before, each-step, run-invariant}
 
@@ -192,6 +192,12 @@ module _ (s : Settings) (terms : Terms s) (cs : List MemberCall) (legal : Legal 
               let more : one (not (contains heard-before source)) ≡ 1 = ap (λ (b : Bool). one (not b)) new in
               (e, new, omega (arith, grown e, more, reached))
 
+  -- Where the host holds the value and each requester that it gives is a process, that answer has only to come: it is not refused.
+  pub sound-answer-commits : (t v : ℕ) (x : Step) (past : List Step) → AfterProposal s cs t v x past → comes s t x ≡ true → HostHolds (heard x)
+      → SoundRequesters s (heard x) → contains (sources (hears s t) past) (sourceOf (heard x)) ≡ false → answersHeard s t past + 2 ≡ quorumsOf s .majority → Commits x t v
+  sound-answer-commits t v x past after came holds sound new last =
+      completing-answer t v x past after .1 (and-both came (sound-taken s terms cs legal t v x past after came holds sound), new, last)
+
   -- No Commit ever comes to the leader.
   pub no-commit-comes : (t : ℕ) → NoCommitCame s t (steps s cs)
   no-commit-comes t x k own came = let place = in-at x (steps s cs) k in each-step s terms P follows cs legal x (place .0) (place .1) own came
@@ -225,8 +231,8 @@ module _ (s : Settings) (terms : Terms s) (cs : List MemberCall) (legal : Legal 
       go rest (inr e) =
           sources-same (comes s t) x past e ∙ rest ∙ sym (sources-same (hears s t) x past (ap (λ (b : Bool). b && isDone (replyOf x .outcome)) e))
 
-  -- Where the host holds the value and each requester that it gives is a process, no answer is refused: then the leader commits exactly on the answer that
-  -- brings those that came to majority less one.
+  -- Where the host is sound with every answer, none is refused: then the leader commits exactly on the answer that brings those that came to majority less
+  -- one.
   pub on-the-very-answer : (t v : ℕ) (x : Step) (past : List Step) → AfterProposal s cs t v x past → SoundAnswers s t (x ∷ past)
       → CommitsOnAnswer (answersCame s t) s t v x past
   on-the-very-answer t v x past after sound =

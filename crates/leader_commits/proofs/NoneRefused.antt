@@ -285,7 +285,7 @@ module _ (s : Settings) (terms : Terms s) (cs : List MemberCall) (legal : Legal 
   -- ---- with a sound host
 
   -- where the host holds the value and each requester is a process, the answer is taken
-  sound-taken : (t v : ℕ) (x : Step) (past : List Step) → AfterProposal s cs t v x past → comes s t x ≡ true → HostHolds (heard x)
+  pub sound-taken : (t v : ℕ) (x : Step) (past : List Step) → AfterProposal s cs t v x past → comes s t x ≡ true → HostHolds (heard x)
       → SoundRequesters s (heard x) → isDone (replyOf x .outcome) ≡ true
   unfolding firstOf
   sound-taken t v x past after came holds sound = go (heard x) refl holds sound
