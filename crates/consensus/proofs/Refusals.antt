@@ -3,10 +3,11 @@
 -- Assumes nothing.
 use mathlib.Core.Path.{_≡_, refl, sym, ap, subst, _∙_}
 use mathlib.Core.Logic.{_⊎_, inl, inr}
-use mathlib.Core.Bool.{Bool, true, false, cond, not, _&&_}
+use mathlib.Core.Bool.{Bool, true, false, cond, not, _&&_, _||_}
 use mathlib.Core.List.{List, [], _∷_}
-use Prim.Native.Nat.{ℕ}
+use Prim.Native.Nat.{ℕ, zero, suc, min}
 use lib.Dec.{eqb, ltb, leb}
+use lib.ListN.{getD}
 use Rattle.basics.proofs.Tests.{not-both, of-both, and-left, and-right, and-both}
 use Rattle.message.specs.Refusals.{refusalNumber}
 use Rattle.message.specs.declared.ConsensusMsg.{ConsensusMsg}
@@ -26,7 +27,7 @@ use Rattle.delivery.specs.declared.Delivery.{Delivery}
 use Rattle.calls.specs.declared.Call.{Call}
 use Rattle.calls.specs.declared.Call.the-variants.{Propose, StartRead, Receive}
 use Rattle.consensus.specs.Call.{callWith, callOf, afterCalls, newShard, dispatch, unlessSpent, ifMade}
-use Rattle.consensus.specs.FirstCause.{numberOf, quorumOutside, modeOutside, settingsCauses, admissionCauses, handlingCauses, causes, firstCause, isSpent, unmade, ignored, allCauses, ByFirstCause, MadeBySettings, OfSettings}
+use Rattle.consensus.specs.FirstCause.{numberOf, quorumOutside, modeOutside, tableOutside, someOutside, settingsCauses, admissionCauses, handlingCauses, causes, firstCause, isSpent, unmade, ignored, allCauses, ByFirstCause, MadeBySettings, OfSettings}
 use Rattle.consensus.specs.Answers.{refused}
 use Rattle.consensus.specs.Panics.{Facts, preparePanics, acceptPanics}
 use Rattle.consensus.specs.Rows.{Row, then, NoneHolds, FirstHolds, firstOf}
@@ -38,7 +39,7 @@ use Rattle.settings.specs.Settings.{countsFit, membersFit, committersFit, quoru
 use Rattle.sets.specs.Sets.{size, fits}
 use Rattle.sets.specs.declared.OptionalSet.{OptionalSet}
 use Rattle.sets.specs.declared.OptionalSet.the-variants.{NoSet, Set}
-use Rattle.tables.specs.Tables.{allBelow}
+use Rattle.tables.specs.Tables.{every}
 use Rattle.consensus.proofs.Admitted.{above-test, from-test, not-not}
 
 -- ---- a list of causes: none holds, or the first that does
@@ -224,35 +225,47 @@ unfolding quorumFits
 quorum-limits NoSet count = refl
 quorum-limits (Set s) count = sym (not-not (fits s count))
 
+neither : (a b : Bool) → (not a && b) ≡ not (a || not b)
+neither true b = refl
+neither false b = sym (not-not b)
+
+table-limits : (table : List ℕ) (count p : ℕ) → every (λ (n : ℕ). ltb n count) table p ≡ not (someOutside table count p)
+unfolding every someOutside
+table-limits table count zero = refl
+table-limits table count (suc p) =
+    ap (λ (t : Bool). t && ltb (getD table p 0) count) (table-limits table count p)
+    ∙ neither (someOutside table count p) (ltb (getD table p 0) count)
+    ∙ ap (λ (t : Bool). not (someOutside table count p || t)) (sym (from-test count (getD table p 0)))
+
 mode-limits : (s : Settings) (m : PFMode) → modeFits s m ≡ not (modeOutside s m)
 unfolding modeFits
 mode-limits s Paxos = refl
 mode-limits s MultiPaxos = refl
 mode-limits s MultiPaxos3P = refl
 mode-limits s EPaxos = refl
-mode-limits s Pando = sym (not-not (allBelow (s .delegates) (s .«process_count»)))
+mode-limits s Pando = table-limits (s .delegates) (s .«process_count») (min (s .«process_count») 64)
 mode-limits s SwiftPaxos = quorum-limits (s .quorum) (s .«process_count»)
 
-limits-table : (a b c d e f g h given below outside : Bool)
-    → numberOf (cond (a && b && c && d && (e && f && g && h) && cond given below true && not outside) Done (Refused SettingsOutsideLimits))
+limits-table : (a b c d e f g h given entry outside : Bool)
+    → numberOf (cond (a && b && c && d && (e && f && g && h) && cond given (not entry) true && not outside) Done (Refused SettingsOutsideLimits))
     ≡ cond (not a) 1
     (cond (not b) 1
     (cond (not c) 1
     (cond (not d) 1
-    (cond (not e) 1 (cond (not f) 1 (cond (not g) 1 (cond (not h) 1 (cond (given && not below) 1 (cond outside 1 0)))))))))
-limits-table false b c d e f g h given below outside = refl
-limits-table true false c d e f g h given below outside = refl
-limits-table true true false d e f g h given below outside = refl
-limits-table true true true false e f g h given below outside = refl
-limits-table true true true true false f g h given below outside = refl
-limits-table true true true true true false g h given below outside = refl
-limits-table true true true true true true false h given below outside = refl
-limits-table true true true true true true true false given below outside = refl
-limits-table true true true true true true true true true false outside = refl
-limits-table true true true true true true true true true true true = refl
-limits-table true true true true true true true true true true false = refl
-limits-table true true true true true true true true false below true = refl
-limits-table true true true true true true true true false below false = refl
+    (cond (not e) 1 (cond (not f) 1 (cond (not g) 1 (cond (not h) 1 (cond (given && entry) 1 (cond outside 1 0)))))))))
+limits-table false b c d e f g h given entry outside = refl
+limits-table true false c d e f g h given entry outside = refl
+limits-table true true false d e f g h given entry outside = refl
+limits-table true true true false e f g h given entry outside = refl
+limits-table true true true true false f g h given entry outside = refl
+limits-table true true true true true false g h given entry outside = refl
+limits-table true true true true true true false h given entry outside = refl
+limits-table true true true true true true true false given entry outside = refl
+limits-table true true true true true true true true true true outside = refl
+limits-table true true true true true true true true true false true = refl
+limits-table true true true true true true true true true false false = refl
+limits-table true true true true true true true true false entry true = refl
+limits-table true true true true true true true true false entry false = refl
 
 settings-number : (s : Settings) → numberOf (newShard s .made) ≡ firstOf (settingsCauses s)
 unfolding newShard withinLimits countsFit membersFit committersFit firstOf
@@ -265,11 +278,12 @@ settings-number s =
       above-test (s .«replica_count») (size (s .«alive_replicas»)),
       from-test (s .«process_count») (s .«my_pid»),
       from-test (s .«process_count») (s .«first_leader»),
+      table-limits (s .committers) (s .«process_count») (min (s .«process_count») 64),
       mode-limits s (s .mode),
     )
     (limits-table (leb 1 (s .«process_count»)) (leb (s .«process_count») 64) (leb 1 (s .«replica_count»)) (leb (s .«replica_count») (s .«process_count»))
     (ltb (s .«my_pid») (s .«process_count»)) (ltb (s .«first_leader») (s .«process_count»)) (fits (s .«alive_replicas») (s .«process_count»))
-    (leb (size (s .«alive_replicas»)) (s .«replica_count»)) (s .«has_committers») (allBelow (s .committers) (s .«process_count»)) (modeOutside s (s .mode)))
+    (leb (size (s .«alive_replicas»)) (s .«replica_count»)) (s .«has_committers») (tableOutside (s .committers) (s .«process_count»)) (modeOutside s (s .mode)))
 
 -- A new shard is made exactly where no cause holds in its settings, and else marked with 1.
 pub new-by-settings : (s : Settings) → MadeBySettings s (newShard s .made)

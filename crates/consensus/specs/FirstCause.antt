@@ -1,20 +1,21 @@
 -- Which number a call gives: for each kind of call the causes of document 01's table ("Message and answer"), in the order of its Order line. The call
 -- gives the number of the first cause that holds, and is taken where none does: `by-first-cause` (proofs/Refusals.antt). This page says what the causes are,
--- by the settings, what stands in the shard, and the call; no step of the engine is run. It cites what the panics' page cites (Panics.antt), and the rows of the
--- quorums (`rowOf`), a table's entry for a process (`lookUp`), `fits` and `allBelow` (all members of a set or a table are below a count), and `roundOf`.
+-- by the settings, what stands in the shard, and the call; no step of the engine is run. It cites what the panics' page cites (Panics.antt), the rows of the
+-- quorums (`rowOf`), a table's entry for a process (`lookUp`), `fits` (all members of a set are below a count), `roundOf`, the numbers of refusals
+-- (`refusalNumber`), `answersOf` (the fast half without its tables), and for what is claimed `newShard`, `callOf` and `callWith`.
 -- Assumes nothing.
 use mathlib.Core.Path.{_≡_}
 use mathlib.Core.Logic.{_⊎_}
 use mathlib.Core.Bool.{Bool, true, false, cond, not, _&&_, _||_}
 use mathlib.Core.List.{List, [], _∷_}
-use Prim.Native.Nat.{ℕ}
+use Prim.Native.Nat.{ℕ, zero, suc, min}
 use lib.Dec.{eqb, leb, ltb}
+use lib.ListN.{getD}
 use Rattle.sets.specs.Sets.{contains, size, isEmpty, fits}
 use Rattle.sets.specs.declared.OptionalSet.{OptionalSet}
 use Rattle.sets.specs.declared.OptionalSet.the-variants.{NoSet, Set}
-use Rattle.tables.specs.Tables.{lookUp, allBelow}
-use Rattle.message.specs.Modes.{isMultiPaxos, isSwiftPaxos}
-use Rattle.message.specs.Promises.{hasValue, isProcess}
+use Rattle.tables.specs.Tables.{lookUp}
+use Rattle.message.specs.Promises.{hasValue}
 use Rattle.message.specs.Refusals.{refusalNumber}
 use Rattle.message.specs.Rounds.{before, equal, roundOf}
 use Rattle.message.specs.declared.ConsensusMsg.{ConsensusMsg}
@@ -39,16 +40,31 @@ use Rattle.fast_state.specs.Adopt.{Choice}
 use Rattle.fast_state.specs.Fast.{answersOf}
 use Rattle.fast_state.specs.declared.FastState.{FastState}
 use Rattle.settings.specs.declared.Settings.{Settings}
+use Rattle.steps.specs.declared.OptionalMessage.the-variants.{NoMessage}
 use Rattle.steps.specs.declared.Rounds.{Rounds}
 use Rattle.delivery.specs.declared.Delivery.{Delivery}
 use Rattle.calls.specs.declared.Call.{Call}
 use Rattle.calls.specs.declared.Call.the-variants.{Propose, StartRead, Receive}
-use Rattle.consensus.specs.Answers.{refused}
+use Rattle.calls.specs.declared.OptionalCommit.the-variants.{NoCommit}
 use Rattle.consensus.specs.Call.{newShard, callOf}
 use Rattle.consensus.specs.Panics.{Facts, nothingHeld, preparePanics, acceptPanics}
 use Rattle.consensus.specs.Rows.{Row, gives, then, NoneHolds, FirstHolds, firstOf}
 use Rattle.consensus.specs.declared.Answer.{Answer}
 use Rattle.consensus.specs.declared.Shard.{Shard}
+
+-- "the number alone" is returned, and the shard is left as it was: no message, no commit, no read served
+abbrev pub numberAlone : Refusal → Shard → Answer
+numberAlone why shard =
+    record {
+      shard = shard;
+      reply =
+          record {
+            outcome = Refused why;
+            messages = record { first = NoMessage; second = NoMessage; third = NoMessage };
+            commit = NoCommit;
+            «served_count» = 0;
+          };
+    }
 
 -- the number of what became of a call: 0 where it is done
 abbrev pub numberOf : Outcome → ℕ
@@ -168,9 +184,17 @@ waitsForValue own (ReadResponse id next) = false
 abbrev pub isLive : Settings → ℕ → Bool
 isLive s p = contains (s .«alive_replicas») p
 
+abbrev pub inSwiftPaxos : PFMode → Bool
+inSwiftPaxos Paxos = false
+inSwiftPaxos MultiPaxos = false
+inSwiftPaxos MultiPaxos3P = false
+inSwiftPaxos EPaxos = false
+inSwiftPaxos Pando = false
+inSwiftPaxos SwiftPaxos = true
+
 -- can_propose: a replica, and in SwiftPaxos every process
 abbrev pub takesPart : Settings → Bool
-takesPart s = isLive s (s .«my_pid») || isSwiftPaxos (s .mode)
+takesPart s = isLive s (s .«my_pid») || inSwiftPaxos (s .mode)
 
 -- "a non-replica (not SwiftPaxos) does nothing; older ones do nothing": of an older slot or round
 abbrev pub ignored : Settings → Rounds → ℕ → PaxosRound → Bool
@@ -187,7 +211,7 @@ leaderDelegate s Pando leader = lookUp (s .delegates) leader
 leaderDelegate s SwiftPaxos leader = leader
 
 abbrev pub promiseDelegate : Settings → ℕ → RoundV → ℕ
-promiseDelegate s leader (FastV proposer v) = cond (isSwiftPaxos (s .mode) && not (eqb leader (s .«my_pid»))) proposer (leaderDelegate s (s .mode) leader)
+promiseDelegate s leader (FastV proposer v) = cond (inSwiftPaxos (s .mode) && not (eqb leader (s .«my_pid»))) proposer (leaderDelegate s (s .mode) leader)
 promiseDelegate s leader (PaxosV at v) = leaderDelegate s (s .mode) leader
 
 -- get_committer: "optional committer per process", by the value's requester; in SwiftPaxos without committers the requester itself
@@ -196,7 +220,12 @@ tableCommitter s NoProcess = NoProcess
 tableCommitter s (Process p) = Process (lookUp (s .committers) p)
 
 abbrev pub valueCommitter : Settings → OptionalProcess → OptionalProcess
-valueCommitter s requester = cond (s .«has_committers») (tableCommitter s requester) (cond (isSwiftPaxos (s .mode)) requester NoProcess)
+valueCommitter s requester = cond (s .«has_committers») (tableCommitter s requester) (cond (inSwiftPaxos (s .mode)) requester NoProcess)
+
+-- it is oneself; where there is none it is nobody
+abbrev pub isOneself : OptionalProcess → ℕ → Bool
+isOneself NoProcess own = false
+isOneself (Process p) own = eqb p own
 
 -- who is counted in the round of a message: "A new round clears both sets"
 abbrev pub countedIn : Rounds → PaxosRound → ℕ → ℕ
@@ -210,7 +239,7 @@ factsOf s rounds d round delegate =
       source = d .message .src;
       round = round;
       delegate = delegate;
-      committer = isProcess (valueCommitter s (d .said .requester)) (s .«my_pid»);
+      committer = isOneself (valueCommitter s (d .said .requester)) (s .«my_pid»);
       valueHeld = d .said .«value_held»;
       quorums = rowOf (s .«replica_count»);
       fixed = s .quorum;
@@ -223,12 +252,20 @@ factsOf s rounds d round delegate =
 
 -- "source not a live replica (not SwiftPaxos)"
 abbrev pub sourceNotLive : Settings → ℕ → Bool
-sourceNotLive s source = not (isLive s source) && not (isSwiftPaxos (s .mode))
+sourceNotLive s source = not (isLive s source) && not (inSwiftPaxos (s .mode))
 
 -- ---- the causes of each kind of call
 
 -- "settings outside the limits above", where a shard is made with them: "Processes 1 to 64; replica count 1 to processes"; "the live set has no more members than
 -- the replica count, and every process number and set member in the settings is below the process count", of what the mode has
+-- of a table, the number of some process below the count is not below it; a table has 64 places
+unfoldable pub someOutside : List ℕ → ℕ → ℕ → Bool
+someOutside table count zero = false
+someOutside table count (suc p) = someOutside table count p || leb count (getD table p 0)
+
+abbrev pub tableOutside : List ℕ → ℕ → Bool
+tableOutside table count = someOutside table count (min count 64)
+
 abbrev pub quorumOutside : OptionalSet → ℕ → Bool
 quorumOutside NoSet count = false
 quorumOutside (Set quorum) count = not (fits quorum count)
@@ -238,7 +275,7 @@ modeOutside s Paxos = false
 modeOutside s MultiPaxos = false
 modeOutside s MultiPaxos3P = false
 modeOutside s EPaxos = false
-modeOutside s Pando = not (allBelow (s .delegates) (s .«process_count»))
+modeOutside s Pando = tableOutside (s .delegates) (s .«process_count»)
 modeOutside s SwiftPaxos = quorumOutside (s .quorum) (s .«process_count»)
 
 abbrev pub settingsCauses : Settings → List Row
@@ -251,7 +288,7 @@ settingsCauses s =
     ∷ gives 1 (leb (s .«process_count») (s .«first_leader»))
     ∷ gives 1 (not (fits (s .«alive_replicas») (s .«process_count»)))
     ∷ gives 1 (ltb (s .«replica_count») (size (s .«alive_replicas»)))
-    ∷ gives 1 (s .«has_committers» && not (allBelow (s .committers) (s .«process_count»)))
+    ∷ gives 1 (s .«has_committers» && tableOutside (s .committers) (s .«process_count»))
     ∷ gives 1 (modeOutside s (s .mode))
     ∷ []
 
@@ -271,9 +308,18 @@ fastBegun s fast SwiftPaxos =
     not (eqb (s .«first_leader») (s .«my_pid»))
     && (answeredAlready fast || hasValue (fast .«swift_leader_answer») || not (eqb (lookUp (fast .«swift_proposer_scores») (s .«my_pid»)) 0))
 
--- the starting round: the first leader's in MultiPaxos and MultiPaxos3P, and else none
+-- in MultiPaxos and MultiPaxos3P the first leader leads from the start
+abbrev pub ledFromStart : PFMode → Bool
+ledFromStart Paxos = false
+ledFromStart MultiPaxos = true
+ledFromStart MultiPaxos3P = true
+ledFromStart EPaxos = false
+ledFromStart Pando = false
+ledFromStart SwiftPaxos = false
+
+-- the starting round: there the first leader's, and else none
 abbrev pub startsIn : Settings → OptionalRound
-startsIn s = cond (isMultiPaxos (s .mode)) (Round (roundOf 0 (s .«first_leader»))) NoRound
+startsIn s = cond (ledFromStart (s .mode)) (Round (roundOf 0 (s .«first_leader»))) NoRound
 
 -- "proposal: not `can_propose`, round not starting, a promise held already, MultiPaxos by another than the leader, or another assertion of `propose`"
 abbrev pub notAllowedCauses : Settings → Rounds → List Row
@@ -281,7 +327,7 @@ notAllowedCauses s rounds =
     gives 11 (not (takesPart s))
     ∷ gives 11 (not (equal (rounds .core .paxos .round) (startsIn s)))
     ∷ gives 11 (not (nothingHeld (rounds .core .paxos .«max_rv»)))
-    ∷ gives 11 (isMultiPaxos (s .mode) && not (eqb (s .«my_pid») (s .«first_leader»)))
+    ∷ gives 11 (ledFromStart (s .mode) && not (eqb (s .«my_pid») (s .«first_leader»)))
     ∷ gives 11 (fastBegun s (rounds .fast) (s .mode))
     ∷ []
 
@@ -354,7 +400,7 @@ module _ (choose : Choice) where
   abbrev pub ByFirstCause : Shard → Call → Answer → Type 0
   ByFirstCause shard c r =
       ((r .reply .outcome ≡ Done) × NoneHolds (allCauses shard c))
-      ⊎ ((why : Refusal) × (r ≡ refused why shard) × FirstHolds (allCauses shard c) (refusalNumber why))
+      ⊎ ((why : Refusal) × (r ≡ numberAlone why shard) × FirstHolds (allCauses shard c) (refusalNumber why))
 
 -- ---- a shard by its settings
 
@@ -366,5 +412,5 @@ MadeBySettings s made =
 -- A shard of these settings at any later time: made, and where its slot is spent every call gives 2; or as it was made, and "all its calls give 1".
 abbrev pub OfSettings : Settings → Shard → Type 0
 OfSettings s shard =
-    (NoneHolds (settingsCauses s) × (shard .made ≡ Done) × (isSpent shard ≡ true → (c : Call) → callOf shard c ≡ refused NumberTooLarge shard))
-    ⊎ (FirstHolds (settingsCauses s) 1 × (shard ≡ newShard s) × ((c : Call) → callOf shard c ≡ refused SettingsOutsideLimits shard))
+    (NoneHolds (settingsCauses s) × (shard .made ≡ Done) × (isSpent shard ≡ true → (c : Call) → callOf shard c ≡ numberAlone NumberTooLarge shard))
+    ⊎ (FirstHolds (settingsCauses s) 1 × (shard ≡ newShard s) × ((c : Call) → callOf shard c ≡ numberAlone SettingsOutsideLimits shard))

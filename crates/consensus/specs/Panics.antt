@@ -1,7 +1,8 @@
 -- The panics of the Rust while it handles a Prepare or an Accept that is not ignored, path by path in the order in which it meets them
 -- (docs/DIFFERENCES.md, "Panics of the Rust while it handles a message"), and last the 6 of a commit. What is said here is said of what is held and
 -- who is in which set when the message comes. Cited from below: sets (`contains`, `insert`, `size`, `isEmpty`), the order of rounds (`before`, `equal`,
--- `roundBefore`, `roundEqual`), one more (`increment`, which leaves the largest number), and the parts of a promise (`valueOf`, `acceptRoundOf`).
+-- `roundBefore`, `roundEqual`), one more (`increment`, which leaves the largest number), the parts of a promise (`valueOf`, `acceptRoundOf`), `hasValue` (a value
+-- is given), and the choice among the best proposers of EPaxos (`Choice`).
 -- Assumes nothing.
 use mathlib.Core.Bool.{Bool, true, false, cond, not, _&&_, _||_}
 use mathlib.Core.List.{List, [], _∷_}
@@ -119,7 +120,7 @@ completes f = not (majority f (promisesFirst f)) && majority f (promisesThen f)
 abbrev pub ownFits : Facts → RoundV → Bool
 ownFits f rv = fitsHeld (Held (heldThen (f .held) rv)) (f .round) (valueOf (heldThen (f .held) rv))
 
--- another than the delegate has accepted in the round already
+-- oneself, another than the delegate, holds a value as accepted in the round already
 abbrev pub acceptedInRound : Facts → RoundV → Bool
 acceptedInRound f rv = equal (acceptRoundOf (heldFirst (f .held) rv)) (Round (f .round))
 
@@ -225,7 +226,7 @@ abbrev pub prepareRows : Facts → Bool → RoundV → List Row
 prepareRows f swift rv =
     -- "where nothing is held: no promise is counted"
     asserts 8 (nothingHeld (f .held)) (isEmpty (f .promises))
-    -- "then at another than the delegate, if it answers: the delegate is the source, or is not the leader"
+    -- "then at another than the delegate, if it answers: the delegate is the source, or is not the leader" (in SwiftPaxos that holds wherever it answers)
     ∷ asserts 8 (answersDelegate f swift rv) (eqb (f .delegate) (f .source) || not (eqb (f .delegate) (leader f)))
     ∷ []
 
@@ -254,7 +255,7 @@ epaxosAnswerRows choose f path (FastV proposer v) =
     ∷ asserts 8 (path && not (epaxosCommits f proposer) && adopts choose f proposer) (majority f (promisesThen f))
     -- "no accept is counted in the round"
     ∷ asserts 9 (path && not (epaxosCommits f proposer) && adopts choose f proposer) (isEmpty (f .accepts))
-    -- "last the 6 of a commit"
+    -- "last the 6 of a commit"; it is never first, for who commits here leads the round, and `ready_to_process` has waited for the value
     ∷ gives 6 (not (f .valueHeld) && path && epaxosCommits f proposer)
     ∷ []
 
