@@ -1,9 +1,6 @@
 // Reads calls on standard input, a line each, runs them on one shard, and writes the answers, a line each (docs/ORACLE.md, "Call lines" and
-// "Answer lines"). It reads and writes in blocks: what is answered is written before the next block is waited for. A line that does not fit
-// a block of 65,536 bytes is too long.
+// "Answer lines"). A line that does not fit a block of 65,536 bytes is too long.
 ghost use mathlib.Core.Path.{_≡_};
-ghost use Prim.Native.Nat.{_≤_};
-ghost use lib.ListN.{length};
 ghost use Rattle.io.specs.Counts.{Counts};
 ghost use Rattle.replay.specs.Answer.{answered, newAnswer, withState, answerOf};
 use call_lines::Fault;
@@ -30,27 +27,6 @@ struct Answered {
     shard: Shard,
     used: usize,
     put: usize,
-}
-
-// Where the answering of a block begins, and whether the line that is skipped goes on behind the block.
-struct Start {
-    from: usize,
-    skipping: bool,
-}
-
-// The place of the first LF from a place on, or the length where there is none.
-fn line_end(input: &[u8], from: usize) -> usize
-    requires { ⌜ from ≤ length (now input) ⌝ }
-    ensures { λ r. ⌜ (from ≤ r) × (r ≤ length (now (input .entry))) ⌝ }
-{
-    let mut i = from;
-    while i < input.len() {
-        if input[i] == b'\n' {
-            return i;
-        }
-        i += 1;
-    }
-    i
 }
 
 fn is_skipped(line: &[u8]) -> bool {
@@ -167,30 +143,6 @@ fn answer_line(
     answer_fault(shard, fault, out, at)
 }
 
-// Writes the output where there is no room for the longest line, and hands back how much of it is put.
-fn with_room(out: &[u8], put: usize) -> usize {
-    if put < 32768 {
-        return put;
-    }
-    write_output(out, put);
-    0
-}
-
-// The number of bytes that are put. There are never more than fit, whatever the number says.
-fn bytes_put(out: &[u8], put: usize) -> usize
-    ensures { λ r. ⌜ Counts r (now (out .entry)) ⌝ }
-{
-    if put < out.len() {
-        return put;
-    }
-    out.len()
-}
-
-fn write_output(out: &[u8], put: usize) {
-    let n = bytes_put(out, put);
-    io::write_all(1, &out[..n]);
-}
-
 // Answers the lines that end in the input, from a place on.
 fn answer_block(
     old: Shard,
@@ -203,65 +155,18 @@ fn answer_block(
     let mut used = from;
     let mut put = 0;
     while used < input.len() {
-        let end = line_end(input, used);
+        let end = line_blocks::line_end(input, used);
         if end >= input.len() {
             break;
         }
-        put = with_room(out, put);
+        put = line_blocks::with_room(out, put);
         let answered = answer_line(shard, &input[used..end], numbers, out, put);
         shard = answered.shard;
         put = answered.put;
         used = end + 1;
     }
-    write_output(out, put);
+    line_blocks::write_output(out, put);
     Answered { shard, used, put }
-}
-
-// Reads more behind the bytes that are kept, and hands back how many there are then.
-fn read_behind(input: &mut [u8], kept: usize) -> usize
-    ensures { λ r. ⌜ Counts r (now (input .exit)) ⌝ }
-{
-    if kept < input.len() {
-        let part = &mut input[kept..];
-        let got = io::count(libc::read(0, part), part);
-        return kept + got;
-    }
-    input.len()
-}
-
-// Moves the bytes from `used` to `end` to the start of the input, and hands back how many they are.
-fn move_to_start(input: &mut [u8], used: usize, end: usize) -> usize
-    requires { ⌜ end ≤ length (now input) ⌝ }
-{
-    let mut from = used;
-    let mut to = 0;
-    while from < end {
-        input[to] = input[from];
-        from += 1;
-        to += 1;
-    }
-    to
-}
-
-// Where the first line begins that is not skipped.
-fn first_line(input: &[u8], skipping: bool) -> Start {
-    if skipping {
-        let end = line_end(input, 0);
-        if end < input.len() {
-            return Start {
-                from: end + 1,
-                skipping: false,
-            };
-        }
-        return Start {
-            from: end,
-            skipping: true,
-        };
-    }
-    Start {
-        from: 0,
-        skipping: false,
-    }
 }
 
 // Answers the last line, which no LF ends.
@@ -274,7 +179,7 @@ fn answer_last(
     let shard = between.shard;
     let answered = answer_line(shard, input, numbers, out, 0);
     let next = answered.shard;
-    write_output(out, answered.put);
+    line_blocks::write_output(out, answered.put);
     BetweenBlocks {
         shard: next,
         kept: 0,
@@ -287,7 +192,7 @@ fn answer_last(
 fn answer_too_long(input: &[u8], out: &mut [u8]) {
     if !is_skipped(input) {
         let put = fault_lines::put_fault(out, 0, Fault::TooLong);
-        write_output(out, put);
+        line_blocks::write_output(out, put);
     }
 }
 
@@ -299,15 +204,15 @@ fn take_block(
     out: &mut [u8],
 ) -> BetweenBlocks {
     let kept = between.kept;
-    let end = read_behind(input, kept);
+    let end = line_blocks::read_behind(input, kept);
     if end <= kept {
         return answer_last(between, &input[..end], numbers, out);
     }
-    let start = first_line(&input[..end], between.skipping);
+    let start = line_blocks::first_line(&input[..end], between.skipping);
     let shard = between.shard;
     let answered = answer_block(shard, start.from, &input[..end], numbers, out);
     let next = answered.shard;
-    let left = move_to_start(input, answered.used, end);
+    let left = line_blocks::move_to_start(input, answered.used, end);
     if left >= input.len() {
         answer_too_long(input, out);
         return BetweenBlocks {

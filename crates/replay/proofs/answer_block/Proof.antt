@@ -28,13 +28,13 @@ with-room-requires : tie.Need-with-room-requires Inv-loop μ-loop
 with-room-requires c κs = search needs
 
 sub-answer-line : tie.Need-sub-answer-line Inv-loop μ-loop
-sub-answer-line c = omega (arith, c .before .before .before .line-end .ensures .0, c .before .before .before .line-end .ensures .1)
+sub-answer-line c = omega (arith, c .before .before .before .line-end .ensures .after, c .before .before .before .line-end .ensures .within)
 
 part-answer-line-start : tie.Need-part-answer-line-start Inv-loop μ-loop
-part-answer-line-start c = omega (arith, c .before .before .before .line-end .ensures .0, c .before .before .before .line-end .ensures .1)
+part-answer-line-start c = omega (arith, c .before .before .before .line-end .ensures .after, c .before .before .before .line-end .ensures .within)
 
 part-answer-line-end : tie.Need-part-answer-line-end Inv-loop μ-loop
-part-answer-line-end c = omega (arith, c .before .before .before .line-end .ensures .0, c .before .before .before .line-end .ensures .1)
+part-answer-line-end c = omega (arith, c .before .before .before .line-end .ensures .after, c .before .before .before .line-end .ensures .within)
 
 answer-line-requires : tie.Need-answer-line-requires Inv-loop μ-loop
 answer-line-requires c κs = search needs
@@ -43,7 +43,7 @@ add-used : tie.Need-add-used Inv-loop μ-loop
 add-used c = omega (arith, c .before .before .before .before .before .before .before .before .before .before .before .if1 .left, input-fits (c .before .before .before .before .before .before .before .before .before .before .before .before .before .before .before .before .before .before))
 
 loop-less : tie.Need-loop-less Inv-loop μ-loop
-loop-less c = omega (arith, c .before .before .before .before .before .before .before .before .before .before .before .if1 .left, c .before .before .before .before .before .before .before .before .before .before .before .before .line-end .ensures .0, c .before .before .before .before .before .before .before .before .before .before .before .before .line-end .ensures .1, c .before .before .before .before .before .before .before .before .before .before .before .before .before .loop-test .taken)
+loop-less c = omega (arith, c .before .before .before .before .before .before .before .before .before .before .before .if1 .left, c .before .before .before .before .before .before .before .before .before .before .before .before .line-end .ensures .after, c .before .before .before .before .before .before .before .before .before .before .before .before .line-end .ensures .within, c .before .before .before .before .before .before .before .before .before .before .before .before .before .loop-test .taken)
 
 loop-again : tie.Need-loop-again Inv-loop μ-loop
 loop-again c = search needs

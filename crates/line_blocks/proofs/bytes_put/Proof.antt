@@ -1,9 +1,9 @@
--- `replay::bytes_put` hands back no more than the length of the buffer.
+-- `line_blocks::bytes_put` hands back no more than the length of the buffer.
 -- Assumes nothing.
 use native.Mathlib.Omega.{arith}
 use Rattle.io.proofs.Counting.{counts}
-use Rattle.replay.proofs.bytes_put.Statement.{statement}
-use Rattle.replay.proofs.bytes_put.Tie as tie
+use Rattle.line_blocks.proofs.bytes_put.Statement.{statement}
+use Rattle.line_blocks.proofs.bytes_put.Tie as tie
 
 returns : tie.Need-returns
 returns c = counts _ _ (omega arith)

@@ -1,9 +1,9 @@
--- `replay::read_behind` hands back no more than the length of the input.
+-- `line_blocks::read_behind` hands back no more than the length of the input.
 -- Assumes nothing.
 use borrow.Author.Needs.{needs}
 use Rattle.io.proofs.Counting.{counts}
-use Rattle.replay.proofs.read_behind.Statement.{statement}
-use Rattle.replay.proofs.read_behind.Tie as tie
+use Rattle.line_blocks.proofs.read_behind.Statement.{statement}
+use Rattle.line_blocks.proofs.read_behind.Tie as tie
 
 sub-part : tie.Need-sub-part
 sub-part c = search needs

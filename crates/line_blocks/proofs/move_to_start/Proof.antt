@@ -1,11 +1,11 @@
--- `replay::move_to_start` is safe and ends: the place to write to is never after the place to read. The measure is the number of bytes left.
+-- `line_blocks::move_to_start` is safe and ends: the place to write to is never after the place to read. The measure is the number of bytes left.
 -- Assumes nothing.
 use mathlib.Core.Path.{_≡_}
 use Prim.Native.Nat.{_-_, _≤_}
 use borrow.Author.Needs.{needs}
 use lib.ListN.{length}
-use Rattle.replay.proofs.move_to_start.Statement.{statement}
-use Rattle.replay.proofs.move_to_start.Tie as tie
+use Rattle.line_blocks.proofs.move_to_start.Statement.{statement}
+use Rattle.line_blocks.proofs.move_to_start.Tie as tie
 
 abbrev Inv-loop : tie.InvT-loop
 Inv-loop input₀ used end from₀ to₀ input from to = (to ≤ from) × (length input ≡ length input₀)
