@@ -1,0 +1,3 @@
+-- What the contracts of `planning_lines` cite.
+pub mod Questions
+pub mod Answers

@@ -1,0 +1,2 @@
+pub mod ByTable
+pub mod ThereAndBack
