@@ -6,7 +6,7 @@ use std::process::Command;
 use std::time::SystemTime;
 
 /// The crates that export functions; each is a library of its name.
-const LIBRARIES: [&str; 3] = ["host", "direct", "direct_fast"];
+const LIBRARIES: [&str; 4] = ["host", "direct", "direct_fast", "planning_host"];
 
 /// The folders of a crate that `rt` reads.
 const READ: [&str; 3] = ["src", "specs", "proofs"];

@@ -2,13 +2,14 @@
 //! a log of the assignments, slot by slot, and in the end the three logs are equal.
 //!
 //!     cargo run --offline --manifest-path bindings/rust/Cargo.toml --example three_offices
+use chanbook_shard::raster::Arfcn;
 use chanbook_shard::{ConsensusMessage, Delivery, PFModeSetting, Refusal, Reply, Settings, Shard};
 
-/// An assignment: a site gets a carrier of band n78. `channel` is its NR-ARFCN, at 3000 MHz plus 15 kHz for each number from 600000 on.
+/// An assignment: a site gets a carrier of band n78. `channel` is its NR-ARFCN.
 struct Assignment {
     office: usize,
     site: &'static str,
-    channel: u32,
+    channel: u64,
 }
 
 const OFFICES: [&str; 3] = ["Porto", "Coimbra", "Lisbon"];
@@ -26,7 +27,7 @@ const WANTED: [Assignment; 9] = [
     wanted(2, "Monsanto mast", 650000),
 ];
 
-const fn wanted(office: usize, site: &'static str, channel: u32) -> Assignment {
+const fn wanted(office: usize, site: &'static str, channel: u64) -> Assignment {
     Assignment { office, site, channel }
 }
 
@@ -108,8 +109,8 @@ fn print_log(name: &str, log: &[u64]) {
     println!("\nLog of {name}:");
     for (slot, &v) in log.iter().enumerate() {
         let Assignment { office, site, channel } = &WANTED[v as usize];
-        let megahertz = 3000.0 + f64::from(channel - 600_000) * 0.015;
-        println!("  slot {slot}: {site:<18} channel {channel} ({megahertz:.2} MHz), wanted by {}", OFFICES[*office]);
+        let carrier = Arfcn::new(*channel).expect("a raster number");
+        println!("  slot {slot}: {site:<18} channel {carrier}, wanted by {}", OFFICES[*office]);
     }
 }
 

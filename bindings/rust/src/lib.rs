@@ -23,6 +23,8 @@
 //!
 //! A read is served once a majority has answered, and each response counts one, as in the original: a host hands a `ReadResponse` in once.
 //!
+//! Beside the engine, [`raster`] turns carrier numbers of TS 38.104 into kHz and back.
+//!
 //! # Example
 //!
 //! ```
@@ -50,6 +52,8 @@
 
 mod call;
 mod message;
+pub mod planning_sys;
+pub mod raster;
 mod reply;
 mod settings;
 mod shard;

@@ -11,6 +11,10 @@ const DIRECT: &str = include_str!("../../../crates/direct/src/lib.rt");
 const DIRECT_FAST: &str = include_str!("../../../crates/direct_fast/src/lib.rt");
 const HEADER: &str = include_str!("../../../crates/host/include/chanbook_shard.h");
 
+const PLANNING_MIRROR: &str = include_str!("../src/planning_sys.rs");
+const PLANNING_HOST: &str = include_str!("../../../crates/planning_host/src/lib.rt");
+const PLANNING_HEADER: &str = include_str!("../../../crates/planning_host/include/chanbook_planning.h");
+
 /// `FlatOpenRead` for `chanbook_open_read`.
 fn flat_of(c_name: &str) -> String {
     let words = c_name.trim_start_matches("chanbook_").split('_');
@@ -111,4 +115,12 @@ fn the_flat_forms_are_those_of_the_source() {
 #[test]
 fn the_flat_forms_are_those_of_the_header() {
     assert_eq!(fields_in_c(HEADER), fields_in_rust(MIRROR));
+}
+
+#[test]
+fn the_planning_forms_are_those_of_the_source_and_of_the_header() {
+    let mirror = fields_in_rust(PLANNING_MIRROR);
+    assert_eq!(mirror, ["FlatValue.refusal: u64", "FlatValue.value: u64"]);
+    assert_eq!(fields_in_rust(PLANNING_HOST), mirror);
+    assert_eq!(fields_in_c(PLANNING_HEADER), mirror);
 }
