@@ -152,6 +152,8 @@ pub const ACCEPT_UNLIKE: Cause = Cause {
     asserts: "assert_eq!(self.max_rv, rv)",
     bring: |case| case.state.held = Some(accepted_in(LATER)),
 };
+pub const CLIENT_IGNORES: Cause =
+    Cause { name: "client that is not the committer", number: 0, asserts: "", bring: |case| case.words().requester = Some(3) };
 pub const NOT_FAST: Cause = Cause {
     name: "promise not a FastV",
     number: 8,
@@ -182,6 +184,7 @@ pub const NOT_COMMITTER: Cause = Cause {
             case.frame().src = 2;
         }
         case.words().requester = Some(3);
+        case.settings.committers.fill(1);
     },
 };
 pub const COMMITS_UNHELD: Cause = Cause {

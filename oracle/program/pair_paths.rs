@@ -1,11 +1,11 @@
 //! The paths of a call with their causes, in the order of document 01 and, for 8, 9 and 10, of the panics table in docs/DIFFERENCES.md.
 //!
-//! Two causes are on no path here: the 6 of a commit in EPaxos, and in the classic modes at the leader. Who commits there leads the round, so that
-//! `ready_to_process` has waited for the value before.
+//! The 6 of a commit by one that leads the round is no cause of its own: `ready_to_process` has waited for the value before. It is on the paths on which
+//! another leader is a cause.
 use crate::calls::Mode::{self, *};
 use crate::calls::{Call, LARGEST_NUMBER, MODES, Message, OPEN_READ_LIMIT, OpenRead, Promise, Round, Settings, State};
 use crate::pair_causes::*;
-use crate::pairs::{Case, Cause, Never, Path};
+use crate::pairs::{Besides, Case, Cause, Never, Path};
 
 const CLASSIC: [Mode; 4] = [Paxos, MultiPaxos, MultiPaxos3P, Pando];
 
@@ -14,22 +14,48 @@ fn path(name: &'static str, modes: &'static [Mode], taken: fn(Mode) -> Case, cau
 }
 
 fn never(first: Cause, seconds: &[Cause], why: &'static str) -> Never {
-    Never { first: first.name, seconds: seconds.iter().map(|cause| cause.name).collect(), why }
+    Never { first: first.name, seconds: seconds.iter().map(|cause| cause.name).collect(), why, second_gives: false }
+}
+
+/// Where both changes are made the second gives its number.
+fn not_but(first: Cause, seconds: &[Cause], why: &'static str) -> Never {
+    Never { second_gives: true, ..never(first, seconds, why) }
+}
+
+/// The first cause, brought about with the second.
+fn first_with(first: Cause, seconds: &[Cause], bring: fn(&mut Case)) -> Vec<Besides> {
+    seconds.iter().map(|second| Besides { first: first.name, second: second.name, of_first: true, bring }).collect()
+}
+
+/// What the second causes need besides where the first holds.
+fn second_with(first: Cause, seconds: &[Cause], bring: fn(&mut Case)) -> Vec<Besides> {
+    first_with(first, seconds, bring).into_iter().map(|besides| Besides { of_first: false, ..besides }).collect()
 }
 
 /// What a message with a slot meets before it is handled, but for the value that is awaited.
 const ARRIVAL: [Cause; 6] = [UNMADE, SPENT, TOO_LARGE, NO_SUCH_PROCESS, AHEAD, OTHER_LAST];
 const OLDER: [Cause; 2] = [OLDER_SLOT, OLDER_ROUND];
 
-/// What cannot be of a message with a slot; `handled` are the causes of a message of the own slot that is neither queued nor ignored.
-fn never_by_slot(handled: &[Cause]) -> Vec<Never> {
-    let spent = "a message that is of slot 2^63-1 or ahead of it has a slot above 2^63-2";
-    vec![
-        never(SPENT, &[&[AHEAD, OTHER_LAST, WAITS], handled].concat(), spent),
-        never(AHEAD, &[OTHER_LAST, WAITS, OLDER_SLOT], "one is of the own slot or of an older one"),
-        never(OTHER_LAST, &[OLDER_SLOT], "one is of the own slot and the other of an older one"),
-        never(WAITS, &[OLDER_SLOT], "one is of the own slot and the other of an older one"),
-    ]
+const OWN_SLOT: &str = "one is of the own slot and the other of an older one";
+
+/// A message with a slot; `waits` and `handled` are the causes of a message of the own slot, before and after what is ignored.
+fn by_slot(
+    name: &'static str,
+    modes: &'static [Mode],
+    taken: fn(Mode) -> Case,
+    waits: &[Cause],
+    ignored: &[Cause],
+    handled: &[Cause],
+    nevers: Vec<Never>,
+) -> Path {
+    let mut path = path(name, modes, taken, &[&ARRIVAL, waits, ignored, handled], nevers);
+    path.never.push(never(AHEAD, &[OLDER_SLOT], "a message is of one slot"));
+    path.never.push(not_but(OTHER_LAST, &[OLDER_SLOT], OWN_SLOT));
+    path.never.push(not_but(WAITS, &[OLDER_SLOT], OWN_SLOT));
+    // a message of slot 2^63-1, or ahead of it, is too large besides
+    path.besides = first_with(SPENT, &[&[OTHER_LAST], waits, handled].concat(), |case| *case.slot() = LARGEST_NUMBER);
+    path.besides.extend(first_with(SPENT, &[AHEAD], |case| *case.slot() = LARGEST_NUMBER + 1));
+    path
 }
 
 /// A Prepare or an Accept in a mode in which sources are live and replicas alone take part.
@@ -41,23 +67,16 @@ fn at_replica(
     handled: &[Cause],
     nevers: Vec<Never>,
 ) -> Path {
-    let handled = [&[NOT_LIVE], handled].concat();
-    let mut never = never_by_slot(&handled);
-    never.extend(nevers);
-    path(name, modes, taken, &[&ARRIVAL, waits, &[NO_REPLICA], &OLDER, &handled], never)
+    by_slot(name, modes, taken, waits, &[&[NO_REPLICA][..], &OLDER].concat(), &[&[NOT_LIVE], handled].concat(), nevers)
 }
 
 /// A Prepare or an Accept in SwiftPaxos, where neither is asked.
 fn in_swift(name: &'static str, taken: fn(Mode) -> Case, waits: &[Cause], handled: &[Cause], nevers: Vec<Never>) -> Path {
-    let mut never = never_by_slot(handled);
-    never.extend(nevers);
-    path(name, &[SwiftPaxos], taken, &[&ARRIVAL, waits, &OLDER, handled], never)
+    by_slot(name, &[SwiftPaxos], taken, waits, &OLDER, handled, nevers)
 }
 
-const NOT_DELEGATE: &str = "one is at the delegate and the other at another process";
-const ONE_PROMISE: &str = "a promise is of one kind";
-const FIRST_ANSWER: &str = "the quorum is asked of a first answer";
 const OWN_ROUND: &str = "one is of a round that oneself leads and the other of another's";
+const AWAITED: &str = "who leads waits for the value: the 6 before";
 
 /// The promise completes a majority.
 fn classic_prepare() -> Path {
@@ -67,9 +86,37 @@ fn classic_prepare() -> Path {
         case
     };
     let handled = [PROMISE_COUNTED, NOT_FROM_LEADER, ACCEPT_COUNTED, OWN_ACCEPT_UNLIKE];
-    let nevers =
-        vec![never(WAITS, &[NOT_FROM_LEADER], OWN_ROUND), never(NOT_FROM_LEADER, &[ACCEPT_COUNTED, OWN_ACCEPT_UNLIKE], NOT_DELEGATE)];
-    at_replica("Prepare", &CLASSIC, taken, &[WAITS], &handled, nevers)
+    at_replica("Prepare", &CLASSIC, taken, &[WAITS], &handled, vec![not_but(WAITS, &[NOT_FROM_LEADER], OWN_ROUND)])
+}
+
+/// The delegate of process 1 is the own process, and the other way round.
+fn delegate_of_another(case: &mut Case) {
+    case.settings.delegates = vec![1, 0, 2, 3, 4];
+}
+
+/// The promise completes a majority at the delegate of process 1, which leads.
+fn delegate_prepare() -> Path {
+    const NOT_DELEGATE: Cause = Cause { bring: |case| case.settings.delegates = (0..5).collect(), ..NOT_FROM_LEADER };
+    let taken = |mode| {
+        let mut case = prepare(mode, 1, UNACCEPTED);
+        (case.state.held, case.state.prepared_set) = (Some(UNACCEPTED), 0b00011);
+        delegate_of_another(&mut case);
+        case
+    };
+    let handled = [PROMISE_COUNTED, NOT_DELEGATE, ACCEPT_COUNTED, OWN_ACCEPT_UNLIKE];
+    at_replica("Prepare at a delegate that does not lead", &[Pando], taken, &[], &handled, vec![])
+}
+
+/// The leader answers its delegate.
+fn delegating_prepare() -> Path {
+    let taken = |mode| {
+        let mut case = prepare(mode, 0, UNACCEPTED);
+        case.state.held = Some(UNACCEPTED);
+        case.state.prepared_set = 0b00011;
+        delegate_of_another(&mut case);
+        case
+    };
+    at_replica("Prepare at a leader that is not the delegate", &[Pando], taken, &[WAITS], &[PROMISE_COUNTED], vec![])
 }
 
 /// The answer of process 2 for proposer 1 brings an adoption.
@@ -77,7 +124,8 @@ fn epaxos_prepare() -> Path {
     const ACCEPTED_COUNTED: Cause = Cause {
         name: "accepted value, and accept counted",
         bring: |case| {
-            *promise_of(case) = Promise::Paxos { accept_round: Some(*case.round()), v: promise_of(case).v() };
+            let accept_round = Some(Round { group: 1, leader: 0 });
+            *promise_of(case) = Promise::Paxos { accept_round, v: promise_of(case).v() };
             case.state.accepted_set = 0b00010;
         },
         ..ACCEPT_COUNTED
@@ -94,6 +142,16 @@ fn epaxos_prepare() -> Path {
         asserts: "self.round_state.is_prepared()",
         bring: |case| case.state.prepared_set = 0b00001,
     };
+    const COMMITS_AWAITED: Cause = Cause {
+        name: "fast commit of a value not held, which is awaited",
+        number: 6,
+        asserts: "",
+        bring: |case| {
+            case.words().value_held = false;
+            *promise_of(case) = Promise::Fast { proposer: 0, v: promise_of(case).v() };
+            (case.state.fast_preaccepted, case.state.fast_proposers) = (2, 0b00001);
+        },
+    };
     let taken = |mode| {
         let mut case = prepare(mode, 0, fast(1));
         (case.state.held, case.state.prepared_set) = (Some(fast(0)), 0b00011);
@@ -102,15 +160,27 @@ fn epaxos_prepare() -> Path {
     };
     let answers = [SECOND_ANSWER, OWN_MISSING, NOT_PREPARED, ACCEPT_COUNTED];
     let accepted = [ACCEPTED_COUNTED, OWN_ACCEPT_UNLIKE];
-    let handled = [&[PROMISE_COUNTED, NOT_FROM_LEADER][..], &accepted, &[NOT_FAST], &answers].concat();
-    let nevers = vec![
-        never(WAITS, &[NOT_FROM_LEADER], OWN_ROUND),
-        never(NOT_FROM_LEADER, &[&accepted[..], &[NOT_FAST], &answers].concat(), NOT_DELEGATE),
-        never(ACCEPTED_COUNTED, &[&[NOT_FAST][..], &answers].concat(), "one is where a value is accepted and the other where none is"),
-        never(OWN_ACCEPT_UNLIKE, &[&[NOT_FAST][..], &answers].concat(), "one is where a value is accepted and the other where none is"),
-        never(NOT_FAST, &answers, ONE_PROMISE),
+    let handled = [&[PROMISE_COUNTED, NOT_FROM_LEADER][..], &accepted, &[NOT_FAST], &answers, &[COMMITS_AWAITED]].concat();
+    let no_majority = "the promise completes a majority in one, and in the other there is none with it";
+    let mut nevers = vec![
+        not_but(WAITS, &[NOT_FROM_LEADER], OWN_ROUND),
+        never(ACCEPTED_COUNTED, &[NOT_PREPARED], no_majority),
+        never(OWN_ACCEPT_UNLIKE, &[NOT_PREPARED], no_majority),
+        never(OWN_ACCEPT_UNLIKE, &[ACCEPT_COUNTED], "one is where a value is accepted and the other where none is"),
     ];
-    at_replica("Prepare", &[EPaxos], taken, &[WAITS], &handled, nevers)
+    let later = [NO_REPLICA, OLDER_ROUND, NOT_LIVE, PROMISE_COUNTED, SECOND_ANSWER, NOT_PREPARED, ACCEPT_COUNTED];
+    nevers.extend(later.map(|first| not_but(first, &[COMMITS_AWAITED], AWAITED)));
+    let not_so = "the promise is a FastV for the own proposal, which is the only one, in one and not in the other";
+    nevers.extend([ACCEPTED_COUNTED, OWN_ACCEPT_UNLIKE, NOT_FAST, OWN_MISSING].map(|first| never(first, &[COMMITS_AWAITED], not_so)));
+    let mut path = at_replica("Prepare", &[EPaxos], taken, &[WAITS], &handled, nevers);
+    // what is accepted is held where the promise is not
+    let held_in_round = |case: &mut Case| case.state.held = Some(accepted_in(Round { group: 1, leader: 0 }));
+    path.besides.extend(first_with(ACCEPTED_COUNTED, &[NOT_FAST], held_in_round));
+    path.besides.extend(first_with(OWN_ACCEPT_UNLIKE, &[NOT_FAST], |case| case.state.held = Some(accepted_in(LATER))));
+    path.besides.extend(first_with(ACCEPTED_COUNTED, &[OWN_ACCEPT_UNLIKE], held_in_round));
+    // the answers are a majority without this one
+    path.besides.extend(second_with(NOT_FAST, &[NOT_PREPARED, ACCEPT_COUNTED], |case| case.state.fast_answer_set = 0b01011));
+    path
 }
 
 /// Nothing is accepted yet: the leader accepts.
@@ -144,9 +214,8 @@ fn swift_prepare_at_client() -> Path {
         case.state.held = None;
         case
     };
-    let answers = [FROM_LEADER, SECOND_ANSWER, COMMITS_FAST_UNHELD];
-    let nevers = vec![never(NOT_FAST, &answers, ONE_PROMISE)];
-    in_swift("Prepare at a client, which is the committer", taken, &[], &[&[NOT_FAST], &answers[..]].concat(), nevers)
+    let handled = [CLIENT_IGNORES, NOT_FAST, FROM_LEADER, SECOND_ANSWER, COMMITS_FAST_UNHELD];
+    in_swift("Prepare at a client, which is the committer", taken, &[], &handled, vec![])
 }
 
 /// A client that leads its own round waits for the value, as every leader does.
@@ -156,11 +225,11 @@ fn swift_prepare_at_leading_client() -> Path {
         case.settings.alive_replicas = 0b11110;
         case
     };
-    let nevers = vec![
-        never(NOT_FAST, &[FROM_LEADER, SECOND_ANSWER], ONE_PROMISE),
-        never(FROM_LEADER, &[SECOND_ANSWER], "the leader is oneself, not another"),
-    ];
-    in_swift("Prepare at a client that leads", taken, &[WAITS], &[NOT_FAST, FROM_LEADER, SECOND_ANSWER], nevers)
+    let handled = [CLIENT_IGNORES, NOT_FAST, FROM_LEADER, SECOND_ANSWER];
+    let mut path = in_swift("Prepare at a client that leads", taken, &[WAITS], &handled, vec![]);
+    // the leader, which is oneself, has answered too
+    path.besides.extend(second_with(FROM_LEADER, &[SECOND_ANSWER], |case| case.state.fast_answer_set = 0b11111));
+    path
 }
 
 fn classic_accept() -> Path {
@@ -169,8 +238,56 @@ fn classic_accept() -> Path {
         (case.state.held, case.state.accepted_set) = (Some(accepted_in(Round { group: 1, leader: 0 })), 0b00001);
         case
     };
-    let nevers = vec![never(WAITS, &[NOT_COMMITTER], OWN_ROUND)];
-    at_replica("Accept", &[Paxos, MultiPaxos, MultiPaxos3P, EPaxos, Pando], taken, &[WAITS], &[ACCEPT_UNLIKE, NOT_COMMITTER], nevers)
+    const COMMITS_AWAITED: Cause = Cause { name: "commit of a value not held, which is awaited", asserts: "", ..COMMITS_UNHELD };
+    let later = |first| not_but(first, &[COMMITS_AWAITED], AWAITED);
+    let mut nevers = vec![not_but(WAITS, &[NOT_COMMITTER], OWN_ROUND)];
+    nevers.extend([NO_REPLICA, OLDER_ROUND, NOT_LIVE, ACCEPT_UNLIKE].map(later));
+    let handled = [ACCEPT_UNLIKE, NOT_COMMITTER, COMMITS_AWAITED];
+    at_replica("Accept", &[Paxos, MultiPaxos, MultiPaxos3P, EPaxos, Pando], taken, &[WAITS], &handled, nevers)
+}
+
+/// An Accept in Pando at one that does not lead: from the leader, which is not the delegate, it is refused.
+fn accept_not_led(name: &'static str, taken: fn(Mode) -> Case) -> Path {
+    const NOT_FROM_DELEGATE: Cause =
+        Cause { name: "accept of another than the delegate", bring: |case| case.frame().src = case.round().leader, ..NOT_COMMITTER };
+    let mut path = at_replica(name, &[Pando], taken, &[], &[ACCEPT_UNLIKE, NOT_FROM_DELEGATE], vec![]);
+    // a source that is not live is another than the leader
+    path.besides.extend(second_with(NOT_LIVE, &[NOT_FROM_DELEGATE], |case| case.frame().src = 4));
+    path
+}
+
+/// Process 1 leads, and the own process, its delegate, gets its own Accept.
+fn delegate_accept() -> Path {
+    let taken = |mode| {
+        let mut case = accept(mode, 1);
+        case.state.held = Some(accepted_in(Round { group: 1, leader: 1 }));
+        case.frame().src = 0;
+        delegate_of_another(&mut case);
+        case
+    };
+    accept_not_led("Accept at a delegate that does not lead", taken)
+}
+
+/// Process 1 leads, and 2 is its delegate.
+fn accept_of_delegate() -> Path {
+    let taken = |mode| {
+        let mut case = accept(mode, 1);
+        case.state.held = Some(accepted_in(Round { group: 1, leader: 1 }));
+        case.settings.delegates = vec![0, 2, 1, 3, 4];
+        case
+    };
+    accept_not_led("Accept of a delegate that does not lead", taken)
+}
+
+/// The leader counts the accepts, whoever is its delegate.
+fn delegating_accept() -> Path {
+    let taken = |mode| {
+        let mut case = accept(mode, 0);
+        (case.state.held, case.state.accepted_set) = (Some(accepted_in(Round { group: 1, leader: 0 })), 0b00001);
+        delegate_of_another(&mut case);
+        case
+    };
+    at_replica("Accept at a leader that is not the delegate", &[Pando], taken, &[WAITS], &[ACCEPT_UNLIKE], vec![])
 }
 
 /// Of an accept of another than the leader, which the committer counts.
@@ -181,7 +298,7 @@ fn committer_accept() -> Path {
         case.state.held = Some(accepted_in(Round { group: 1, leader: 1 }));
         case
     };
-    at_replica("Accept at the committer", &[MultiPaxos3P], taken, &[], &[ACCEPT_UNLIKE, COMMITS_UNHELD], vec![])
+    at_replica("Accept at the committer", &[MultiPaxos3P], taken, &[], &[ACCEPT_UNLIKE, NOT_COMMITTER, COMMITS_UNHELD], vec![])
 }
 
 /// The leader's Accept at the committer, with a fixed quorum.
@@ -198,12 +315,7 @@ fn swift_accept_at_replica() -> Path {
     let commits = [COMMITS_UNHELD, COMMITS_FAST_UNHELD];
     let handled = [&[ACCEPT_UNLIKE, SECOND_ANSWER, OUTSIDE_QUORUM, NOT_COMMITTER][..], &commits].concat();
     let not_leader = "one is from the leader, at the committer, and the other is not";
-    let nevers = vec![
-        never(SECOND_ANSWER, &[OUTSIDE_QUORUM], FIRST_ANSWER),
-        never(SECOND_ANSWER, &[NOT_COMMITTER], not_leader),
-        never(OUTSIDE_QUORUM, &[NOT_COMMITTER], not_leader),
-        never(NOT_COMMITTER, &commits, "who is not the committer does not commit"),
-    ];
+    let nevers = vec![not_but(SECOND_ANSWER, &[NOT_COMMITTER], not_leader), not_but(OUTSIDE_QUORUM, &[NOT_COMMITTER], not_leader)];
     in_swift("Accept at a replica", leader_accept, &[], &handled, nevers)
 }
 
@@ -222,11 +334,8 @@ fn swift_accept_at_client() -> Path {
         case.settings.alive_replicas = 0b11110;
         case
     };
-    let nevers = vec![
-        never(SECOND_ANSWER, &[OUTSIDE_QUORUM], FIRST_ANSWER),
-        never(ACCEPT_UNLIKE, &[COMMITS_FAST_UNHELD], "where the answer commits the accept is not asked"),
-    ];
-    let handled = [SECOND_ANSWER, OUTSIDE_QUORUM, ACCEPT_UNLIKE, COMMITS_UNHELD, COMMITS_FAST_UNHELD];
+    let nevers = vec![not_but(ACCEPT_UNLIKE, &[COMMITS_FAST_UNHELD], "the answer does not commit in one and commits in the other")];
+    let handled = [CLIENT_IGNORES, SECOND_ANSWER, OUTSIDE_QUORUM, ACCEPT_UNLIKE, COMMITS_UNHELD, COMMITS_FAST_UNHELD];
     in_swift("Accept at a client, which is the committer", taken, &[], &handled, nevers)
 }
 
@@ -238,21 +347,18 @@ fn swift_accept_at_leading_client() -> Path {
         case.frame().src = 0;
         case
     };
-    in_swift("Accept at a client that leads", taken, &[WAITS], &[OUTSIDE_QUORUM, ACCEPT_UNLIKE], vec![])
+    in_swift("Accept at a client that leads", taken, &[WAITS], &[CLIENT_IGNORES, OUTSIDE_QUORUM, ACCEPT_UNLIKE], vec![])
 }
 
 fn commit() -> Path {
     let taken = |mode| received(mode, Message::Commit { slot: 4, v: 7 });
-    path("Commit", &MODES, taken, &[&ARRIVAL, &[WAITS]], never_by_slot(&[]))
+    by_slot("Commit", &MODES, taken, &[WAITS], &[], &[], vec![])
 }
 
 fn read_response() -> Path {
     let taken = |mode| received(mode, Message::ReadResponse { id: 3, next_readable_slot: 4 });
-    let mut path = path("ReadResponse", &MODES, taken, &[&ARRIVAL], never_by_slot(&[]));
-    // "A ReadResponse's slot field may be 2^63−1": so it may be of the slot that is spent, but not ahead of it
-    path.never[0] = never(SPENT, &[AHEAD], "nothing is ahead of 2^63-1 but what is above it");
-    path.besides = vec![(SPENT.name, OTHER_LAST.name, |case| *case.slot() = LARGEST_NUMBER)];
-    path
+    // "A ReadResponse's slot field may be 2^63−1": so it may be of the slot that is spent
+    by_slot("ReadResponse", &MODES, taken, &[], &[], &[], vec![])
 }
 
 fn read_request() -> Path {
@@ -281,9 +387,7 @@ const HELD: Cause = not_allowed("promise held already", "self.round_state.get_v(
 const NOT_LEADER: Cause =
     not_allowed("by another than the leader", "self.is_multi_paxos(), Some(round) == self.settings.starting_round", |case| {
         case.settings.first_leader = 1;
-        if case.state.round == Some(Round { group: 0, leader: 0 }) {
-            case.state.round = Some(Round { group: 0, leader: 1 });
-        }
+        case.state.round = Some(Round { group: 0, leader: 1 });
     });
 const ANSWERED: Cause = not_allowed("an answer", "self.fast_answer_set.is_empty()", |case| case.state.fast_answer_set = 0b00010);
 const ANSWER_COUNTED: Cause = not_allowed("an answer counted", "self.fast_preaccepted, 0", |case| case.state.fast_preaccepted = 1);
@@ -311,9 +415,11 @@ fn proposals() -> [Path; 4] {
         Case { settings, state: state(mode), call: Call::Propose(7) }
     };
     let answers = [ANSWERED, ANSWER_COUNTED, PROPOSER_RECORDED];
+    let mut multi_paxos = proposal(&[MultiPaxos, MultiPaxos3P], by_leader, &[CANNOT_PROPOSE, OTHER_ROUND, HELD, NOT_LEADER]);
+    multi_paxos.besides = first_with(OTHER_ROUND, &[NOT_LEADER], |case| case.state.round = Some(LATER));
     [
         proposal(&[Paxos, Pando], taken, &[CANNOT_PROPOSE, OTHER_ROUND, HELD]),
-        proposal(&[MultiPaxos, MultiPaxos3P], by_leader, &[CANNOT_PROPOSE, OTHER_ROUND, HELD, NOT_LEADER]),
+        multi_paxos,
         proposal(&[EPaxos], taken, &[&[CANNOT_PROPOSE, OTHER_ROUND, HELD], &answers[..], &[EPAXOS_SCORE]].concat()),
         proposal(&[SwiftPaxos], by_another, &[&[OTHER_ROUND, HELD], &answers[..], &[SWIFT_SCORE, LEADER_ANSWERED]].concat()),
     ]
@@ -336,23 +442,31 @@ fn new_read() -> Path {
         asserts: "",
         bring: |case| {
             let read = |id| OpenRead { id, tag: 1, arrival_slot: 0, ready_count: 0, local_ready: false };
-            (case.state.reads, case.state.next_id) = ((0..OPEN_READ_LIMIT).map(read).collect(), OPEN_READ_LIMIT);
+            case.state.reads = (0..OPEN_READ_LIMIT).map(read).collect();
         },
     };
     const IDS_SPENT: Cause = Cause { name: "ids spent", number: 12, asserts: "", bring: |case| case.state.next_id = LARGEST_NUMBER + 1 };
-    let taken = |mode| Case { settings: settings(mode), state: state(mode), call: Call::StartRead { tag: 3, arrival_slot: 4 } };
+    let taken = |mode| {
+        let state = State { next_id: OPEN_READ_LIMIT, ..state(mode) };
+        Case { settings: settings(mode), state, call: Call::StartRead { tag: 3, arrival_slot: 4 } }
+    };
     path("new read", &[Paxos, EPaxos], taken, &[&[UNMADE, SPENT, TOO_LARGE, ARRIVAL_TOO_LARGE, FULL, IDS_SPENT]], vec![])
 }
 
 pub fn paths() -> Vec<Path> {
     let mut paths = vec![
         classic_prepare(),
+        delegate_prepare(),
+        delegating_prepare(),
         epaxos_prepare(),
         swift_prepare_at_leader(),
         swift_prepare_at_proposer(),
         swift_prepare_at_client(),
         swift_prepare_at_leading_client(),
         classic_accept(),
+        delegate_accept(),
+        accept_of_delegate(),
+        delegating_accept(),
         committer_accept(),
         swift_accept_at_replica(),
         swift_accept_at_leader(),

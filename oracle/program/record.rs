@@ -214,7 +214,11 @@ fn two_causes(sample: &mut Sample) -> io::Result<()> {
         sample.title(&title);
         sample.add(recording);
     }
-    eprintln!("pairs of causes at once: {pairs}");
+    let both = pairs.apart + pairs.second_besides + pairs.first_besides;
+    eprintln!(
+        "pairs of causes at once: {both}, of {} with what the first needs besides, of {} the second; where the second gives its number: {}",
+        pairs.first_besides, pairs.second_besides, pairs.second_gives
+    );
     Ok(())
 }
 
@@ -244,6 +248,25 @@ fn limits_of_fields(sample: &mut Sample) {
         let settings = plain_settings(mode, 3);
         every_field(sample, &settings, &Line::Settings(settings.clone()));
     }
+}
+
+/// The last places of the tables: a committer, or in Pando a delegate, that is not below the count of 64 is outside the limits.
+fn last_places(sample: &mut Sample) -> io::Result<()> {
+    sample.title("64 processes: the committer of the last, and in Pando its delegate, at their limits");
+    for mode in MODES {
+        let mut recorder = Recorder::default();
+        for (process, delegate) in [(PLACES - 1, false), (PLACES, false), (PLACES - 1, true), (PLACES, true)] {
+            let mut settings = plain_settings(mode, PLACES);
+            let table = if delegate { &mut settings.delegates } else { &mut settings.committers };
+            table[PLACES - 1] = process;
+            let outside = process == PLACES && (!delegate || mode == Mode::Pando);
+            if recorder.line(&Line::Settings(settings)).is_err() != outside {
+                return Err(io::Error::other(format!("{mode:?}, table place {process}: {outside}")));
+            }
+        }
+        sample.add(recorder.recording);
+    }
+    Ok(())
 }
 
 /// Every kind of call in that mode; then from a source that is not live.
@@ -302,7 +325,7 @@ fn is_complete(sample: &Sample) -> bool {
     let every_refusal = (1..=12).all(|number| counts.refusals(number) > 0);
     let every_mode = counts.modes.iter().all(|mode| mode.commits > 0 && mode.served > 0 && mode.kinds[1..].iter().all(|calls| *calls > 0));
     let ties = counts.modes.iter().any(|mode| mode.ties > 0);
-    every_refusal && every_mode && ties && sample.text.len() < 600_000
+    every_refusal && every_mode && ties && sample.text.len() < 700_000
 }
 
 pub fn run() -> io::Result<bool> {
@@ -316,6 +339,7 @@ pub fn run() -> io::Result<bool> {
     widest_answers(&mut sample);
     slots_at_their_limit(&mut sample);
     limits_of_fields(&mut sample);
+    last_places(&mut sample)?;
     two_causes(&mut sample)?;
     let mut random = Random::new(1);
     for mode in MODES {
