@@ -18,7 +18,7 @@
 //!
 //! What the host says beside a message ([`Said`]) may be anything. Agreement holds in every mode but SwiftPaxos.
 //!
-//! Nothing is claimed about progress. A member proposes once in a slot, and where another's proposal was heard it gets 11; in MultiPaxos nobody stands in
+//! Nothing is claimed about progress, but that in MultiPaxos the commit comes on the answer that completes a majority (docs/QUESTIONS.md). A member proposes once in a slot, and where another's proposal was heard it gets 11; in MultiPaxos nobody stands in
 //! for the first leader. A host that kept a lost message hands it in again, and proposes in a later slot what was not committed.
 //!
 //! A read is served once a majority has answered, and each response counts one, as in the original: a host hands a `ReadResponse` in once.

@@ -12,7 +12,7 @@ pub enum PFModeSetting {
     MultiPaxos,
     /// As MultiPaxos, and an accepted value is also told to its committer, which commits it a step earlier.
     MultiPaxos3P,
-    /// Every member may propose, with a fast path: one exchange where nobody else proposes.
+    /// Every member may propose, with a fast path: one exchange where the EPaxos quorum answers for one proposer alone.
     EPaxos,
     /// As Paxos, and the delegate of a leader gathers the promises of its rounds.
     Pando {

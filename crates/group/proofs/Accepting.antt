@@ -1,4 +1,4 @@
--- Handling an Accept in the classic modes is the model's `onAccept`.
+-- Handling an Accept, in the classic modes and in EPaxos, is the model's `onAccept`.
 -- Assumes nothing.
 use mathlib.Core.Path.{_≡_, refl, sym, ap, ap₂, subst, _∙_}
 use mathlib.Core.Logic.{_⊎_, inl, inr}

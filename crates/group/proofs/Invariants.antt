@@ -1,5 +1,5 @@
 -- What holds of every shard after every list of calls, legal or not, in every mode and with every settings: the fast half of the classic modes
--- is as new, the open reads are in order, the prepared and accepted sets hold live replicas, and the numbers that calls add to or subtract from
+-- is as new, the open reads are in order, the prepared and accepted sets hold live replicas (but for SwiftPaxos), and the numbers that calls add to or subtract from
 -- have room.
 -- Assumes nothing.
 use mathlib.Core.Path.{_≡_, refl, sym, ap, subst, _∙_}

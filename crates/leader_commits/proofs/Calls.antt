@@ -67,13 +67,13 @@ delegates-itself s EPaxos l e = refl
 delegates-itself s Pando l e = absurd (not-both e refl)
 delegates-itself s SwiftPaxos l e = refl
 
-pub classic : (m : PFMode) → isMultiPaxos m ≡ true → NotSwift m
-classic Paxos e = tt
-classic MultiPaxos e = tt
-classic MultiPaxos3P e = tt
-classic EPaxos e = tt
-classic Pando e = tt
-classic SwiftPaxos e = absurd (not-both e refl)
+pub claimed-mode : (m : PFMode) → isMultiPaxos m ≡ true → NotSwift m
+claimed-mode Paxos e = tt
+claimed-mode MultiPaxos e = tt
+claimed-mode MultiPaxos3P e = tt
+claimed-mode EPaxos e = tt
+claimed-mode Pando e = tt
+claimed-mode SwiftPaxos e = absurd (not-both e refl)
 
 pub led-setup : (s : Settings) → isMultiPaxos (s .mode) ≡ true → s .«has_committers» ≡ false → s .«first_leader» < 64 → Led (setupOf s) (s .«first_leader»)
 unfolding committerIn
@@ -86,7 +86,7 @@ led-setup s multi none small =
     }
   where
     none-for : (q : ℕ) → committerOf s (processOf q) ≡ processOf 0
-    none-for q = simp (none, not-swift (s .mode) (classic (s .mode) multi))
+    none-for q = simp (none, not-swift (s .mode) (claimed-mode (s .mode) multi))
 
 -- the leader and the live replicas are processes
 pub record Numbers (s : Settings) : Type 0 where
@@ -261,7 +261,7 @@ module _ (s : Settings) (multi : isMultiPaxos (s .mode) ≡ true) (none : s .«h
   -- A step of the leader, where no Prepare, no Accept of another round and no Commit comes.
   pub leader-does : Valid s (s .«first_leader») (x .before) → Expected meaningOf (setupOf s .voters .start) (s .«first_leader») (kindOf (x .call))
       → ((d : Delivery) (slot v : ℕ) → x .call ≡ Receive d → d .message .msg ≡ Commit slot v → ⊥) → Does s x
-  leader-does valid f no-commit = go (x .call) refl (call-ok s l (classic (s .mode) multi) lowestBest lowest-picks-best (x .before) valid (x .call) .as-model) f
+  leader-does valid f no-commit = go (x .call) refl (call-ok s l (claimed-mode (s .mode) multi) lowestBest lowest-picks-best (x .before) valid (x .call) .as-model) f
     where
       go : (c : Call) → x .call ≡ c → AsModel meaningOf (setupOf s) l y (kindOf c) (seenIn x) → Expected meaningOf start l (kindOf c) → Does s x
       go (Propose v) e m f = by-proposal v e m

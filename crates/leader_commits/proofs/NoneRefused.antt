@@ -53,7 +53,7 @@ use Rattle.group.proofs.Invariants.{start-led}
 use Rattle.group.proofs.Steps.{steps-are-entries}
 use Rattle.group.proofs.View.{roundNumber, LeaderFits, equal-number, setupOf}
 use Rattle.leader_commits.specs.Answers.{Terms, isAnswer, comes, LeaderProposed, AfterProposal, requestersIn, hostCauses, HostHolds, SoundRequesters, SoundAnswers, NoAnswerRefused}
-use Rattle.leader_commits.proofs.Calls.{classic, numbers-within}
+use Rattle.leader_commits.proofs.Calls.{claimed-mode, numbers-within}
 use Rattle.leader_commits.proofs.Places.{in-at, at-in, at-before, at-entry, step-of}
 use Rattle.leader_commits.proofs.HostCauses.{below-fits, leaderShard, theAnswer, only-host-causes}
 use Rattle.leader_commits.proofs.Hearing.{is-accept, live-source}
@@ -119,7 +119,7 @@ module _ (s : Settings) (terms : Terms s) (cs : List MemberCall) (legal : Legal 
   run = steps s cs
 
   claim : Claim (entriesOf (steps s cs))
-  claim = subst Claim (sym (steps-are-entries s cs)) (agreement s (classic (s .mode) (terms .multi-paxos)) cs legal)
+  claim = subst Claim (sym (steps-are-entries s cs)) (agreement s (claimed-mode (s .mode) (terms .multi-paxos)) cs legal)
 
   -- what is committed in the run was proposed in it, so it is a number
   committed-fits : (n w : ℕ) → CommitAt n w (entriesOf run) → w ≤ 9223372036854775807

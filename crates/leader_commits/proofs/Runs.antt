@@ -48,7 +48,7 @@ use Rattle.leader_commits.specs.Answers.{Terms, isAnswer, sources, answe
 use Rattle.leader_commits.proofs.Led.{FromLed, AllFromLed, Expected, Kept, as-model-kept}
 use Rattle.leader_commits.proofs.Carrying.{EachOf, each-in, NoPrepare, CallCarries, call-carries}
 use Rattle.leader_commits.proofs.Sent.{LastAt, last-later, last-moves, SentAccepts, now-sent}
-use Rattle.leader_commits.proofs.Calls.{classic, led-setup, numbers-within, made-or-refused, seenIn, viewBefore, Does, rests, proposes, accepts, and-fails, when-refused, leader-does}
+use Rattle.leader_commits.proofs.Calls.{claimed-mode, led-setup, numbers-within, made-or-refused, seenIn, viewBefore, Does, rests, proposes, accepts, and-fails, when-refused, leader-does}
 use Rattle.leader_commits.proofs.Leading.{slot-of-other, slot-of-own, no-commit-in, Leading, leading-same, leading-proposed, leading-waits, leading-commits, accept-waits, accept-commits}
 
 -- ---- messages
@@ -172,7 +172,7 @@ module _ (s : Settings) (terms : Terms s) where
         go (inr limits) =
             as-model-kept (setupOf s) l (led-setup s (terms .multi-paxos) (terms .no-committer) (numbers-within s i limits .leader-small)) i (viewShard old)
             (k .in-round i) meaningOf (kindOf (c .call)) (seenIn step)
-            (call-ok s i (classic (s .mode) (terms .multi-paxos)) lowestBest lowest-picks-best old (k .valid i) (c .call) .as-model)
+            (call-ok s i (claimed-mode (s .mode) (terms .multi-paxos)) lowestBest lowest-picks-best old (k .valid i) (c .call) .as-model)
             (expected (entriesOf past) (k .sent) i (c .call) stands)
 
     -- where the leader is called
@@ -257,7 +257,7 @@ module _ (s : Settings) (terms : Terms s) where
           valid = λ j.
               by-test (Valid s j) (eqb j i) (callOf old (c .call) .shard) (shards j)
               (λ t. subst (λ (m : ℕ). Valid s m (callOf old (c .call) .shard)) (sym (eqb→eq j i t))
-              (call-ok s i (classic (s .mode) (terms .multi-paxos)) lowestBest lowest-picks-best old (k .valid i) (c .call) .valid))
+              (call-ok s i (claimed-mode (s .mode) (terms .multi-paxos)) lowestBest lowest-picks-best old (k .valid i) (c .call) .valid))
               (λ t. k .valid j);
           in-round =
               λ j. by-test (λ (x : Shard). viewShard x .round ≡ start) (eqb j i) (callOf old (c .call) .shard) (shards j) (λ t. kept .in-round)
