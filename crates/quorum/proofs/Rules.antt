@@ -26,9 +26,19 @@ two-majorities n = omega arith
 pub fast-fast-majority : (n : ℕ) → 1 ≤ n → 2 * n < fastOf n + fastOf n + majorityOf n
 fast-fast-majority n h = omega arith
 
--- up to 64 replicas the row is the rule's
+-- and it is the least such number that is no less than a majority; the EPaxos quorum is the least by the rule of its own path
+pub fast-least : (n f : ℕ) → majorityOf n ≤ f → 2 * n < f + f + majorityOf n → fastOf n ≤ f
+fast-least n f h k = omega arith
+
+pub epaxos-least : (n f : ℕ) → majorityOf n ≤ f → 2 * n < f + f + majorityOf n + 2 → epaxosOf n ≤ f
+epaxos-least n f h k = omega arith
+
+-- up to 64 replicas the row is the rule's, and above it that of 64
 pub row-rule : (n : ℕ) → n ≤ 64 → rowOf n ≡ ruleOf n
 row-rule n h = let e : min n 64 ≡ n = omega arith in ap ruleOf e
+
+pub row-above : (n : ℕ) → 64 ≤ n → rowOf n ≡ ruleOf 64
+row-above n h = let e : min n 64 ≡ 64 = omega arith in ap ruleOf e
 
 -- a count of 0 takes the row of 1
 pub row-zero : rowOf 0 ≡ rowOf 1
