@@ -16,6 +16,7 @@ pub mod Example
 pub mod FastExample
 pub mod ModeExamples
 pub mod SwiftSets
+pub mod SwiftDisagrees
 pub mod GroupOfOne
 pub mod Runs
 pub mod Steps

@@ -2,9 +2,10 @@
 -- of the processes 0, 1 and 2 the first two are live replicas; 2 proposes 10, and 0, the leader, counts the Prepare of 2 as a promise.
 -- Assumes nothing.
 use mathlib.Core.Path.{_≡_, refl}
-use mathlib.Core.Bool.{false}
+use mathlib.Core.Bool.{Bool, false}
 use mathlib.Core.List.{List, [], _∷_}
 use mathlib.Core.Logic.{inl}
+use Prim.Native.Nat.{ℕ}
 use lib.Dec.{lit<}
 use lib.ListN.{replicate}
 use Rattle.sets.specs.Sets.{contains, count, size, insert}
@@ -34,8 +35,9 @@ use Rattle.group.specs.Claim.{begun, ours, MemberCall, LegalFrom, Legal}
 use Rattle.group.proofs.Example.{proposes, hears, first}
 use Rattle.group.proofs.Invariants.{shardsAfter}
 
-abbrev withClient : Settings
-withClient =
+-- the process of the committers' table is the committer of all, where there are committers
+abbrev pub withClient : Bool → ℕ → Settings
+withClient given committer =
     record {
       «process_count» = 3;
       «replica_count» = 2;
@@ -44,8 +46,8 @@ withClient =
       «first_leader» = 0;
       mode = SwiftPaxos;
       quorum = NoSet;
-      «has_committers» = false;
-      committers = replicate 64 0;
+      «has_committers» = given;
+      committers = replicate 64 committer;
       delegates = replicate 64 0;
     }
 
@@ -53,6 +55,6 @@ abbrev calls : List MemberCall
 calls = proposes 2 10 ∷ hears 0 2 NoValue (Prepare 0 (roundOf 0 0) (FastV 2 10)) ∷ []
 
 -- 5 is the set of 0 and 2
-pub client-counted : Legal withClient calls × (shardsAfter ours (begun withClient) calls 0 .state .rounds .core .paxos .«prepared_set» ≡ 5)
+pub client-counted : Legal (withClient false 0) calls × (shardsAfter ours (begun (withClient false 0)) calls 0 .state .rounds .core .paxos .«prepared_set» ≡ 5)
 unfolding LegalFrom shardsAfter newShard callWith unlessSpent dispatch propose receive admit numbersFit processesFit ready otherLastValue valueAwaited roundNumbers rvNumbers msgNumbers valueNumbers processNumbers rvProcesses msgProcesses requesterBelow handle processMessage processed gathererIn proposing proposeFast proposeChange leadsFromStart ownAnswer swiftProposeV swiftUnanswered swiftOwn isUnanswered mayPropose electing proposePrepare processFast processChange onFastPrepare inFastPrepare fastPrepared fastGather startsAccept waits leadsRound fastPromised toVAfter epaxosScoresAfter swiftScoresAfter lookUp enter fromLive isOlder inRound prepared holdFirst preparing answersNothing answerPrepare becomesPrepared acceptPhase broadcastAccept paxosProposeV receivePromise heldAfterPromise receiveAccept acceptFits acceptOwn selfAccept withSender withOwn nextLeaderRound roundBefore roundEqual increment delegateIn committerIn committerFor withinLimits countsFit membersFit committersFit modeFits quorumFits contains count size insert
 client-counted = (first (lit< tt) tt (first (lit< tt) (_, _, inl refl, refl, inl refl, refl, neqb→ne 2 0 tt) tt), refl)
