@@ -8,7 +8,7 @@ use native.Mathlib.Omega.{arith}
 use lib.Dec.{ltb, leb, eqb}
 use borrow.Author.Tests.{ltb-true, ltb-false, leb-true, leb-false, eqb-true, lt-ltb, le-ltb, le-leb, lt-leb, eq-eqb}
 use Rattle.raster.specs.Table.{OnRaster}
-use Rattle.raster.specs.Raster.{frequencyOf, wholeSteps, numberOf, frequencyRefusal, carrierRefusal}
+use Rattle.raster.specs.Raster.{frequencyOf, wholeSteps, numberOf, frequencyRefusal, khzOf, carrierRefusal, carrierOf}
 use Rattle.raster.specs.declared.Frequency.{Frequency}
 use Rattle.raster.specs.declared.Frequency.the-variants.{Khz, NoRasterNumber}
 use Rattle.raster.specs.declared.Carrier.{Carrier}
@@ -129,5 +129,27 @@ pub raster-frequency-refused : (f : ℕ) → ((n : ℕ) → OnRaster n f → ⊥
 raster-frequency-refused f off = go (numberOf f) refl
   where
     go : (answer : Carrier) → numberOf f ≡ answer → carrierRefusal answer ≡ 14
+    go (Number n) e = absurd (off n (number-on-raster n f e))
+    go NoRasterFrequency e = refl
+
+-- ---- an answer as two numbers: 0 and the table's value where a row has one, and 0 as the value of a refusal
+
+pub on-raster-khz : (n f : ℕ) → OnRaster n f → (frequencyRefusal (frequencyOf n) ≡ 0) × (khzOf (frequencyOf n) ≡ f)
+on-raster-khz n f row = let e = on-raster-frequency n f row in (ap frequencyRefusal e, ap khzOf e)
+
+pub off-raster-khz : (n : ℕ) → ((f : ℕ) → OnRaster n f → ⊥) → khzOf (frequencyOf n) ≡ 0
+off-raster-khz n off = go (frequencyOf n) refl
+  where
+    go : (answer : Frequency) → frequencyOf n ≡ answer → khzOf answer ≡ 0
+    go (Khz f) e = absurd (off f (frequency-on-raster n f e))
+    go NoRasterNumber e = refl
+
+pub on-raster-carrier : (n f : ℕ) → OnRaster n f → (carrierRefusal (numberOf f) ≡ 0) × (carrierOf (numberOf f) ≡ n)
+on-raster-carrier n f row = let e = on-raster-number n f row in (ap carrierRefusal e, ap carrierOf e)
+
+pub off-raster-carrier : (f : ℕ) → ((n : ℕ) → OnRaster n f → ⊥) → carrierOf (numberOf f) ≡ 0
+off-raster-carrier f off = go (numberOf f) refl
+  where
+    go : (answer : Carrier) → numberOf f ≡ answer → carrierOf answer ≡ 0
     go (Number n) e = absurd (off n (number-on-raster n f e))
     go NoRasterFrequency e = refl
