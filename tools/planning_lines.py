@@ -6,7 +6,8 @@
     tools/planning_lines.py long       # lines about as long as a line may be, on standard output, and
     tools/planning_lines.py answers    # the answers to the lines on standard input, on standard output
 
-It follows document 02 alone and shares nothing with the program. A request adds its words to WORDS and its lines to LINES.
+What is answered follows document 02 alone. The format of a line is this project's own (docs/PLANNING.md). It shares nothing with the program. A request
+adds its words to WORDS and its lines to LINES.
 """
 
 import array
@@ -188,7 +189,24 @@ WORDS = {
     b"khz": (1, number_of),
 }
 
-LINES = [carrier_lines, lambda: ZEROS, lambda: NOT_LINES]
+
+def line_of(length):
+    """A line with one number and so many bytes: zeros, and a 7 at the end."""
+    return b"number " + b"0" * (length - 8) + b"7"
+
+
+def buffer_lines():
+    """The longest line, which is bad and then good, and one that is a byte too long, with lines behind each: they fill the program's buffer."""
+    bad = line_of(LONGEST - 1) + b"x"
+    return [bad, b"khz 5", line_of(LONGEST), b"khz 10", line_of(LONGEST + 1), b"khz 15", b"number 16"]
+
+
+def many_answers():
+    """More bytes of answers, also to each half of these lines, than the program gathers before it writes them: 32,768."""
+    return [f"khz {khz}".encode("ascii") for khz in FREQUENCIES[2016667:][:6000]]
+
+
+LINES = [carrier_lines, lambda: ZEROS, lambda: NOT_LINES, buffer_lines, many_answers]
 
 # the last line, which no LF ends
 LAST = b"number 3279165"
@@ -231,7 +249,7 @@ def recorded():
 def long_lines():
     """Lines of one byte less than the longest, of the longest, and of more, each with a line behind it."""
     lengths = [LONGEST - 1, LONGEST, LONGEST + 1, 2 * LONGEST - 1, 2 * LONGEST, 2 * LONGEST + 1, 5 * LONGEST]
-    lines = [b"number " + b"0" * (length - 8) + b"7\nkhz 5\n" for length in lengths]
+    lines = [line_of(length) + b"\nkhz 5\n" for length in lengths]
     # the end of the input in a line that is too long
     return b"".join(lines) + b"khz " + b"0" * LONGEST
 
