@@ -83,7 +83,7 @@ enter-number a h valueHeld slot round core rest rows e =
 
 -- ---- what is known
 
-committer-same : (s : Settings) (requester : OptionalProcess) → getCommitter s requester ≡ valueCommitter s requester
+pub committer-same : (s : Settings) (requester : OptionalProcess) → getCommitter s requester ≡ valueCommitter s requester
 unfolding committerIn committerFor
 committer-same s NoProcess = refl
 committer-same s (Process p) = refl
@@ -97,13 +97,13 @@ delegate-same s EPaxos leader = refl
 delegate-same s Pando leader = refl
 delegate-same s SwiftPaxos leader = refl
 
-prepare-delegate : (s : Settings) (slot : ℕ) (round : PaxosRound) (rv : RoundV) → gathererOf s (Prepare slot round rv) ≡ promiseDelegate s (round .leader) rv
+pub prepare-delegate : (s : Settings) (slot : ℕ) (round : PaxosRound) (rv : RoundV) → gathererOf s (Prepare slot round rv) ≡ promiseDelegate s (round .leader) rv
 unfolding gathererIn
 prepare-delegate s slot round (FastV proposer v) =
     ap (cond (isSwiftPaxos (s .mode) && not (eqb (round .leader) (s .«my_pid»))) proposer) (delegate-same s (s .mode) (round .leader))
 prepare-delegate s slot round (PaxosV at v) = delegate-same s (s .mode) (round .leader)
 
-accept-delegate : (s : Settings) (slot : ℕ) (round : PaxosRound) (v : ℕ) → gathererOf s (Accept slot round v) ≡ leaderDelegate s (s .mode) (round .leader)
+pub accept-delegate : (s : Settings) (slot : ℕ) (round : PaxosRound) (v : ℕ) → gathererOf s (Accept slot round v) ≡ leaderDelegate s (s .mode) (round .leader)
 unfolding gathererIn
 accept-delegate s slot round v = delegate-same s (s .mode) (round .leader)
 

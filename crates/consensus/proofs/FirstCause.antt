@@ -94,7 +94,7 @@ own-start first own r e = rw (equal-rounds r (Round (roundOf 0 first)) e) go
     go = by-cases (leb first own) (λ (l : leb first own ≡ true). simp l)
         (λ (l : leb first own ≡ false). let z : own < first = leb-false first own l in simp (l, ne-eqb own first (λ q. omega arith)))
 
-first-start : (first : ℕ) → nextLeaderRound (roundOf 0 0) first ≡ roundOf 0 first
+pub first-start : (first : ℕ) → nextLeaderRound (roundOf 0 0) first ≡ roundOf 0 first
 unfolding nextLeaderRound
 first-start first = simp (le-leb 0 first (omega arith))
 

@@ -12,18 +12,24 @@ use borrow.Author.Tests.{ltb-true, leb-true, lt-ltb, le-leb, ne-eqb}
 use Rattle.basics.proofs.Tests.{not-both, and-left, and-right, same-test}
 use Rattle.paxos.specs.PaxosMadeSimple.{isMajority, accepts}
 use Rattle.message.specs.Modes.{hasFastPath}
-use Rattle.message.specs.Rounds.{increment, before}
+use Rattle.message.specs.Rounds.{increment, before, startingRound, roundOf}
 use Rattle.message.specs.declared.ConsensusMsg.{ConsensusMsg}
 use Rattle.message.specs.declared.ConsensusMsg.the-variants.{Prepare, Accept, ForwardRequest, Commit, ReadRequest, ReadResponse}
 use Rattle.message.specs.declared.OptionalValue.the-variants.{Value}
+use Rattle.message.specs.declared.OptionalRound.the-variants.{NoRound, Round}
 use Rattle.message.specs.declared.Outcome.{Outcome}
 use Rattle.message.specs.declared.Outcome.the-variants.{Done, Refused}
 use Rattle.message.specs.declared.PaxosRound.{PaxosRound}
+use Rattle.message.specs.declared.PFMode.{PFMode}
+use Rattle.message.specs.declared.PFMode.the-variants.{Paxos, MultiPaxos, MultiPaxos3P, EPaxos, Pando, SwiftPaxos}
+use Rattle.message.specs.declared.ReadId.{ReadId}
 use Rattle.message.specs.Refusals.{refusalNumber}
 use Rattle.message.specs.declared.Refusal.{Refusal}
-use Rattle.message.specs.declared.Refusal.the-variants.{SettingsOutsideLimits}
+use Rattle.message.specs.declared.Refusal.the-variants.{SettingsOutsideLimits, NumberTooLarge, Panic}
 use Rattle.message.specs.declared.RoundV.{RoundV}
 use Rattle.fast_state.specs.Adopt.{lowestBest}
+use Rattle.read_tracker.specs.declared.Opened.{Opened}
+use Rattle.read_tracker.specs.declared.Opened.the-variants.{Refused as NotOpened, Id}
 use Rattle.settings.specs.Settings.{countsFit, withinLimits}
 use Rattle.settings.specs.Questions.{quorumsOf}
 use Rattle.settings.specs.declared.Settings.{Settings}
@@ -33,30 +39,31 @@ use Rattle.accept.specs.Accept.{accepting}
 use Rattle.propose.specs.Propose.{proposeFast, proposeClassic}
 use Rattle.paxos_family.specs.Commit.{commitSlot}
 use Rattle.paxos_family.specs.Process.{inPrepare as inPrepareStep, onPrepare, onAccept, processClassic, processFast}
-use Rattle.steps.specs.Steps.{noMessages, andThen, onRounds}
+use Rattle.steps.specs.Steps.{noMessages, oneMessage, andThen, onRounds}
 use Rattle.steps.specs.declared.Asked.{Asked}
 use Rattle.steps.specs.declared.Core.{Core}
 use Rattle.steps.specs.declared.CoreStep.{CoreStep}
 use Rattle.steps.specs.declared.Heard.{Heard}
 use Rattle.steps.specs.declared.RoundsStep.{RoundsStep}
 use Rattle.delivery.specs.Admit.{admit}
-use Rattle.delivery.specs.Limits.{isNumber}
+use Rattle.delivery.specs.Limits.{isNumber, isSlot}
 use Rattle.delivery.specs.declared.Delivery.{Delivery}
 use Rattle.calls.specs.Asked.{askedOf, heardOf, nothingHeard}
 use Rattle.calls.specs.declared.Call.{Call}
 use Rattle.calls.specs.declared.Call.the-variants.{Propose, StartRead, Receive}
 use Rattle.calls.specs.declared.OptionalCommit.the-variants.{Committed}
-use Rattle.consensus.specs.Answers.{committed, finish}
-use Rattle.consensus.specs.Call.{newShard, callOf, proposing, propose, admitted, receive, dispatch, unlessSpent, ifMade, callWith}
+use Rattle.core_calls.specs.CoreCall.{readAnswer}
+use Rattle.consensus.specs.Answers.{refused, sent, committed, finish}
+use Rattle.consensus.specs.Call.{newShard, callOf, proposing, propose, read, admitted, receive, dispatch, unlessSpent, ifMade, callWith}
 use Rattle.consensus.proofs.ByParts.{by-parts}
-use Rattle.consensus.proofs.FirstCause.{Gives, first-cause}
+use Rattle.consensus.proofs.FirstCause.{Gives, first-start, first-cause}
 use Rattle.consensus.proofs.Refusals.{refusal-numbered}
-use Rattle.consensus.specs.FirstCause.{numberOf}
-use Rattle.consensus.specs.Handle.{processed, processMessage, onCommit, handle}
+use Rattle.consensus.specs.FirstCause.{numberOf, ledFromStart}
+use Rattle.consensus.specs.Handle.{processed, processMessage, onCommit, onReadRequest, onReadResponse, readInserted, afterInsert, startRead, handle}
 use Rattle.consensus.specs.declared.Answer.{Answer}
 use Rattle.consensus.specs.declared.Shard.{Shard}
 use Rattle.paper.specs.Replica.{Replica, enters, takesUp}
-use Rattle.paper.specs.PaperCall.{Seen, Place, self, placeOf, seen, commits, inPrepare, receivesPrepare, inAccept, receivesAccept, proposesOwn, received, OfPaxos, InPaxos, replicaIn, refusedWith, byRules, paperCall}
+use Rattle.paper.specs.PaperCall.{Seen, Place, self, placeOf, seen, commits, inPrepare, receivesPrepare, inAccept, receivesAccept, proposesOwn, received, OfPaxos, InPaxos, LeavesPaxos, beginning, AtBeginning, replicaIn, refusedWith, byRules, paperCall}
 use Rattle.paper.specs.Runs.{Reached, new, called}
 use Rattle.paper.proofs.Views.{taken-no, Agrees, agrees, through, no-refusal, agree-both, agree-unless, round-entered, not-exceeded}
 use Rattle.paper.proofs.Handlers.{enter-paper, entered-core, prepared-paper, accepting-paper}
@@ -213,7 +220,71 @@ module _ (shard : Shard) (classic : hasFastPath (shard .settings .mode) ≡ fals
       go (inl (taken, e)) = taken-by-rules c p (ap numberOf taken) ∙ ap by (sym e)
       go (inr (why, e, n)) = ap seen e ∙ ap (λ (t : Bool). cond t (byRules shard c) (refusedWith (refusalNumber why) shard)) (sym (above why)) ∙ ap by (sym n)
 
+-- ---- calls that are not of the paper
+
+-- In every mode and on every shard, a new read, a ReadRequest and a ReadResponse change nothing that the paper speaks of.
+pub other-calls-leave : (shard : Shard) (c : Call) → (InPaxos c → ⊥) → LeavesPaxos shard (callOf shard c)
+unfolding callWith unlessSpent dispatch read startRead receive handle onReadRequest onReadResponse
+other-calls-leave shard c other = made (shard .made)
+  where
+    nothing-left : (why : Refusal) → LeavesPaxos shard (refused why shard)
+    nothing-left why = (refl, refl, refl, refl, (tt, tt, tt))
+
+    opened : (tag arrival : ℕ) (o : Opened) → LeavesPaxos shard (afterInsert shard (readInserted shard tag arrival) o)
+    opened tag arrival (NotOpened why) = nothing-left why
+    opened tag arrival (Id id) = (refl, refl, refl, refl, ((λ x. x), tt, tt))
+
+    new-read : (tag arrival : ℕ) (t : Bool)
+        → LeavesPaxos shard
+        (cond t (afterInsert shard (readInserted shard tag arrival) (readInserted shard tag arrival .opened)) (refused NumberTooLarge shard))
+    new-read tag arrival true = opened tag arrival (readInserted shard tag arrival .opened)
+    new-read tag arrival false = nothing-left NumberTooLarge
+
+    asked : (src : ℕ) (id : ReadId) (t : Bool)
+        → LeavesPaxos shard
+        (cond t (refused Panic shard) (sent shard (oneMessage (readAnswer (shard .settings .«my_pid») src id (shard .state .rounds .core)))))
+    asked src id true = nothing-left Panic
+    asked src id false = (refl, refl, refl, refl, ((λ x. x), tt, tt))
+
+    handled : (d : Delivery) (m : ConsensusMsg) → (OfPaxos m → ⊥) → LeavesPaxos shard (handle lowestBest shard d m)
+    handled d (Prepare slot n rv) o = absurd (o tt)
+    handled d (Accept slot n v) o = absurd (o tt)
+    handled d (ForwardRequest v) o = absurd (o tt)
+    handled d (Commit slot v) o = absurd (o tt)
+    handled d (ReadRequest id) o = asked (d .message .src) id (eqb (d .message .src) (shard .settings .«my_pid»))
+    handled d (ReadResponse id next) o = (refl, refl, refl, refl, (tt, tt, tt))
+
+    delivered : (d : Delivery) → (OfPaxos (d .message .msg) → ⊥) → (o : Outcome) → LeavesPaxos shard (admitted lowestBest shard d o)
+    delivered d o Done = handled d (d .message .msg) o
+    delivered d o (Refused why) = nothing-left why
+
+    taken : (x : Call) → (InPaxos x → ⊥) → LeavesPaxos shard (dispatch lowestBest shard x)
+    taken (Propose v) o = absurd (o tt)
+    taken (StartRead tag arrival) o = new-read tag arrival (isNumber tag && isSlot arrival)
+    taken (Receive d) o = delivered d o (admit (shard .settings .«process_count») (shard .settings .«my_pid») (shard .state .rounds .core) d)
+
+    unspent : (t : Bool) → LeavesPaxos shard (cond t (refused NumberTooLarge shard) (dispatch lowestBest shard c))
+    unspent true = nothing-left NumberTooLarge
+    unspent false = taken c other
+
+    made : (o : Outcome) → LeavesPaxos shard (ifMade lowestBest shard c o)
+    made Done = unspent (leb 9223372036854775807 (shard .state .rounds .core .slot))
+    made (Refused why) = nothing-left why
+
 -- ---- the shards that there are
+
+start-same : (m : PFMode) (leader : ℕ) → startingRound m leader ≡ cond (ledFromStart m) (Round (roundOf 0 leader)) NoRound
+start-same Paxos leader = refl
+start-same MultiPaxos leader = ap Round (first-start leader)
+start-same MultiPaxos3P leader = ap Round (first-start leader)
+start-same EPaxos leader = refl
+start-same Pando leader = refl
+start-same SwiftPaxos leader = refl
+
+-- A new shard is the paper's at its beginning, of whatever settings.
+pub new-as-paper : (s : Settings) → AtBeginning s (newShard s)
+unfolding newShard
+new-as-paper s = (refl, refl, ap beginning (start-same (s .mode) (s .«first_leader»)))
 
 abbrev isDone : Outcome → Bool
 isDone Done = true

@@ -4,6 +4,7 @@
 -- (crates/consensus/specs/FirstCause.antt, demand 1) is left to that cause, and every other call follows the rules. `paperCall` at the end is what the
 -- theorems of proofs/ are about.
 -- Assumes nothing.
+use mathlib.Core.Path.{_≡_}
 use mathlib.Core.Bool.{Bool, true, false, cond, not, _&&_, _||_}
 use mathlib.Core.Option.{Option, none, some}
 use Prim.Native.Nat.{ℕ}
@@ -18,15 +19,17 @@ use Rattle.message.specs.declared.ConsensusMsg.{ConsensusMsg}
 use Rattle.message.specs.declared.ConsensusMsg.the-variants.{Prepare, Accept, ForwardRequest, Commit, ReadRequest, ReadResponse}
 use Rattle.message.specs.declared.OptionalProcess.{OptionalProcess}
 use Rattle.message.specs.declared.OptionalProcess.the-variants.{NoProcess, Process}
+use Rattle.message.specs.declared.OptionalRound.{OptionalRound}
 use Rattle.message.specs.declared.OptionalRound.the-variants.{NoRound}
 use Rattle.message.specs.declared.OptionalValue.{OptionalValue}
-use Rattle.message.specs.declared.OptionalValue.the-variants.{Value}
+use Rattle.message.specs.declared.OptionalValue.the-variants.{NoValue, Value}
 use Rattle.message.specs.declared.PaxosRound.{PaxosRound}
 use Rattle.message.specs.declared.PFMode.{PFMode}
 use Rattle.message.specs.declared.PFMode.the-variants.{Paxos, MultiPaxos, MultiPaxos3P, EPaxos, Pando, SwiftPaxos}
 use Rattle.message.specs.declared.RoundV.{RoundV}
 use Rattle.message.specs.declared.RoundV.the-variants.{PaxosV}
 use Rattle.fast_state.specs.Adopt.{lowestBest}
+use Rattle.settings.specs.declared.Settings.{Settings}
 use Rattle.steps.specs.declared.Asked.{Asked}
 use Rattle.steps.specs.declared.Core.{Core}
 use Rattle.steps.specs.declared.Destination.{Destination}
@@ -41,7 +44,7 @@ use Rattle.calls.specs.declared.Call.{Call}
 use Rattle.calls.specs.declared.Call.the-variants.{Propose, StartRead, Receive}
 use Rattle.calls.specs.declared.OptionalCommit.{OptionalCommit}
 use Rattle.calls.specs.declared.OptionalCommit.the-variants.{NoCommit, Committed}
-use Rattle.consensus.specs.FirstCause.{numberOf, firstCause}
+use Rattle.consensus.specs.FirstCause.{numberOf, startsIn, firstCause}
 use Rattle.consensus.specs.declared.Answer.{Answer}
 use Rattle.consensus.specs.declared.Shard.{Shard}
 use Rattle.paper.specs.Replica.{Replica, respondedOf, replicaOf, written, enters, promises, proposerIn, newly, hears, takesUp, acceptsWith, numberOr}
@@ -109,6 +112,10 @@ hasCommitter EPaxos = false
 hasCommitter Pando = false
 hasCommitter SwiftPaxos = false
 
+-- a replica that has responded to nothing but the starting number, if there is one, and has accepted nothing; it wishes nothing, and has counted nobody
+abbrev pub beginning : OptionalRound → Replica
+beginning start = record { acceptor = record { responded = respondedOf start; accepted = none }; wish = none; promised = 0; agreed = 0 }
+
 module _ (here : Place) where
   -- the call leaves this replica and sends these messages
   abbrev pub leaves : Replica → Messages → Seen
@@ -126,8 +133,7 @@ module _ (here : Place) where
         outcome = 0;
         slot = increment (here .core .slot);
         last = Value v;
-        replica =
-            record { acceptor = record { responded = respondedOf (here .asked .«starting_round»); accepted = none }; wish = none; promised = 0; agreed = 0 };
+        replica = beginning (here .asked .«starting_round»);
         messages = messages;
         commit = Committed (here .core .slot) v false;
       }
@@ -326,3 +332,27 @@ paperCall shard c =
     cond (eqb (firstCause lowestBest shard c) 0)
     (byRules shard c)
     (refusedWith (firstCause lowestBest shard c) shard)
+
+-- ---- a new shard, and the calls that are not of the paper
+
+-- a shard at its beginning, by its settings: the first slot, nothing committed, and the replica of a slot that begins
+abbrev pub AtBeginning : Settings → Shard → Type 0
+AtBeginning s shard =
+    (shard .state .rounds .core .slot ≡ 0) × (shard .state .rounds .core .«last_v» ≡ NoValue) × (replicaIn shard ≡ beginning (startsIn s))
+
+-- what is sent, if anything, is no message of the paper
+abbrev pub NotOfPaxos : OptionalMessage → Type 0
+NotOfPaxos NoMessage = Unit {0}
+NotOfPaxos (Send m) = OfPaxos (m .message .msg) → ⊥
+
+abbrev pub NoneOfPaxos : Messages → Type 0
+NoneOfPaxos messages = NotOfPaxos (messages .first) × NotOfPaxos (messages .second) × NotOfPaxos (messages .third)
+
+-- a call leaves what the paper speaks of: slot, last value and replica stay, nothing is committed, and no message of the paper is sent
+abbrev pub LeavesPaxos : Shard → Answer → Type 0
+LeavesPaxos shard r =
+    (r .shard .state .rounds .core .slot ≡ shard .state .rounds .core .slot)
+    × (r .shard .state .rounds .core .«last_v» ≡ shard .state .rounds .core .«last_v»)
+    × (replicaIn (r .shard) ≡ replicaIn shard)
+    × (r .reply .commit ≡ NoCommit)
+    × NoneOfPaxos (r .reply .messages)
