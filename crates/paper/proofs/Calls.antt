@@ -16,6 +16,7 @@ use Rattle.message.specs.Rounds.{increment, before, startingRound, roundOf}
 use Rattle.message.specs.declared.ConsensusMsg.{ConsensusMsg}
 use Rattle.message.specs.declared.ConsensusMsg.the-variants.{Prepare, Accept, ForwardRequest, Commit, ReadRequest, ReadResponse}
 use Rattle.message.specs.declared.OptionalValue.the-variants.{Value}
+use Rattle.message.specs.declared.OptionalProcess.{OptionalProcess}
 use Rattle.message.specs.declared.OptionalRound.the-variants.{NoRound, Round}
 use Rattle.message.specs.declared.Outcome.{Outcome}
 use Rattle.message.specs.declared.Outcome.the-variants.{Done, Refused}
@@ -31,7 +32,7 @@ use Rattle.fast_state.specs.Adopt.{lowestBest}
 use Rattle.read_tracker.specs.declared.Opened.{Opened}
 use Rattle.read_tracker.specs.declared.Opened.the-variants.{Refused as NotOpened, Id}
 use Rattle.settings.specs.Settings.{countsFit, withinLimits}
-use Rattle.settings.specs.Questions.{quorumsOf}
+use Rattle.settings.specs.Questions.{committerOf, quorumsOf}
 use Rattle.settings.specs.declared.Settings.{Settings}
 use Rattle.enter.specs.Enter.{inRound}
 use Rattle.prepare.specs.Prepare.{prepared, gather}
@@ -48,7 +49,7 @@ use Rattle.steps.specs.declared.RoundsStep.{RoundsStep}
 use Rattle.delivery.specs.Admit.{admit}
 use Rattle.delivery.specs.Limits.{isNumber, isSlot}
 use Rattle.delivery.specs.declared.Delivery.{Delivery}
-use Rattle.calls.specs.Asked.{askedOf, heardOf, nothingHeard}
+use Rattle.calls.specs.Asked.{askedOf, gathererIn, gathererOf, heardOf, nothingHeard}
 use Rattle.calls.specs.declared.Call.{Call}
 use Rattle.calls.specs.declared.Call.the-variants.{Propose, StartRead, Receive}
 use Rattle.calls.specs.declared.OptionalCommit.the-variants.{Committed}
@@ -56,15 +57,16 @@ use Rattle.core_calls.specs.CoreCall.{readAnswer}
 use Rattle.consensus.specs.Answers.{refused, sent, committed, finish}
 use Rattle.consensus.specs.Call.{newShard, callOf, proposing, propose, read, admitted, receive, dispatch, unlessSpent, ifMade, callWith}
 use Rattle.consensus.proofs.ByParts.{by-parts}
+use Rattle.consensus.proofs.Entered.{committer-same, prepare-delegate, accept-delegate}
 use Rattle.consensus.proofs.FirstCause.{Gives, first-start, first-cause}
 use Rattle.consensus.proofs.Refusals.{refusal-numbered}
-use Rattle.consensus.specs.FirstCause.{numberOf, ledFromStart}
+use Rattle.consensus.specs.FirstCause.{numberOf, isLive, ledFromStart}
 use Rattle.consensus.specs.Handle.{processed, processMessage, onCommit, onReadRequest, onReadResponse, readInserted, afterInsert, startRead, handle}
 use Rattle.consensus.specs.declared.Answer.{Answer}
 use Rattle.consensus.specs.declared.Shard.{Shard}
 use Rattle.paper.specs.Replica.{Replica, enters, takesUp}
-use Rattle.paper.specs.PaperCall.{Seen, Place, self, placeOf, seen, commits, inPrepare, receivesPrepare, inAccept, receivesAccept, proposesOwn, received, OfPaxos, InPaxos, LeavesPaxos, beginning, AtBeginning, replicaIn, refusedWith, byRules, paperCall}
-use Rattle.paper.specs.Runs.{Reached, new, called}
+use Rattle.paper.specs.PaperCall.{Seen, Place, self, placeOf, gathererBy, told, seen, commits, inPrepare, receivesPrepare, inAccept, receivesAccept, proposesOwn, received, OfPaxos, InPaxos, LeavesPaxos, beginning, AtBeginning, replicaIn, refusedWith, byRules, paperCall}
+use Rattle.paper.specs.Runs.{ClassicMode, Reached, new, called}
 use Rattle.paper.proofs.Views.{taken-no, Agrees, agrees, through, no-refusal, agree-both, agree-unless, round-entered, not-exceeded}
 use Rattle.paper.proofs.Handlers.{enter-paper, entered-core, prepared-paper, accepting-paper}
 use Rattle.paper.proofs.Proposals.{proposal-paper}
@@ -91,6 +93,32 @@ majority-paper s within k =
 
     small : s .«replica_count» ≤ s .«process_count» → s .«process_count» ≤ 64 → min (s .«replica_count») 64 ≡ s .«replica_count»
     small h g = omega arith
+
+-- ---- what a message tells
+
+gatherer-same : (s : Settings) (m : ConsensusMsg) → gathererOf s m ≡ gathererBy s m
+unfolding gathererIn
+gatherer-same s (Prepare slot n rv) = prepare-delegate s slot n rv
+gatherer-same s (Accept slot n v) = accept-delegate s slot n v
+gatherer-same s (ForwardRequest v) = refl
+gatherer-same s (Commit slot v) = refl
+gatherer-same s (ReadRequest id) = refl
+gatherer-same s (ReadResponse id next) = refl
+
+heard-same : (s : Settings) (d : Delivery) → heardOf s d ≡ told s d
+heard-same s d = ap (heard (committerOf s (d .said .requester))) (gatherer-same s (d .message .msg))
+    ∙ ap (λ (c : OptionalProcess). heard c (gathererBy s (d .message .msg))) (committer-same s (d .said .requester))
+  where
+    heard : OptionalProcess → ℕ → Heard
+    heard committer gatherer =
+        record {
+          src = d .message .src;
+          «source_live» = isLive s (d .message .src);
+          delegate = gatherer;
+          requester = d .said .requester;
+          committer = committer;
+          «held_requester» = d .«held_requester»;
+        }
 
 -- ---- calls
 
@@ -194,7 +222,8 @@ module _ (shard : Shard) (classic : hasFastPath (shard .settings .mode) ≡ fals
   unfolding dispatch byRules
   dispatch-paper (Propose v) p = propose-paper v
   dispatch-paper (StartRead tag arrival) p = absurd p
-  dispatch-paper (Receive d) p = receive-paper d p
+  dispatch-paper (Receive d) p =
+      through refl (receive-paper d p) (ap (λ (x : Heard). received (placeOf shard x) (d .message .msg)) (heard-same (shard .settings) d))
 
   -- a call that is taken follows the rules
   taken-by-rules : (c : Call) → InPaxos c → Agrees (seen (callOf shard c)) (byRules shard c)
@@ -305,7 +334,15 @@ reached-within : (shard : Shard) → Reached shard → withinLimits (shard .sett
 reached-within shard (new s e) = new-within s e
 reached-within shard (called before c r) = ap withinLimits (settings-kept before c) ∙ reached-within before r
 
+no-fast-path : (m : PFMode) → ClassicMode m → hasFastPath m ≡ false
+no-fast-path Paxos c = refl
+no-fast-path MultiPaxos c = refl
+no-fast-path MultiPaxos3P c = refl
+no-fast-path EPaxos c = absurd c
+no-fast-path Pando c = refl
+no-fast-path SwiftPaxos c = absurd c
+
 -- Every call of Paxos on every shard that there is, in Paxos, MultiPaxos, MultiPaxos3P and Pando.
-pub every-call-as-paper : (shard : Shard) → Reached shard → hasFastPath (shard .settings .mode) ≡ false → (c : Call) → InPaxos c
+pub every-call-as-paper : (shard : Shard) → Reached shard → ClassicMode (shard .settings .mode) → (c : Call) → InPaxos c
     → seen (callOf shard c) ≡ paperCall shard c
-every-call-as-paper shard r classic c p = call-as-paper shard classic (reached-within shard r) c p
+every-call-as-paper shard r classic c p = call-as-paper shard (no-fast-path (shard .settings .mode) classic) (reached-within shard r) c p

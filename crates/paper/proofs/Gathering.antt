@@ -19,12 +19,11 @@ use Rattle.steps.specs.declared.Messages.{Messages}
 use Rattle.steps.specs.declared.OptionalMessage.{OptionalMessage}
 use Rattle.steps.specs.declared.OptionalMessage.the-variants.{NoMessage, Send}
 use Rattle.delivery.specs.declared.Delivery.{Delivery}
-use Rattle.calls.specs.Asked.{heardOf}
 use Rattle.calls.specs.declared.Call.the-variants.{Receive}
 use Rattle.consensus.specs.Call.{callOf}
 use Rattle.consensus.specs.declared.Shard.{Shard}
 use Rattle.paper.specs.Replica.{Replica, keepsSomething, proposerIn, newly, hears}
-use Rattle.paper.specs.PaperCall.{Seen, Place, placeOf, seen, requesting, replicaIn}
+use Rattle.paper.specs.PaperCall.{told, Seen, Place, placeOf, seen, requesting, replicaIn}
 use Rattle.paper.specs.Runs.{Response, hearsAll, withAll, Promised, responseOf, Gathered, nothing-yet, one-more}
 use Rattle.paper.proofs.Calls.{settings-kept}
 use Rattle.paper.proofs.Consequences.{heard-keeps, heard-last}
@@ -90,7 +89,7 @@ module _ (n : PaxosRound) (first : Shard) (classic : hasFastPath (first .setting
         }
       where
         here : Place
-        here = placeOf shard (heardOf (shard .settings) d)
+        here = placeOf shard (told (shard .settings) d)
 
         count : ℕ
         count = shard .settings .«replica_count»
@@ -107,7 +106,7 @@ module _ (n : PaxosRound) (first : Shard) (classic : hasFastPath (first .setting
     -- and the next one is answered by the paper's proposer with all of them
     next-proposes : (d : Delivery) (rv : RoundV) → Promised n shard d rv
         → seen (callOf shard (Receive d))
-        ≡ requesting (placeOf shard (heardOf (shard .settings) d)) (hearsAll me (replicaIn first) (ps ++ (responseOf d rv ∷ [])))
+        ≡ requesting (placeOf shard (told (shard .settings) d)) (hearsAll me (replicaIn first) (ps ++ (responseOf d rv ∷ [])))
         (newly (proposes roundBefore acceptors (withAll me n (replicaIn first) ps))
         (proposes roundBefore acceptors (withAll me n (replicaIn first) (ps ++ (responseOf d rv ∷ [])))))
     next-proposes d rv p =
@@ -120,7 +119,7 @@ module _ (n : PaxosRound) (first : Shard) (classic : hasFastPath (first .setting
         (ap (hears me (d .message .src) rv) (s .heard) ∙ heard-last me (replicaIn first) ps (d .message .src) rv)
       where
         here : Place
-        here = placeOf shard (heardOf (shard .settings) d)
+        here = placeOf shard (told (shard .settings) d)
 
         request : ℕ → ℕ → Option (Proposal PaxosRound ℕ)
         request own count =
@@ -135,7 +134,7 @@ module _ (n : PaxosRound) (first : Shard) (classic : hasFastPath (first .setting
   -- then makes the proposal of the paper's proposer with all the reports, exactly where that one proposes and did not before.
   pub gathered-proposes : (ps : List Response) (shard : Shard) → Gathered n first ps shard → (d : Delivery) (rv : RoundV) → Promised n shard d rv
       → seen (callOf shard (Receive d))
-      ≡ requesting (placeOf shard (heardOf (shard .settings) d)) (hearsAll me (replicaIn first) (ps ++ (responseOf d rv ∷ [])))
+      ≡ requesting (placeOf shard (told (shard .settings) d)) (hearsAll me (replicaIn first) (ps ++ (responseOf d rv ∷ [])))
       (newly (proposes roundBefore acceptors (withAll me n (replicaIn first) ps))
       (proposes roundBefore acceptors (withAll me n (replicaIn first) (ps ++ (responseOf d rv ∷ [])))))
   gathered-proposes ps shard g d rv p = next-proposes ps shard (gathered-since ps shard g) d rv p

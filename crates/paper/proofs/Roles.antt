@@ -24,14 +24,13 @@ use Rattle.steps.specs.declared.Destination.the-variants.{One}
 use Rattle.steps.specs.declared.Heard.{Heard}
 use Rattle.steps.specs.declared.Messages.{Messages}
 use Rattle.delivery.specs.declared.Delivery.{Delivery}
-use Rattle.calls.specs.Asked.{heardOf}
 use Rattle.calls.specs.declared.Call.the-variants.{Receive}
 use Rattle.calls.specs.declared.OptionalCommit.{OptionalCommit}
 use Rattle.calls.specs.declared.OptionalCommit.the-variants.{NoCommit, Committed}
 use Rattle.consensus.specs.Call.{callOf}
 use Rattle.consensus.specs.declared.Shard.{Shard}
 use Rattle.paper.specs.Replica.{Replica, reportOf, enters, promises, unlessAccepted, isThere, keepsSomething, proposerIn, newly, alsoSelf, hears, takesUp, acceptsWith}
-use Rattle.paper.specs.PaperCall.{Seen, Place, placeOf, seen, leaves, nothing, commits, sending, takesPart, responding, requesting, gathers, inPrepare, isCommitterHere, isLearner, toLearners, announcing, announces, informs, learning, counts, inAccept, receivesPrepare, receivesAccept, received, OfPaxos, replicaIn, refusedWith, byRules, paperCall}
+use Rattle.paper.specs.PaperCall.{told, Seen, Place, placeOf, seen, leaves, nothing, commits, sending, takesPart, responding, requesting, gathers, inPrepare, isCommitterHere, isLearner, toLearners, announcing, announces, informs, learning, counts, inAccept, receivesPrepare, receivesAccept, received, OfPaxos, replicaIn, refusedWith, byRules, paperCall}
 use Rattle.paper.specs.Runs.{Handled, Response, hearsAll, withAll}
 use Rattle.paper.proofs.Calls.{call-as-paper}
 use Rattle.paper.proofs.Consequences.{heard-keeps, heard-last, proposes-of-all}
@@ -95,7 +94,7 @@ prepared-accepts x p f =
 module _ (shard : Shard) (classic : hasFastPath (shard .settings .mode) ≡ false) (within : withinLimits (shard .settings) ≡ true) (d : Delivery) (slot : ℕ)
     (n : PaxosRound) (handled : Handled shard d slot) where
   abbrev h : Heard
-  h = heardOf (shard .settings) d
+  h = told (shard .settings) d
 
   abbrev acceptors : ℕ
   acceptors = shard .settings .«replica_count»

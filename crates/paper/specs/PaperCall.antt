@@ -39,12 +39,13 @@ use Rattle.steps.specs.declared.Messages.{Messages}
 use Rattle.steps.specs.declared.OptionalMessage.{OptionalMessage}
 use Rattle.steps.specs.declared.OptionalMessage.the-variants.{NoMessage, Send}
 use Rattle.steps.specs.declared.Outgoing.{Outgoing}
-use Rattle.calls.specs.Asked.{askedOf, heardOf, nothingHeard}
+use Rattle.delivery.specs.declared.Delivery.{Delivery}
+use Rattle.calls.specs.Asked.{askedOf, nothingHeard}
 use Rattle.calls.specs.declared.Call.{Call}
 use Rattle.calls.specs.declared.Call.the-variants.{Propose, StartRead, Receive}
 use Rattle.calls.specs.declared.OptionalCommit.{OptionalCommit}
 use Rattle.calls.specs.declared.OptionalCommit.the-variants.{NoCommit, Committed}
-use Rattle.consensus.specs.FirstCause.{numberOf, startsIn, firstCause}
+use Rattle.consensus.specs.FirstCause.{numberOf, isLive, leaderDelegate, promiseDelegate, valueCommitter, startsIn, firstCause}
 use Rattle.consensus.specs.declared.Answer.{Answer}
 use Rattle.consensus.specs.declared.Shard.{Shard}
 use Rattle.paper.specs.Replica.{Replica, respondedOf, replicaOf, written, enters, promises, proposerIn, newly, hears, takesUp, acceptsWith, numberOr}
@@ -308,11 +309,32 @@ placeOf shard h =
       old = replicaIn shard;
     }
 
+-- who gathers the answers to a message, and what it tells: its source, and the requester and the committer of its value, as demand 1 has them
+-- (crates/consensus/specs/FirstCause.antt)
+abbrev pub gathererBy : Settings → ConsensusMsg → ℕ
+gathererBy s (Prepare slot n rv) = promiseDelegate s (n .leader) rv
+gathererBy s (Accept slot n v) = leaderDelegate s (s .mode) (n .leader)
+gathererBy s (ForwardRequest v) = 0
+gathererBy s (Commit slot v) = 0
+gathererBy s (ReadRequest id) = 0
+gathererBy s (ReadResponse id next) = 0
+
+abbrev pub told : Settings → Delivery → Heard
+told s d =
+    record {
+      src = d .message .src;
+      «source_live» = isLive s (d .message .src);
+      delegate = gathererBy s (d .message .msg);
+      requester = d .said .requester;
+      committer = valueCommitter s (d .said .requester);
+      «held_requester» = d .«held_requester»;
+    }
+
 -- a call by the rules; a new read is not of the paper (`InPaxos`), whatever stands here
 unfoldable pub byRules : Shard → Call → Seen
 byRules shard (Propose v) = proposesOwn (placeOf shard nothingHeard) v
 byRules shard (StartRead tag arrival) = nothing (placeOf shard nothingHeard)
-byRules shard (Receive d) = received (placeOf shard (heardOf (shard .settings) d)) (d .message .msg)
+byRules shard (Receive d) = received (placeOf shard (told (shard .settings) d)) (d .message .msg)
 
 -- a refusal is its number, and nothing else happens
 abbrev pub refusedWith : ℕ → Shard → Seen

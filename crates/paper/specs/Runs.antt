@@ -12,20 +12,31 @@ use Rattle.paxos.specs.PaxosMadeSimple.{Proposal, Proposer}
 use Rattle.message.specs.declared.ConsensusMsg.the-variants.{Prepare, Accept}
 use Rattle.message.specs.declared.Outcome.the-variants.{Done}
 use Rattle.message.specs.declared.PaxosRound.{PaxosRound}
+use Rattle.message.specs.declared.PFMode.{PFMode}
+use Rattle.message.specs.declared.PFMode.the-variants.{Paxos, MultiPaxos, MultiPaxos3P, EPaxos, Pando, SwiftPaxos}
 use Rattle.message.specs.declared.RoundV.{RoundV}
 use Rattle.fast_state.specs.Adopt.{lowestBest}
 use Rattle.settings.specs.Questions.{isReplica}
 use Rattle.settings.specs.declared.Settings.{Settings}
 use Rattle.steps.specs.Steps.{noMessages}
 use Rattle.delivery.specs.declared.Delivery.{Delivery}
-use Rattle.calls.specs.Asked.{heardOf}
 use Rattle.calls.specs.declared.Call.{Call}
 use Rattle.calls.specs.declared.Call.the-variants.{Receive}
 use Rattle.calls.specs.declared.OptionalCommit.the-variants.{NoCommit}
 use Rattle.consensus.specs.Call.{newShard, callOf}
 use Rattle.consensus.specs.FirstCause.{firstCause}
 use Rattle.consensus.specs.declared.Shard.{Shard}
+use Rattle.paper.specs.PaperCall.{told}
 use Rattle.paper.specs.Replica.{Replica, reportOf, ownValue, hears, acceptsWith}
+
+-- the modes of the paper
+abbrev pub ClassicMode : PFMode → Type 0
+ClassicMode Paxos = Unit {0}
+ClassicMode MultiPaxos = Unit {0}
+ClassicMode MultiPaxos3P = Unit {0}
+ClassicMode EPaxos = ⊥
+ClassicMode Pando = Unit {0}
+ClassicMode SwiftPaxos = ⊥
 
 -- a shard as it was made, or as a call of it has left it
 pub data Reached : Shard → Type 0 where
@@ -64,7 +75,7 @@ pub record Promised (n : PaxosRound) (shard : Shard) (d : Delivery) (rv : RoundV
   pub slot : ℕ
   pub handled : Handled shard d slot
   pub message : d .message .msg ≡ Prepare slot n rv
-  pub gatherer : eqb (heardOf (shard .settings) d .delegate) (shard .settings .«my_pid») ≡ true
+  pub gatherer : eqb (told (shard .settings) d .delegate) (shard .settings .«my_pid») ≡ true
 
 abbrev pub responseOf : Delivery → RoundV → Response
 responseOf d rv = record { src = d .message .src; brought = rv }
