@@ -2,7 +2,10 @@
 -- rules (crates/paxos/specs/PaxosMadeSimple.antt) and the replica's steps (Replica.antt). What is not the paper's is marked DIFFERENCE, with the name
 -- of its row in docs/DIFFERENCES.md, "The Rust and the paper". The paper refuses nothing: a call that a cause of document 01 refuses
 -- (crates/consensus/specs/FirstCause.antt, demand 1) is left to that cause, and every other call follows the rules. `paperCall` at the end is what the
--- theorems of proofs/ are about.
+-- theorems of proofs/ are about. Of the engine's definitions this page cites the order and the next number of rounds (`roundBefore`, `nextLeaderRound`,
+-- `defaultRound`, `increment`), sets of processes (`size`), `isProcess`, `isMultiPaxos`, what is asked of the settings (`askedOf`: the own number, the
+-- mode, whether it is a live replica, the starting round), `nothingHeard` (a proposal hears nobody), and of demand 1's page the causes, the delegates,
+-- the committer and the starting round.
 -- Assumes nothing.
 use mathlib.Core.Path.{_≡_}
 use mathlib.Core.Bool.{Bool, true, false, cond, not, _&&_, _||_}
@@ -139,7 +142,7 @@ module _ (here : Place) where
         commit = Committed (here .core .slot) v false;
       }
 
-  -- a message carries the own number as its source, and the last value that was committed
+  -- a message carries the own number as its source. DIFFERENCE: it also carries the last value that was committed
   abbrev pub addressed : Destination → ConsensusMsg → Outgoing
   addressed destination msg = record { destination = destination; message = record { msg = msg; src = self here; «last_v» = here .core .«last_v» } }
 
@@ -214,7 +217,7 @@ module _ (here : Place) where
       (announcing (p .number) (announcement roundBefore (r .acceptor) p))
       nothingSent
 
-  -- a Commit goes to the requester of its value first, where that is another process
+  -- DIFFERENCE: a Commit goes to the requester of its value first, where that is another process
   abbrev pub servedFirst : OptionalProcess → OptionalProcess
   servedFirst NoProcess = NoProcess
   servedFirst (Process p) = cond (eqb p (self here)) NoProcess (Process p)

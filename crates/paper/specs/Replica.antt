@@ -1,5 +1,6 @@
 -- A replica in the terms of *Paxos Made Simple* (crates/paxos/specs/PaxosMadeSimple.antt), its messages, and the steps that it makes: each is a
 -- rule of the paper. What is not the paper's is marked DIFFERENCE, with the name of its row in docs/DIFFERENCES.md, "The Rust and the paper".
+-- Of the engine's definitions it cites the order of rounds (`roundBefore`), sets of processes (`insert`, `size`) and the value of a promise (`valueOf`).
 -- Assumes nothing.
 use mathlib.Core.Bool.{Bool, true, false, cond, _||_}
 use mathlib.Core.List.{[], _∷_}
@@ -119,7 +120,8 @@ promises n r = cond (ignores roundBefore (r .acceptor) n) none (some (promise n 
 
 -- ---- the proposer
 
--- DIFFERENCE ("an answer to an accept request"): the replica itself (me) is counted with each one that it hears, since it promises and accepts too
+-- DIFFERENCE ("an answer to an accept request"): the replica itself (me) is counted with each one that it hears, since it promises and accepts too; so the
+-- own promise is counted with each one that is heard
 abbrev pub alsoSelf : ℕ → ℕ → ℕ → ℕ
 alsoSelf me src set = insert (insert set src) me
 

@@ -113,8 +113,9 @@ module _ {Number Value : Type 0} (before : Number → Number → Bool) where
   valueOr own (some p) = p .value
 
   -- Phase 2 (a): "v is the value of the highest-numbered proposal among the responses, or is any value if the responses reported no proposals".
-  -- So P2c holds, from which P2b, P2a and P2 follow: of a majority, (a) none has accepted a proposal numbered less than n, or (b) v is the value of the
-  -- highest-numbered proposal among all proposals numbered less than n that they have accepted.
+  -- It is there for P2c, from which P2b, P2a and P2 follow: of a majority, (a) none has accepted a proposal numbered less than n, or (b) v is the value of
+  -- the highest-numbered proposal among all proposals numbered less than n that they have accepted. That P2c holds needs more than this definition: the
+  -- responses of a majority, each true when it was sent, and acceptors that keep what they promised.
   unfoldable pub choice : Value → List (Option (Proposal Number Value)) → Value
   choice own responses = valueOr own (highest none responses)
 
