@@ -5,40 +5,42 @@ use std::fmt;
 /// A carrier number of the global raster. There is one for each number from 0 to 3279165, and none else.
 ///
 /// ```
-/// use chanbook_shard::raster::{Arfcn, NotOnRaster};
+/// use chanbook_shard::raster::Arfcn;
 /// let carrier = Arfcn::new(632628).unwrap();
 /// assert_eq!(carrier.khz(), 3_489_420);
 /// assert_eq!(Arfcn::from_khz(3_489_420), Ok(carrier));
 /// assert_eq!(carrier.to_string(), "632628 (3489.420 MHz)");
-/// assert_eq!(Arfcn::from_khz(3_489_421), Err(NotOnRaster));
-/// assert_eq!(Arfcn::new(3_279_166), Err(NotOnRaster));
+/// assert_eq!(Arfcn::from_khz(3_489_421).unwrap_err().number(), 14);
+/// assert_eq!(Arfcn::new(3_279_166).unwrap_err().number(), 14);
 /// ```
 #[derive(Clone, Copy, Debug, PartialEq, Eq, PartialOrd, Ord, Hash)]
 pub struct Arfcn {
     number: u64,
 }
 
-/// No raster number, or no raster frequency.
+/// No raster number, or no raster frequency: the library refused it.
 #[derive(Clone, Copy, Debug, PartialEq, Eq, PartialOrd, Ord, Hash)]
-pub struct NotOnRaster;
+pub struct NotOnRaster {
+    refusal: u64,
+}
 
 impl NotOnRaster {
-    /// The number by which document 02 names it.
+    /// The number that the library handed back: 14, as document 02 names it.
     pub fn number(self) -> u64 {
-        14
+        self.refusal
     }
 }
 
 impl fmt::Display for NotOnRaster {
     fn fmt(&self, f: &mut fmt::Formatter) -> fmt::Result {
-        write!(f, "no raster number or no raster frequency (14)")
+        write!(f, "no raster number or no raster frequency ({})", self.refusal)
     }
 }
 
 impl std::error::Error for NotOnRaster {}
 
 fn value(answer: FlatValue) -> Result<u64, NotOnRaster> {
-    if answer.refusal == 0 { Ok(answer.value) } else { Err(NotOnRaster) }
+    if answer.refusal == 0 { Ok(answer.value) } else { Err(NotOnRaster { refusal: answer.refusal }) }
 }
 
 impl Arfcn {

@@ -2,6 +2,11 @@
 //! numbers.
 use chanbook_shard::raster::{Arfcn, NotOnRaster};
 
+/// Whether it is refused, and with document 02's number.
+fn refused(answer: Result<Arfcn, NotOnRaster>) -> bool {
+    answer.is_err_and(|refusal| refusal.number() == 14)
+}
+
 /// Numbers of each range, with their frequencies: its first two and its last.
 const PAIRS: [(u64, u64); 9] = [
     (0, 0),
@@ -26,21 +31,20 @@ fn there_and_back_at_the_ends_of_the_ranges() {
 
 #[test]
 fn nothing_between_the_second_and_the_third_range() {
-    assert!((24_249_991..24_250_080).all(|khz| Arfcn::from_khz(khz) == Err(NotOnRaster)));
+    assert!((24_249_991..24_250_080).all(|khz| refused(Arfcn::from_khz(khz))));
 }
 
 #[test]
 fn a_frequency_off_the_raster_has_no_number() {
     for (start, step) in [(0, 5), (3_000_000, 15), (24_250_080, 60)] {
-        assert!((1..step).all(|more| Arfcn::from_khz(start + more) == Err(NotOnRaster)));
+        assert!((1..step).all(|more| refused(Arfcn::from_khz(start + more))));
     }
 }
 
 #[test]
 fn nothing_past_the_last_number_up_to_the_end_of_64_bits() {
     for large in [3_279_166, 100_000_020, 1 << 32, (1 << 32) + 5, 1 << 63, u64::MAX / 5 + 1, u64::MAX - 1, u64::MAX] {
-        assert_eq!(Arfcn::new(large), Err(NotOnRaster));
-        assert_eq!(Arfcn::from_khz(large.max(99_999_961)), Err(NotOnRaster));
+        assert!(refused(Arfcn::new(large)));
+        assert!(refused(Arfcn::from_khz(large.max(99_999_961))));
     }
-    assert_eq!(NotOnRaster.number(), 14);
 }
