@@ -139,7 +139,13 @@ fn next_of_five(step: u64) -> [u64; 64] {
 /// The five modes of which agreement is proved.
 pub fn agreeing_modes() -> [PFModeSetting; 5] {
     let delegates = next_of_five(1);
-    [PFModeSetting::Paxos, PFModeSetting::MultiPaxos, PFModeSetting::MultiPaxos3P, PFModeSetting::EPaxos, PFModeSetting::Pando { delegates }]
+    [
+        PFModeSetting::Paxos,
+        PFModeSetting::MultiPaxos,
+        PFModeSetting::MultiPaxos3P,
+        PFModeSetting::EPaxos,
+        PFModeSetting::Pando { delegates },
+    ]
 }
 
 /// All six, SwiftPaxos with and without a fixed quorum.
