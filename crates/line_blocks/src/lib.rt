@@ -1,9 +1,10 @@
 // Lines of standard input and answers to standard output, in blocks, for `replay` and `planning`: what is answered is written before the next
 // block is waited for. A line that fills the whole input buffer and has not ended there is too long; the rest of it is skipped.
-ghost use Prim.Native.Nat.{_≤_, _<_};
-ghost use lib.ListN.{length};
+ghost use mathlib.Core.Path.{_≡_};
+ghost use Prim.Native.Nat.{_-_, _≤_, min};
+ghost use lib.ListN.{length, take};
 ghost use Rattle.io.specs.Counts.{Counts};
-ghost use Rattle.line_blocks.specs.Lines.{FirstEnd};
+ghost use Rattle.line_blocks.specs.Lines.{FirstEnd, FirstLine, movedToStart, withRoom};
 
 // Where the answering of a block begins, and whether the line that is skipped goes on behind the block.
 pub struct Start {
@@ -27,7 +28,9 @@ pub fn line_end(input: &[u8], from: usize) -> usize
 }
 
 // Where the first line begins that is not skipped.
-pub fn first_line(input: &[u8], skipping: bool) -> Start {
+pub fn first_line(input: &[u8], skipping: bool) -> Start
+    ensures { λ r. ⌜ FirstLine (now (input .entry)) skipping r ⌝ }
+{
     if skipping {
         let end = line_end(input, 0);
         if end < input.len() {
@@ -49,7 +52,7 @@ pub fn first_line(input: &[u8], skipping: bool) -> Start {
 
 // Reads more behind the bytes that are kept, and hands back how many there are then.
 pub fn read_behind(input: &mut [u8], kept: usize) -> usize
-    ensures { λ r. ⌜ Counts r (now (input .exit)) ⌝ }
+    ensures { λ r. ⌜ Counts r (now (input .exit)) × (take kept (now (input .exit)) ≡ take kept (now (input .entry))) ⌝ }
 {
     if kept < input.len() {
         let part = &mut input[kept..];
@@ -62,6 +65,7 @@ pub fn read_behind(input: &mut [u8], kept: usize) -> usize
 // Moves the bytes from `used` to `end` to the start of the input, and hands back how many they are.
 pub fn move_to_start(input: &mut [u8], used: usize, end: usize) -> usize
     requires { ⌜ end ≤ length (now input) ⌝ }
+    ensures { λ r. ⌜ (r ≡ end - used) × (now (input .exit) ≡ movedToStart used (end - used) (now (input .entry))) ⌝ }
 {
     let mut from = used;
     let mut to = 0;
@@ -75,7 +79,7 @@ pub fn move_to_start(input: &mut [u8], used: usize, end: usize) -> usize
 
 // The number of bytes that are put. There are never more than fit, whatever the number says.
 fn bytes_put(out: &[u8], put: usize) -> usize
-    ensures { λ r. ⌜ Counts r (now (out .entry)) ⌝ }
+    ensures { λ r. ⌜ r ≡ min put (length (now (out .entry))) ⌝ }
 {
     if put < out.len() {
         return put;
@@ -83,14 +87,18 @@ fn bytes_put(out: &[u8], put: usize) -> usize
     out.len()
 }
 
-pub fn write_output(out: &[u8], put: usize) {
+// Writes what is put, and hands back how many bytes that are.
+pub fn write_output(out: &[u8], put: usize) -> usize
+    ensures { λ r. ⌜ r ≡ min put (length (now (out .entry))) ⌝ }
+{
     let n = bytes_put(out, put);
     io::write_all(1, &out[..n]);
+    n
 }
 
 // Writes the output where there is no room for the longest answer, and hands back how much of it is put.
 pub fn with_room(out: &[u8], put: usize) -> usize
-    ensures { λ r. ⌜ r < 32768 ⌝ }
+    ensures { λ r. ⌜ r ≡ withRoom put ⌝ }
 {
     if put < 32768 {
         return put;

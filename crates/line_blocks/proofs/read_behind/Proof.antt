@@ -1,6 +1,11 @@
--- `line_blocks::read_behind` hands back no more than the length of the input.
+-- `line_blocks::read_behind` hands back no more than the length of the input, and leaves the bytes that are kept.
 -- Assumes nothing.
+use mathlib.Core.Path.{refl}
+use Prim.Native.Nat.{_-_}
+use native.Mathlib.Omega.{arith}
 use borrow.Author.Needs.{needs}
+use borrow.Rule.Slice.PartMut.{take-put}
+use lib.ListN.{length}
 use Rattle.io.proofs.Counting.{counts}
 use Rattle.line_blocks.proofs.read_behind.Statement.{statement}
 use Rattle.line_blocks.proofs.read_behind.Tie as tie
@@ -27,10 +32,12 @@ same-length : tie.Need-same-length
 same-length c = search needs
 
 returns : tie.Need-returns
-returns c = counts _ _ (search needs)
+returns c =
+    let a = c .before .before .before .before .before .before .before .before .before .before .before .args in
+    (counts _ _ (search needs), take-put (a .kept) (length (a .input .now) - a .kept) (a .input .now) (c .before .before .before .before .before .before .read .last .1 .0) (omega arith))
 
 returns-2 : tie.Need-returns-2
-returns-2 c = counts _ _ (search needs)
+returns-2 c = (counts _ _ (search needs), refl)
 
 pub read-behind-spec : {M : Type 1} → statement M
 read-behind-spec =
