@@ -5,6 +5,7 @@
 use mathlib.Core.Path.{_≡_, refl, sym, ap, _∙_}
 use mathlib.Core.Logic.{inl, inr}
 use mathlib.Core.Bool.{Bool, true, false, cond, not, _&&_}
+use mathlib.Core.List.{[]}
 use Prim.Native.Nat.{ℕ, _+_, _/_, _≤_, min}
 use native.Mathlib.Omega.{arith}
 use lib.Dec.{eqb, ltb, leb}
@@ -17,6 +18,7 @@ use Rattle.message.specs.declared.ConsensusMsg.{ConsensusMsg}
 use Rattle.message.specs.declared.ConsensusMsg.the-variants.{Prepare, Accept, ForwardRequest, Commit, ReadRequest, ReadResponse}
 use Rattle.message.specs.declared.OptionalValue.the-variants.{Value}
 use Rattle.message.specs.declared.OptionalProcess.{OptionalProcess}
+use Rattle.message.specs.declared.OptionalRound.{OptionalRound}
 use Rattle.message.specs.declared.OptionalRound.the-variants.{NoRound, Round}
 use Rattle.message.specs.declared.Outcome.{Outcome}
 use Rattle.message.specs.declared.Outcome.the-variants.{Done, Refused}
@@ -49,7 +51,7 @@ use Rattle.steps.specs.declared.RoundsStep.{RoundsStep}
 use Rattle.delivery.specs.Admit.{admit}
 use Rattle.delivery.specs.Limits.{isNumber, isSlot}
 use Rattle.delivery.specs.declared.Delivery.{Delivery}
-use Rattle.calls.specs.Asked.{askedOf, gathererIn, gathererOf, heardOf, nothingHeard}
+use Rattle.calls.specs.Asked.{askedOf, gathererIn, gathererOf, heardOf}
 use Rattle.calls.specs.declared.Call.{Call}
 use Rattle.calls.specs.declared.Call.the-variants.{Propose, StartRead, Receive}
 use Rattle.calls.specs.declared.OptionalCommit.the-variants.{Committed}
@@ -64,10 +66,10 @@ use Rattle.consensus.specs.FirstCause.{numberOf, isLive, ledFromStart}
 use Rattle.consensus.specs.Handle.{processed, processMessage, onCommit, onReadRequest, onReadResponse, readInserted, afterInsert, startRead, handle}
 use Rattle.consensus.specs.declared.Answer.{Answer}
 use Rattle.consensus.specs.declared.Shard.{Shard}
-use Rattle.paper.specs.Replica.{Replica, enters, takesUp}
-use Rattle.paper.specs.PaperCall.{Seen, Place, self, placeOf, gathererBy, told, seen, commits, inPrepare, receivesPrepare, inAccept, receivesAccept, proposesOwn, received, OfPaxos, InPaxos, LeavesPaxos, beginning, AtBeginning, replicaIn, refusedWith, byRules, paperCall}
+use Rattle.paper.specs.Replica.{Replica, respondedOf, enters, takesUp}
+use Rattle.paper.specs.PaperCall.{Seen, Place, Told, placeOf, proposerBy, committersIn, toldBy, seen, commits, inPrepare, receivesPrepare, inAccept, receivesAccept, proposesOwn, received, OfPaxos, InPaxos, LeavesPaxos, beginning, AtBeginning, replicaIn, refusedWith, byRules, paperCall}
 use Rattle.paper.specs.Runs.{ClassicMode, Reached, new, called}
-use Rattle.paper.proofs.Views.{taken-no, Agrees, agrees, through, no-refusal, agree-both, agree-unless, round-entered, not-exceeded}
+use Rattle.paper.proofs.Views.{placeIn, toldIn, taken-no, Agrees, agrees, through, no-refusal, agree-both, agree-unless, round-entered, not-exceeded}
 use Rattle.paper.proofs.Handlers.{enter-paper, entered-core, prepared-paper, accepting-paper}
 use Rattle.paper.proofs.Proposals.{proposal-paper}
 
@@ -94,31 +96,48 @@ majority-paper s within k =
     small : s .«replica_count» ≤ s .«process_count» → s .«process_count» ≤ 64 → min (s .«replica_count») 64 ≡ s .«replica_count»
     small h g = omega arith
 
--- ---- what a message tells
+-- ---- what is asked of the settings, and what a message tells
 
-gatherer-same : (s : Settings) (m : ConsensusMsg) → gathererOf s m ≡ gathererBy s m
-unfolding gathererIn
-gatherer-same s (Prepare slot n rv) = prepare-delegate s slot n rv
-gatherer-same s (Accept slot n v) = accept-delegate s slot n v
-gatherer-same s (ForwardRequest v) = refl
-gatherer-same s (Commit slot v) = refl
-gatherer-same s (ReadRequest id) = refl
-gatherer-same s (ReadResponse id next) = refl
+start-same : (m : PFMode) (leader : ℕ) → startingRound m leader ≡ cond (ledFromStart m) (Round (roundOf 0 leader)) NoRound
+start-same Paxos leader = refl
+start-same MultiPaxos leader = ap Round (first-start leader)
+start-same MultiPaxos3P leader = ap Round (first-start leader)
+start-same EPaxos leader = refl
+start-same Pando leader = refl
+start-same SwiftPaxos leader = refl
 
-heard-same : (s : Settings) (d : Delivery) → heardOf s d ≡ told s d
-heard-same s d = ap (heard (committerOf s (d .said .requester))) (gatherer-same s (d .message .msg))
-    ∙ ap (λ (c : OptionalProcess). heard c (gathererBy s (d .message .msg))) (committer-same s (d .said .requester))
+place-same : (shard : Shard) → placeIn (askedOf (shard .settings)) (shard .settings .«replica_count») (shard .state .rounds .core) ≡ placeOf shard
+place-same shard = ap with (start-same (shard .settings .mode) (shard .settings .«first_leader»))
   where
-    heard : OptionalProcess → ℕ → Heard
-    heard committer gatherer =
+    with : OptionalRound → Place
+    with start =
         record {
-          src = d .message .src;
-          «source_live» = isLive s (d .message .src);
-          delegate = gatherer;
-          requester = d .said .requester;
-          committer = committer;
-          «held_requester» = d .«held_requester»;
+          self = shard .settings .«my_pid»;
+          acceptor = isLive (shard .settings) (shard .settings .«my_pid»);
+          acceptors = shard .settings .«replica_count»;
+          start = respondedOf start;
+          slot = shard .state .rounds .core .slot;
+          last = shard .state .rounds .core .«last_v»;
+          old = replicaIn shard;
         }
+
+proposer-same : (s : Settings) (m : ConsensusMsg) → gathererOf s m ≡ proposerBy s m
+unfolding gathererIn
+proposer-same s (Prepare slot n rv) = prepare-delegate s slot n rv
+proposer-same s (Accept slot n v) = accept-delegate s slot n v
+proposer-same s (ForwardRequest v) = refl
+proposer-same s (Commit slot v) = refl
+proposer-same s (ReadRequest id) = refl
+proposer-same s (ReadResponse id next) = refl
+
+told-same : (s : Settings) (d : Delivery) → toldIn (askedOf s) (heardOf s d) ≡ toldBy s d
+told-same s d =
+    ap (with (committerOf s (d .said .requester))) (proposer-same s (d .message .msg))
+    ∙ ap (λ (c : OptionalProcess). with c (proposerBy s (d .message .msg))) (committer-same s (d .said .requester))
+  where
+    with : OptionalProcess → ℕ → Told
+    with committer proposer =
+        record { src = d .message .src; proposer = proposer; requester = d .said .requester; committers = committersIn (s .mode) committer }
 
 -- ---- calls
 
@@ -143,7 +162,10 @@ module _ (shard : Shard) (classic : hasFastPath (shard .settings .mode) ≡ fals
     h = heardOf (shard .settings) d
 
     abbrev here : Place
-    here = placeOf shard h
+    here = placeIn a acceptors core
+
+    abbrev told : Told
+    told = toldIn a h
 
     abbrev there : Bool
     there = d .said .«value_held»
@@ -151,24 +173,24 @@ module _ (shard : Shard) (classic : hasFastPath (shard .settings .mode) ≡ fals
     abbrev seenStep : CoreStep → Seen
     seenStep step = seen (finish shard a there (onRounds (shard .state .rounds .fast) step))
 
-    prepare-paper : (slot : ℕ) (n : PaxosRound) (rv : RoundV) → Agrees (seenStep (onPrepare a h slot n rv core)) (receivesPrepare here slot n rv)
+    prepare-paper : (slot : ℕ) (n : PaxosRound) (rv : RoundV) → Agrees (seenStep (onPrepare a h slot n rv core)) (receivesPrepare here told slot n rv)
     unfolding onPrepare inPrepareStep receivesPrepare
     prepare-paper slot n rv =
-        enter-paper shard a h there acceptors classic quorum slot n (inPrepareStep a h n rv) (inPrepare here n rv (takesUp (self here) rv (enters n old)))
+        enter-paper shard a h there acceptors classic quorum slot n (inPrepareStep a h n rv) (inPrepare here told n rv (takesUp (here .self) rv (enters n old)))
         (λ replica free.
         through (ap (λ (c : Core). seenStep (andThen (prepared a h n rv c) (gather a h n rv))) (entered-core shard a h there acceptors classic quorum n))
         (prepared-paper shard a h there acceptors classic quorum replica n rv (inRound n core .paxos) (not-exceeded n core free))
-        (ap (λ (r : Replica). inPrepare here n rv (takesUp (self here) rv r)) (round-entered n core)))
+        (ap (λ (r : Replica). inPrepare here told n rv (takesUp (here .self) rv r)) (round-entered n core)))
 
     accept-paper : (slot : ℕ) (n : PaxosRound) (v : ℕ)
-        → Agrees (seenStep (onAccept a h slot n v core)) (receivesAccept here slot (record { number = n; value = v }))
+        → Agrees (seenStep (onAccept a h slot n v core)) (receivesAccept here told slot (record { number = n; value = v }))
     unfolding onAccept receivesAccept accepts
     accept-paper slot n v =
-        enter-paper shard a h there acceptors classic quorum slot n (accepting a h n v) (inAccept here (record { number = n; value = v }) (enters n old))
+        enter-paper shard a h there acceptors classic quorum slot n (accepting a h n v) (inAccept here told (record { number = n; value = v }) (enters n old))
         (λ replica free.
         through (ap (λ (c : Core). seenStep (accepting a h n v c)) (entered-core shard a h there acceptors classic quorum n))
         (accepting-paper shard a h there acceptors classic quorum replica n v (inRound n core .paxos) (not-exceeded n core free))
-        (ap (inAccept here (record { number = n; value = v })) (round-entered n core)))
+        (ap (inAccept here told (record { number = n; value = v })) (round-entered n core)))
 
     -- in the classic modes the message is handled by the core alone
     by-core : (m : ConsensusMsg) → d .message .msg ≡ m → seen (processMessage lowestBest shard d) ≡ seenStep (processClassic a h m core)
@@ -179,7 +201,7 @@ module _ (shard : Shard) (classic : hasFastPath (shard .settings .mode) ≡ fals
         (onRounds (shard .state .rounds .fast) (processClassic a h (d .message .msg) core)) classic
         ∙ ap (λ (x : ConsensusMsg). seenStep (processClassic a h x core)) e
 
-    handled-paper : (m : ConsensusMsg) → d .message .msg ≡ m → OfPaxos m → Agrees (seen (handle lowestBest shard d m)) (received here m)
+    handled-paper : (m : ConsensusMsg) → d .message .msg ≡ m → OfPaxos m → Agrees (seen (handle lowestBest shard d m)) (received here told m)
     unfolding handle processClassic onCommit committed commitSlot received
     handled-paper (Prepare slot n rv) e p = through (by-core (Prepare slot n rv) e) (prepare-paper slot n rv) refl
     handled-paper (Accept slot n v) e p = through (by-core (Accept slot n v) e) (accept-paper slot n v) refl
@@ -191,7 +213,7 @@ module _ (shard : Shard) (classic : hasFastPath (shard .settings .mode) ≡ fals
           slot = increment
               (core .slot);
           last = Value v;
-          replica = commits here v noMessages .replica;
+          replica = commits here v [] .replica;
           messages = noMessages;
           commit = Committed (core .slot) v
               (t && not (core .«slot_left_fast_path»));
@@ -199,15 +221,15 @@ module _ (shard : Shard) (classic : hasFastPath (shard .settings .mode) ≡ fals
     handled-paper (ReadRequest id) e p = absurd p
     handled-paper (ReadResponse id next) e p = absurd p
 
-    receive-paper : OfPaxos (d .message .msg) → Agrees (seen (receive lowestBest shard d)) (received here (d .message .msg))
+    receive-paper : OfPaxos (d .message .msg) → Agrees (seen (receive lowestBest shard d)) (received here told (d .message .msg))
     unfolding receive
     receive-paper p = go (admit (shard .settings .«process_count») (shard .settings .«my_pid») core d)
       where
-        go : (o : Outcome) → Agrees (seen (admitted lowestBest shard d o)) (received here (d .message .msg))
+        go : (o : Outcome) → Agrees (seen (admitted lowestBest shard d o)) (received here told (d .message .msg))
         go Done = handled-paper (d .message .msg) refl p
         go (Refused why) = no-refusal (refusal-numbered why)
 
-  propose-paper : (v : ℕ) → Agrees (seen (propose shard v)) (proposesOwn (placeOf shard nothingHeard) v)
+  propose-paper : (v : ℕ) → Agrees (seen (propose shard v)) (proposesOwn (placeIn a acceptors core) v)
   unfolding propose proposing
   propose-paper v =
       agree-unless seen (isNumber v)
@@ -220,10 +242,12 @@ module _ (shard : Shard) (classic : hasFastPath (shard .settings .mode) ≡ fals
 
   dispatch-paper : (c : Call) → InPaxos c → Agrees (seen (dispatch lowestBest shard c)) (byRules shard c)
   unfolding dispatch byRules
-  dispatch-paper (Propose v) p = propose-paper v
+  dispatch-paper (Propose v) p = through refl (propose-paper v) (ap (λ (x : Place). proposesOwn x v) (place-same shard))
   dispatch-paper (StartRead tag arrival) p = absurd p
   dispatch-paper (Receive d) p =
-      through refl (receive-paper d p) (ap (λ (x : Heard). received (placeOf shard x) (d .message .msg)) (heard-same (shard .settings) d))
+      through refl (receive-paper d p)
+      (ap (λ (x : Place). received x (toldIn a (heardOf (shard .settings) d)) (d .message .msg)) (place-same shard)
+      ∙ ap (λ (x : Told). received (placeOf shard) x (d .message .msg)) (told-same (shard .settings) d))
 
   -- a call that is taken follows the rules
   taken-by-rules : (c : Call) → InPaxos c → Agrees (seen (callOf shard c)) (byRules shard c)
@@ -302,18 +326,10 @@ other-calls-leave shard c other = made (shard .made)
 
 -- ---- the shards that there are
 
-start-same : (m : PFMode) (leader : ℕ) → startingRound m leader ≡ cond (ledFromStart m) (Round (roundOf 0 leader)) NoRound
-start-same Paxos leader = refl
-start-same MultiPaxos leader = ap Round (first-start leader)
-start-same MultiPaxos3P leader = ap Round (first-start leader)
-start-same EPaxos leader = refl
-start-same Pando leader = refl
-start-same SwiftPaxos leader = refl
-
 -- A new shard is the paper's at its beginning, of whatever settings.
 pub new-as-paper : (s : Settings) → AtBeginning s (newShard s)
 unfolding newShard
-new-as-paper s = (refl, refl, ap beginning (start-same (s .mode) (s .«first_leader»)))
+new-as-paper s = (refl, refl, ap (λ (start : OptionalRound). beginning (respondedOf start)) (start-same (s .mode) (s .«first_leader»)))
 
 abbrev isDone : Outcome → Bool
 isDone Done = true

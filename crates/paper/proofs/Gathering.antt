@@ -14,7 +14,6 @@ use Rattle.message.specs.declared.PaxosRound.{PaxosRound}
 use Rattle.message.specs.declared.RoundV.{RoundV}
 use Rattle.settings.specs.Settings.{withinLimits}
 use Rattle.settings.specs.declared.Settings.{Settings}
-use Rattle.steps.specs.Steps.{noMessages}
 use Rattle.steps.specs.declared.Messages.{Messages}
 use Rattle.steps.specs.declared.OptionalMessage.{OptionalMessage}
 use Rattle.steps.specs.declared.OptionalMessage.the-variants.{NoMessage, Send}
@@ -23,7 +22,7 @@ use Rattle.calls.specs.declared.Call.the-variants.{Receive}
 use Rattle.consensus.specs.Call.{callOf}
 use Rattle.consensus.specs.declared.Shard.{Shard}
 use Rattle.paper.specs.Replica.{Replica, keepsSomething, proposerIn, newly, hears}
-use Rattle.paper.specs.PaperCall.{told, Seen, Place, placeOf, seen, requesting, replicaIn}
+use Rattle.paper.specs.PaperCall.{inPlaces, Seen, Place, placeOf, seen, requesting, replicaIn}
 use Rattle.paper.specs.Runs.{Response, hearsAll, withAll, Promised, responseOf, Gathered, nothing-yet, one-more}
 use Rattle.paper.proofs.Calls.{settings-kept}
 use Rattle.paper.proofs.Consequences.{heard-keeps, heard-last}
@@ -35,7 +34,7 @@ isSent (Send m) = true
 
 -- where nothing is sent, the promise was heard and nothing else happened
 abbrev Quiet : Replica → Seen → Type 0
-Quiet r s = s .messages ≡ noMessages → s .replica ≡ r
+Quiet r s = s .messages ≡ inPlaces [] → s .replica ≡ r
 
 quiet : (here : Place) (r : Replica) (o : Option (Proposal PaxosRound ℕ)) → Quiet r (requesting here r o)
 unfolding requesting
@@ -74,7 +73,7 @@ module _ (n : PaxosRound) (first : Shard) (classic : hasFastPath (first .setting
     entry-since = ap (λ (r : Replica). r .acceptor .responded) (s .heard) ∙ responded-kept (replicaIn first) ps ∙ entry
 
     -- a promise that sends nothing was heard
-    heard-more : (d : Delivery) (rv : RoundV) → Promised n shard d rv → callOf shard (Receive d) .reply .messages ≡ noMessages
+    heard-more : (d : Delivery) (rv : RoundV) → Promised n shard d rv → callOf shard (Receive d) .reply .messages ≡ inPlaces []
         → Since (ps ++ (responseOf d rv ∷ [])) (callOf shard (Receive d) .shard)
     heard-more d rv p sent =
         record {
@@ -89,7 +88,7 @@ module _ (n : PaxosRound) (first : Shard) (classic : hasFastPath (first .setting
         }
       where
         here : Place
-        here = placeOf shard (told (shard .settings) d)
+        here = placeOf shard
 
         count : ℕ
         count = shard .settings .«replica_count»
@@ -106,7 +105,7 @@ module _ (n : PaxosRound) (first : Shard) (classic : hasFastPath (first .setting
     -- and the next one is answered by the paper's proposer with all of them
     next-proposes : (d : Delivery) (rv : RoundV) → Promised n shard d rv
         → seen (callOf shard (Receive d))
-        ≡ requesting (placeOf shard (told (shard .settings) d)) (hearsAll me (replicaIn first) (ps ++ (responseOf d rv ∷ [])))
+        ≡ requesting (placeOf shard) (hearsAll me (replicaIn first) (ps ++ (responseOf d rv ∷ [])))
         (newly (proposes roundBefore acceptors (withAll me n (replicaIn first) ps))
         (proposes roundBefore acceptors (withAll me n (replicaIn first) (ps ++ (responseOf d rv ∷ [])))))
     next-proposes d rv p =
@@ -119,7 +118,7 @@ module _ (n : PaxosRound) (first : Shard) (classic : hasFastPath (first .setting
         (ap (hears me (d .message .src) rv) (s .heard) ∙ heard-last me (replicaIn first) ps (d .message .src) rv)
       where
         here : Place
-        here = placeOf shard (told (shard .settings) d)
+        here = placeOf shard
 
         request : ℕ → ℕ → Option (Proposal PaxosRound ℕ)
         request own count =
@@ -134,7 +133,7 @@ module _ (n : PaxosRound) (first : Shard) (classic : hasFastPath (first .setting
   -- then makes the proposal of the paper's proposer with all the reports, exactly where that one proposes and did not before.
   pub gathered-proposes : (ps : List Response) (shard : Shard) → Gathered n first ps shard → (d : Delivery) (rv : RoundV) → Promised n shard d rv
       → seen (callOf shard (Receive d))
-      ≡ requesting (placeOf shard (told (shard .settings) d)) (hearsAll me (replicaIn first) (ps ++ (responseOf d rv ∷ [])))
+      ≡ requesting (placeOf shard) (hearsAll me (replicaIn first) (ps ++ (responseOf d rv ∷ [])))
       (newly (proposes roundBefore acceptors (withAll me n (replicaIn first) ps))
       (proposes roundBefore acceptors (withAll me n (replicaIn first) (ps ++ (responseOf d rv ∷ [])))))
   gathered-proposes ps shard g d rv p = next-proposes ps shard (gathered-since ps shard g) d rv p

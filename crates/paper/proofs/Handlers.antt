@@ -1,10 +1,12 @@
 -- What is seen of the engine's handlers of Prepare and Accept is what the paper's rules make of the replica.
 -- Assumes nothing.
-use mathlib.Core.Path.{_≡_, refl, sym, ap, _∙_}
+use mathlib.Core.Path.{_≡_, refl, sym, ap, subst, _∙_}
 use mathlib.Core.Bool.{Bool, true, false, cond, not, _&&_, _||_}
+use mathlib.Core.List.{List, [], _∷_, _++_, append-nil}
 use mathlib.Core.Option.{none, some}
 use Prim.Native.Nat.{ℕ}
 use lib.Dec.{eqb, ltb, leb}
+use borrow.Author.Tests.{eqb-true}
 use Rattle.basics.proofs.Tests.{not-both}
 use Rattle.sets.specs.Sets.{size, isEmpty}
 use Rattle.paxos.specs.PaxosMadeSimple.{Proposal, isMajority, exceeded, acceptedIn, ignores, accepts, announcement, proposalOf, proposes, learns}
@@ -44,10 +46,12 @@ use Rattle.steps.specs.declared.Heard.{Heard}
 use Rattle.steps.specs.declared.Messages.{Messages}
 use Rattle.calls.specs.declared.OptionalCommit.the-variants.{Committed}
 use Rattle.consensus.specs.Answers.{committed, finish}
+use Rattle.consensus.specs.FirstCause.{isOneself}
 use Rattle.consensus.specs.declared.Shard.{Shard}
+use Rattle.consensus.proofs.Handled.{eqb-sym}
 use Rattle.paper.specs.Replica.{Replica, acceptedOf, replicaOf, promises, keepsSomething, proposerIn, newly, hears, takesUp, acceptsWith}
-use Rattle.paper.specs.PaperCall.{Seen, Place, self, seen, hasCommitter, leaves, nothing, commits, takesPart, responding, requesting, gathers, inPrepare, toLearners, announcing, announces, informs, learning, counts, inAccept, nextPlace, addressed, servedFirst}
-use Rattle.paper.proofs.Views.{taken-no, push, once, Agrees, agrees, through, no-refusal, agree-both, agree-unless, held-kept, held-brings, held-value, held-accepted-in, exceeded-older, promise-heard, accept-counted}
+use Rattle.paper.specs.PaperCall.{Seen, Place, Told, seen, inPlaces, isOneOf, but, leaves, nothing, commits, addressed, takesPart, responding, requesting, gathers, inPrepare, learners, isLearner, isLeader, announcedTo, toEach, announces, servedFirst, keepsToItself, informs, learning, counts, inAccept, committersIn}
+use Rattle.paper.proofs.Views.{placeIn, toldIn, taken-no, push, once, Agrees, agrees, through, no-refusal, agree-both, agree-unless, held-kept, held-brings, held-value, held-accepted-in, exceeded-older, promise-heard, accept-counted}
 
 -- ---- the classic modes
 
@@ -59,17 +63,19 @@ not-swift EPaxos e = absurd (not-both refl e)
 not-swift Pando e = refl
 not-swift SwiftPaxos e = absurd (not-both refl e)
 
-tells-committer : (m : PFMode) → hasFastPath m ≡ false → tellsCommitter m ≡ hasCommitter m
-tells-committer Paxos e = refl
-tells-committer MultiPaxos e = refl
-tells-committer MultiPaxos3P e = refl
-tells-committer EPaxos e = absurd (not-both refl e)
-tells-committer Pando e = refl
-tells-committer SwiftPaxos e = absurd (not-both refl e)
-
 pub or-false : (s t : Bool) → t ≡ false → (s || t) ≡ s
 or-false true t e = refl
 or-false false t e = e
+
+or-same : (s t : Bool) → t ≡ s → (s || false) ≡ (s || t)
+or-same true t e = refl
+or-same false t e = sym e
+
+or-turned : (s t : Bool) → (s || (t || false)) ≡ (t || s)
+or-turned true true = refl
+or-turned true false = refl
+or-turned false true = refl
+or-turned false false = refl
 
 neither-right : (s t : Bool) → (s || t) ≡ false → t ≡ false
 neither-right true t e = absurd (not-both refl e)
@@ -81,10 +87,6 @@ nested false o e x y = refl
 nested true true e x y = refl
 nested true false true x y = refl
 nested true false false x y = refl
-
-cond-or : (s t : Bool) → cond s true t ≡ (s || t)
-cond-or true t = refl
-cond-or false t = refl
 
 has-value : (held : HeldPromise) → isHeld held ≡ true → getV held ≡ Value (heldV held)
 has-value NothingHeld e = absurd (not-both e refl)
@@ -108,7 +110,10 @@ module _ (shard : Shard) (a : Asked) (h : Heard) (there : Bool) (acceptors : ℕ
   old = replicaOf (core .paxos)
 
   abbrev here : Place
-  here = record { asked = a; heard = h; core = core; acceptors = acceptors; old = old }
+  here = placeIn a acceptors core
+
+  abbrev told : Told
+  told = toldIn a h
 
   -- what is seen of the call that ends with a step
   abbrev pub seenStep : CoreStep → Seen
@@ -168,10 +173,10 @@ module _ (shard : Shard) (a : Asked) (h : Heard) (there : Bool) (acceptors : ℕ
           through (ap (λ (v : OptionalValue). g (acceptOwn (a .member) n q v)) (has-value (q .«max_rv») has))
           (agree-unless g (acceptFits (q .«max_rv») n v)
           (λ fit. agrees
-          (ap (λ (c : Core). seenStep (stays c request)) (off-paxos (withPaxos (afterAccept (a .member) (a .member .«my_pid») n v q) core))
+          (ap (λ (c : Core). seenStep (stays c (inPlaces request))) (off-paxos (withPaxos (afterAccept (a .member) (a .member .«my_pid») n v q) core))
           ∙ ap (λ (r : Replica). leaves here r request) (accept-counted a replica (a .member .«my_pid») n v q free fit)
-          ∙ ap (λ (w : ℕ). leaves here (acceptsWith (self here) (a .member .«my_pid») (record { number = n; value = w }) (replicaOf q))
-          (oneMessage (sends a core toAll (Accept (core .slot) n w)))) (held-value (q .«max_rv»))))
+          ∙ ap (λ (w : ℕ). leaves here (acceptsWith (here .self) (a .member .«my_pid») (record { number = n; value = w }) (replicaOf q))
+          (sends a core toAll (Accept (core .slot) n w) ∷ [])) (held-value (q .«max_rv»))))
           (λ fit. no-refusal refl))
           refl)
           (λ e. no-refusal refl)
@@ -182,15 +187,15 @@ module _ (shard : Shard) (a : Asked) (h : Heard) (there : Bool) (acceptors : ℕ
           g : PaxosStep → Seen
           g st = seenStep (afterOwnAccept a n (withPaxos q core) (st .state) (st .outcome))
 
-          request : Messages
-          request = oneMessage (sends a core toAll (Accept (core .slot) n v))
+          request : List Outgoing
+          request = sends a core toAll (Accept (core .slot) n v) ∷ []
 
-      requests-none : (r : Replica) → leaves here r noMessages ≡ requesting here r none
+      requests-none : (r : Replica) → leaves here r [] ≡ requesting here r none
       unfolding requesting
       requests-none r = refl
 
       gather-paper : (p : PaxosState) → before (Round n) (p .round) ≡ false
-          → Agrees (seenStep (gather a h n rv (withPaxos p core))) (gathers here n rv (replicaOf p))
+          → Agrees (seenStep (gather a h n rv (withPaxos p core))) (gathers here told n rv (replicaOf p))
       unfolding gather gathers becomesPrepared receivePromise proposes
       gather-paper p free =
           through refl
@@ -208,7 +213,7 @@ module _ (shard : Shard) (a : Asked) (h : Heard) (there : Bool) (acceptors : ℕ
           q : PaxosState
           q = receivePromise (a .member) (h .src) rv p .state
 
-          heard : replicaOf q ≡ hears (self here) (h .src) rv (replicaOf p)
+          heard : replicaOf q ≡ hears (here .self) (h .src) rv (replicaOf p)
           heard = promise-heard a replica (h .src) rv p
 
       -- what is seen once the promise that came is held
@@ -216,7 +221,7 @@ module _ (shard : Shard) (a : Asked) (h : Heard) (there : Bool) (acceptors : ℕ
       seenThen step = seenStep (andThen step (gather a h n rv))
 
       preparing-paper : (p : PaxosState) → before (Round n) (p .round) ≡ false
-          → Agrees (seenThen (preparing a h n (withPaxos p core))) (inPrepare here n rv (replicaOf p))
+          → Agrees (seenThen (preparing a h n (withPaxos p core))) (inPrepare here told n rv (replicaOf p))
       unfolding preparing answersNothing answerPrepare inPrepare responding promises ignores
       preparing-paper p free =
           agree-both seenThen (eqb (h .delegate) (a .member .«my_pid»)) (eqb (h .delegate) (a .member .«my_pid»)) refl
@@ -230,16 +235,16 @@ module _ (shard : Shard) (a : Asked) (h : Heard) (there : Bool) (acceptors : ℕ
           (λ d. agrees refl)
           (λ d.
           agree-unless seenThen (mayAnswer h n)
-          (λ m. agrees (ap (λ (x : RoundV). leaves here (replicaOf p) (oneMessage (sends a core (One (h .delegate)) (Prepare (core .slot) n x))))
+          (λ m. agrees (ap (λ (x : RoundV). leaves here (replicaOf p) (sends a core (One (h .delegate)) (Prepare (core .slot) n x) ∷ []))
           (held-brings (p .«max_rv»))))
           (λ m. no-refusal refl)))
-          (push (responding here (replicaOf p)) (ignores roundBefore (replicaOf p .acceptor) n) none (some (promise n (acceptedOf (p .«max_rv»))))))
+          (push (responding here told (replicaOf p)) (ignores roundBefore (replicaOf p .acceptor) n) none (some (promise n (acceptedOf (p .«max_rv»))))))
         where
           last : Bool
           last = equal (getLastAcceptedRound (p .«max_rv»)) (Round n)
 
       pub prepared-paper : (p : PaxosState) → before (Round n) (p .round) ≡ false
-          → Agrees (seenThen (prepared a h n rv (withPaxos p core))) (inPrepare here n rv (takesUp (self here) rv (replicaOf p)))
+          → Agrees (seenThen (prepared a h n rv (withPaxos p core))) (inPrepare here told n rv (takesUp (here .self) rv (replicaOf p)))
       unfolding prepared holdFirst paxosProposeV takesUp receivePromise
       prepared-paper p free =
           through refl
@@ -248,8 +253,8 @@ module _ (shard : Shard) (a : Asked) (h : Heard) (there : Bool) (acceptors : ℕ
           (λ e.
           through (taken-no g (isHeld (p .«max_rv»)) (refused Panic p) (cond (isEmpty (p .«prepared_set»)) (taken q) (refused Panic p)) e)
           (agree-unless g (isEmpty (p .«prepared_set»)) (λ d. preparing-paper q free) (λ d. no-refusal refl))
-          (ap (inPrepare here n rv) (promise-heard a replica (a .member .«my_pid») rv p))))
-          (push (inPrepare here n rv) (keepsSomething (replicaOf p)) (replicaOf p) (hears (self here) (self here) rv (replicaOf p)))
+          (ap (inPrepare here told n rv) (promise-heard a replica (a .member .«my_pid») rv p))))
+          (push (inPrepare here told n rv) (keepsSomething (replicaOf p)) (replicaOf p) (hears (here .self) (here .self) rv (replicaOf p)))
         where
           q : PaxosState
           q = receivePromise (a .member) (a .member .«my_pid») rv p .state
@@ -269,42 +274,134 @@ module _ (shard : Shard) (a : Asked) (h : Heard) (there : Bool) (acceptors : ℕ
       abbrev proposal : Proposal PaxosRound ℕ
       proposal = record { number = n; value = v }
 
-      committer-here : isCommitter a h ≡ (hasCommitter (a .mode) && isProcess (h .committer) (a .member .«my_pid»))
+      -- who is counted as having accepted tells each of a list of processes
+      abbrev acceptances : List ℕ → List Outgoing
+      acceptances ps = toEach here told ps (some (acceptance proposal))
+
+      -- what the engine sends is a list, with room for one more
+      abbrev Lists : Messages → List Outgoing → Type 0
+      Lists x ms = (x ≡ inPlaces ms) × ((m : Outgoing) → also x m ≡ inPlaces (ms ++ (m ∷ [])))
+
+      module _ (other : eqb (a .member .«my_pid») (n .leader) ≡ false) where
+        abbrev toLeader : Outgoing
+        toLeader = acceptTo a off n (n .leader)
+
+        leader-told : Lists (oneMessage toLeader) (acceptances (but (a .member .«my_pid») (n .leader ∷ [])))
+        leader-told = subst (λ (t : Bool). Lists (oneMessage toLeader) (acceptances (cond t [] (n .leader ∷ [])))) (sym other) (refl, λ m. refl)
+
+        committer-told : (q : ℕ)
+            → Lists (cond (true && (not (eqb q (n .leader)) && not (eqb q (a .member .«my_pid»)))) (twoMessages (acceptTo a off n q) toLeader) (oneMessage toLeader))
+            (acceptances (but (a .member .«my_pid») (but (n .leader) (q ∷ []) ++ (n .leader ∷ []))))
+        committer-told q =
+            subst (λ (s : Bool). Lists (sent s (eqb q (a .member .«my_pid»))) (acceptances (but (a .member .«my_pid») (cond (eqb (n .leader) q) [] (q ∷ []) ++ (n .leader ∷ [])))))
+            (eqb-sym (n .leader) q)
+            (subst (λ (t : Bool). Lists (sent (eqb (n .leader) q) t) (acceptances (but (a .member .«my_pid») (cond (eqb (n .leader) q) [] (q ∷ []) ++ (n .leader ∷ [])))))
+            (eqb-sym (a .member .«my_pid») q) (by-leader (eqb (n .leader) q)))
+          where
+            sent : Bool → Bool → Messages
+            sent s t = cond (not s && not t) (twoMessages (acceptTo a off n q) toLeader) (oneMessage toLeader)
+
+            both-told : Lists (twoMessages (acceptTo a off n q) toLeader) (acceptances (q ∷ but (a .member .«my_pid») (n .leader ∷ [])))
+            both-told =
+                subst (λ (t : Bool). Lists (twoMessages (acceptTo a off n q) toLeader) (acceptances (q ∷ cond t [] (n .leader ∷ [])))) (sym other) (refl, λ m. refl)
+
+            by-self : (t : Bool)
+                → Lists (sent false t)
+                (acceptances (cond t (but (a .member .«my_pid») (n .leader ∷ [])) (q ∷ but (a .member .«my_pid») (n .leader ∷ []))))
+            by-self true = leader-told
+            by-self false = both-told
+
+            by-leader : (s : Bool)
+                → Lists (sent s (eqb (a .member .«my_pid») q)) (acceptances (but (a .member .«my_pid») (cond s [] (q ∷ []) ++ (n .leader ∷ []))))
+            by-leader true = leader-told
+            by-leader false = by-self (eqb (a .member .«my_pid») q)
+
+        -- the engine's answer tells each of the learners but itself
+        answer-paper : Lists (answerAccept a n off (h .committer)) (acceptances (but (a .member .«my_pid») (learners here told n)))
+        unfolding answerAccept committerHears
+        answer-paper = by-committer (h .committer)
+          where
+            Told : Messages → List ℕ → Type 0
+            Told x committers = Lists x (acceptances (but (a .member .«my_pid») (but (n .leader) committers ++ (n .leader ∷ []))))
+
+            no-committer : (m : PFMode) → Told (oneMessage toLeader) (committersIn m NoProcess)
+            no-committer Paxos = leader-told
+            no-committer MultiPaxos = leader-told
+            no-committer MultiPaxos3P = leader-told
+            no-committer EPaxos = leader-told
+            no-committer Pando = leader-told
+            no-committer SwiftPaxos = leader-told
+
+            by-mode : (q : ℕ) (m : PFMode) → hasFastPath m ≡ false
+                → Told (cond (tellsCommitter m && (not (eqb q (n .leader)) && not (eqb q (a .member .«my_pid»))))
+                (twoMessages (acceptTo a off n q) toLeader) (oneMessage toLeader)) (committersIn m (Process q))
+            by-mode q Paxos e = leader-told
+            by-mode q MultiPaxos e = leader-told
+            by-mode q MultiPaxos3P e = committer-told q
+            by-mode q EPaxos e = absurd (not-both refl e)
+            by-mode q Pando e = leader-told
+            by-mode q SwiftPaxos e = absurd (not-both refl e)
+
+            by-committer : (q : OptionalProcess) → Told (answerAccept a n off q) (committersIn (a .mode) q)
+            by-committer NoProcess = no-committer (a .mode)
+            by-committer (Process q) = by-mode q (a .mode) classic
+
+      -- a learner is the leader or the committer
+      learner-same : isLearner here told n ≡ (eqb (a .member .«my_pid») (n .leader) || isCommitter a h)
       unfolding isCommitter
-      committer-here = ap (λ (t : Bool). t && isProcess (h .committer) (a .member .«my_pid»)) (tells-committer (a .mode) classic)
-
-      answer-paper : (q : OptionalProcess) → answerAccept a n off q ≡ toLearners here n q (acceptance proposal)
-      unfolding answerAccept committerHears toLearners
-      answer-paper NoProcess = refl
-      answer-paper (Process q) =
-          ap (λ (t : Bool). cond (t && (not (eqb q (n .leader)) && not (eqb q (a .member .«my_pid»)))) both-told leader-told)
-          (tells-committer (a .mode) classic)
+      learner-same = go (a .mode) (h .committer) classic
         where
-          leader-told : Messages
-          leader-told = oneMessage (acceptTo a off n (n .leader))
+          me : ℕ
+          me = a .member .«my_pid»
 
-          both-told : Messages
-          both-told = twoMessages (acceptTo a off n q) (acceptTo a off n (n .leader))
+          by-leader : (q : ℕ) (s : Bool) → eqb (n .leader) q ≡ s
+              → isOneOf me (cond s [] (q ∷ []) ++ (n .leader ∷ [])) ≡ (eqb me (n .leader) || eqb me q)
+          by-leader q true e = or-same (eqb me (n .leader)) (eqb me q) (ap (eqb me) (sym (eqb-true (n .leader) q e)))
+          by-leader q false e = or-turned (eqb me q) (eqb me (n .leader))
 
-      tells-paper : (ms : Messages) → commitMessages a h n off ms ≡ informs here proposal ms
+          go : (m : PFMode) (q : OptionalProcess) → hasFastPath m ≡ false
+              → isOneOf me (but (n .leader) (committersIn m q) ++ (n .leader ∷ [])) ≡ (eqb me (n .leader) || (tellsCommitter m && isProcess q me))
+          go Paxos q e = refl
+          go MultiPaxos q e = refl
+          go MultiPaxos3P NoProcess e = refl
+          go MultiPaxos3P (Process q) e =
+              by-leader q (eqb (n .leader) q) refl ∙ ap (λ (t : Bool). eqb me (n .leader) || t) (eqb-sym me q)
+          go EPaxos q e = absurd (not-both refl e)
+          go Pando q e = refl
+          go SwiftPaxos q e = absurd (not-both refl e)
+
+      tells-paper : (x : Messages) (ms : List Outgoing) → Lists x ms → commitMessages a h n off x ≡ inPlaces (ms ++ informs here told proposal)
       unfolding commitMessages tellsCommit informs
-      tells-paper ms =
-          ap (λ (t : Bool). cond t (also ms (commitMessage a off (h .requester))) ms)
-          (cond-or (eqb (n .leader) (a .member .«my_pid»)) (not (isProcess (h .requester) (a .member .«my_pid»))))
-          ∙ ap (λ (x : Messages). cond (eqb (n .leader) (a .member .«my_pid») || not (isProcess (h .requester) (a .member .«my_pid»))) x ms)
-          (in-next-place (ms .first) (ms .second) (ms .third) (commitMessage a off (h .requester))
-          ∙ ap (λ (p : OptionalProcess). nextPlace (ms .first) (ms .second) (ms .third) (addressed here (All p) (Commit (core .slot) v))) (first-served (h .requester)))
+      tells-paper x ms (same, room) =
+          ap (λ (p : OptionalProcess). cond tells (also x (addressed here (All p) (Commit (core .slot) v))) x) (first-served (h .requester))
+          ∙ ap (λ (l : Bool). by l (isProcess (h .requester) (a .member .«my_pid»))) (eqb-sym (n .leader) (a .member .«my_pid»))
+          ∙ ap (by (eqb (a .member .«my_pid») (n .leader))) (requester-same (h .requester))
+          ∙ go (eqb (a .member .«my_pid») (n .leader)) (isOneself (h .requester) (a .member .«my_pid»))
         where
-          in-next-place : (x y z : OptionalMessage) (m : Outgoing) → alsoAt x y z m ≡ nextPlace x y z m
-          in-next-place NoMessage y z m = refl
-          in-next-place (Send b) NoMessage z m = refl
-          in-next-place (Send b) (Send c) z m = refl
+          told-all : Outgoing
+          told-all = addressed here (All (servedFirst here told (h .requester))) (Commit (core .slot) v)
 
-          first-served : (p : OptionalProcess) → firstServed a p ≡ servedFirst here p
+          tells : Bool
+          tells = cond (eqb (n .leader) (a .member .«my_pid»)) true (not (isProcess (h .requester) (a .member .«my_pid»)))
+
+          by : Bool → Bool → Messages
+          by l k = cond (cond l true (not k)) (also x told-all) x
+
+          first-served : (p : OptionalProcess) → firstServed a p ≡ servedFirst here told p
           first-served NoProcess = refl
           first-served (Process p) = refl
 
-      commit-paper : (ms : Messages) → Agrees (seenStep (commitsStep v (leftFastPath off) ms)) (commits here v ms)
+          requester-same : (p : OptionalProcess) → isProcess p (a .member .«my_pid») ≡ isOneself p (a .member .«my_pid»)
+          requester-same NoProcess = refl
+          requester-same (Process p) = refl
+
+          go : (l k : Bool) → by l k ≡ inPlaces (ms ++ cond (k && not l) [] (told-all ∷ []))
+          go true true = room told-all
+          go true false = room told-all
+          go false true = same ∙ ap inPlaces (sym (append-nil ms))
+          go false false = room told-all
+
+      commit-paper : (ms : List Outgoing) → Agrees (seenStep (commitsStep v (leftFastPath off) (inPlaces ms))) (commits here v ms)
       unfolding committed commitSlot
       commit-paper ms =
           agree-unless seen there
@@ -314,19 +411,21 @@ module _ (shard : Shard) (a : Asked) (h : Heard) (there : Bool) (acceptors : ℕ
                 (core .slot);
             last = Value v;
             replica = commits here v ms .replica;
-            messages = ms;
+            messages = inPlaces ms;
             commit = Committed (core .slot) v (t && false);
           }) classic))
           (λ e. no-refusal refl)
 
-      learns-paper : (ms : Messages) → Agrees (seenStep (tryCommit a h n v off ms)) (counts here proposal (replicaOf after) ms)
+      learns-paper : (x : Messages) (ms : List Outgoing) → Lists x ms
+          → Agrees (seenStep (tryCommit a h n v off x)) (counts here told proposal (replicaOf after) ms)
       unfolding tryCommit learning learns
-      learns-paper ms =
+      learns-paper x ms lists =
           through refl
           (agree-both seenStep (paxosCanCommit (a .member) after) (isMajority acceptors (size (after .«accepted_set»))) (quorum (size (after .«accepted_set»)))
-          (λ e. through (ap (λ (x : Messages). seenStep (commitsStep v (leftFastPath off) x)) (tells-paper ms)) (commit-paper (informs here proposal ms)) refl)
-          (λ e. agrees refl))
-          (push (learning here proposal (replicaOf after) ms) (isMajority acceptors (size (after .«accepted_set»))) (some v) none)
+          (λ e. through (ap (λ (y : Messages). seenStep (commitsStep v (leftFastPath off) y)) (tells-paper x ms lists))
+          (commit-paper (ms ++ informs here told proposal)) refl)
+          (λ e. agrees (ap (λ (y : Messages). seenStep (stays off y)) (lists .0))))
+          (push (learning here told proposal (replicaOf after) ms) (isMajority acceptors (size (after .«accepted_set»))) (some v) none)
 
       abbrev answers : Messages
       answers = answerAccept a n off (h .committer)
@@ -337,9 +436,6 @@ module _ (shard : Shard) (a : Asked) (h : Heard) (there : Bool) (acceptors : ℕ
       abbrev fromProposer : Bool
       fromProposer = eqb (h .src) (h .delegate)
 
-      abbrev committing : Bool
-      committing = hasCommitter (a .mode) && isProcess (h .committer) (a .member .«my_pid»)
-
       -- by whether oneself leads, the proposer sent it, and oneself is the committer
       abbrev step : Bool → Bool → Bool → CoreStep
       step l d c =
@@ -348,44 +444,46 @@ module _ (shard : Shard) (a : Asked) (h : Heard) (there : Bool) (acceptors : ℕ
           (cond c (cond (isSwiftPaxos (a .mode)) (continues off answers) (tryCommit a h n v off answers)) (stays off answers))
           (cond c (tryCommit a h n v off noMessages) (refuses Panic off)))
 
-      abbrev rule : Replica → Messages → Bool → Bool → Bool → Seen
-      rule r ms l d c = cond (l || c) (counts here proposal r (cond (not l && d) ms noMessages)) (leaves here r (cond (not l && d) ms noMessages))
+      abbrev announced : Bool → Bool → List Outgoing
+      announced l d = cond d (acceptances (cond l [] (but (a .member .«my_pid») (learners here told n)))) []
 
-      by-roles : (l d c : Bool) → Agrees (seenStep (step l d c)) (rule (replicaOf after) (toLearners here n (h .committer) (acceptance proposal)) l d c)
-      by-roles true d c = learns-paper noMessages
-      by-roles false true true =
-          through
-          (taken-no seenStep (isSwiftPaxos (a .mode)) (continues off (answerAccept a n off (h .committer)))
-          (tryCommit a h n v off (answerAccept a n off (h .committer))) swift)
-          (learns-paper (answerAccept a n off (h .committer)))
-          (ap (counts here proposal (replicaOf after)) (answer-paper (h .committer)))
-      by-roles false true false = agrees (ap (leaves here (replicaOf after)) (answer-paper (h .committer)))
-      by-roles false false true = learns-paper noMessages
-      by-roles false false false = no-refusal refl
+      abbrev rule : Replica → List Outgoing → Bool → Seen
+      rule r ms learner = cond learner (counts here told proposal r ms) (leaves here r ms)
 
-      accepted-paper : Agrees (seenStep (acceptedStep a h n v off))
-          (rule (replicaOf after) (toLearners here n (h .committer) (acceptance proposal)) leads fromProposer committing)
+      by-roles : (l d c : Bool) → leads ≡ l → Agrees (seenStep (step l d c)) (rule (replicaOf after) (announced l d) (l || c))
+      by-roles true true c e = learns-paper noMessages [] (refl, λ m. refl)
+      by-roles true false c e = learns-paper noMessages [] (refl, λ m. refl)
+      by-roles false true true e =
+          through (taken-no seenStep (isSwiftPaxos (a .mode)) (continues off answers) (tryCommit a h n v off answers) swift)
+          (learns-paper answers (announced false true) (answer-paper e)) refl
+      by-roles false true false e = agrees (ap (λ (x : Messages). seenStep (stays off x)) (answer-paper e .0))
+      by-roles false false true e = learns-paper noMessages [] (refl, λ m. refl)
+      by-roles false false false e = no-refusal refl
+
+      accepted-paper : Agrees (seenStep (acceptedStep a h n v off)) (rule (replicaOf after) (announced leads fromProposer) (isLearner here told n))
       unfolding acceptedStep follower answered
-      accepted-paper = through (ap (λ (c : Bool). seenStep (step leads fromProposer c)) committer-here) (by-roles leads fromProposer committing) refl
+      accepted-paper =
+          through refl (by-roles leads fromProposer (isCommitter a h) refl)
+          (ap (rule (replicaOf after) (announced leads fromProposer)) (sym learner-same))
 
       -- what was entered is accepted, and so is announced
-      announced : before (Round n) (p .round) ≡ false
-          → announcing here n (announcement roundBefore (replicaOf p .acceptor) proposal) ≡ toLearners here n (h .committer) (acceptance proposal)
-      unfolding announcement accepts
-      announced free =
-          ap (λ (t : Bool). announcing here n (cond (not t) (some (acceptance proposal)) none)) (sym (exceeded-older (p .round) n) ∙ free)
+      announces-accepted : before (Round n) (p .round) ≡ false → announces here told proposal (replicaOf p) ≡ announced leads fromProposer
+      unfolding announces announcement accepts
+      announces-accepted free =
+          ap (λ (t : Bool). cond fromProposer (toEach here told (announcedTo here told n) (cond (not t) (some (acceptance proposal)) none)) [])
+          (sym (exceeded-older (p .round) n) ∙ free)
 
       pub accepting-paper : before (Round n) (p .round) ≡ false
-          → Agrees (seenStep (accepting a h n v (withPaxos p core))) (inAccept here proposal (replicaOf p))
-      unfolding accepting receiveAccept inAccept announces
+          → Agrees (seenStep (accepting a h n v (withPaxos p core))) (inAccept here told proposal (replicaOf p))
+      unfolding accepting receiveAccept inAccept
       accepting-paper free =
           agree-unless g (acceptFits (p .«max_rv») n v)
           (λ fit.
           through (ap (λ (c : Core). seenStep (acceptedStep a h n v c)) (off-paxos (withPaxos after core)))
           accepted-paper
-          (ap (λ (r : Replica). rule r (toLearners here n (h .committer) (acceptance proposal)) leads fromProposer committing)
-          (accept-counted a replica (h .src) n v p free fit)
-          ∙ ap (λ (ms : Messages). rule (acceptsWith (self here) (h .src) proposal (replicaOf p)) ms leads fromProposer committing) (sym (announced free))))
+          (ap (λ (r : Replica). rule r (announced leads fromProposer) (isLearner here told n)) (accept-counted a replica (h .src) n v p free fit)
+          ∙ ap (λ (ms : List Outgoing). rule (acceptsWith (here .self) (h .src) proposal (replicaOf p)) ms (isLearner here told n))
+          (sym (announces-accepted free))))
           (λ fit. no-refusal refl)
         where
           g : PaxosStep → Seen

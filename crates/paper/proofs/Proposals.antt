@@ -3,6 +3,7 @@
 use mathlib.Core.Path.{_≡_, refl, sym, ap, _∙_}
 use mathlib.Core.Logic.{_⊎_, inl, inr}
 use mathlib.Core.Bool.{Bool, true, false, cond, not, _&&_, _||_}
+use mathlib.Core.List.{List, [], _∷_}
 use mathlib.Core.Option.{Option, none, some}
 use Prim.Native.Nat.{ℕ}
 use Rattle.basics.proofs.Tests.{not-both, and-left, and-right}
@@ -25,17 +26,17 @@ use Rattle.round_state.specs.declared.PaxosState.{PaxosState}
 use Rattle.enter.specs.Enter.{canPropose}
 use Rattle.proposal.specs.Proposal.{proposalRound, electing, mayPropose}
 use Rattle.propose.specs.Propose.{proposed, proposePrepare, afterOwnPromise, proposeAccept, proposeClassic}
-use Rattle.steps.specs.Steps.{oneMessage, sends, toAll, onRounds}
+use Rattle.steps.specs.Steps.{sends, toAll, onRounds}
 use Rattle.steps.specs.declared.Asked.{Asked}
 use Rattle.steps.specs.declared.Core.{Core}
 use Rattle.steps.specs.declared.CoreStep.{CoreStep}
-use Rattle.steps.specs.declared.Messages.{Messages}
-use Rattle.calls.specs.Asked.{askedOf, nothingHeard}
+use Rattle.steps.specs.declared.Outgoing.{Outgoing}
+use Rattle.calls.specs.Asked.{askedOf}
 use Rattle.consensus.specs.Answers.{finish}
 use Rattle.consensus.specs.declared.Shard.{Shard}
-use Rattle.paper.specs.Replica.{Replica, acceptedOf, wishOf, respondedOf, replicaOf, brings, numberOr, proposerIn, hears, acceptsWith}
-use Rattle.paper.specs.PaperCall.{Seen, Place, self, seen, leaves, requesting, ownNumber, begins, proposesOwn}
-use Rattle.paper.proofs.Views.{Agrees, agrees, no-refusal, agree-both, agree-unless, promise-heard, accept-counted}
+use Rattle.paper.specs.Replica.{Replica, acceptedOf, wishOf, respondedOf, replicaOf, brings, isThere, numberOr, proposerIn, hears, acceptsWith}
+use Rattle.paper.specs.PaperCall.{Seen, Place, seen, leaves, requesting, ownNumber, begins, proposesOwn}
+use Rattle.paper.proofs.Views.{placeIn, Agrees, agrees, no-refusal, agree-both, agree-unless, promise-heard, accept-counted}
 use Rattle.paper.proofs.Handlers.{not-swift, or-false}
 
 or-default : (o : OptionalRound) → unwrapOrDefault o ≡ numberOr defaultRound (respondedOf o)
@@ -49,6 +50,14 @@ none-at-start MultiPaxos3P leader e = absurd (not-both refl e)
 none-at-start EPaxos leader e = refl
 none-at-start Pando leader e = refl
 none-at-start SwiftPaxos leader e = refl
+
+led-start : (m : PFMode) (leader : ℕ) → isMultiPaxos m ≡ isThere (respondedOf (startingRound m leader))
+led-start Paxos leader = refl
+led-start MultiPaxos leader = refl
+led-start MultiPaxos3P leader = refl
+led-start EPaxos leader = refl
+led-start Pando leader = refl
+led-start SwiftPaxos leader = refl
 
 not-or : (s t : Bool) → (not s || t) ≡ true → s ≡ true → t ≡ true
 not-or true t e d = e
@@ -78,7 +87,7 @@ module _ (shard : Shard) (acceptors : ℕ) (classic : hasFastPath (shard .settin
   old = replicaOf (core .paxos)
 
   abbrev here : Place
-  here = record { asked = a; heard = nothingHeard; core = core; acceptors = acceptors; old = old }
+  here = placeIn a acceptors core
 
   abbrev n : PaxosRound
   n = ownNumber here
@@ -145,7 +154,7 @@ module _ (shard : Shard) (acceptors : ℕ) (classic : hasFastPath (shard .settin
     rv = PaxosV NoRound v
 
     abbrev heard : Replica → Replica
-    heard r = hears (self here) (a .member .«my_pid») rv r
+    heard r = hears (here .self) (a .member .«my_pid») rv r
 
     abbrev mine : PaxosState
     mine = receivePromise (a .member) (a .member .«my_pid») rv first .state
@@ -156,37 +165,37 @@ module _ (shard : Shard) (acceptors : ℕ) (classic : hasFastPath (shard .settin
     -- Paxos and Pando: the prepare request
     prepare-request : seenStep (proposePrepare a n rv core)
         ≡ leaves here (begins here v)
-        (oneMessage (sends a core toAll (Prepare (core .slot) n (brings none (begins here v .wish)))))
+        (sends a core toAll (Prepare (core .slot) n (brings none (begins here v .wish))) ∷ [])
     unfolding proposePrepare paxosProposeV hears
     prepare-request =
         ap (λ (p : PaxosState). seenStep (proposed a (Prepare (core .slot) n rv) core (paxosProposeV (a .member) rv p .state)
         (paxosProposeV (a .member) rv p .outcome))) in-round
-        ∙ ap (λ (r : Replica). leaves here r (oneMessage (sends a core toAll (Prepare (core .slot) n rv)))) own-heard
-        ∙ ap (λ (r : Replica). leaves here (heard r) (oneMessage (sends a core toAll (Prepare (core .slot) n (brings none (heard r .wish)))))) (sym started)
+        ∙ ap (λ (r : Replica). leaves here r (sends a core toAll (Prepare (core .slot) n rv) ∷ [])) own-heard
+        ∙ ap (λ (r : Replica). leaves here (heard r) (sends a core toAll (Prepare (core .slot) n (brings none (heard r .wish))) ∷ [])) (sym started)
 
     -- MultiPaxos and MultiPaxos3P: the accept request
     accept-request : seenStep (proposeAccept a n v core)
         ≡ leaves here
-        (acceptsWith (self here) (a .member .«my_pid») (proposalOf roundBefore (proposerIn n (begins here v))) (begins here v))
-        (oneMessage (sends a core toAll (Accept (core .slot) n (proposalOf roundBefore (proposerIn n (begins here v)) .value))))
+        (acceptsWith (here .self) (a .member .«my_pid») (proposalOf roundBefore (proposerIn n (begins here v))) (begins here v))
+        (sends a core toAll (Accept (core .slot) n (proposalOf roundBefore (proposerIn n (begins here v)) .value)) ∷ [])
     unfolding proposeAccept paxosProposeV selfAccept acceptOwn receiveAccept acceptFits receivePromise heldAfterPromise hears choice highest
     accept-request =
         ap (λ (p : PaxosState). seenStep (afterOwnPromise a n v core (paxosProposeV (a .member) rv p .state)
         (paxosProposeV (a .member) rv p .outcome))) in-round
         ∙ ap (λ (r : Replica). leaves here r request) (accept-counted a replica (a .member .«my_pid») n v mine (rounds-ordered .irreflexive n) refl)
-        ∙ ap (λ (r : Replica). leaves here (acceptsWith (self here) (a .member .«my_pid») (record { number = n; value = v }) r) request) own-heard
-        ∙ ap (λ (r : Replica). leaves here (acceptsWith (self here) (a .member .«my_pid») (proposalOf roundBefore (proposerIn n (heard r))) (heard r))
-        (oneMessage (sends a core toAll (Accept (core .slot) n (proposalOf roundBefore (proposerIn n (heard r)) .value))))) (sym started)
+        ∙ ap (λ (r : Replica). leaves here (acceptsWith (here .self) (a .member .«my_pid») (record { number = n; value = v }) r) request) own-heard
+        ∙ ap (λ (r : Replica). leaves here (acceptsWith (here .self) (a .member .«my_pid») (proposalOf roundBefore (proposerIn n (heard r))) (heard r))
+        (sends a core toAll (Accept (core .slot) n (proposalOf roundBefore (proposerIn n (heard r)) .value)) ∷ [])) (sym started)
       where
-        request : Messages
-        request = oneMessage (sends a core toAll (Accept (core .slot) n v))
+        request : List Outgoing
+        request = sends a core toAll (Accept (core .slot) n v) ∷ []
 
   pub proposal-paper : Agrees (seenStep (proposeClassic a v core)) (proposesOwn here v)
   unfolding proposeClassic proposesOwn requesting
   proposal-paper =
       agree-unless seenStep (mayPropose a core)
       (λ e.
-      agree-both seenStep (isMultiPaxos (a .mode)) (isMultiPaxos (a .mode)) refl
+      agree-both seenStep (isMultiPaxos (a .mode)) (isThere (here .start)) (led-start (a .mode) (a .«first_leader»))
       (λ m. agrees (ap (λ (k : PaxosRound). seenStep (proposeAccept a k v core)) number ∙ accept-request e))
       (λ m. agrees (ap (λ (k : PaxosRound). seenStep (proposePrepare a k (PaxosV NoRound v) core)) number ∙ prepare-request e)))
       (λ e. no-refusal refl)

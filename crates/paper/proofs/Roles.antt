@@ -7,7 +7,7 @@ use mathlib.Core.List.{List, [], _∷_, _++_}
 use mathlib.Core.Option.{Option, none, some}
 use Prim.Native.Nat.{ℕ}
 use lib.Dec.{eqb, ltb}
-use Rattle.basics.proofs.Tests.{not-both, fails, or-left, of-both}
+use Rattle.basics.proofs.Tests.{not-both, fails, or-left, or-right, of-both}
 use Rattle.sets.specs.Sets.{size}
 use Rattle.paxos.specs.PaxosMadeSimple.{Proposal, Acceptor, Message, isMajority, greater, exceeded, higher, responds, prepare, response, acceptedIn, ignores, accepts, accept, announcement, proposes, learns}
 use Rattle.paxos.specs.PaxosMadeSimple.Message.{promise, acceptance}
@@ -19,10 +19,8 @@ use Rattle.message.specs.declared.ConsensusMsg.the-variants.{Prepare, Accept}
 use Rattle.message.specs.declared.PaxosRound.{PaxosRound}
 use Rattle.message.specs.declared.RoundV.{RoundV}
 use Rattle.settings.specs.Settings.{withinLimits}
-use Rattle.steps.specs.Steps.{noMessages, oneMessage}
 use Rattle.steps.specs.declared.Destination.the-variants.{One}
-use Rattle.steps.specs.declared.Heard.{Heard}
-use Rattle.steps.specs.declared.Messages.{Messages}
+use Rattle.steps.specs.declared.Outgoing.{Outgoing}
 use Rattle.delivery.specs.declared.Delivery.{Delivery}
 use Rattle.calls.specs.declared.Call.the-variants.{Receive}
 use Rattle.calls.specs.declared.OptionalCommit.{OptionalCommit}
@@ -30,7 +28,7 @@ use Rattle.calls.specs.declared.OptionalCommit.the-variants.{NoCommit, Committe
 use Rattle.consensus.specs.Call.{callOf}
 use Rattle.consensus.specs.declared.Shard.{Shard}
 use Rattle.paper.specs.Replica.{Replica, reportOf, enters, promises, unlessAccepted, isThere, keepsSomething, proposerIn, newly, alsoSelf, hears, takesUp, acceptsWith}
-use Rattle.paper.specs.PaperCall.{told, Seen, Place, placeOf, seen, leaves, nothing, commits, sending, takesPart, responding, requesting, gathers, inPrepare, isCommitterHere, isLearner, toLearners, announcing, announces, informs, learning, counts, inAccept, receivesPrepare, receivesAccept, received, OfPaxos, replicaIn, refusedWith, byRules, paperCall}
+use Rattle.paper.specs.PaperCall.{Told, toldBy, isOneOf, but, Seen, Place, placeOf, seen, leaves, nothing, commits, sending, takesPart, responding, requesting, gathers, inPrepare, learners, isLearner, isLeader, announcedTo, toEach, announces, informs, learning, counts, inAccept, receivesPrepare, receivesAccept, received, OfPaxos, replicaIn, refusedWith, byRules, paperCall}
 use Rattle.paper.specs.Runs.{Handled, Response, hearsAll, withAll}
 use Rattle.paper.proofs.Calls.{call-as-paper}
 use Rattle.paper.proofs.Consequences.{heard-keeps, heard-last, proposes-of-all}
@@ -91,10 +89,25 @@ prepared-accepts x p f =
     (exceeded-not-later (x .responded) (p .number) g)
     ∙ g)))
 
+-- ---- lists of processes
+
+last-of : (p q : ℕ) (qs : List ℕ) → eqb p q ≡ true → isOneOf p (qs ++ (q ∷ [])) ≡ true
+last-of p q [] e = or-left false e
+last-of p q (x ∷ xs) e = or-right (eqb p x) (last-of p q xs e)
+
+-- one that is not of the list is not left out of it
+but-other : (p : ℕ) (qs : List ℕ) → isOneOf p qs ≡ false → but p qs ≡ qs
+but-other p [] e = refl
+but-other p (q ∷ qs) e = go (eqb p q) (but-other p qs) e
+  where
+    go : (t : Bool) → (isOneOf p qs ≡ false → but p qs ≡ qs) → (t || isOneOf p qs) ≡ false → cond t (but p qs) (q ∷ but p qs) ≡ q ∷ qs
+    go true f d = absurd (not-both refl d)
+    go false f d = ap (λ (xs : List ℕ). q ∷ xs) (f d)
+
 module _ (shard : Shard) (classic : hasFastPath (shard .settings .mode) ≡ false) (within : withinLimits (shard .settings) ≡ true) (d : Delivery) (slot : ℕ)
     (n : PaxosRound) (handled : Handled shard d slot) where
-  abbrev h : Heard
-  h = told (shard .settings) d
+  abbrev h : Told
+  h = toldBy (shard .settings) d
 
   abbrev acceptors : ℕ
   acceptors = shard .settings .«replica_count»
@@ -103,7 +116,7 @@ module _ (shard : Shard) (classic : hasFastPath (shard .settings .mode) ≡ fals
   old = replicaIn shard
 
   abbrev here : Place
-  here = placeOf shard h
+  here = placeOf shard
 
   abbrev me : ℕ
   me = shard .settings .«my_pid»
@@ -111,12 +124,12 @@ module _ (shard : Shard) (classic : hasFastPath (shard .settings .mode) ≡ fals
   abbrev older : Bool
   older = exceeded roundBefore (old .acceptor .responded) n
 
-  by-rule : (m : ConsensusMsg) → d .message .msg ≡ m → OfPaxos m → seen (callOf shard (Receive d)) ≡ received here m
+  by-rule : (m : ConsensusMsg) → d .message .msg ≡ m → OfPaxos m → seen (callOf shard (Receive d)) ≡ received here h m
   unfolding paperCall byRules
   by-rule m e p =
       call-as-paper shard classic within (Receive d) (subst OfPaxos (sym e) p)
       ∙ ap (λ (k : ℕ). cond (eqb k 0) (byRules shard (Receive d)) (refusedWith k shard)) (handled .free)
-      ∙ ap (received here) e
+      ∙ ap (received here h) e
 
   -- it takes part, and what remains is the number
   entered : (rule : Seen) → cond (takesPart here slot && not older) rule (nothing here) ≡ cond older (nothing here) rule
@@ -132,21 +145,21 @@ module _ (shard : Shard) (classic : hasFastPath (shard .settings .mode) ≡ fals
   -- ---- Prepare
 
   module _ (rv : RoundV) (message : d .message .msg ≡ Prepare slot n rv) where
-    prepare-handled : seen (callOf shard (Receive d)) ≡ cond older (nothing here) (inPrepare here n rv (takesUp me rv (enters n old)))
+    prepare-handled : seen (callOf shard (Receive d)) ≡ cond older (nothing here) (inPrepare here h n rv (takesUp me rv (enters n old)))
     unfolding received receivesPrepare
-    prepare-handled = by-rule (Prepare slot n rv) message tt ∙ entered (inPrepare here n rv (takesUp me rv (enters n old)))
+    prepare-handled = by-rule (Prepare slot n rv) message tt ∙ entered (inPrepare here h n rv (takesUp me rv (enters n old)))
 
     -- the acceptor that has responded to n
     abbrev now : Replica
     now = record { acceptor = record { responded = some n; accepted = old .acceptor .accepted }; wish = old .wish; promised = 0; agreed = 0 }
 
     -- the paper's acceptor responds: so does the replica, once it has entered the number
-    responded : responds roundBefore (old .acceptor) n ≡ true → seen (callOf shard (Receive d)) ≡ inPrepare here n rv (takesUp me rv now)
+    responded : responds roundBefore (old .acceptor) n ≡ true → seen (callOf shard (Receive d)) ≡ inPrepare here h n rv (takesUp me rv now)
     unfolding enters prepare responds
     responded f =
         prepare-handled
-        ∙ ap (λ (t : Bool). cond t (nothing here) (inPrepare here n rv (takesUp me rv (enters n old)))) (later-not-exceeded (old .acceptor .responded) n f)
-        ∙ ap (λ (t : Bool). inPrepare here n rv (takesUp me rv
+        ∙ ap (λ (t : Bool). cond t (nothing here) (inPrepare here h n rv (takesUp me rv (enters n old)))) (later-not-exceeded (old .acceptor .responded) n f)
+        ∙ ap (λ (t : Bool). inPrepare here h n rv (takesUp me rv
         (cond t (record { acceptor = cond t (now .acceptor) (old .acceptor); wish = old .wish; promised = 0; agreed = 0 }) old))) f
 
     prepared-acceptor : responds roundBefore (old .acceptor) n ≡ true → now .acceptor ≡ prepare roundBefore (old .acceptor) n
@@ -154,23 +167,23 @@ module _ (shard : Shard) (classic : hasFastPath (shard .settings .mode) ≡ fals
     prepared-acceptor f = ap (λ (t : Bool). cond t (now .acceptor) (old .acceptor)) (sym f)
 
     -- the promise of one that is not the gatherer, in the number that it has entered and has accepted nothing in
-    promised-in : (r : Replica) → eqb (h .delegate) me ≡ false → r .acceptor .responded ≡ some n → acceptedIn roundBefore n (r .acceptor .accepted) ≡ false
-        → inPrepare here n rv r ≡ leaves here r (oneMessage (sending here (One (h .delegate)) (r .wish) (promise n (r .acceptor .accepted))))
+    promised-in : (r : Replica) → eqb (h .proposer) me ≡ false → r .acceptor .responded ≡ some n → acceptedIn roundBefore n (r .acceptor .accepted) ≡ false
+        → inPrepare here h n rv r ≡ leaves here r (sending here (r .wish) (promise n (r .acceptor .accepted)) (One (h .proposer)) ∷ [])
     unfolding inPrepare promises ignores responding
     promised-in r other entry fresh =
-        ap (λ (t : Bool). cond t (gathers here n rv r) (responding here r (promises n r))) other
-        ∙ ap (λ (t : Bool). responding here r (cond t none (some (promise n (r .acceptor .accepted)))))
+        ap (λ (t : Bool). cond t (gathers here h n rv r) (responding here h r (promises n r))) other
+        ∙ ap (λ (t : Bool). responding here h r (cond t none (some (promise n (r .acceptor .accepted)))))
         (ap (λ (o : Option PaxosRound). exceeded roundBefore o n || acceptedIn roundBefore n (r .acceptor .accepted)) entry
         ∙ ap (λ (t : Bool). t || acceptedIn roundBefore n (r .acceptor .accepted)) (rounds-ordered .irreflexive n)
         ∙ fresh)
 
     -- Phase 1 (b), at another than the gatherer that keeps something and has not accepted in the number: where the paper's acceptor responds, the
     -- replica's does, and the response is the message, to the gatherer.
-    pub acceptor-responds : eqb (h .delegate) me ≡ false → keepsSomething old ≡ true → acceptedIn roundBefore n (old .acceptor .accepted) ≡ false
+    pub acceptor-responds : eqb (h .proposer) me ≡ false → keepsSomething old ≡ true → acceptedIn roundBefore n (old .acceptor .accepted) ≡ false
         → (m : Message PaxosRound ℕ) → response roundBefore (old .acceptor) n ≡ some m
         → seen (callOf shard (Receive d))
         ≡ leaves here (record { acceptor = prepare roundBefore (old .acceptor) n; wish = old .wish; promised = 0; agreed = 0 })
-        (oneMessage (sending here (One (h .delegate)) (old .wish) m))
+        (sending here (old .wish) m (One (h .proposer)) ∷ [])
     unfolding response takesUp
     acceptor-responds other keeps fresh m e = go (responds roundBefore (old .acceptor) n) refl e
       where
@@ -180,23 +193,23 @@ module _ (shard : Shard) (classic : hasFastPath (shard .settings .mode) ≡ fals
         go : (t : Bool) → responds roundBefore (old .acceptor) n ≡ t → cond t (some answer) none ≡ some m
             → seen (callOf shard (Receive d))
             ≡ leaves here (record { acceptor = prepare roundBefore (old .acceptor) n; wish = old .wish; promised = 0; agreed = 0 })
-            (oneMessage (sending here (One (h .delegate)) (old .wish) m))
+            (sending here (old .wish) m (One (h .proposer)) ∷ [])
         go false f g = absurd (not-both refl (ap isSome (sym g)))
         go true f g =
             responded f
-            ∙ ap (λ (t : Bool). inPrepare here n rv (cond t now (hears me me rv now))) keeps
+            ∙ ap (λ (t : Bool). inPrepare here h n rv (cond t now (hears me me rv now))) keeps
             ∙ promised-in now other refl fresh
-            ∙ ap (λ (x : Message PaxosRound ℕ). leaves here now (oneMessage (sending here (One (h .delegate)) (old .wish) x))) (ap (valueIn answer) g)
+            ∙ ap (λ (x : Message PaxosRound ℕ). leaves here now (sending here (old .wish) x (One (h .proposer)) ∷ [])) (ap (valueIn answer) g)
             ∙ ap (λ (x : Acceptor PaxosRound ℕ). leaves here (record { acceptor = x; wish = old .wish; promised = 0; agreed = 0 })
-            (oneMessage (sending here (One (h .delegate)) (old .wish) m))) (prepared-acceptor f)
+            (sending here (old .wish) m (One (h .proposer)) ∷ [])) (prepared-acceptor f)
 
     -- The same at one that keeps nothing, where the Prepare reports no proposal: the value that it brings is kept as the wish, and goes with the
     -- response.
-    pub acceptor-responds-first : eqb (h .delegate) me ≡ false → keepsSomething old ≡ false → reportOf rv ≡ none
+    pub acceptor-responds-first : eqb (h .proposer) me ≡ false → keepsSomething old ≡ false → reportOf rv ≡ none
         → (m : Message PaxosRound ℕ) → response roundBefore (old .acceptor) n ≡ some m
         → seen (callOf shard (Receive d))
         ≡ leaves here (record { acceptor = prepare roundBefore (old .acceptor) n; wish = some rv; promised = alsoSelf me me 0; agreed = 0 })
-        (oneMessage (sending here (One (h .delegate)) (some rv) m))
+        (sending here (some rv) m (One (h .proposer)) ∷ [])
     unfolding response takesUp hears
     acceptor-responds-first other keeps unreported m e = go (responds roundBefore (old .acceptor) n) refl e
       where
@@ -227,8 +240,8 @@ module _ (shard : Shard) (classic : hasFastPath (shard .settings .mode) ≡ fals
         answer : Message PaxosRound ℕ
         answer = promise n (old .acceptor .accepted)
 
-        reply : Message PaxosRound ℕ → Messages
-        reply x = oneMessage (sending here (One (h .delegate)) (some rv) x)
+        reply : Message PaxosRound ℕ → List Outgoing
+        reply x = sending here (some rv) x (One (h .proposer)) ∷ []
 
         after : Acceptor PaxosRound ℕ → Replica
         after x = record { acceptor = x; wish = some rv; promised = alsoSelf me me 0; agreed = 0 }
@@ -238,10 +251,10 @@ module _ (shard : Shard) (classic : hasFastPath (shard .settings .mode) ≡ fals
         go false f g = absurd (not-both refl (ap isSome (sym g)))
         go true f g =
             responded f
-            ∙ ap (λ (t : Bool). inPrepare here n rv (cond t now (hears me me rv now))) keeps
-            ∙ ap (λ (x : Option (Proposal PaxosRound ℕ)). inPrepare here n rv (hears me me rv (with x (old .wish)))) (nothing-kept .0)
-            ∙ ap (λ (w : Option RoundV). inPrepare here n rv (hears me me rv (with none w))) (nothing-kept .1)
-            ∙ ap (λ (x : Option (Proposal PaxosRound ℕ)). inPrepare here n rv (heard x)) unreported
+            ∙ ap (λ (t : Bool). inPrepare here h n rv (cond t now (hears me me rv now))) keeps
+            ∙ ap (λ (x : Option (Proposal PaxosRound ℕ)). inPrepare here h n rv (hears me me rv (with x (old .wish)))) (nothing-kept .0)
+            ∙ ap (λ (w : Option RoundV). inPrepare here h n rv (hears me me rv (with none w))) (nothing-kept .1)
+            ∙ ap (λ (x : Option (Proposal PaxosRound ℕ)). inPrepare here h n rv (heard x)) unreported
             ∙ promised-in (heard none) other refl refl
             ∙ ap (λ (x : Message PaxosRound ℕ). leaves here (heard none) (reply x)) (ap (promise n) (sym (nothing-kept .0)) ∙ ap (valueIn answer) g)
             ∙ ap (λ (x : Option (Proposal PaxosRound ℕ)). leaves here (after (record { responded = some n; accepted = x })) (reply m)) (sym (nothing-kept .0))
@@ -249,24 +262,24 @@ module _ (shard : Shard) (classic : hasFastPath (shard .settings .mode) ≡ fals
 
     -- Phase 2 (a), at the gatherer that is in the number and keeps something: it hears the promise, and sends the accept request of the paper's
     -- proposer where that one proposes and did not before (`proposes-of-all` for what it has heard before).
-    pub proposer-proposes : eqb (h .delegate) me ≡ true → keepsSomething old ≡ true → old .acceptor .responded ≡ some n
+    pub proposer-proposes : eqb (h .proposer) me ≡ true → keepsSomething old ≡ true → old .acceptor .responded ≡ some n
         → seen (callOf shard (Receive d))
         ≡ requesting here (hears me (h .src) rv old)
         (newly (proposes roundBefore acceptors (proposerIn n old)) (proposes roundBefore acceptors (proposerIn n (hears me (h .src) rv old))))
     unfolding enters responds inPrepare gathers takesUp
     proposer-proposes gathering keeps entry =
         prepare-handled
-        ∙ ap (λ (t : Bool). cond t (nothing here) (inPrepare here n rv (takesUp me rv (enters n old))))
+        ∙ ap (λ (t : Bool). cond t (nothing here) (inPrepare here h n rv (takesUp me rv (enters n old))))
         (ap (λ (o : Option PaxosRound). exceeded roundBefore o n) entry ∙ rounds-ordered .irreflexive n)
-        ∙ ap (λ (t : Bool). inPrepare here n rv (takesUp me rv
+        ∙ ap (λ (t : Bool). inPrepare here h n rv (takesUp me rv
         (cond t (record { acceptor = prepare roundBefore (old .acceptor) n; wish = old .wish; promised = 0; agreed = 0 }) old)))
         (ap (λ (o : Option PaxosRound). greater roundBefore n o) entry ∙ rounds-ordered .irreflexive n)
-        ∙ ap (λ (t : Bool). inPrepare here n rv (cond t old (hears me me rv old))) keeps
-        ∙ ap (λ (t : Bool). cond t (gathers here n rv old) (responding here old (promises n old))) gathering
+        ∙ ap (λ (t : Bool). inPrepare here h n rv (cond t old (hears me me rv old))) keeps
+        ∙ ap (λ (t : Bool). cond t (gathers here h n rv old) (responding here h old (promises n old))) gathering
 
     -- The same by all that it has heard: since it kept r it has heard the promises ps and nothing else. What it proposes is the proposal of the
     -- paper's proposer with every report, its own acceptor's first.
-    pub proposer-proposes-of-all : eqb (h .delegate) me ≡ true → old .acceptor .responded ≡ some n
+    pub proposer-proposes-of-all : eqb (h .proposer) me ≡ true → old .acceptor .responded ≡ some n
         → (r : Replica) (ps : List Response) → keepsSomething r ≡ true → old ≡ hearsAll me r ps
         → seen (callOf shard (Receive d))
         ≡ requesting here (hears me (h .src) rv old)
@@ -295,56 +308,57 @@ module _ (shard : Shard) (classic : hasFastPath (shard .settings .mode) ≡ fals
     abbrev counted : Replica
     counted = acceptsWith me (h .src) p (enters n old)
 
-    accept-handled : seen (callOf shard (Receive d)) ≡ cond older (nothing here) (inAccept here p (enters n old))
+    accept-handled : seen (callOf shard (Receive d)) ≡ cond older (nothing here) (inAccept here h p (enters n old))
     unfolding received receivesAccept accepts
-    accept-handled = by-rule (Accept slot n v) message tt ∙ entered (inAccept here p (enters n old))
+    accept-handled = by-rule (Accept slot n v) message tt ∙ entered (inAccept here h p (enters n old))
 
     -- what holds of every way in which an Accept can end holds of the call
-    of-accept : (P : Seen → Type 0) → (older ≡ true → P (nothing here)) → ((ms : Messages) → P (leaves here counted ms))
-        → ((ms : Messages) → isMajority acceptors (size (counted .agreed)) ≡ true → P (commits here v ms)) → P (seen (callOf shard (Receive d)))
+    of-accept : (P : Seen → Type 0) → (older ≡ true → P (nothing here)) → ((ms : List Outgoing) → P (leaves here counted ms))
+        → ((ms : List Outgoing) → isMajority acceptors (size (counted .agreed)) ≡ true → P (commits here v ms)) → P (seen (callOf shard (Receive d)))
     unfolding inAccept learning learns
     of-accept P stay leave commit = subst P (sym accept-handled) (by-age older refl)
       where
-        count : (ms : Messages) → P (counts here p counted ms)
+        count : (ms : List Outgoing) → P (counts here h p counted ms)
         count ms = go (isMajority acceptors (size (counted .agreed))) refl
           where
-            go : (t : Bool) → isMajority acceptors (size (counted .agreed)) ≡ t → P (learning here p counted ms (cond t (some v) none))
-            go true e = commit (informs here p ms) e
+            go : (t : Bool) → isMajority acceptors (size (counted .agreed)) ≡ t → P (learning here h p counted ms (cond t (some v) none))
+            go true e = commit (ms ++ informs here h p) e
             go false e = leave ms
 
-        by-age : (t : Bool) → older ≡ t → P (cond t (nothing here) (inAccept here p (enters n old)))
+        by-age : (t : Bool) → older ≡ t → P (cond t (nothing here) (inAccept here h p (enters n old)))
         by-age true e = stay e
-        by-age false e = of-both P (isLearner here n) (count (announces here p (enters n old))) (leave (announces here p (enters n old)))
+        by-age false e = of-both P (isLearner here h n) (count (announces here h p (enters n old))) (leave (announces here h p (enters n old)))
 
     -- Section 2.3, at another than a distinguished learner, for an accept request, which comes from the proposer: where the paper's acceptor announces
-    -- the proposal, the replica does, to the distinguished learners.
-    pub acceptor-announces : isLearner here n ≡ false → eqb (h .src) (h .delegate) ≡ true
+    -- the proposal, the replica does, to each of the distinguished learners.
+    pub acceptor-announces : isLearner here h n ≡ false → eqb (h .src) (h .proposer) ≡ true
         → (m : Message PaxosRound ℕ) → announcement roundBefore (prepare roundBefore (old .acceptor) n) p ≡ some m
-        → seen (callOf shard (Receive d)) ≡ leaves here counted (toLearners here n (h .committer) m)
+        → seen (callOf shard (Receive d)) ≡ leaves here counted (toEach here h (learners here h n) (some m))
     unfolding announcement inAccept announces
     acceptor-announces other asked m e = go (accepts roundBefore (prepare roundBefore (old .acceptor) n) p) refl e
       where
         entry : accepts roundBefore (enters n old .acceptor) p ≡ accepts roundBefore (prepare roundBefore (old .acceptor) n) p
         entry = ap (λ (x : Acceptor PaxosRound ℕ). accepts roundBefore x p) (entered-acceptor n old)
 
-        not-leader : isLearner here n ≡ false → eqb me (n .leader) ≡ false
-        not-leader f = fails (λ g. not-both (or-left (isCommitterHere here) g) f)
+        not-leader : isLeader here h n ≡ false
+        not-leader = fails (λ g. not-both (last-of me (n .leader) (but (n .leader) (h .committers)) g) other)
 
-        told : Bool → Messages
-        told t = announcing here n (cond t (some (acceptance p)) none)
+        announced : Bool → Option (Message PaxosRound ℕ)
+        announced t = cond t (some (acceptance p)) none
 
-        go : (t : Bool) → accepts roundBefore (prepare roundBefore (old .acceptor) n) p ≡ t → cond t (some (acceptance p)) none ≡ some m
-            → seen (callOf shard (Receive d)) ≡ leaves here counted (toLearners here n (h .committer) m)
+        go : (t : Bool) → accepts roundBefore (prepare roundBefore (old .acceptor) n) p ≡ t → announced t ≡ some m
+            → seen (callOf shard (Receive d)) ≡ leaves here counted (toEach here h (learners here h n) (some m))
         go false f g = absurd (not-both refl (ap isSome (sym g)))
         go true f g =
             accept-handled
-            ∙ ap (λ (t : Bool). cond t (nothing here) (inAccept here p (enters n old))) (prepared-accepts (old .acceptor) p f)
-            ∙ ap (λ (t : Bool). cond t (counts here p counted (announces here p (enters n old))) (leaves here counted (announces here p (enters n old)))) other
-            ∙ ap (λ (t : Bool). leaves here counted (cond (not t && eqb (h .src) (h .delegate))
-            (told (accepts roundBefore (enters n old .acceptor) p)) noMessages)) (not-leader other)
-            ∙ ap (λ (t : Bool). leaves here counted (cond t (told (accepts roundBefore (enters n old .acceptor) p)) noMessages)) asked
-            ∙ ap (λ (t : Bool). leaves here counted (told t)) (entry ∙ f)
-            ∙ ap (λ (x : Message PaxosRound ℕ). leaves here counted (toLearners here n (h .committer) x)) (ap (valueIn (acceptance p)) g)
+            ∙ ap (λ (t : Bool). cond t (nothing here) (inAccept here h p (enters n old))) (prepared-accepts (old .acceptor) p f)
+            ∙ ap (λ (t : Bool). cond t (counts here h p counted (announces here h p (enters n old))) (leaves here counted (announces here h p (enters n old)))) other
+            ∙ ap (λ (t : Bool). leaves here counted
+            (cond t (toEach here h (announcedTo here h n) (announced (accepts roundBefore (enters n old .acceptor) p))) [])) asked
+            ∙ ap (λ (t : Bool). leaves here counted (toEach here h (announcedTo here h n) (announced t))) (entry ∙ f)
+            ∙ ap (λ (t : Bool). leaves here counted (toEach here h (cond t [] (but me (learners here h n))) (announced true))) not-leader
+            ∙ ap (λ (qs : List ℕ). leaves here counted (toEach here h qs (announced true))) (but-other me (learners here h n) other)
+            ∙ ap (λ (x : Option (Message PaxosRound ℕ)). leaves here counted (toEach here h (learners here h n) x)) g
 
     -- the replica after one that commits nothing, in a number that is not exceeded
     pub accept-leaves : older ≡ false → callOf shard (Receive d) .reply .commit ≡ NoCommit → replicaIn (callOf shard (Receive d) .shard) ≡ counted

@@ -30,8 +30,27 @@ use Rattle.enter.specs.Enter.{inRound}
 use Rattle.steps.specs.Steps.{heldRv, heldV}
 use Rattle.steps.specs.declared.Asked.{Asked}
 use Rattle.steps.specs.declared.Core.{Core}
+use Rattle.steps.specs.declared.Heard.{Heard}
 use Rattle.paper.specs.Replica.{Replica, reportOf, acceptedOf, wishOf, respondedOf, replicaOf, brings, ownValue, enters, firstWish, unlessAccepted, isThere, newly, alsoSelf, hears, acceptsWith}
-use Rattle.paper.specs.PaperCall.{Seen}
+use Rattle.paper.specs.PaperCall.{Place, Told, Seen, committersIn}
+
+-- ---- places
+
+-- where a call is handled, by what the engine has asked of the settings, and what a message has told it
+abbrev pub placeIn : Asked → ℕ → Core → Place
+placeIn a acceptors core =
+    record {
+      self = a .member .«my_pid»;
+      acceptor = a .member .replica;
+      acceptors = acceptors;
+      start = respondedOf (a .«starting_round»);
+      slot = core .slot;
+      last = core .«last_v»;
+      old = replicaOf (core .paxos);
+    }
+
+abbrev pub toldIn : Asked → Heard → Told
+toldIn a h = record { src = h .src; proposer = h .delegate; requester = h .requester; committers = committersIn (a .mode) (h .committer) }
 
 -- ---- choices
 

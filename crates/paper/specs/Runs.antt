@@ -16,17 +16,15 @@ use Rattle.message.specs.declared.PFMode.{PFMode}
 use Rattle.message.specs.declared.PFMode.the-variants.{Paxos, MultiPaxos, MultiPaxos3P, EPaxos, Pando, SwiftPaxos}
 use Rattle.message.specs.declared.RoundV.{RoundV}
 use Rattle.fast_state.specs.Adopt.{lowestBest}
-use Rattle.settings.specs.Questions.{isReplica}
 use Rattle.settings.specs.declared.Settings.{Settings}
-use Rattle.steps.specs.Steps.{noMessages}
 use Rattle.delivery.specs.declared.Delivery.{Delivery}
 use Rattle.calls.specs.declared.Call.{Call}
 use Rattle.calls.specs.declared.Call.the-variants.{Receive}
 use Rattle.calls.specs.declared.OptionalCommit.the-variants.{NoCommit}
 use Rattle.consensus.specs.Call.{newShard, callOf}
-use Rattle.consensus.specs.FirstCause.{firstCause}
+use Rattle.consensus.specs.FirstCause.{isLive, firstCause}
 use Rattle.consensus.specs.declared.Shard.{Shard}
-use Rattle.paper.specs.PaperCall.{told}
+use Rattle.paper.specs.PaperCall.{inPlaces, toldBy}
 use Rattle.paper.specs.Replica.{Replica, reportOf, ownValue, hears, acceptsWith}
 
 -- the modes of the paper
@@ -46,7 +44,7 @@ pub data Reached : Shard → Type 0 where
 -- a message of the own slot, at a live replica, that no cause refuses
 pub record Handled (shard : Shard) (d : Delivery) (slot : ℕ) : Type 0 where
   pub free : firstCause lowestBest shard (Receive d) ≡ 0
-  pub replica : isReplica (shard .settings) ≡ true
+  pub replica : isLive (shard .settings) (shard .settings .«my_pid») ≡ true
   pub own : ltb slot (shard .state .rounds .core .slot) ≡ false
 
 -- ---- the proposer
@@ -75,7 +73,7 @@ pub record Promised (n : PaxosRound) (shard : Shard) (d : Delivery) (rv : RoundV
   pub slot : ℕ
   pub handled : Handled shard d slot
   pub message : d .message .msg ≡ Prepare slot n rv
-  pub gatherer : eqb (told (shard .settings) d .delegate) (shard .settings .«my_pid») ≡ true
+  pub gatherer : eqb (toldBy (shard .settings) d .proposer) (shard .settings .«my_pid») ≡ true
 
 abbrev pub responseOf : Delivery → RoundV → Response
 responseOf d rv = record { src = d .message .src; brought = rv }
@@ -84,7 +82,7 @@ responseOf d rv = record { src = d .message .src; brought = rv }
 pub data Gathered (n : PaxosRound) (first : Shard) : List Response → Shard → Type 0 where
   nothing-yet : Gathered n first [] first
   one-more : {ps : List Response} {shard : Shard} (d : Delivery) (rv : RoundV) → Gathered n first ps shard → Promised n shard d rv
-      → callOf shard (Receive d) .reply .messages ≡ noMessages
+      → callOf shard (Receive d) .reply .messages ≡ inPlaces []
       → Gathered n first (ps ++ (responseOf d rv ∷ [])) (callOf shard (Receive d) .shard)
 
 -- ---- the learner
