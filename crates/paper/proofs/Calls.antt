@@ -30,6 +30,7 @@ use Rattle.message.specs.Refusals.{refusalNumber}
 use Rattle.message.specs.declared.Refusal.{Refusal}
 use Rattle.message.specs.declared.Refusal.the-variants.{SettingsOutsideLimits, NumberTooLarge, Panic}
 use Rattle.message.specs.declared.RoundV.{RoundV}
+use Rattle.message.specs.declared.RoundV.the-variants.{FastV, PaxosV}
 use Rattle.fast_state.specs.Adopt.{lowestBest}
 use Rattle.read_tracker.specs.declared.Opened.{Opened}
 use Rattle.read_tracker.specs.declared.Opened.the-variants.{Refused as NotOpened, Id}
@@ -62,7 +63,7 @@ use Rattle.consensus.proofs.ByParts.{by-parts}
 use Rattle.consensus.proofs.Entered.{committer-same, prepare-delegate, accept-delegate}
 use Rattle.consensus.proofs.FirstCause.{Gives, first-start, first-cause}
 use Rattle.consensus.proofs.Refusals.{refusal-numbered}
-use Rattle.consensus.specs.FirstCause.{numberOf, isLive, ledFromStart}
+use Rattle.consensus.specs.FirstCause.{numberOf, isLive, leaderDelegate, promiseDelegate, ledFromStart}
 use Rattle.consensus.specs.Handle.{processed, processMessage, onCommit, onReadRequest, onReadResponse, readInserted, afterInsert, startRead, handle}
 use Rattle.consensus.specs.declared.Answer.{Answer}
 use Rattle.consensus.specs.declared.Shard.{Shard}
@@ -70,7 +71,7 @@ use Rattle.paper.specs.Replica.{Replica, respondedOf, enters, takesUp}
 use Rattle.paper.specs.PaperCall.{Seen, Place, Told, placeOf, proposerBy, committersIn, toldBy, seen, commits, inPrepare, receivesPrepare, inAccept, receivesAccept, proposesOwn, received, OfPaxos, InPaxos, LeavesPaxos, beginning, AtBeginning, replicaIn, refusedWith, byRules, paperCall}
 use Rattle.paper.specs.Runs.{ClassicMode, Reached, new, called}
 use Rattle.paper.proofs.Views.{placeIn, toldIn, taken-no, Agrees, agrees, through, no-refusal, agree-both, agree-unless, round-entered, not-exceeded}
-use Rattle.paper.proofs.Handlers.{enter-paper, entered-core, prepared-paper, accepting-paper}
+use Rattle.paper.proofs.Handlers.{not-swift, enter-paper, entered-core, prepared-paper, accepting-paper}
 use Rattle.paper.proofs.Proposals.{proposal-paper}
 
 -- ---- majorities
@@ -121,18 +122,24 @@ place-same shard = ap with (start-same (shard .settings .mode) (shard .settings 
           old = replicaIn shard;
         }
 
-proposer-same : (s : Settings) (m : ConsensusMsg) → gathererOf s m ≡ proposerBy s m
-unfolding gathererIn
-proposer-same s (Prepare slot n rv) = prepare-delegate s slot n rv
-proposer-same s (Accept slot n v) = accept-delegate s slot n v
-proposer-same s (ForwardRequest v) = refl
-proposer-same s (Commit slot v) = refl
-proposer-same s (ReadRequest id) = refl
-proposer-same s (ReadResponse id next) = refl
+-- only SwiftPaxos has another proposer for a promise of the fast path
+promise-proposer : (s : Settings) → hasFastPath (s .mode) ≡ false → (leader : ℕ) (rv : RoundV) → promiseDelegate s leader rv ≡ leaderDelegate s (s .mode) leader
+promise-proposer s classic leader (FastV proposer v) =
+    ap (λ (t : Bool). cond (t && not (eqb leader (s .«my_pid»))) proposer (leaderDelegate s (s .mode) leader)) (not-swift (s .mode) classic)
+promise-proposer s classic leader (PaxosV at v) = refl
 
-told-same : (s : Settings) (d : Delivery) → toldIn (askedOf s) (heardOf s d) ≡ toldBy s d
-told-same s d =
-    ap (with (committerOf s (d .said .requester))) (proposer-same s (d .message .msg))
+proposer-same : (s : Settings) → hasFastPath (s .mode) ≡ false → (m : ConsensusMsg) → gathererOf s m ≡ proposerBy s m
+unfolding gathererIn
+proposer-same s classic (Prepare slot n rv) = prepare-delegate s slot n rv ∙ promise-proposer s classic (n .leader) rv
+proposer-same s classic (Accept slot n v) = accept-delegate s slot n v
+proposer-same s classic (ForwardRequest v) = refl
+proposer-same s classic (Commit slot v) = refl
+proposer-same s classic (ReadRequest id) = refl
+proposer-same s classic (ReadResponse id next) = refl
+
+told-same : (s : Settings) → hasFastPath (s .mode) ≡ false → (d : Delivery) → toldIn (askedOf s) (heardOf s d) ≡ toldBy s d
+told-same s classic d =
+    ap (with (committerOf s (d .said .requester))) (proposer-same s classic (d .message .msg))
     ∙ ap (λ (c : OptionalProcess). with c (proposerBy s (d .message .msg))) (committer-same s (d .said .requester))
   where
     with : OptionalProcess → ℕ → Told
@@ -247,7 +254,7 @@ module _ (shard : Shard) (classic : hasFastPath (shard .settings .mode) ≡ fals
   dispatch-paper (Receive d) p =
       through refl (receive-paper d p)
       (ap (λ (x : Place). received x (toldIn a (heardOf (shard .settings) d)) (d .message .msg)) (place-same shard)
-      ∙ ap (λ (x : Told). received (placeOf shard) x (d .message .msg)) (told-same (shard .settings) d))
+      ∙ ap (λ (x : Told). received (placeOf shard) x (d .message .msg)) (told-same (shard .settings) classic d))
 
   -- a call that is taken follows the rules
   taken-by-rules : (c : Call) → InPaxos c → Agrees (seen (callOf shard c)) (byRules shard c)

@@ -32,15 +32,13 @@ use Rattle.round_state.specs.declared.PaxosState.{PaxosState}
 use Rattle.round_state.specs.declared.PaxosStep.{PaxosStep}
 use Rattle.enter.specs.Enter.{inRound, isOlder, fromLive, enter}
 use Rattle.prepare.specs.Prepare.{holdFirst, mayAnswer, answerPrepare, answersNothing, preparing, afterHeld, prepared, offFastPath, broadcastAccept, afterOwnAccept, acceptPhase, withPromise, becomesPrepared, gather}
-use Rattle.accept.specs.Accept.{tellsCommitter, isCommitter, acceptTo, committerHears, answerAccept, commitMessage, tellsCommit, commitMessages, tryCommit, answered, follower, accepted as acceptedStep, afterAccepted, accepting}
+use Rattle.accept.specs.Accept.{tellsCommitter, isCommitter, acceptTo, committerHears, answerAccept, tellsCommit, commitMessages, tryCommit, answered, follower, accepted as acceptedStep, afterAccepted, accepting}
 use Rattle.paxos_family.specs.Commit.{commitSlot}
-use Rattle.steps.specs.Steps.{noMessages, oneMessage, twoMessages, also, alsoAt, firstServed, sends, toAll, heldV, withPaxos, leftFastPath, stays, continues, refuses, commits as commitsStep, andThen, onRounds}
+use Rattle.steps.specs.Steps.{noMessages, oneMessage, twoMessages, also, firstServed, sends, toAll, heldV, withPaxos, leftFastPath, stays, continues, refuses, commits as commitsStep, andThen, onRounds}
 use Rattle.steps.specs.declared.Asked.{Asked}
 use Rattle.steps.specs.declared.Core.{Core}
 use Rattle.steps.specs.declared.CoreStep.{CoreStep}
 use Rattle.steps.specs.declared.Destination.the-variants.{One, All}
-use Rattle.steps.specs.declared.OptionalMessage.{OptionalMessage}
-use Rattle.steps.specs.declared.OptionalMessage.the-variants.{NoMessage, Send}
 use Rattle.steps.specs.declared.Outgoing.{Outgoing}
 use Rattle.steps.specs.declared.Heard.{Heard}
 use Rattle.steps.specs.declared.Messages.{Messages}
@@ -50,7 +48,7 @@ use Rattle.consensus.specs.FirstCause.{isOneself}
 use Rattle.consensus.specs.declared.Shard.{Shard}
 use Rattle.consensus.proofs.Handled.{eqb-sym}
 use Rattle.paper.specs.Replica.{Replica, acceptedOf, replicaOf, promises, keepsSomething, proposerIn, newly, hears, takesUp, acceptsWith}
-use Rattle.paper.specs.PaperCall.{Seen, Place, Told, seen, inPlaces, isOneOf, but, leaves, nothing, commits, addressed, takesPart, responding, requesting, gathers, inPrepare, learners, isLearner, isLeader, announcedTo, toEach, announces, servedFirst, keepsToItself, informs, learning, counts, inAccept, committersIn}
+use Rattle.paper.specs.PaperCall.{Seen, Place, Told, seen, inPlaces, isOneOf, but, leaves, nothing, commits, addressed, takesPart, responding, requesting, gathers, inPrepare, learners, isLearner, announcedTo, toEach, announces, servedFirst, informs, learning, counts, inAccept, committersIn}
 use Rattle.paper.proofs.Views.{placeIn, toldIn, taken-no, push, once, Agrees, agrees, through, no-refusal, agree-both, agree-unless, held-kept, held-brings, held-value, held-accepted-in, exceeded-older, promise-heard, accept-counted}
 
 -- ---- the classic modes

@@ -7,7 +7,7 @@
 -- the starting round.
 -- Assumes nothing.
 use mathlib.Core.Path.{_≡_}
-use mathlib.Core.Bool.{Bool, true, false, cond, not, _&&_, _||_}
+use mathlib.Core.Bool.{Bool, false, cond, not, _&&_, _||_}
 use mathlib.Core.List.{List, [], _∷_, _++_, map}
 use mathlib.Core.Option.{Option, none, some}
 use Prim.Native.Nat.{ℕ}
@@ -41,7 +41,7 @@ use Rattle.calls.specs.declared.Call.{Call}
 use Rattle.calls.specs.declared.Call.the-variants.{Propose, StartRead, Receive}
 use Rattle.calls.specs.declared.OptionalCommit.{OptionalCommit}
 use Rattle.calls.specs.declared.OptionalCommit.the-variants.{NoCommit, Committed}
-use Rattle.consensus.specs.FirstCause.{numberOf, givenProcess, isLive, isOneself, leaderDelegate, promiseDelegate, valueCommitter, startsIn, firstCause}
+use Rattle.consensus.specs.FirstCause.{numberOf, givenProcess, isLive, isOneself, leaderDelegate, valueCommitter, startsIn, firstCause}
 use Rattle.consensus.specs.declared.Answer.{Answer}
 use Rattle.consensus.specs.declared.Shard.{Shard}
 use Rattle.paper.specs.Replica.{Replica, respondedOf, replicaOf, written, enters, promises, isThere, proposerIn, newly, hears, takesUp, acceptsWith, numberOr}
@@ -159,7 +159,8 @@ module _ (here : Place) where
 
   -- ---- a proposal
 
-  -- Phase 1 (a): "A proposer selects a proposal number n": the next that is its own. DIFFERENCE ("a proposer that is overtaken or gets no answer"): it
+  -- Phase 1 (a): "A proposer selects a proposal number n": of those that it leads, the least that is not before the number to which it has responded
+  -- (`next-leader-own`, `next-leader-least`, crates/message/proofs/NextLeader.antt). DIFFERENCE ("a proposer that is overtaken or gets no answer"): it
   -- does so once in a slot, by the causes of 11.
   abbrev pub ownNumber : PaxosRound
   ownNumber = nextLeaderRound (numberOr defaultRound (here .old .acceptor .responded)) (here .self)
@@ -225,7 +226,8 @@ module _ (here : Place) where
     toEach ps none = []
     toEach ps (some m) = map (λ (p : ℕ). sending none m (One p)) ps
 
-    -- The acceptance of an accept request, which comes from the proposer. Any other Accept is an acceptance, and is not announced again.
+    -- The acceptance of an accept request, which comes from the proposer. Any other Accept is an acceptance; what it brings the replica to accept
+    -- (`inAccept`) is not announced.
     unfoldable pub announces : Proposal PaxosRound ℕ → Replica → List Outgoing
     announces p r = cond (eqb (told .src) (told .proposer)) (toEach (announcedTo (p .number)) (announcement roundBefore (r .acceptor) p)) []
 
@@ -310,7 +312,7 @@ placeOf shard =
 
 -- Section 2.4, the distinguished proposer: the leader of the number, in Pando its delegate (DIFFERENCE, "who proposes"). It gathers the promises.
 abbrev pub proposerBy : Settings → ConsensusMsg → ℕ
-proposerBy s (Prepare slot n rv) = promiseDelegate s (n .leader) rv
+proposerBy s (Prepare slot n rv) = leaderDelegate s (s .mode) (n .leader)
 proposerBy s (Accept slot n v) = leaderDelegate s (s .mode) (n .leader)
 proposerBy s (ForwardRequest v) = 0
 proposerBy s (Commit slot v) = 0
