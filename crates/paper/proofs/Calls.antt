@@ -68,10 +68,11 @@ use Rattle.consensus.specs.Handle.{processed, processMessage, onCommit, onReadR
 use Rattle.consensus.specs.declared.Answer.{Answer}
 use Rattle.consensus.specs.declared.Shard.{Shard}
 use Rattle.paper.specs.Replica.{Replica, respondedOf, enters, takesUp}
-use Rattle.paper.specs.PaperCall.{Seen, Place, Told, placeOf, proposerBy, committersIn, toldBy, seen, commits, inPrepare, receivesPrepare, inAccept, receivesAccept, proposesOwn, received, OfPaxos, InPaxos, LeavesPaxos, beginning, AtBeginning, replicaIn, refusedWith, byRules, paperCall}
+use Rattle.paper.specs.PaperCall.{Seen, Place, Known, placeOf, proposerBy, committersIn, knownOf, seen, commits, inPrepare, receivesPrepare, inAccept, receivesAccept, proposesOwn, received, OfPaxos, InPaxos, LeavesPaxos, beginning, AtBeginning, replicaIn, refusedWith, byRules, paperCall}
 use Rattle.paper.specs.Runs.{ClassicMode, Reached, new, called}
-use Rattle.paper.proofs.Views.{placeIn, toldIn, taken-no, Agrees, agrees, through, no-refusal, agree-both, agree-unless, round-entered, not-exceeded}
-use Rattle.paper.proofs.Handlers.{not-swift, enter-paper, entered-core, prepared-paper, accepting-paper}
+use Rattle.paper.proofs.Views.{placeIn, knownIn, taken-no, Agrees, agrees, through, no-refusal, agree-both, agree-unless, round-entered, not-exceeded}
+use Rattle.paper.proofs.Handlers.{not-swift, enter-paper, entered-core, prepared-paper}
+use Rattle.paper.proofs.Accepting.{accepting-paper}
 use Rattle.paper.proofs.Proposals.{proposal-paper}
 
 -- ---- majorities
@@ -97,7 +98,7 @@ majority-paper s within k =
     small : s .«replica_count» ≤ s .«process_count» → s .«process_count» ≤ 64 → min (s .«replica_count») 64 ≡ s .«replica_count»
     small h g = omega arith
 
--- ---- what is asked of the settings, and what a message tells
+-- ---- what is asked of the settings, and what is known of a message
 
 start-same : (m : PFMode) (leader : ℕ) → startingRound m leader ≡ cond (ledFromStart m) (Round (roundOf 0 leader)) NoRound
 start-same Paxos leader = refl
@@ -137,12 +138,12 @@ proposer-same s classic (Commit slot v) = refl
 proposer-same s classic (ReadRequest id) = refl
 proposer-same s classic (ReadResponse id next) = refl
 
-told-same : (s : Settings) → hasFastPath (s .mode) ≡ false → (d : Delivery) → toldIn (askedOf s) (heardOf s d) ≡ toldBy s d
-told-same s classic d =
+known-same : (s : Settings) → hasFastPath (s .mode) ≡ false → (d : Delivery) → knownIn (askedOf s) (heardOf s d) ≡ knownOf s d
+known-same s classic d =
     ap (with (committerOf s (d .said .requester))) (proposer-same s classic (d .message .msg))
     ∙ ap (λ (c : OptionalProcess). with c (proposerBy s (d .message .msg))) (committer-same s (d .said .requester))
   where
-    with : OptionalProcess → ℕ → Told
+    with : OptionalProcess → ℕ → Known
     with committer proposer =
         record { src = d .message .src; proposer = proposer; requester = d .said .requester; committers = committersIn (s .mode) committer }
 
@@ -171,8 +172,8 @@ module _ (shard : Shard) (classic : hasFastPath (shard .settings .mode) ≡ fals
     abbrev here : Place
     here = placeIn a acceptors core
 
-    abbrev told : Told
-    told = toldIn a h
+    abbrev known : Known
+    known = knownIn a h
 
     abbrev there : Bool
     there = d .said .«value_held»
@@ -180,24 +181,24 @@ module _ (shard : Shard) (classic : hasFastPath (shard .settings .mode) ≡ fals
     abbrev seenStep : CoreStep → Seen
     seenStep step = seen (finish shard a there (onRounds (shard .state .rounds .fast) step))
 
-    prepare-paper : (slot : ℕ) (n : PaxosRound) (rv : RoundV) → Agrees (seenStep (onPrepare a h slot n rv core)) (receivesPrepare here told slot n rv)
+    prepare-paper : (slot : ℕ) (n : PaxosRound) (rv : RoundV) → Agrees (seenStep (onPrepare a h slot n rv core)) (receivesPrepare here known slot n rv)
     unfolding onPrepare inPrepareStep receivesPrepare
     prepare-paper slot n rv =
-        enter-paper shard a h there acceptors classic quorum slot n (inPrepareStep a h n rv) (inPrepare here told n rv (takesUp (here .self) rv (enters n old)))
+        enter-paper shard a h there acceptors classic quorum slot n (inPrepareStep a h n rv) (inPrepare here known n rv (takesUp (here .self) rv (enters n old)))
         (λ replica free.
         through (ap (λ (c : Core). seenStep (andThen (prepared a h n rv c) (gather a h n rv))) (entered-core shard a h there acceptors classic quorum n))
         (prepared-paper shard a h there acceptors classic quorum replica n rv (inRound n core .paxos) (not-exceeded n core free))
-        (ap (λ (r : Replica). inPrepare here told n rv (takesUp (here .self) rv r)) (round-entered n core)))
+        (ap (λ (r : Replica). inPrepare here known n rv (takesUp (here .self) rv r)) (round-entered n core)))
 
     accept-paper : (slot : ℕ) (n : PaxosRound) (v : ℕ)
-        → Agrees (seenStep (onAccept a h slot n v core)) (receivesAccept here told slot (record { number = n; value = v }))
+        → Agrees (seenStep (onAccept a h slot n v core)) (receivesAccept here known slot (record { number = n; value = v }))
     unfolding onAccept receivesAccept accepts
     accept-paper slot n v =
-        enter-paper shard a h there acceptors classic quorum slot n (accepting a h n v) (inAccept here told (record { number = n; value = v }) (enters n old))
+        enter-paper shard a h there acceptors classic quorum slot n (accepting a h n v) (inAccept here known (record { number = n; value = v }) (enters n old))
         (λ replica free.
         through (ap (λ (c : Core). seenStep (accepting a h n v c)) (entered-core shard a h there acceptors classic quorum n))
         (accepting-paper shard a h there acceptors classic quorum replica n v (inRound n core .paxos) (not-exceeded n core free))
-        (ap (inAccept here told (record { number = n; value = v })) (round-entered n core)))
+        (ap (inAccept here known (record { number = n; value = v })) (round-entered n core)))
 
     -- in the classic modes the message is handled by the core alone
     by-core : (m : ConsensusMsg) → d .message .msg ≡ m → seen (processMessage lowestBest shard d) ≡ seenStep (processClassic a h m core)
@@ -208,7 +209,7 @@ module _ (shard : Shard) (classic : hasFastPath (shard .settings .mode) ≡ fals
         (onRounds (shard .state .rounds .fast) (processClassic a h (d .message .msg) core)) classic
         ∙ ap (λ (x : ConsensusMsg). seenStep (processClassic a h x core)) e
 
-    handled-paper : (m : ConsensusMsg) → d .message .msg ≡ m → OfPaxos m → Agrees (seen (handle lowestBest shard d m)) (received here told m)
+    handled-paper : (m : ConsensusMsg) → d .message .msg ≡ m → OfPaxos m → Agrees (seen (handle lowestBest shard d m)) (received here known m)
     unfolding handle processClassic onCommit committed commitSlot received
     handled-paper (Prepare slot n rv) e p = through (by-core (Prepare slot n rv) e) (prepare-paper slot n rv) refl
     handled-paper (Accept slot n v) e p = through (by-core (Accept slot n v) e) (accept-paper slot n v) refl
@@ -228,11 +229,11 @@ module _ (shard : Shard) (classic : hasFastPath (shard .settings .mode) ≡ fals
     handled-paper (ReadRequest id) e p = absurd p
     handled-paper (ReadResponse id next) e p = absurd p
 
-    receive-paper : OfPaxos (d .message .msg) → Agrees (seen (receive lowestBest shard d)) (received here told (d .message .msg))
+    receive-paper : OfPaxos (d .message .msg) → Agrees (seen (receive lowestBest shard d)) (received here known (d .message .msg))
     unfolding receive
     receive-paper p = go (admit (shard .settings .«process_count») (shard .settings .«my_pid») core d)
       where
-        go : (o : Outcome) → Agrees (seen (admitted lowestBest shard d o)) (received here told (d .message .msg))
+        go : (o : Outcome) → Agrees (seen (admitted lowestBest shard d o)) (received here known (d .message .msg))
         go Done = handled-paper (d .message .msg) refl p
         go (Refused why) = no-refusal (refusal-numbered why)
 
@@ -253,8 +254,8 @@ module _ (shard : Shard) (classic : hasFastPath (shard .settings .mode) ≡ fals
   dispatch-paper (StartRead tag arrival) p = absurd p
   dispatch-paper (Receive d) p =
       through refl (receive-paper d p)
-      (ap (λ (x : Place). received x (toldIn a (heardOf (shard .settings) d)) (d .message .msg)) (place-same shard)
-      ∙ ap (λ (x : Told). received (placeOf shard) x (d .message .msg)) (told-same (shard .settings) classic d))
+      (ap (λ (x : Place). received x (knownIn a (heardOf (shard .settings) d)) (d .message .msg)) (place-same shard)
+      ∙ ap (λ (x : Known). received (placeOf shard) x (d .message .msg)) (known-same (shard .settings) classic d))
 
   -- a call that is taken follows the rules
   taken-by-rules : (c : Call) → InPaxos c → Agrees (seen (callOf shard c)) (byRules shard c)

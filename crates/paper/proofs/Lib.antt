@@ -1,5 +1,6 @@
 pub mod Views
 pub mod Handlers
+pub mod Accepting
 pub mod Proposals
 pub mod Calls
 pub mod Consequences

@@ -28,7 +28,7 @@ use Rattle.calls.specs.declared.OptionalCommit.the-variants.{NoCommit, Committe
 use Rattle.consensus.specs.Call.{callOf}
 use Rattle.consensus.specs.declared.Shard.{Shard}
 use Rattle.paper.specs.Replica.{Replica, reportOf, enters, promises, unlessAccepted, isThere, keepsSomething, proposerIn, newly, alsoSelf, hears, takesUp, acceptsWith}
-use Rattle.paper.specs.PaperCall.{Told, toldBy, isOneOf, but, Seen, Place, placeOf, seen, leaves, nothing, commits, sending, takesPart, responding, requesting, gathers, inPrepare, learners, isLearner, isLeader, announcedTo, toEach, announces, informs, learning, counts, inAccept, receivesPrepare, receivesAccept, received, OfPaxos, replicaIn, refusedWith, byRules, paperCall}
+use Rattle.paper.specs.PaperCall.{Known, knownOf, isOneOf, but, Seen, Place, placeOf, seen, leaves, nothing, commits, sending, takesPart, responding, requesting, gathers, inPrepare, learners, isLearner, isLeader, announcedTo, toEach, announces, informs, learning, counts, inAccept, receivesPrepare, receivesAccept, received, OfPaxos, replicaIn, refusedWith, byRules, paperCall}
 use Rattle.paper.specs.Runs.{Handled, Response, hearsAll, withAll}
 use Rattle.paper.proofs.Calls.{call-as-paper}
 use Rattle.paper.proofs.Consequences.{heard-keeps, heard-last, proposes-of-all}
@@ -106,8 +106,8 @@ but-other p (q ∷ qs) e = go (eqb p q) (but-other p qs) e
 
 module _ (shard : Shard) (classic : hasFastPath (shard .settings .mode) ≡ false) (within : withinLimits (shard .settings) ≡ true) (d : Delivery) (slot : ℕ)
     (n : PaxosRound) (handled : Handled shard d slot) where
-  abbrev h : Told
-  h = toldBy (shard .settings) d
+  abbrev h : Known
+  h = knownOf (shard .settings) d
 
   abbrev acceptors : ℕ
   acceptors = shard .settings .«replica_count»

@@ -32,11 +32,11 @@ use Rattle.steps.specs.declared.Asked.{Asked}
 use Rattle.steps.specs.declared.Core.{Core}
 use Rattle.steps.specs.declared.Heard.{Heard}
 use Rattle.paper.specs.Replica.{Replica, reportOf, acceptedOf, wishOf, respondedOf, replicaOf, brings, ownValue, enters, firstWish, unlessAccepted, isThere, newly, alsoSelf, hears, acceptsWith}
-use Rattle.paper.specs.PaperCall.{Place, Told, Seen, committersIn}
+use Rattle.paper.specs.PaperCall.{Place, Known, Seen, committersIn}
 
 -- ---- places
 
--- where a call is handled, by what the engine has asked of the settings, and what a message has told it
+-- where a call is handled, by what the engine has asked of the settings, and what it knows of a message
 abbrev pub placeIn : Asked → ℕ → Core → Place
 placeIn a acceptors core =
     record {
@@ -49,8 +49,8 @@ placeIn a acceptors core =
       old = replicaOf (core .paxos);
     }
 
-abbrev pub toldIn : Asked → Heard → Told
-toldIn a h = record { src = h .src; proposer = h .delegate; requester = h .requester; committers = committersIn (a .mode) (h .committer) }
+abbrev pub knownIn : Asked → Heard → Known
+knownIn a h = record { src = h .src; proposer = h .delegate; requester = h .requester; committers = committersIn (a .mode) (h .committer) }
 
 -- ---- choices
 

@@ -108,8 +108,8 @@ pub record Place : Type 0 where
   pub last : OptionalValue
   pub old : Replica
 
--- what a message tells besides its own fields: its source, the proposer in its number, and the requester and the committers of its value
-pub record Told : Type 0 where
+-- what is known of a message besides its own fields: its source, the proposer in its number, and the requester and the committers of its value
+pub record Known : Type 0 where
   pub src : ℕ
   pub proposer : ℕ
   pub requester : OptionalProcess
@@ -179,24 +179,24 @@ module _ (here : Place) where
       (requesting (begins v) (some (proposalOf roundBefore (proposerIn ownNumber (begins v)))))
       (leaves (begins v) (sending (begins v .wish) (asks roundBefore (proposerIn ownNumber (begins v))) (All NoProcess) ∷ []))
 
-  module _ (told : Told) where
+  module _ (known : Known) where
     -- ---- Prepare
 
     -- Phase 1 (b): the response, to the proposer
     unfoldable pub responding : Replica → Option (Message PaxosRound ℕ) → Seen
     responding r none = leaves r []
-    responding r (some m) = leaves r (sending (r .wish) m (One (told .proposer)) ∷ [])
+    responding r (some m) = leaves r (sending (r .wish) m (One (known .proposer)) ∷ [])
 
     -- it hears the promise, and proposes when a majority has responded
     unfoldable pub gathers : PaxosRound → RoundV → Replica → Seen
     gathers n rv r =
-        requesting (hears (here .self) (told .src) rv r)
+        requesting (hears (here .self) (known .src) rv r)
         (newly (proposes roundBefore (here .acceptors) (proposerIn n r))
-        (proposes roundBefore (here .acceptors) (proposerIn n (hears (here .self) (told .src) rv r))))
+        (proposes roundBefore (here .acceptors) (proposerIn n (hears (here .self) (known .src) rv r))))
 
     -- a Prepare is a promise at the proposer, and a prepare request at every other
     unfoldable pub inPrepare : PaxosRound → RoundV → Replica → Seen
-    inPrepare n rv r = cond (eqb (told .proposer) (here .self)) (gathers n rv r) (responding r (promises n r))
+    inPrepare n rv r = cond (eqb (known .proposer) (here .self)) (gathers n rv r) (responding r (promises n r))
 
     -- one of a number lower than that to which it has responded is ignored
     unfoldable pub receivesPrepare : ℕ → PaxosRound → RoundV → Seen
@@ -208,9 +208,10 @@ module _ (here : Place) where
     -- ---- Accept
 
     -- Section 2.3: "the acceptors could respond with their acceptances to some set of distinguished learners, each of which can then inform all the
-    -- learners when a value has been chosen". Those of a number are the committers of the value and the leader, in the order in which they are told.
+    -- learners when a value has been chosen". Those of a number are the committer of the value, where there is one and it is another, and the leader, in the
+    -- order in which they are told.
     abbrev pub learners : PaxosRound → List ℕ
-    learners n = but (n .leader) (told .committers) ++ (n .leader ∷ [])
+    learners n = but (n .leader) (known .committers) ++ (n .leader ∷ [])
 
     abbrev pub isLearner : PaxosRound → Bool
     isLearner n = isOneOf (here .self) (learners n)
@@ -229,7 +230,7 @@ module _ (here : Place) where
     -- The acceptance of an accept request, which comes from the proposer. Any other Accept is an acceptance; what it brings the replica to accept
     -- (`inAccept`) is not announced.
     unfoldable pub announces : Proposal PaxosRound ℕ → Replica → List Outgoing
-    announces p r = cond (eqb (told .src) (told .proposer)) (toEach (announcedTo (p .number)) (announcement roundBefore (r .acceptor) p)) []
+    announces p r = cond (eqb (known .src) (known .proposer)) (toEach (announcedTo (p .number)) (announcement roundBefore (r .acceptor) p)) []
 
     -- DIFFERENCE ("what a message carries besides"): a Commit goes to the requester of its value first, where that is another process
     abbrev pub servedFirst : OptionalProcess → OptionalProcess
@@ -238,13 +239,13 @@ module _ (here : Place) where
 
     -- DIFFERENCE ("how a chosen value is learned"): a learner that is itself the requester of the value, and not the leader, informs nobody
     abbrev pub keepsToItself : PaxosRound → Bool
-    keepsToItself n = isOneself (told .requester) (here .self) && not (isLeader n)
+    keepsToItself n = isOneself (known .requester) (here .self) && not (isLeader n)
 
     -- a distinguished learner that finds the value chosen informs all
     unfoldable pub informs : Proposal PaxosRound ℕ → List Outgoing
     informs p =
         cond (keepsToItself (p .number)) []
-        (addressed (All (servedFirst (told .requester))) (Commit (here .slot) (p .value)) ∷ [])
+        (addressed (All (servedFirst (known .requester))) (Commit (here .slot) (p .value)) ∷ [])
 
     -- the value that a majority has accepted is committed
     unfoldable pub learning : Proposal PaxosRound ℕ → Replica → List Outgoing → Option ℕ → Seen
@@ -258,8 +259,8 @@ module _ (here : Place) where
     unfoldable pub inAccept : Proposal PaxosRound ℕ → Replica → Seen
     inAccept p r =
         cond (isLearner (p .number))
-        (counts p (acceptsWith (here .self) (told .src) p r) (announces p r))
-        (leaves (acceptsWith (here .self) (told .src) p r) (announces p r))
+        (counts p (acceptsWith (here .self) (known .src) p r) (announces p r))
+        (leaves (acceptsWith (here .self) (known .src) p r) (announces p r))
 
     -- Phase 2 (b): the proposal is accepted unless a prepare request of a greater number was responded to. DIFFERENCE ("an accept request"): its number
     -- is entered.
@@ -328,9 +329,9 @@ committersIn EPaxos committer = []
 committersIn Pando committer = []
 committersIn SwiftPaxos committer = []
 
--- what a message tells, with the requester that the host names for its value
-abbrev pub toldBy : Settings → Delivery → Told
-toldBy s d =
+-- what is known of a message, with the requester that the host names for its value
+abbrev pub knownOf : Settings → Delivery → Known
+knownOf s d =
     record {
       src = d .message .src;
       proposer = proposerBy s (d .message .msg);
@@ -342,7 +343,7 @@ toldBy s d =
 unfoldable pub byRules : Shard → Call → Seen
 byRules shard (Propose v) = proposesOwn (placeOf shard) v
 byRules shard (StartRead tag arrival) = nothing (placeOf shard)
-byRules shard (Receive d) = received (placeOf shard) (toldBy (shard .settings) d) (d .message .msg)
+byRules shard (Receive d) = received (placeOf shard) (knownOf (shard .settings) d) (d .message .msg)
 
 -- a refusal is its number, and nothing else happens
 abbrev pub refusedWith : ℕ → Shard → Seen

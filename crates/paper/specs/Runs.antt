@@ -24,7 +24,7 @@ use Rattle.calls.specs.declared.OptionalCommit.the-variants.{NoCommit}
 use Rattle.consensus.specs.Call.{newShard, callOf}
 use Rattle.consensus.specs.FirstCause.{isLive, firstCause}
 use Rattle.consensus.specs.declared.Shard.{Shard}
-use Rattle.paper.specs.PaperCall.{inPlaces, toldBy}
+use Rattle.paper.specs.PaperCall.{inPlaces, knownOf}
 use Rattle.paper.specs.Replica.{Replica, reportOf, ownValue, hears, acceptsWith}
 
 -- the modes of the paper
@@ -73,7 +73,7 @@ pub record Promised (n : PaxosRound) (shard : Shard) (d : Delivery) (rv : RoundV
   pub slot : ℕ
   pub handled : Handled shard d slot
   pub message : d .message .msg ≡ Prepare slot n rv
-  pub gatherer : eqb (toldBy (shard .settings) d .proposer) (shard .settings .«my_pid») ≡ true
+  pub gatherer : eqb (knownOf (shard .settings) d .proposer) (shard .settings .«my_pid») ≡ true
 
 abbrev pub responseOf : Delivery → RoundV → Response
 responseOf d rv = record { src = d .message .src; brought = rv }
