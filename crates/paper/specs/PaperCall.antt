@@ -148,7 +148,8 @@ module _ (here : Place) where
   abbrev pub sending : Option RoundV → Message PaxosRound ℕ → Destination → Outgoing
   sending wish m destination = addressed destination (written (here .slot) wish m)
 
-  -- DIFFERENCE ("a message of a slot that is committed"): an acceptor takes part in its own slot alone, and ignores an older one
+  -- DIFFERENCE ("a process that is no acceptor"): as a proposer and as a learner as well, an acceptor alone takes part. DIFFERENCE ("a message of a slot that
+  -- is committed"): it does so in its own slot alone, and ignores an older one.
   abbrev pub takesPart : ℕ → Bool
   takesPart slot = here .acceptor && not (ltb slot (here .slot))
 
@@ -198,7 +199,8 @@ module _ (here : Place) where
     unfoldable pub inPrepare : PaxosRound → RoundV → Replica → Seen
     inPrepare n rv r = cond (eqb (known .proposer) (here .self)) (gathers n rv r) (responding r (promises n r))
 
-    -- one of a number lower than that to which it has responded is ignored
+    -- One of a number lower than that to which it has responded is ignored. A proposer so abandons a number of its own, which it may: "It can abandon a
+    -- proposal in the middle of the protocol at any time".
     unfoldable pub receivesPrepare : ℕ → PaxosRound → RoundV → Seen
     receivesPrepare slot n rv =
         cond (takesPart slot && not (exceeded roundBefore (here .old .acceptor .responded) n))
@@ -255,15 +257,16 @@ module _ (here : Place) where
     abbrev pub counts : Proposal PaxosRound ℕ → Replica → List Outgoing → Seen
     counts p r ms = learning p r ms (learns roundBefore (here .acceptors) (size (r .agreed)) p)
 
-    -- DIFFERENCE ("an answer to an accept request"): a learner that gets an acceptance accepts as well, as if it were an accept request
+    -- The source is counted. DIFFERENCE ("requests and answers"): also that of an accept request, whose own acceptor has accepted. DIFFERENCE ("an answer to
+    -- an accept request"): a learner that gets an acceptance accepts as well, as if it were an accept request.
     unfoldable pub inAccept : Proposal PaxosRound ℕ → Replica → Seen
     inAccept p r =
         cond (isLearner (p .number))
         (counts p (acceptsWith (here .self) (known .src) p r) (announces p r))
         (leaves (acceptsWith (here .self) (known .src) p r) (announces p r))
 
-    -- Phase 2 (b): the proposal is accepted unless a prepare request of a greater number was responded to. DIFFERENCE ("an accept request"): its number
-    -- is entered.
+    -- Phase 2 (b): the proposal is accepted unless a prepare request of a greater number was responded to. DIFFERENCE ("an acceptance with a lower number"): a
+    -- learner that has responded to a greater number ignores an acceptance as well. DIFFERENCE ("an accept request"): its number is entered.
     unfoldable pub receivesAccept : ℕ → Proposal PaxosRound ℕ → Seen
     receivesAccept slot p = cond (takesPart slot && accepts roundBefore (here .old .acceptor) p) (inAccept p (enters (p .number) (here .old))) nothing
 

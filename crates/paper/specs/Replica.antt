@@ -120,8 +120,8 @@ promises n r = cond (ignores roundBefore (r .acceptor) n) none (some (promise n 
 
 -- ---- the proposer
 
--- DIFFERENCE ("an answer to an accept request"): the replica itself (me) is counted with each one that it hears, since it promises and accepts too; so the
--- own promise is counted with each one that is heard
+-- DIFFERENCE ("the own promise", "an answer to an accept request"): the replica itself (me) is counted with each one that it hears, since it promises and
+-- accepts too
 abbrev pub alsoSelf : ℕ → ℕ → ℕ → ℕ
 alsoSelf me src set = insert (insert set src) me
 
