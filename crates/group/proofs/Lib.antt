@@ -18,5 +18,4 @@ pub mod ModeExamples
 pub mod SwiftSets
 pub mod SwiftDisagrees
 pub mod GroupOfOne
-pub mod Runs
 pub mod Steps

@@ -1,3 +1,2 @@
 pub mod Claim
-pub mod Group
 pub mod Steps

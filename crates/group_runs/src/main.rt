@@ -6,7 +6,7 @@ use calls::OptionalCommit;
 use calls::Reply;
 use delivery::Delivery;
 use delivery::Said;
-use group::Group;
+use group_by_value::Group;
 use message::ConsensusMessage;
 use message::ConsensusMsg;
 use message::OptionalProcess;

@@ -1,4 +1,4 @@
--- `group::Group::new` meets its contract.
+-- `group_by_value::Group::new` meets its contract.
 -- Assumes nothing.
 use borrow.Author.Needs.{needs}
 use mathlib.Core.List.{List}
@@ -9,9 +9,9 @@ use native.Mathlib.Omega.{arith}
 use lib.ListN.{replicate, set}
 use Rattle.consensus.specs.Call.{newShard}
 use Rattle.consensus.specs.declared.Shard.{Shard}
-use Rattle.group.specs.Group.{newMembers}
-use Rattle.group.proofs.Group.new.Statement.{statement}
-use Rattle.group.proofs.Group.new.Tie as tie
+use Rattle.group_by_value.specs.Group.{newMembers}
+use Rattle.group_by_value.proofs.Group.new.Statement.{statement}
+use Rattle.group_by_value.proofs.Group.new.Tie as tie
 
 abbrev Inv-loop : tie.InvT-loop
 Inv-loop settings members₀ i₀ members i = (i ≤ 64) × (members ≡ newMembers settings i)

@@ -17,11 +17,11 @@ use Rattle.fast_state.specs.Adopt.{lowestBest}
 use Rattle.consensus.specs.Call.{callOf}
 use Rattle.calls.specs.declared.Call.{Call}
 use Rattle.consensus.specs.declared.Shard.{Shard}
 use Rattle.group.specs.Claim.{begun, ours, MemberCall, Entry, entryOf, afterCall, entriesFrom, entries, LegalFrom, Legal, Claim, NotSwift}
-use Rattle.group.specs.Group.{newMembers, newGroup, shardAt, replaced, called, logFrom, logOf}
-use Rattle.group.specs.declared.Group.{Group}
-use Rattle.group.specs.declared.GroupAnswer.{GroupAnswer}
+use Rattle.group_by_value.specs.Group.{newMembers, newGroup, shardAt, replaced, called, logFrom, logOf}
+use Rattle.group_by_value.specs.declared.Group.{Group}
+use Rattle.group_by_value.specs.declared.GroupAnswer.{GroupAnswer}
 use Rattle.group.proofs.Agreement.{agreement}
 
 -- ---- a new group
 

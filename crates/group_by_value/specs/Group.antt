@@ -1,4 +1,5 @@
--- A group by value, for test runs: an array of shards, of which a call replaces one. Its runs are those of Claim.antt (proofs/Runs.antt).
+-- A group by value, for test runs: an array of shards, of which a call replaces one.
+-- Its runs are those of the claim (proofs/Runs.antt).
 -- Assumes nothing.
 use mathlib.Core.Bool.{cond}
 use mathlib.Core.List.{List, [], _∷_}
@@ -12,9 +13,9 @@ use Rattle.consensus.specs.Call.{callOf}
 use Rattle.consensus.specs.declared.Answer.{Answer}
 use Rattle.calls.specs.declared.Call.{Call}
 use Rattle.consensus.specs.declared.Shard.{Shard}
 use Rattle.group.specs.Claim.{begun, Entry, MemberCall}
-use Rattle.group.specs.declared.Group.{Group}
-use Rattle.group.specs.declared.GroupAnswer.{GroupAnswer}
+use Rattle.group_by_value.specs.declared.Group.{Group}
+use Rattle.group_by_value.specs.declared.GroupAnswer.{GroupAnswer}
 
 -- the shards of the first n members, each new; the places behind them have the first one's
 unfoldable pub newMembers : Settings → ℕ → List Shard

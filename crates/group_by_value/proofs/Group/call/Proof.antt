@@ -1,4 +1,4 @@
--- `group::Group::call` meets its contract.
+-- `group_by_value::Group::call` meets its contract.
 -- Assumes nothing.
 use borrow.Author.Tests.{lt-ltb, le-ltb}
 use mathlib.Core.Bool.{Bool, cond}
@@ -11,11 +11,11 @@ use Rattle.consensus.specs.Answers.{refused}
 use Rattle.consensus.specs.Call.{callOf}
 use Rattle.consensus.specs.declared.Answer.{Answer}
 use Rattle.consensus.specs.declared.Shard.{Shard}
-use Rattle.group.specs.Group.{shardAt, replaced, called}
+use Rattle.group_by_value.specs.Group.{shardAt, replaced, called}
 use Rattle.basics.proofs.Places.{past}
 use borrow.Author.Needs.{needs}
-use Rattle.group.proofs.Group.call.Statement.{statement}
-use Rattle.group.proofs.Group.call.Tie as tie
+use Rattle.group_by_value.proofs.Group.call.Statement.{statement}
+use Rattle.group_by_value.proofs.Group.call.Tie as tie
 
 mul-shard : tie.Need-mul-shard
 mul-shard c = search needs
