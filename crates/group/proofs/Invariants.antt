@@ -87,7 +87,7 @@ use Rattle.group.specs.Steps.{isDone}
 use Rattle.group.proofs.View.{LeaderIn}
 use Rattle.group.proofs.Answering.{FastFits, size-bound, no-answers-fit, ProposerFits}
 use Rattle.group.proofs.StepBounds.{GroupFits, RoundFits, StateFits, none-accepted, only-empty, CoreFits, MessageFits, RoundsFit, processed-fits, proposing-fits}
-use Rattle.group.proofs.Sending.{Holds}
+use Rattle.group.proofs.Handlers.{Holds}
 
 not-true : (b : Bool) → T (not b) → b ≡ false
 not-true true t = absurd t

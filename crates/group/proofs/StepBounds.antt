@@ -9,61 +9,47 @@ use native.Mathlib.Omega.{arith}
 use lib.Dec.{T, eqb, eqb→eq, ltb}
 use borrow.Author.Tests.{ltb-true, ltb-false, eqb-true}
 use Rattle.basics.proofs.Tests.{either, not-both, fails, or-cases, of-both}
-use Rattle.sets.specs.Sets.{contains, insert, size, isEmpty, one}
+use Rattle.sets.specs.Sets.{contains, insert, size, one}
 use Rattle.sets.proofs.Laws.{contains-empty, contains-insert, contains-insert-same, insert-none, size-insert, within-insert}
 use Rattle.tables.specs.Tables.{lookUp, store}
-use Rattle.message.specs.Modes.{hasFastPath, isMultiPaxos, isSwiftPaxos}
+use Rattle.message.specs.Modes.{hasFastPath, isSwiftPaxos}
 use Rattle.message.specs.Rounds.{increment, before, isRound}
 use Rattle.message.proofs.NextLeader.{increment-next}
 use Rattle.message.specs.declared.ConsensusMsg.{ConsensusMsg}
 use Rattle.message.specs.declared.ConsensusMsg.the-variants.{Prepare, Accept, ForwardRequest, Commit, ReadRequest, ReadResponse}
 use Rattle.message.specs.declared.OptionalRound.{OptionalRound}
 use Rattle.message.specs.declared.OptionalRound.the-variants.{NoRound, Round}
-use Rattle.message.specs.declared.OptionalValue.{OptionalValue}
-use Rattle.message.specs.declared.OptionalValue.the-variants.{NoValue, Value}
-use Rattle.message.specs.declared.Outcome.{Outcome}
-use Rattle.message.specs.declared.Outcome.the-variants.{Done, Refused}
+use Rattle.message.specs.declared.Outcome.the-variants.{Done}
 use Rattle.message.specs.declared.PaxosRound.{PaxosRound}
 use Rattle.message.specs.declared.RoundV.{RoundV}
-use Rattle.message.specs.declared.RoundV.the-variants.{FastV, PaxosV}
-use Rattle.message.specs.Promises.{isProcess, acceptRoundOf}
-use Rattle.round_state.specs.Paxos.{isHeld, getV, getLastAcceptedRound, heldAfterPromise, isPrepared, paxosCanCommit, withSender, withOwn, counted, withHeld, gotoRound, receivePromise, paxosProposeV, acceptFits, receiveAccept, acceptOwn, selfAccept, adoptFromEpaxos}
+use Rattle.message.specs.declared.RoundV.the-variants.{PaxosV}
+use Rattle.message.specs.Promises.{acceptRoundOf}
+use Rattle.round_state.specs.Paxos.{getLastAcceptedRound, heldAfterPromise, withSender, withOwn, counted, withHeld, gotoRound, receivePromise, afterAccept}
 use Rattle.round_state.specs.declared.HeldPromise.{HeldPromise}
 use Rattle.round_state.specs.declared.HeldPromise.the-variants.{NothingHeld, Held}
 use Rattle.round_state.specs.declared.Member.{Member}
 use Rattle.round_state.specs.declared.PaxosState.{PaxosState}
-use Rattle.round_state.specs.declared.PaxosStep.{PaxosStep}
 use Rattle.sets.specs.declared.OptionalSet.{OptionalSet}
-use Rattle.fast_state.specs.Adopt.{Choice, epaxosTryAdoptAfter}
-use Rattle.fast_state.specs.Fast.{answersOf, changed, unchanged, toVAfter, epaxosScoresAfter, swiftScoresAfter, preacceptedAfter, secondAnswer, isUnanswered, scoreAfter, epaxosCounted, epaxosAnswered, epaxosProposeV, epaxosCanCommit, inQuorum, swiftCounted, swiftRecorded, swiftUncounted, swiftFirst, swiftAnswered, swiftOwn, swiftUnanswered, swiftProposeV}
-use Rattle.fast_state.specs.declared.Adoption.{Adoption}
-use Rattle.fast_state.specs.declared.Adoption.the-variants.{NoAdoption, Adopt, AdoptionRefused}
-use Rattle.fast_state.specs.declared.FastAnswers.{FastAnswers}
-use Rattle.fast_state.specs.declared.FastChange.{FastChange}
+use Rattle.fast_state.specs.Adopt.{Choice}
+use Rattle.fast_state.specs.Fast.{answersOf, changed, unchanged, toVAfter, epaxosScoresAfter, swiftScoresAfter, preacceptedAfter, secondAnswer, isUnanswered, scoreAfter, epaxosCounted, epaxosAnswered, epaxosProposeV, inQuorum, swiftCounted, swiftRecorded, swiftUncounted, swiftFirst, swiftAnswered, swiftOwn, swiftUnanswered, swiftProposeV}
 use Rattle.fast_state.specs.declared.FastState.{FastState}
 use Rattle.fast_state.specs.declared.FastStep.{FastStep}
-use Rattle.accept.specs.Accept.{isCommitter, answerAccept, tryCommit, answered, follower, accepted, afterAccepted, accepting}
-use Rattle.enter.specs.Enter.{canPropose, sourceTaken, inRound, isOlder, fromLive, enter}
-use Rattle.epaxos_path.specs.EPaxos.{adopting, epaxosAdopt, epaxosDecide, afterEpaxosAnswer, epaxosAnswer}
-use Rattle.prepare.specs.Prepare.{holdFirst, mayAnswer, answerPrepare, answersNothing, preparing, afterHeld, prepared, offFastPath, broadcastAccept, afterOwnAccept, acceptPhase, withPromise, becomesPrepared, gather, hasAccepted}
-use Rattle.paxos_family.specs.Process.{inPrepare, onPrepare, onAccept, processClassic, fastPrepared, fastPromised, leadsRound, startsAccept, waits, fastAnswered, fastGather, inFastPrepare, onFastPrepare, replicaAccept, inFastAccept, onFastAccept, processChange, processFast}
-use Rattle.propose.specs.Propose.{proposalRound, mayPropose, proposed, proposePrepare, afterOwnPromise, proposeAccept, proposeClassic, afterOwnAnswer, ownAnswer, leadsFromStart, proposeChange, proposeFast}
-use Rattle.steps.specs.Steps.{goesOn, noMessages, stays, continues, refuses, andThen, andThenChange, withPaxos, leftFastPath, onRounds, changeRounds}
+use Rattle.accept.specs.Accept.{answered, accepted}
+use Rattle.enter.specs.Enter.{sourceTaken}
+use Rattle.propose.specs.Propose.{proposalRound, mayPropose, ownAnswer}
+use Rattle.steps.specs.Steps.{stays, withPaxos, onRounds, changeRounds}
 use Rattle.steps.specs.declared.Asked.{Asked}
 use Rattle.steps.specs.declared.ChangeStep.{ChangeStep}
 use Rattle.steps.specs.declared.Core.{Core}
 use Rattle.steps.specs.declared.CoreStep.{CoreStep}
 use Rattle.steps.specs.declared.Heard.{Heard}
-use Rattle.steps.specs.declared.Messages.{Messages}
 use Rattle.steps.specs.declared.Rounds.{Rounds}
-use Rattle.swift_path.specs.Swift.{swiftCommits, afterSwiftAnswer, swiftAnswer, swiftClientPrepare, afterClientAccept, clientAccept, leaderAnswered, fromLeader, acceptAnswered, afterAcceptAnswer, swiftAccept, swiftClientAccept, afterReplicaAnswer, swiftAnsweredAccept}
-use Rattle.message.specs.declared.Refusal.the-variants.{SourceNotLive}
 use Rattle.consensus.specs.Call.{proposing}
 use Rattle.consensus.specs.Handle.{processed}
 use Rattle.agreement.proofs.Tests.{by-test, neqb→ne}
 use Rattle.group.proofs.View.{LeaderIn}
 use Rattle.group.proofs.Answering.{FastFits, size-bound, stored, stored-length, ProposerFits}
-use Rattle.group.proofs.Sending.{Holds, promise-held}
+use Rattle.group.proofs.Handlers.{Any, Holds, promise-held, Keeps, Comes, processed-holds, proposing-holds}
 
 -- ---- rounds
 
@@ -133,9 +119,6 @@ module _ (Counts Leads : ℕ → Type 0) where
     abbrev CountsOther : ℕ → Type 0
     CountsOther src = (src ≡ me .«my_pid» → ⊥) → Counts src
 
-    own-other : CountsOther (me .«my_pid»)
-    own-other other = absurd (other refl)
-
     counted-only : (src set : ℕ) → CountsOther src → Only set → Only (counted me src set)
     unfolding withSender withOwn
     counted-only src set c only =
@@ -163,19 +146,9 @@ module _ (Counts Leads : ℕ → Type 0) where
           held-led = led-after (s .«max_rv») rv (f .held-led) led;
         }
 
-    abbrev PaxosStepFits : PaxosStep → Type 0
-    PaxosStepFits step = StateFits (step .state)
-
-    propose-fits : (rv : RoundV) (s : PaxosState) → LeaderIn Leads (acceptRoundOf rv) → StateFits s → PaxosStepFits (paxosProposeV me rv s)
-    unfolding paxosProposeV
-    propose-fits rv s led f =
-        of-both PaxosStepFits (isHeld (s .«max_rv»)) f (of-both PaxosStepFits (isEmpty (s .«prepared_set»)) (promise-fits (me .«my_pid») rv s own-other led f) f)
-
-    accept-fits : (src : ℕ) (round : PaxosRound) (v : ℕ) (s : PaxosState) → CountsOther src → Leads (round .leader) → StateFits s → PaxosStepFits (receiveAccept me src round v s)
-    unfolding receiveAccept
+    accept-fits : (src : ℕ) (round : PaxosRound) (v : ℕ) (s : PaxosState) → CountsOther src → Leads (round .leader) → StateFits s → StateFits (afterAccept me src round v s)
     accept-fits src round v s c led f =
-        of-both PaxosStepFits (acceptFits (s .«max_rv») round v)
-        (record {
+        record {
           only-prepared = f .only-prepared;
           only-accepted = counted-only src (s .«accepted_set») c (f .only-accepted);
           prepared-held = inl tt;
@@ -183,15 +156,7 @@ module _ (Counts Leads : ℕ → Type 0) where
           group-fits = f .group-fits;
           round-led = f .round-led;
           held-led = led;
-        }) f
-
-    self-fits : (round : PaxosRound) (s : PaxosState) → Leads (round .leader) → StateFits s → PaxosStepFits (selfAccept me round s)
-    unfolding selfAccept acceptOwn
-    self-fits round s led f = of-both PaxosStepFits (isEmpty (s .«accepted_set»)) (go (getV (s .«max_rv»))) f
-      where
-        go : (v : OptionalValue) → PaxosStepFits (acceptOwn me round s v)
-        go NoValue = f
-        go (Value v) = accept-fits (me .«my_pid») round v s own-other led f
+        }
 
   goto-fits : (round : PaxosRound) (s : PaxosState) → RoundFits Leads round → StateFits s → StateFits (gotoRound (Round round) s)
   goto-fits round s fit f =
@@ -203,6 +168,19 @@ module _ (Counts Leads : ℕ → Type 0) where
         group-fits = fit .0;
         round-led = fit .1;
         held-led = f .held-led;
+      }
+
+  -- what is adopted takes the place of what nobody has accepted
+  adopt-fits : (v : ℕ) (s : PaxosState) → T (not (isRound (getLastAcceptedRound (s .«max_rv»)))) → StateFits s → StateFits (withHeld (Held (PaxosV NoRound v)) s)
+  adopt-fits v s fresh f =
+      record {
+        only-prepared = f .only-prepared;
+        only-accepted = f .only-accepted;
+        prepared-held = inl tt;
+        accepted-held = inr (none-accepted (getLastAcceptedRound (s .«max_rv»)) fresh (f .accepted-held));
+        group-fits = f .group-fits;
+        round-led = f .round-led;
+        held-led = tt;
       }
 
 -- ---- the fast half
@@ -360,319 +338,33 @@ module _ (Counts Leads : ℕ → Type 0) (a : Asked) (own-counts : T (a .member 
     pub same-tracker : core .tracker ≡ old .tracker
     pub state-fits : StateFits Counts Leads (core .paxos)
 
-  abbrev StepFits : CoreStep → Type 0
-  StepFits step = CoreFits (step .core)
-
   with-state : {core : Core} {s : PaxosState} → CoreFits core → StateFits Counts Leads s → CoreFits (withPaxos s core)
   with-state k f = record { same-slot = k .same-slot; same-tracker = k .same-tracker; state-fits = f }
 
-  left-fits : {core : Core} → CoreFits core → CoreFits (leftFastPath core)
-  left-fits k = record { same-slot = k .same-slot; same-tracker = k .same-tracker; state-fits = k .state-fits }
+  -- a source that is another than oneself counts
+  abbrev Source : ℕ → Type 0
+  Source src = (src ≡ me .«my_pid» → ⊥) → Counts src
 
-  off-fits : (core : Core) → CoreFits core → CoreFits (offFastPath a core)
-  off-fits core k = of-both CoreFits (isSwiftPaxos (a .mode)) k (left-fits k)
+  abbrev PromiseFits : RoundV → Type 0
+  PromiseFits rv = LeaderIn Leads (acceptRoundOf rv) × ProposerFits rv
 
-  then-fits : (step : CoreStep) (rest : Core → CoreStep) → StepFits step → ((c : Core) → CoreFits c → StepFits (rest c)) → StepFits (andThen step rest)
-  then-fits step rest k r = of-both StepFits (goesOn (step .next)) (r (step .core) k) k
-
-  -- ---- accepts by oneself
-
-  own-accept-fits : (round : PaxosRound) (core : Core) (s : PaxosState) (o : Outcome) → CoreFits core → StateFits Counts Leads s → StepFits (afterOwnAccept a round core s o)
-  unfolding broadcastAccept
-  own-accept-fits round core s Done k f = off-fits (withPaxos s core) (with-state k f)
-  own-accept-fits round core s (Refused why) k f = k
-
-  phase-fits : (round : PaxosRound) → Leads (round .leader) → (core : Core) → CoreFits core → StepFits (acceptPhase a round core)
-  unfolding acceptPhase
-  phase-fits round led core k =
-      own-accept-fits round core (selfAccept me round (core .paxos) .state) (selfAccept me round (core .paxos) .outcome) k (self-fits Counts Leads me own-counts round (core .paxos) led (k .state-fits))
-
-  -- ---- messages
-
-  module _ (h : Heard) (round : PaxosRound) (round-fits : RoundFits Leads round) where
-    in-round-fits : (core : Core) → CoreFits core → CoreFits (inRound round core)
-    unfolding inRound
-    in-round-fits core k = of-both CoreFits (before (core .paxos .round) (Round round)) (with-state k (goto-fits Counts Leads round (core .paxos) round-fits (k .state-fits))) k
-
-    -- the round is not entered, or the source is taken
-    entered : (Q : CoreStep → Type 0) (slot : ℕ) (core : Core) → Q (stays core noMessages) → Q (refuses SourceNotLive core)
-        → (T (sourceTaken a h) → Q (continues (inRound round core) noMessages)) → Q (enter a h slot round core)
-    unfolding enter fromLive
-    entered Q slot core x y z = of-both Q (canPropose a) (of-both Q (isOlder slot round core) x (by-test Q (sourceTaken a h) _ _ z (λ t. y))) x
-
-    preparing-fits : (core : Core) → CoreFits core → StepFits (preparing a h round core)
-    unfolding preparing answerPrepare
-    preparing-fits core k =
-        of-both StepFits (eqb (h .delegate) (me .«my_pid»)) k (of-both StepFits (answersNothing a h round core) k (of-both StepFits (mayAnswer h round) k k))
-
-    prepared-fits : (rv : RoundV) → LeaderIn Leads (acceptRoundOf rv) → (core : Core) → CoreFits core → StepFits (prepared a h round rv core)
-    unfolding prepared holdFirst
-    prepared-fits rv led core k = go (holdFirst a rv (core .paxos) .state) (holdFirst a rv (core .paxos) .outcome) held
-      where
-        held : StateFits Counts Leads (holdFirst a rv (core .paxos) .state)
-        held = of-both (λ (x : PaxosStep). StateFits Counts Leads (x .state)) (isHeld (core .paxos .«max_rv»)) (k .state-fits) (propose-fits Counts Leads me own-counts rv (core .paxos) led (k .state-fits))
-
-        go : (s : PaxosState) (o : Outcome) → StateFits Counts Leads s → StepFits (afterHeld a h round core s o)
-        go s Done f = preparing-fits (withPaxos s core) (with-state k f)
-        go s (Refused why) f = k
-
-    try-fits : (v : ℕ) (core : Core) (ms : Messages) → CoreFits core → StepFits (tryCommit a h round v core ms)
-    unfolding tryCommit
-    try-fits v core ms k = of-both StepFits (paxosCanCommit me (core .paxos)) (left-fits k) k
-
-    accepted-fits : (v : ℕ) (core : Core) → CoreFits core → StepFits (accepted a h round v core)
-    unfolding accepted follower answered
-    accepted-fits v core k =
-        of-both StepFits (eqb (me .«my_pid») (round .leader)) (try-fits v core noMessages k)
-        (of-both StepFits (eqb (h .src) (h .delegate))
-        (of-both StepFits (isCommitter a h) (of-both StepFits (isSwiftPaxos (a .mode)) k (try-fits v core (answerAccept a round core (h .committer)) k)) k)
-        (of-both StepFits (isCommitter a h) (try-fits v core noMessages k) k))
-
-    module _ (src-counts : Counts (h .src)) where
-      promised-fits : (rv : RoundV) → LeaderIn Leads (acceptRoundOf rv) → (core : Core) → CoreFits core → CoreFits (withPromise a h rv core)
-      promised-fits rv led core k = with-state k (promise-fits Counts Leads me own-counts (h .src) rv (core .paxos) (λ other. src-counts) led (k .state-fits))
-
-      gather-fits : (rv : RoundV) → LeaderIn Leads (acceptRoundOf rv) → (core : Core) → CoreFits core → StepFits (gather a h round rv core)
-      unfolding gather
-      gather-fits rv led core k =
-          let q = promised-fits rv led core k in
-          of-both StepFits (becomesPrepared a core (withPromise a h rv core)) (phase-fits round (round-fits .1) (withPromise a h rv core) q) q
-
-      received-fits : (v : ℕ) (core : Core) → CoreFits core → StateFits Counts Leads (receiveAccept me (h .src) round v (core .paxos) .state)
-      received-fits v core k = accept-fits Counts Leads me own-counts (h .src) round v (core .paxos) (λ other. src-counts) (round-fits .1) (k .state-fits)
-
-      accepting-fits : (v : ℕ) (core : Core) → CoreFits core → StepFits (accepting a h round v core)
-      unfolding accepting
-      accepting-fits v core k = go (receiveAccept me (h .src) round v (core .paxos) .state) (receiveAccept me (h .src) round v (core .paxos) .outcome) (received-fits v core k)
-        where
-          go : (s : PaxosState) (o : Outcome) → StateFits Counts Leads s → StepFits (afterAccepted a h round v core s o)
-          go s Done f = accepted-fits v (offFastPath a (withPaxos s core)) (off-fits (withPaxos s core) (with-state k f))
-          go s (Refused why) f = k
-
-  -- ---- messages in the classic modes
-
-  module _ (h : Heard) (src-counts : T (sourceTaken a h) → Counts (h .src)) where
-    classic-fits : (m : ConsensusMsg) → MessageFits Leads m → (core : Core) → CoreFits core → StepFits (processClassic a h m core)
-    unfolding processClassic onPrepare inPrepare onAccept
-    classic-fits (Prepare slot round rv) fit core k =
-        entered h round (fit .0) (λ step. StepFits (andThen step (inPrepare a h round rv))) slot core k k
-        (λ t. then-fits (prepared a h round rv (inRound round core)) (gather a h round rv) (prepared-fits h round (fit .0) rv (fit .1) (inRound round core) (in-round-fits h round (fit .0) core k))
-        (gather-fits h round (fit .0) (src-counts t) rv (fit .1)))
-    classic-fits (Accept slot round v) fit core k =
-        entered h round fit (λ step. StepFits (andThen step (accepting a h round v))) slot core k k
-        (λ t. accepting-fits h round fit (src-counts t) v (inRound round core) (in-round-fits h round fit core k))
-    classic-fits (ForwardRequest v) fit core k = k
-    classic-fits (Commit slot v) fit core k = k
-    classic-fits (ReadRequest id) fit core k = k
-    classic-fits (ReadResponse id next) fit core k = k
-
-  -- ---- messages in EPaxos and SwiftPaxos
-
-  module _ (f : FastState) (ok : FastFits f) where
-    abbrev ChangeFits : ChangeStep → Type 0
-    ChangeFits step = CoreFits (step .core) × FastFits (changed (step .change) f)
-
-    abbrev answersNow : FastAnswers
-    answersNow = answersOf f
-
-    same-fits : {core : Core} → CoreFits core → CoreFits core × FastFits (changed (unchanged answersNow) f)
-    same-fits k = (k, unchanged-fits f ok)
-
-    then-changes : (step : CoreStep) (rest : Core → ChangeStep) → StepFits step → ((c : Core) → CoreFits c → ChangeFits (rest c)) → ChangeFits (andThenChange answersNow step rest)
-    then-changes step rest k r = of-both ChangeFits (goesOn (step .next)) (r (step .core) k) (same-fits k)
-
-    -- what is adopted takes the place of what nobody has accepted
-    adopt-fits : (round : PaxosRound) → Leads (round .leader) → (core : Core) (x : Adoption) → T (not (hasAccepted core)) → CoreFits core → StepFits (epaxosAdopt a round core x)
-    unfolding adopting
-    adopt-fits round led core NoAdoption fresh k = k
-    adopt-fits round led core (Adopt v) fresh k =
-        of-both StepFits (isPrepared me (core .paxos))
-        (own-accept-fits round core (adoptFromEpaxos me round v (core .paxos) .state) (adoptFromEpaxos me round v (core .paxos) .outcome) k
-        (self-fits Counts Leads me own-counts round (withHeld (Held (PaxosV NoRound v)) (core .paxos)) led held)) k
-      where
-        held : StateFits Counts Leads (withHeld (Held (PaxosV NoRound v)) (core .paxos))
-        held =
-            record {
-              only-prepared = k .state-fits .only-prepared;
-              only-accepted = k .state-fits .only-accepted;
-              prepared-held = inl tt;
-              accepted-held = inr (none-accepted (getLastAcceptedRound (core .paxos .«max_rv»)) fresh (k .state-fits .accepted-held));
-              group-fits = k .state-fits .group-fits;
-              round-led = k .state-fits .round-led;
-              held-led = tt;
-            }
-    adopt-fits round led core (AdoptionRefused why) fresh k = k
-
-    module _ (h : Heard) (src-small : h .src < 64) (round : PaxosRound) (round-fits : RoundFits Leads round) where
-      epaxos-fits : (choose : Choice) (rv : RoundV) → ProposerFits rv → (core : Core) → T (not (hasAccepted core)) → CoreFits core
-          → ChangeFits (epaxosAnswer choose a h round rv core answersNow (f .«fast_proposer_to_v») (f .«epaxos_proposer_scores»))
-      unfolding epaxosAnswer epaxosDecide
-      epaxos-fits choose (FastV p v) l core fresh k = go (answer .change) (answer .outcome) (epaxos-answered-fits me own-small f ok (h .src) p v src-small l)
-        where
-          answer : FastStep
-          answer = epaxosAnswered me (h .src) p v answersNow (f .«epaxos_proposer_scores»)
-
-          go : (change : FastChange) (o : Outcome) → FastFits (changed change f)
-              → ChangeFits (afterEpaxosAnswer choose a h round v core (f .«fast_proposer_to_v») (f .«epaxos_proposer_scores») change o)
-          go change Done q = (
-            of-both StepFits (epaxosCanCommit me (change .answers)) k
-                (adopt-fits round (round-fits .1) core (epaxosTryAdoptAfter choose me change (f .«fast_proposer_to_v») (f .«epaxos_proposer_scores»)) fresh k),
-            q,
-          )
-          go change (Refused why) q = (k, q)
-      epaxos-fits choose (PaxosV at v) l core fresh k = same-fits k
-
-      client-prepare-fits : (rv : RoundV) → ProposerFits rv → (core : Core) → CoreFits core → ChangeFits (swiftClientPrepare a h round rv core answersNow (f .«swift_proposer_scores»))
-      unfolding swiftClientPrepare swiftAnswer
-      client-prepare-fits rv l core k = of-both ChangeFits (isProcess (h .committer) (me .«my_pid»)) (by-promise rv l) (same-fits k)
-        where
-          go : (v : ℕ) (left : FastAnswers) (o : Outcome) → StepFits (afterSwiftAnswer a v core left o)
-          go v left Done = of-both StepFits (swiftCommits a left) k k
-          go v left (Refused why) = k
-
-          by-promise : (rv : RoundV) → ProposerFits rv → ChangeFits (swiftAnswer a h round rv core answersNow (f .«swift_proposer_scores»))
-          by-promise (FastV p v) l =
-              of-both ChangeFits (eqb (h .src) (round .leader)) (same-fits k)
-              (go v _ (swiftAnswered me (h .src) p v (a .quorum) false answersNow (f .«swift_proposer_scores») .outcome), swift-answered-fits me own-small f ok (h .src) p v src-small l (a .quorum) false)
-          by-promise (PaxosV at v) l = same-fits k
-
-      leader-fits : (v : ℕ) → FastFits (changed (leaderAnswered a h v answersNow (f .«swift_proposer_scores») .change) f)
-      unfolding leaderAnswered
-      leader-fits v = swift-answered-fits me own-small f ok (h .src) (me .«my_pid») v src-small own-small (a .quorum) true
-
-      module _ (src-counts : Counts (h .src)) where
-        client-accept-fits : (v : ℕ) (core : Core) → CoreFits core → ChangeFits (swiftClientAccept a h round v core answersNow (f .«swift_proposer_scores»))
-        unfolding swiftClientAccept swiftAccept clientAccept acceptAnswered
-        client-accept-fits v core k =
-            of-both ChangeFits (isProcess (h .committer) (me .«my_pid»)) (
-              go (acceptAnswered a h round v answersNow (f .«swift_proposer_scores») .change .answers) (acceptAnswered a h round v answersNow (f .«swift_proposer_scores») .outcome),
-              of-both (λ (x : FastStep). FastFits (changed (x .change) f)) (fromLeader h round) (leader-fits v) (unchanged-fits f ok),
-            )
-            (same-fits k)
-          where
-            received : (s : PaxosState) (o : Outcome) → StateFits Counts Leads s → StepFits (afterClientAccept a v core s o)
-            received s Done q = of-both StepFits (paxosCanCommit me s) (with-state k q) (with-state k q)
-            received s (Refused why) q = k
-
-            go : (left : FastAnswers) (o : Outcome) → StepFits (afterAcceptAnswer a h round v core left o)
-            go left Done =
-                of-both StepFits (fromLeader h round && swiftCommits a left) k
-                (received (receiveAccept me (h .src) round v (core .paxos) .state) (receiveAccept me (h .src) round v (core .paxos) .outcome) (received-fits h round round-fits src-counts v core k))
-            go left (Refused why) = k
-
-        replica-accept-fits : (v : ℕ) (core : Core) → CoreFits core → ChangeFits (replicaAccept a h round v core answersNow (f .«swift_proposer_scores»))
-        unfolding replicaAccept swiftAnsweredAccept
-        replica-accept-fits v core k =
-            then-changes step (λ c. swiftAnsweredAccept a h round v c (step .messages) answersNow (f .«swift_proposer_scores»)) (accepting-fits h round round-fits src-counts v core k)
-            (λ c q. (go c q (leaderAnswered a h v answersNow (f .«swift_proposer_scores») .change .answers) (leaderAnswered a h v answersNow (f .«swift_proposer_scores») .outcome), leader-fits v))
-          where
-            step : CoreStep
-            step = accepting a h round v core
-
-            go : (c : Core) → CoreFits c → (left : FastAnswers) (o : Outcome) → StepFits (afterReplicaAnswer a h round v c (step .messages) left o)
-            go c q left Done = of-both StepFits (swiftCommits a left) q (try-fits h round round-fits v c (step .messages) q)
-            go c q left (Refused why) = q
-
-        fast-gather-fits : (choose : Choice) (rv : RoundV) → LeaderIn Leads (acceptRoundOf rv) → ProposerFits rv → (core : Core) → CoreFits core
-            → ChangeFits (fastGather choose a h round rv core answersNow (f .«fast_proposer_to_v») (f .«epaxos_proposer_scores») (f .«swift_proposer_scores»))
-        unfolding fastGather fastAnswered fastPromised waits
-        fast-gather-fits choose rv led l core k =
-            of-both ChangeFits (startsAccept a round core (fastPromised a h rv core)) (same-fits (phase-fits round (round-fits .1) (fastPromised a h rv core) q))
-            (by-test ChangeFits (waits a round (fastPromised a h rv core)) _ _ (λ t. same-fits q)
-            (λ t. by-test ChangeFits (isSwiftPaxos (a .mode)) _ _ (λ u. client-prepare-fits rv l (fastPromised a h rv core) q)
-            (λ u. epaxos-fits choose rv l (fastPromised a h rv core) (second (isSwiftPaxos (a .mode)) (leadsRound a round) (hasAccepted (fastPromised a h rv core)) t u) q)))
-          where
-            second : (b x y : Bool) → T (not (cond b x y)) → T (not b) → T (not y)
-            second true x y t u = absurd u
-            second false x y t u = t
-
-            q : CoreFits (fastPromised a h rv core)
-            q = of-both CoreFits (me .replica) (promised-fits h round round-fits src-counts rv led core k) k
-
-    module _ (h : Heard) (src-small : h .src < 64) (src-counts : T (sourceTaken a h) → Counts (h .src)) where
-      change-fits : (choose : Choice) (m : ConsensusMsg) → MessageFits Leads m → (core : Core) → CoreFits core
-          → ChangeFits (processChange choose a h m core answersNow (f .«fast_proposer_to_v») (f .«epaxos_proposer_scores») (f .«swift_proposer_scores»))
-      unfolding processChange onFastPrepare inFastPrepare fastPrepared onFastAccept inFastAccept
-      change-fits choose (Prepare slot round rv) fit core k =
-          entered h round (fit .0)
-          (λ step. ChangeFits (andThenChange answersNow step (λ c. inFastPrepare choose a h round rv c answersNow (f .«fast_proposer_to_v») (f .«epaxos_proposer_scores») (f .«swift_proposer_scores»))))
-          slot core (same-fits k) (same-fits k)
-          (λ t. then-changes (fastPrepared a h round rv (inRound round core))
-          (λ c. fastGather choose a h round rv c answersNow (f .«fast_proposer_to_v») (f .«epaxos_proposer_scores») (f .«swift_proposer_scores»))
-          (of-both StepFits (me .replica) (prepared-fits h round (fit .0) rv (fit .1) (inRound round core) (in-round-fits h round (fit .0) core k)) (in-round-fits h round (fit .0) core k))
-          (fast-gather-fits h src-small round (fit .0) (src-counts t) choose rv (fit .1) (fit .2)))
-      change-fits choose (Accept slot round v) fit core k =
-          entered h round fit (λ step. ChangeFits (andThenChange answersNow step (λ c. inFastAccept a h round v c answersNow (f .«swift_proposer_scores»)))) slot core (same-fits k) (same-fits k)
-          (λ t. of-both ChangeFits (me .replica) (replica-accept-fits h src-small round fit (src-counts t) v (inRound round core) (in-round-fits h round fit core k))
-          (client-accept-fits h src-small round fit (src-counts t) v (inRound round core) (in-round-fits h round fit core k)))
-      change-fits choose (ForwardRequest v) fit core k = same-fits k
-      change-fits choose (Commit slot v) fit core k = same-fits k
-      change-fits choose (ReadRequest id) fit core k = same-fits k
-      change-fits choose (ReadResponse id next) fit core k = same-fits k
-
-  -- ---- proposals
-
-  -- a proposal is made in the starting round alone, and so its round is of the first groups
-  module _ (round-fits : (core : Core) → T (mayPropose a core) → RoundFits Leads (proposalRound a core)) where
-    proposed-fits : (msg : ConsensusMsg) (core : Core) (s : PaxosState) (o : Outcome) → CoreFits core → StateFits Counts Leads s → StepFits (proposed a msg core s o)
-    proposed-fits msg core s Done k f = with-state k f
-    proposed-fits msg core s (Refused why) k f = k
-
-    propose-prepare-fits : (round : PaxosRound) (rv : RoundV) → LeaderIn Leads (acceptRoundOf rv) → (core : Core) → RoundFits Leads round → CoreFits core → StepFits (proposePrepare a round rv core)
-    unfolding proposePrepare
-    propose-prepare-fits round rv led core g k =
-        proposed-fits (Prepare (core .slot) round rv) core (step .state) (step .outcome) k (propose-fits Counts Leads me own-counts rv (gotoRound (Round round) (core .paxos)) led (goto-fits Counts Leads round (core .paxos) g (k .state-fits)))
-      where
-        step : PaxosStep
-        step = paxosProposeV me rv (gotoRound (Round round) (core .paxos))
-
-    propose-accept-fits : (round : PaxosRound) (v : ℕ) (core : Core) → RoundFits Leads round → CoreFits core → StepFits (proposeAccept a round v core)
-    unfolding proposeAccept
-    propose-accept-fits round v core g k = go (step .state) (step .outcome) (propose-fits Counts Leads me own-counts (PaxosV NoRound v) (gotoRound (Round round) (core .paxos)) tt (goto-fits Counts Leads round (core .paxos) g (k .state-fits)))
-      where
-        step : PaxosStep
-        step = paxosProposeV me (PaxosV NoRound v) (gotoRound (Round round) (core .paxos))
-
-        go : (s : PaxosState) (o : Outcome) → StateFits Counts Leads s → StepFits (afterOwnPromise a round v core s o)
-        go s Done f = proposed-fits (Accept (core .slot) round v) core (selfAccept me round s .state) (selfAccept me round s .outcome) k (self-fits Counts Leads me own-counts round s (g .1) f)
-        go s (Refused why) f = k
-
-    propose-classic-fits : (v : ℕ) (core : Core) → CoreFits core → StepFits (proposeClassic a v core)
-    unfolding proposeClassic
-    propose-classic-fits v core k =
-        by-test StepFits (mayPropose a core) _ _
-        (λ t. of-both StepFits (isMultiPaxos (a .mode)) (propose-accept-fits (proposalRound a core) v core (round-fits core t) k)
-        (propose-prepare-fits (proposalRound a core) (PaxosV NoRound v) tt core (round-fits core t) k)) (λ t. k)
-
-    module _ (f : FastState) (ok : FastFits f) where
-      own-answer-fits : (v : ℕ) → FastFits (changed (ownAnswer a v (answersOf f) (f .«epaxos_proposer_scores») (f .«swift_proposer_scores») .change) f)
-      unfolding ownAnswer epaxosProposeV swiftProposeV swiftOwn
-      own-answer-fits v =
-          of-both Fits (isSwiftPaxos (a .mode))
-          (of-both Fits (swiftUnanswered me (answersOf f) (f .«swift_proposer_scores»))
-          (of-both Fits (me .replica) (swift-answered-fits me own-small f ok (me .«my_pid») (me .«my_pid») v own-small own-small (a .quorum) false) (unchanged-fits f ok)) (unchanged-fits f ok))
-          (of-both Fits (isUnanswered (answersOf f) && eqb (lookUp (f .«epaxos_proposer_scores») (me .«my_pid»)) 2)
-          (epaxos-answered-fits me own-small f ok (me .«my_pid») (me .«my_pid») v own-small own-small) (unchanged-fits f ok))
-        where
-          Fits : FastStep → Type 0
-          Fits step = FastFits (changed (step .change) f)
-
-      propose-change-fits : (v : ℕ) (core : Core) → CoreFits core
-          → ChangeFits f ok (proposeChange a v core (answersOf f) (f .«epaxos_proposer_scores») (f .«swift_proposer_scores»))
-      unfolding proposeChange
-      propose-change-fits v core k =
-          by-test (ChangeFits f ok) (mayPropose a core) _ _
-          (λ t. of-both (ChangeFits f ok) (leadsFromStart a) (same-fits f ok (propose-accept-fits (proposalRound a core) v core (round-fits core t) k))
-          (go (answer .change) (answer .outcome) (round-fits core t) (own-answer-fits v))) (λ t. same-fits f ok k)
-        where
-          answer : FastStep
-          answer = ownAnswer a v (answersOf f) (f .«epaxos_proposer_scores») (f .«swift_proposer_scores»)
-
-          go : (change : FastChange) (o : Outcome) → RoundFits Leads (proposalRound a core) → FastFits (changed change f) → ChangeFits f ok (afterOwnAnswer a (proposalRound a core) v core change o)
-          go change Done g q = (propose-prepare-fits (proposalRound a core) (FastV (me .«my_pid») v) tt core g k, q)
-          go change (Refused why) g q = (k, q)
-
-  -- ---- by the mode
+  keeps : Keeps a Source (RoundFits Leads) PromiseFits Any (λ round. Any) CoreFits Any
+  keeps =
+      record {
+        own-source = λ other. absurd (other refl);
+        own-fast = λ v. (tt, own-small);
+        enters = λ round core fit k. with-state k (goto-fits Counts Leads round (core .paxos) fit (k .state-fits));
+        promises = λ src rv core c p k. with-state k (promise-fits Counts Leads me own-counts src rv (core .paxos) c (p .0) (k .state-fits));
+        accepts = λ src round v core c fit k. with-state k (accept-fits Counts Leads me own-counts src round v (core .paxos) c (fit .1) (k .state-fits));
+        adopts = λ v core fresh k. with-state k (adopt-fits Counts Leads v (core .paxos) fresh (k .state-fits));
+        leaves = λ core k. record { same-slot = k .same-slot; same-tracker = k .same-tracker; state-fits = k .state-fits };
+        prepare-to = λ round core p w other. tt;
+        accept-to-all = λ round core t. tt;
+        accept-to = λ round v core p t k e other. tt;
+        commit-to-all = λ core requester. tt;
+        propose-prepare = λ round rv core. tt;
+        propose-accept = λ v core t p k. tt;
+      }
 
   -- in the modes without a fast path the fast half stays as it is
   pub record RoundsFit (f : FastState) (s : Rounds) : Type 0 where
@@ -680,20 +372,45 @@ module _ (Counts Leads : ℕ → Type 0) (a : Asked) (own-counts : T (a .member 
     pub fast-fits : FastFits (s .fast)
     pub same-fast : hasFastPath (a .mode) ≡ false → s .fast ≡ f
 
-  by-mode : (f : FastState) (ok : FastFits f) (change : ChangeStep) (step : CoreStep) → ChangeFits f ok change → StepFits step
-      → RoundsFit f (cond (hasFastPath (a .mode)) (changeRounds f change) (onRounds f step) .rounds)
-  by-mode f ok change step q k = go (hasFastPath (a .mode)) (λ e. e)
-    where
-      go : (t : Bool) → (hasFastPath (a .mode) ≡ false → t ≡ false) → RoundsFit f (cond t (changeRounds f change) (onRounds f step) .rounds)
-      go true e = record { core-fits = q .0; fast-fits = q .1; same-fast = λ d. absurd (not-both refl (e d)) }
-      go false e = record { core-fits = k; fast-fits = ok; same-fast = λ d. refl }
+  fast-fit : (f : FastState) (step : ChangeStep) → T (hasFastPath (a .mode)) → CoreFits (step .core) → FastFits (changed (step .change) f) → RoundsFit f (changeRounds f step .rounds)
+  fast-fit f step t k q = record { core-fits = k; fast-fits = q; same-fast = λ e. absurd (subst T e t) }
+
+  classic-fit : (f : FastState) → FastFits f → (step : CoreStep) → CoreFits (step .core) → RoundsFit f (onRounds f step .rounds)
+  classic-fit f ok step k = record { core-fits = k; fast-fits = ok; same-fast = λ e. refl }
+
+  module _ (h : Heard) (src-small : h .src < 64) (src-counts : T (sourceTaken a h) → Counts (h .src)) where
+    comes : (core : Core) (m : ConsensusMsg) → MessageFits Leads m → Comes a Source (RoundFits Leads) PromiseFits Any (λ round. Any) CoreFits Any keeps h (λ t other. src-counts t) core m
+    comes core (Prepare slot round rv) fit = (fit .0, (fit .1, fit .2), tt)
+    comes core (Accept slot round v) fit = (fit, λ t. tt)
+    comes core (ForwardRequest v) fit = tt
+    comes core (Commit slot v) fit = tt
+    comes core (ReadRequest id) fit = tt
+    comes core (ReadResponse id next) fit = tt
 
   pub processed-fits : (choose : Choice) (h : Heard) → h .src < 64 → (T (sourceTaken a h) → Counts (h .src)) → (m : ConsensusMsg) → MessageFits Leads m → (s : Rounds) → FastFits (s .fast) → CoreFits (s .core)
       → RoundsFit (s .fast) (processed choose a h m s .rounds)
-  unfolding processed processFast
-  processed-fits choose h small c m fit s ok k = by-mode (s .fast) ok _ _ (change-fits (s .fast) ok h small c choose m fit (s .core) k) (classic-fits h c m fit (s .core) k)
+  processed-fits choose h small c m fit s ok k =
+      processed-holds a Source (RoundFits Leads) PromiseFits Any (λ round. Any) CoreFits Any keeps h (λ t other. c t) (λ step. RoundsFit (s .fast) (step .rounds)) choose s
+      (λ change. FastFits (changed change (s .fast))) (unchanged-fits (s .fast) ok)
+      (λ p v w. epaxos-answered-fits me own-small (s .fast) ok (h .src) p v small (w .1))
+      (λ p v leader w. swift-answered-fits me own-small (s .fast) ok (h .src) p v small (w .1) (a .quorum) leader)
+      (λ step t q. fast-fit (s .fast) step t (q .0 .0) (q .1)) (λ step t q. classic-fit (s .fast) ok step (q .0)) m (comes h small c (s .core) m fit) k
 
+  own-answer-fits : (f : FastState) → FastFits f → (v : ℕ) → FastFits (changed (ownAnswer a v (answersOf f) (f .«epaxos_proposer_scores») (f .«swift_proposer_scores») .change) f)
+  unfolding ownAnswer epaxosProposeV swiftProposeV swiftOwn
+  own-answer-fits f ok v =
+      of-both Fits (isSwiftPaxos (a .mode))
+      (of-both Fits (swiftUnanswered me (answersOf f) (f .«swift_proposer_scores»))
+      (of-both Fits (me .replica) (swift-answered-fits me own-small f ok (me .«my_pid») (me .«my_pid») v own-small own-small (a .quorum) false) (unchanged-fits f ok)) (unchanged-fits f ok))
+      (of-both Fits (isUnanswered (answersOf f) && eqb (lookUp (f .«epaxos_proposer_scores») (me .«my_pid»)) 2)
+      (epaxos-answered-fits me own-small f ok (me .«my_pid») (me .«my_pid») v own-small own-small) (unchanged-fits f ok))
+    where
+      Fits : FastStep → Type 0
+      Fits step = FastFits (changed (step .change) f)
+
+  -- a proposal is made in the starting round alone, and so its round is of the first groups
   pub proposing-fits : ((core : Core) → T (mayPropose a core) → RoundFits Leads (proposalRound a core)) → (v : ℕ) (s : Rounds) → FastFits (s .fast) → CoreFits (s .core)
       → RoundsFit (s .fast) (proposing a v s .rounds)
-  unfolding proposing proposeFast
-  proposing-fits r v s ok k = by-mode (s .fast) ok _ _ (propose-change-fits r (s .fast) ok v (s .core) k) (propose-classic-fits r v (s .core) k)
+  proposing-fits r v s ok k =
+      proposing-holds a Source (RoundFits Leads) PromiseFits Any (λ round. Any) CoreFits Any keeps (λ step. RoundsFit (s .fast) (step .rounds)) r v (tt, tt) s (λ change. FastFits (changed change (s .fast)))
+      (unchanged-fits (s .fast) ok) (own-answer-fits (s .fast) ok v) (λ step t q. fast-fit (s .fast) step t (q .0 .0) (q .1)) (λ step t q. classic-fit (s .fast) ok step (q .0)) k

@@ -3,7 +3,7 @@
 -- Assumes nothing.
 use mathlib.Core.Path.{_≡_, refl, sym, ap, subst, _∙_}
 use mathlib.Core.Logic.{_⊎_, inl, inr}
-use mathlib.Core.Bool.{Bool, true, false, cond, not, _&&_}
+use mathlib.Core.Bool.{Bool, true, false, cond, _&&_}
 use mathlib.Core.List.{List, [], _∷_}
 use Prim.Native.Nat.{ℕ, _+_, _≤_, _<_}
 use native.Mathlib.Decide.{decLe}
@@ -11,12 +11,11 @@ use native.Mathlib.Nat.{lt-of-not-le}
 use lib.Dec.{eqb, eqb→eq}
 use borrow.Author.Tests.{eqb-true, eqb-false, ne-eqb}
 use Rattle.basics.specs.Lists.{In}
-use Rattle.basics.proofs.Tests.{either, not-both, of-both}
+use Rattle.basics.proofs.Tests.{either, not-both}
 use Rattle.message.specs.Modes.{isMultiPaxos}
 use Rattle.message.specs.declared.ConsensusMessage.{ConsensusMessage}
 use Rattle.message.specs.declared.ConsensusMsg.the-variants.{Prepare, Commit}
 use Rattle.message.specs.declared.OptionalValue.{OptionalValue}
-use Rattle.message.specs.declared.Outcome.the-variants.{Done}
 use Rattle.message.specs.declared.Refusal.{Refusal}
 use Rattle.settings.specs.Questions.{quorumsOf}
 use Rattle.settings.specs.Settings.{withinLimits}
@@ -31,22 +30,21 @@ use Rattle.calls.specs.declared.Call.{Call}
 use Rattle.calls.specs.declared.Call.the-variants.{Propose, StartRead, Receive}
 use Rattle.consensus.specs.Answers.{refused}
 use Rattle.consensus.specs.Call.{newShard, callOf}
-use Rattle.consensus.specs.declared.Answer.{Answer}
 use Rattle.consensus.specs.declared.Shard.{Shard}
 use Rattle.agreement.specs.Model.{View}
 use Rattle.agreement.specs.Model as model
 use Rattle.agreement.specs.Refinement.{meanings}
 use Rattle.agreement.proofs.Tests.{by-test}
-use Rattle.group.specs.Claim.{memberSettings, begun, ours, MemberCall, Entry, afterCall, messagesOf, SentTo, WasSent, MayStand, LegalFrom, Legal, At, plusCommit, slotAt}
+use Rattle.group.specs.Claim.{memberSettings, begun, ours, MemberCall, Entry, afterCall, listed, messagesOf, SentTo, WasSent, MayStand, LegalFrom, Legal, At, plusCommit, slotAt}
 use Rattle.group.specs.Steps.{Step, replyOf, isDone, heard, stepOf, stepsFrom, steps, entryAt, entriesOf}
 use Rattle.group.proofs.Agreement.{begun-valid}
 use Rattle.group.proofs.Calls.{kindOf, seenAnswer, viewShard, Valid, call-ok}
 use Rattle.group.proofs.Invariants.{CallLasts, call-lasts, shardsAfter}
 use Rattle.group.proofs.Ties.{lowest-picks-best}
-use Rattle.group.proofs.View.{meaningOf, meaning-is, destinationOf, envelope, envelopesOf, envelopes, setupOf}
+use Rattle.group.proofs.View.{meaningOf, meaning-is, destinationOf, envelopesOf, envelopes, setupOf}
 use Rattle.leader_commits.specs.Answers.{Terms, isAnswer, sources, answersHeard}
 use Rattle.leader_commits.proofs.Led.{FromLed, AllFromLed, Expected, Kept, as-model-kept}
-use Rattle.leader_commits.proofs.Carrying.{EachOf, each-in, NoPrepare, CallCarries, call-carries}
+use Rattle.leader_commits.proofs.Carrying.{NoPrepare, CallCarries, call-carries}
 use Rattle.leader_commits.proofs.Sent.{LastAt, last-later, last-moves, SentAccepts, now-sent}
 use Rattle.leader_commits.proofs.Calls.{claimed-mode, led-setup, numbers-within, made-or-refused, seenIn, viewBefore, Does, rests, proposes, accepts, and-fails, when-refused, leader-does}
 use Rattle.leader_commits.proofs.Leading.{slot-of-other, slot-of-own, no-commit-in, Leading, leading-same, leading-proposed, leading-waits, leading-commits, accept-waits, accept-commits}
@@ -56,23 +54,28 @@ use Rattle.leader_commits.proofs.Leading.{slot-of-other, slot-of-own, n
 -- what is so of all that the model sees is so of each message
 each-sent : (start l i : ℕ) (o : Outgoing) (ms : Messages) → AllFromLed start l i (meanings meaningOf (envelopes ms)) → In o (messagesOf ms)
     → FromLed start l i (destinationOf (o .destination) (o .message .msg)) (meaningOf (o .message))
-each-sent start l i o ms h k = each-in Led ms o (first (ms .first) (ms .second) (ms .third) h) k
+each-sent start l i o ms h k = first (ms .first) (ms .second) (ms .third) h k
   where
     Led : Outgoing → Type 0
     Led o = FromLed start l i (destinationOf (o .destination) (o .message .msg)) (meaningOf (o .message))
 
-    third : (c : OptionalMessage) → AllFromLed start l i (meanings meaningOf (envelopesOf c [])) → EachOf Led c
-    third NoMessage h = tt
-    third (Send z) h = h .0
+    same : (z : Outgoing) → Led z → o ≡ z → Led o
+    same z p e = subst Led (sym e) p
 
-    second : (b c : OptionalMessage) → AllFromLed start l i (meanings meaningOf (envelopesOf b (envelopesOf c []))) → EachOf Led b × EachOf Led c
-    second NoMessage c h = (tt, third c h)
-    second (Send z) c h = (h .0, third c (h .1))
+    third : (c : OptionalMessage) → AllFromLed start l i (meanings meaningOf (envelopesOf c [])) → In o (listed c []) → Led o
+    third NoMessage h k = absurd k
+    third (Send z) h (inl e) = same z (h .0) e
+    third (Send z) h (inr k) = absurd k
 
-    first : (a b c : OptionalMessage) → AllFromLed start l i (meanings meaningOf (envelopesOf a (envelopesOf b (envelopesOf c []))))
-        → EachOf Led a × EachOf Led b × EachOf Led c
-    first NoMessage b c h = let rest = second b c h in (tt, rest .0, rest .1)
-    first (Send z) b c h = let rest = second b c (h .1) in (h .0, rest .0, rest .1)
+    second : (b c : OptionalMessage) → AllFromLed start l i (meanings meaningOf (envelopesOf b (envelopesOf c []))) → In o (listed b (listed c [])) → Led o
+    second NoMessage c h k = third c h k
+    second (Send z) c h (inl e) = same z (h .0) e
+    second (Send z) c h (inr k) = third c (h .1) k
+
+    first : (a b c : OptionalMessage) → AllFromLed start l i (meanings meaningOf (envelopesOf a (envelopesOf b (envelopesOf c [])))) → In o (listed a (listed b (listed c []))) → Led o
+    first NoMessage b c h k = second b c h k
+    first (Send z) b c h (inl e) = same z (h .0) e
+    first (Send z) b c h (inr k) = second b c (h .1) k
 
 module _ (s : Settings) (terms : Terms s) where
   abbrev l : ℕ

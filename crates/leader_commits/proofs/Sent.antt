@@ -41,7 +41,8 @@ use Rattle.group.specs.Steps.{Step, replyOf, isDone, stepOf, entryAt, entriesOf
 use Rattle.group.proofs.Calls.{Valid}
 use Rattle.group.proofs.Invariants.{OfSlot}
 use Rattle.leader_commits.specs.Answers.{isAcceptOf, LeaderProposed}
-use Rattle.leader_commits.proofs.Carrying.{each-in, CarriesIn, AskedFor, Carries, lastAfter, CallCarries, NoPrepare, call-carries}
+use Rattle.group.proofs.Handlers.{each-in}
+use Rattle.leader_commits.proofs.Carrying.{CarriesIn, AskedFor, Carries, lastAfter, CallCarries, NoPrepare, call-carries}
 
 -- ---- the last value
 
