@@ -3,7 +3,7 @@
 // function asks how much room there is; where there is room the text is put whole (`put-fits`, proofs/Lengths.antt).
 ghost use mathlib.Core.Path.{_≡_};
 ghost use mathlib.Core.List.{[], _∷_};
-ghost use Rattle.texts.specs.Text.{put, field, fields, flagNumber};
+ghost use Rattle.texts.specs.Text.{put, decimal, field, fields, flagNumber};
 
 pub fn put_byte(out: &mut [u8], at: usize, b: u8) -> usize
     ensures { λ r. ⌜ (now (out .exit), r) ≡ put (b ∷ []) (now (out .entry), at) ⌝ }
@@ -27,14 +27,20 @@ pub fn put_bytes(out: &mut [u8], at: usize, source: &[u8]) -> usize
     next
 }
 
+pub fn put_number(out: &mut [u8], at: usize, n: u64) -> usize
+    ensures { λ r. ⌜ (now (out .exit), r) ≡ put (decimal n) (now (out .entry), at) ⌝ }
+{
+    let mut text = [0u8; 20];
+    let k = io::decimal(n, &mut text);
+    put_bytes(out, at, &text[..k])
+}
+
 // A space and the number.
 pub fn put_field(out: &mut [u8], at: usize, n: u64) -> usize
     ensures { λ r. ⌜ (now (out .exit), r) ≡ put (field n) (now (out .entry), at) ⌝ }
 {
-    let mut text = [0u8; 20];
-    let k = io::decimal(n, &mut text);
     let next = put_byte(out, at, b' ');
-    put_bytes(out, next, &text[..k])
+    put_number(out, next, n)
 }
 
 // A word, and each number behind a space.

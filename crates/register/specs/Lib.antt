@@ -1,0 +1,5 @@
+pub mod Cells
+pub mod Register
+pub mod Refusals
+pub mod Taken
+pub mod History
