@@ -1,6 +1,9 @@
 // What a host in C, C++ or Rust calls of the planning modules: numbers in and numbers out (include/chanbook_planning.h).
 ghost use mathlib.Core.Path.{_≡_};
+ghost use Rattle.register.specs.Register.{newRegister};
+ghost use Rattle.register_arrays.specs.Columns.{registerOf, entryOf, afterEntry, reportIn};
 ghost use Rattle.planning_host.specs.Conversions.{flatKhz, flatNumber};
+use register::CellNumber;
 
 // The number of document 02 that refuses, with 0 as the value; or 0 and the value.
 #[repr(C)]
@@ -31,4 +34,54 @@ pub extern "C" fn chanbook_raster_number(khz: u64) -> FlatValue
         refusal: answer.refusal(),
         value: answer.number(),
     }
+}
+
+// E6: a register that has seen no entry, in four arrays that the host lends (crates/register_arrays says what stands where).
+#[no_mangle]
+pub extern "C" fn chanbook_register_new(
+    cells: &mut [u64; 512],
+    carriers: &mut [u64; 512],
+    widths: &mut [u64; 512],
+    figures: &mut [u64; 5],
+)
+    ensures { λ _. ⌜ registerOf (now (cells .exit)) (now (carriers .exit)) (now (widths .exit)) (now (figures .exit)) ≡ newRegister ⌝ }
+{
+    register_arrays::new_register(cells, carriers, widths, figures);
+}
+
+// E6: an entry. Kind 1 is an assignment, kind 2 a release, any other kind is refused with 14. Hands back 0, done; 64, older; or the number of
+// document 02 that refuses.
+#[no_mangle]
+pub extern "C" fn chanbook_register_entry(
+    cells: &mut [u64; 512],
+    carriers: &mut [u64; 512],
+    widths: &mut [u64; 512],
+    figures: &mut [u64; 5],
+    slot: u64,
+    kind: u64,
+    cell: CellNumber,
+    carrier: u64,
+    width: u64,
+) -> u64
+    ensures { λ r. ⌜ (registerOf (now (cells .exit)) (now (carriers .exit)) (now (widths .exit)) (now (figures .exit)), r) ≡ afterEntry (registerOf (now (cells .entry)) (now (carriers .entry)) (now (widths .entry)) (now (figures .entry))) (entryOf slot kind cell carrier width) ⌝ }
+{
+    register_arrays::apply_entry(
+        cells,
+        carriers,
+        widths,
+        figures,
+        slot,
+        kind,
+        cell,
+        carrier,
+        width,
+    )
+}
+
+// E6: the report at the start of out, zeros after it; hands back its length.
+#[no_mangle]
+pub extern "C" fn chanbook_register_report(figures: &[u64; 5], out: &mut [u8; 116]) -> u64
+    ensures { λ r. ⌜ (now (out .exit), r) ≡ reportIn (now (figures .entry)) ⌝ }
+{
+    register_arrays::put_page(figures, out)
 }

@@ -4,6 +4,7 @@ ghost use Prim.Native.Nat.{_<_, _≤_, min};
 ghost use lib.ListN.{take};
 ghost use Rattle.serving.specs.Serving.{atFront, without};
 ghost use Rattle.register.specs.Cells.{found, withAt};
+ghost use Rattle.register.specs.Refusals.{entryRefusalNumber, entryNumber};
 ghost use Rattle.register.specs.Register.{assignable, newRegister, liveCells, assign, release, apply};
 use message::increment;
 use raster::frequency_of;
@@ -51,7 +52,7 @@ pub struct Register {
     pub cells: [Cell; 512],
 }
 
-// Why an entry is refused; document 02's numbers are in specs/Refusals.antt.
+// Why an entry is refused.
 pub enum EntryRefusal {
     NumberTooLarge,
     NotAssignable,
@@ -66,15 +67,42 @@ pub enum EntryOutcome {
     Refused(EntryRefusal),
 }
 
+impl EntryRefusal {
+    // Document 02's number.
+    pub fn number(self) -> u64
+        ensures { λ r. ⌜ r ≡ entryRefusalNumber self ⌝ }
+    {
+        match self {
+            EntryRefusal::NumberTooLarge => 2,
+            EntryRefusal::NotAssignable => 14,
+            EntryRefusal::NoRoomForCell => 15,
+            EntryRefusal::CellNotLive => 16,
+        }
+    }
+}
+
+impl EntryOutcome {
+    // Document 02's number, and where it gives none 0, done, or 64, older.
+    pub fn number(self) -> u64
+        ensures { λ r. ⌜ r ≡ entryNumber self ⌝ }
+    {
+        match self {
+            EntryOutcome::Done => 0,
+            EntryOutcome::Older => 64,
+            EntryOutcome::Refused(why) => why.number(),
+        }
+    }
+}
+
 pub struct Applied {
     pub register: Register,
     pub outcome: EntryOutcome,
 }
 
 // Where a cell stands, or would stand, among the live ones, and whether it is live.
-struct Found {
-    at: usize,
-    live: bool,
+pub struct Found {
+    pub at: usize,
+    pub live: bool,
 }
 
 impl Assignment {

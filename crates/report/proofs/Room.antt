@@ -8,11 +8,9 @@ use lib.ListN.{length, drop, replicate, length-append, length-replicate, replica
 use lib.Seq.{drop-at}
 use Rattle.texts.specs.Text.{Buffer, put, decimal, field}
 use Rattle.texts.proofs.Lengths.{put-fits, number}
-use Rattle.register.specs.Register.{livePlaces}
 use Rattle.register.specs.declared.Figures.{Figures}
-use Rattle.register.specs.declared.Register.{Register}
 use Rattle.report.specs.declared.ReportPage.{ReportPage}
-use Rattle.report.specs.Report.{reportHeader, figureText, figuresLine, reportText, pageWith, pageOf}
+use Rattle.report.specs.Report.{reportHeader, figureText, figuresLine, reportText, pageWith}
 
 decimal-length : (n : ℕ) → length (decimal n) ≤ 20
 unfolding field
@@ -42,14 +40,13 @@ drop-zeros k h =
 abbrev page : List ℕ → ℕ → ReportPage
 page bytes len = record { bytes = bytes; len = len }
 
-pub put-page : (r : Register) (live len : ℕ) (bytes : List ℕ) → live ≡ livePlaces r
-    → _≡_ {A = Buffer} (bytes, len) (put (reportText (r .figures) live) (replicate 116 0, 0)) → page bytes len ≡ pageOf r
+pub put-page : (f : Figures) (live len : ℕ) (bytes : List ℕ)
+    → _≡_ {A = Buffer} (bytes, len) (put (reportText f live) (replicate 116 0, 0)) → page bytes len ≡ pageWith f live
 unfolding pageWith
-put-page r live len bytes l e =
-    let text : List ℕ = reportText (r .figures) (livePlaces r) in
-    let short : length text ≤ 116 = report-length (r .figures) (livePlaces r) in
+put-page f live len bytes e =
+    let text : List ℕ = reportText f live in
+    let short : length text ≤ 116 = report-length f live in
     let start : 0 + length text ≡ length text = omega arith in
     let is : _≡_ {A = Buffer} (bytes, len) (text ++ drop (length text) (replicate 116 0), length text) =
-    e ∙ ap (λ (n : ℕ). put (reportText (r .figures) n) (replicate 116 0, 0)) l ∙ put-fits text (replicate 116 0) 0 (omega arith)
-    ∙ ap (λ (n : ℕ). (text ++ drop n (replicate 116 0), n)) start in
+    e ∙ put-fits text (replicate 116 0) 0 (omega arith) ∙ ap (λ (n : ℕ). (text ++ drop n (replicate 116 0), n)) start in
     ap (λ (p : Buffer). page (p .0) (p .1)) is ∙ ap (λ (z : List ℕ). page (text ++ z) (length text)) (drop-zeros (length text) short)

@@ -1,7 +1,7 @@
 // The report of a register of cells, as CSV (RFC 4180; document 02, E6).
 ghost use mathlib.Core.Path.{_≡_};
 ghost use Rattle.texts.specs.Text.{put};
-ghost use Rattle.report.specs.Report.{figureText, figuresLine, reportText, pageOf};
+ghost use Rattle.report.specs.Report.{figureText, figuresLine, reportText, pageWith, pageOf};
 use register::Figures;
 use register::Register;
 use register::live_places;
@@ -38,15 +38,22 @@ fn put_report(out: &mut [u8], figures: Figures, live: u64) -> usize
     put_figures(out, at, figures, live)
 }
 
-pub fn report(register: Register) -> ReportPage
-    ensures { λ r. ⌜ r ≡ pageOf register ⌝ }
+// The report with these figures and as many live cells as are said.
+pub fn page_with(figures: Figures, live: u64) -> ReportPage
+    ensures { λ r. ⌜ r ≡ pageWith figures live ⌝ }
 {
-    let live = live_places(register.live_count) as u64;
-    let figures = register.figures;
     let mut bytes = [0u8; 116];
     let len = put_report(&mut bytes, figures, live);
     ReportPage {
         bytes: bytes,
         len: len,
     }
+}
+
+pub fn report(register: Register) -> ReportPage
+    ensures { λ r. ⌜ r ≡ pageOf register ⌝ }
+{
+    let live = live_places(register.live_count) as u64;
+    let figures = register.figures;
+    page_with(figures, live)
 }
