@@ -1,5 +1,5 @@
 /* What a host in C, C++ or Rust calls of Chanbook's planning modules, beside the engine (chanbook_shard.h). Link libplanning_host.a, which
-   `rt staticlib planning_host` writes. Every function is total on every number of 64 bits, and holds nothing between two calls. */
+   `rt staticlib planning_host` writes. Whatever numbers a function is given or lent, it ends and answers. It holds nothing between two calls. */
 #ifndef CHANBOOK_PLANNING_H
 #define CHANBOOK_PLANNING_H
 
@@ -9,9 +9,18 @@
 extern "C" {
 #endif
 
-/* Numbers of document 02, where a call is refused. */
+/* Why a call is refused: numbers of document 02. */
 enum {
-    CHANBOOK_NO_RASTER = 14 /* no raster number or no raster frequency */
+    CHANBOOK_TOO_LARGE = 2,     /* the slot is above 2^63-2 */
+    CHANBOOK_NO_RASTER = 14,    /* no raster number or no raster frequency; in an entry also a width outside its limits, or an unknown kind */
+    CHANBOOK_NO_ROOM = 15,      /* a new cell with 512 live */
+    CHANBOOK_CELL_NOT_LIVE = 16 /* release of a cell that is not live */
+};
+
+/* What document 02 gives no number: these are ours, and none of them is one of its numbers, 1 to 23. */
+enum {
+    CHANBOOK_DONE = 0,
+    CHANBOOK_OLDER = 64 /* the entry's slot is not after the last one seen */
 };
 
 /* refusal: 0 and a value, or the number of document 02 that refuses, and 0 as the value. */
@@ -23,6 +32,55 @@ struct chanbook_value {
 /* E5, carrier numbers (NR-ARFCN) of 3GPP TS 38.104: the frequency of a number in kHz, and the number of a frequency in kHz. 14 where there is none. */
 struct chanbook_value chanbook_raster_khz(uint64_t number);
 struct chanbook_value chanbook_raster_number(uint64_t khz);
+
+/* E6, a register of cells from the commits. A host keeps the four arrays, begins them with chanbook_register_new, and lends them for each entry.
+   Place i of cells, carriers and widths is live cell i, by cell number; what stands behind the live cells is of no account. The arrays do not
+   overlap, each is as the call before left it, and nothing else writes to it. One thread at a time may hold a register.
+   Two offices that give equal entries in slot order hold equal registers, every number of the four arrays, whatever repeats and older entries stand
+   between. So the hosts of a group give one and the same entry for a committed value, and its slot is the commit's. */
+enum {
+    CHANBOOK_LIVE_CELLS = 512,  /* at most so many cells are live */
+    CHANBOOK_REPORT_BYTES = 116 /* a report has at most so many bytes */
+};
+
+/* The places of figures. Assignments made are those superseded, those released and those live together. */
+enum {
+    CHANBOOK_NEXT_SLOT = 0, /* the slot after the last one seen, at first 0 */
+    CHANBOOK_MADE = 1,
+    CHANBOOK_SUPERSEDED = 2,
+    CHANBOOK_RELEASED = 3,
+    CHANBOOK_LIVE = 4,
+    CHANBOOK_FIGURES = 5 /* how many there are */
+};
+
+/* The arrays in one block, for a host that wants to copy, store or compare a register whole. */
+struct chanbook_register {
+    uint64_t cells[512];
+    uint64_t carriers[512];
+    uint64_t widths[512];
+    uint64_t figures[5];
+};
+
+/* A cell's number in an entry. A host that has longer ones asks first whether they fit: C would take them modulo 2^16 before the call. */
+typedef uint16_t chanbook_cell_number;
+
+/* The kinds of entry. Any other is refused with 14. */
+enum {
+    CHANBOOK_ASSIGNMENT = 1, /* the cell gets this carrier number and this width, 1 to 400,000 kHz */
+    CHANBOOK_RELEASE = 2     /* the cell is live no more; carrier and width say nothing */
+};
+
+/* A register that has seen no entry. */
+void chanbook_register_new(uint64_t cells[512], uint64_t carriers[512], uint64_t widths[512], uint64_t figures[5]);
+
+/* An entry: the first of 2, 64, 14, 15 and 16 whose cause holds, or 0, and it is done. After 2 and 64 every number is as it was. After 14, 15 and
+   16 the slot is seen, and nothing else has changed. */
+uint64_t chanbook_register_entry(uint64_t cells[512], uint64_t carriers[512], uint64_t widths[512], uint64_t figures[5], uint64_t slot,
+                                 uint64_t kind, chanbook_cell_number cell, uint64_t carrier, uint64_t width);
+
+/* The report as CSV: the header made,superseded,released,live and one line, each ended with CR LF. Hands back how many bytes it has; zeros stand
+   behind them. */
+uint64_t chanbook_register_report(const uint64_t figures[5], uint8_t out[116]);
 
 #ifdef __cplusplus
 }
