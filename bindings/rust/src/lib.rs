@@ -23,7 +23,8 @@
 //!
 //! A read is served once a majority has answered, and each response counts one, as in the original: a host hands a `ReadResponse` in once.
 //!
-//! Beside the engine, [`raster`] turns carrier numbers of TS 38.104 into kHz and back.
+//! Beside the engine, [`raster`] turns carrier numbers of TS 38.104 into kHz and back, and [`register`] keeps what the committed entries say of the
+//! cells: which carrier each has, and a report.
 //!
 //! # Example
 //!
@@ -54,6 +55,7 @@ mod call;
 mod message;
 pub mod planning_sys;
 pub mod raster;
+pub mod register;
 mod reply;
 mod settings;
 mod shard;

@@ -1,7 +1,7 @@
 //! The flat forms and functions of crates/planning_host, which stand beside the engine's ([`sys`](crate::sys)). Numbers go in and numbers come out, and
 //! every function is total on every number.
 //!
-//! [`raster`](crate::raster) is the interface for a host.
+//! [`raster`](crate::raster) and [`register`](crate::register) are the interface for a host.
 #![allow(missing_docs)]
 
 /// The number of document 02 that refuses, with 0 as the value; or 0 and the value.
@@ -12,10 +12,57 @@ pub struct FlatValue {
     pub value: u64,
 }
 
+/// A cell's number in an entry.
+pub type CellNumber = u16;
+
+/// The four arrays of a register, which its functions are lent one by one. Place i of the first three is live cell i, by cell number.
+#[repr(C)]
+#[derive(Clone, Copy, Debug, PartialEq, Eq)]
+pub struct FlatRegister {
+    pub cells: [u64; 512],
+    pub carriers: [u64; 512],
+    pub widths: [u64; 512],
+    pub figures: [u64; 5],
+}
+
+/// The places of a register's figures.
+pub const NEXT_SLOT: usize = 0;
+pub const MADE: usize = 1;
+pub const SUPERSEDED: usize = 2;
+pub const RELEASED: usize = 3;
+pub const LIVE: usize = 4;
+
+/// The kinds of entry.
+pub const ASSIGNMENT: u64 = 1;
+pub const RELEASE: u64 = 2;
+
+/// What became of an entry that is not refused: these numbers are not document 02's.
+pub const DONE: u64 = 0;
+pub const OLDER: u64 = 64;
+
 unsafe extern "C" {
     /// The frequency of a carrier number, in kHz.
     pub safe fn chanbook_raster_khz(number: u64) -> FlatValue;
 
     /// The carrier number of a frequency in kHz.
     pub safe fn chanbook_raster_number(khz: u64) -> FlatValue;
+
+    /// A register that has seen no entry.
+    pub safe fn chanbook_register_new(cells: &mut [u64; 512], carriers: &mut [u64; 512], widths: &mut [u64; 512], figures: &mut [u64; 5]);
+
+    /// An entry: [`DONE`], [`OLDER`], or the number of document 02 that refuses it.
+    pub safe fn chanbook_register_entry(
+        cells: &mut [u64; 512],
+        carriers: &mut [u64; 512],
+        widths: &mut [u64; 512],
+        figures: &mut [u64; 5],
+        slot: u64,
+        kind: u64,
+        cell: CellNumber,
+        carrier: u64,
+        width: u64,
+    ) -> u64;
+
+    /// The report at the start of `out`, and how many bytes it has.
+    pub safe fn chanbook_register_report(figures: &[u64; 5], out: &mut [u8; 116]) -> u64;
 }

@@ -1,6 +1,6 @@
 //! The flat forms of this crate have the fields of crates/flat, of crates/host and of the C header, in the same order and of the same types. All are numbers and
 //! `#[repr(C)]`, and so equal fields are equal sizes and offsets. The two calls in place have the rows of the source and of the header, in the same
-//! order.
+//! order, and so have the functions of a register.
 
 use std::collections::BTreeMap;
 
@@ -13,6 +13,7 @@ const HEADER: &str = include_str!("../../../crates/host/include/chanbook_shard.h
 
 const PLANNING_MIRROR: &str = include_str!("../src/planning_sys.rs");
 const PLANNING_HOST: &str = include_str!("../../../crates/planning_host/src/lib.rt");
+const REGISTER: &str = include_str!("../../../crates/register/src/lib.rt");
 const PLANNING_HEADER: &str = include_str!("../../../crates/planning_host/include/chanbook_planning.h");
 
 /// `FlatOpenRead` for `chanbook_open_read`.
@@ -120,7 +121,45 @@ fn the_flat_forms_are_those_of_the_header() {
 #[test]
 fn the_planning_forms_are_those_of_the_source_and_of_the_header() {
     let mirror = fields_in_rust(PLANNING_MIRROR);
-    assert_eq!(mirror, ["FlatValue.refusal: u64", "FlatValue.value: u64"]);
-    assert_eq!(fields_in_rust(PLANNING_HOST), mirror);
+    let value = ["FlatValue.refusal: u64", "FlatValue.value: u64"];
+    let register = ["cells: [u64; 512]", "carriers: [u64; 512]", "widths: [u64; 512]", "figures: [u64; 5]"];
+    let register = register.map(|field| format!("FlatRegister.{field}"));
+    assert_eq!(mirror[..2], value);
+    assert_eq!(mirror[2..], register);
     assert_eq!(fields_in_c(PLANNING_HEADER), mirror);
+    assert_eq!(fields_in_rust(PLANNING_HOST), value, "a register's arrays are lent one by one");
+}
+
+/// `cells: &mut [u64; 512]` for `uint64_t cells[512]`, and `slot: u64` for `uint64_t slot`.
+fn argument_in_c(argument: &str) -> String {
+    let (kind, rest) = argument.strip_prefix("const ").map_or(("&mut ", argument), |rest| ("&", rest));
+    let (of, declared) = rest.split_once(' ').expect("a type and a name");
+    let of = match of {
+        "uint64_t" => "u64",
+        "uint8_t" => "u8",
+        "chanbook_cell_number" => "CellNumber",
+        other => panic!("{other}"),
+    };
+    match declared.trim_end_matches(']').split_once('[') {
+        None => format!("{declared}: {of}"),
+        Some((name, length)) => format!("{name}: {kind}[{of}; {length}]"),
+    }
+}
+
+#[test]
+fn the_functions_of_a_register_are_those_of_the_source_and_of_the_header() {
+    for (function, count) in [("chanbook_register_new", 4), ("chanbook_register_entry", 9), ("chanbook_register_report", 2)] {
+        let mirror = arguments(PLANNING_MIRROR, &format!("fn {function}("));
+        assert_eq!(mirror.len(), count, "{function}");
+        let header = arguments(PLANNING_HEADER, &format!(" {function}("));
+        assert_eq!(header.into_iter().map(argument_in_c).collect::<Vec<_>>(), mirror);
+        assert_eq!(arguments(PLANNING_HOST, &format!("fn {function}(")), mirror);
+    }
+}
+
+#[test]
+fn a_cell_number_has_as_many_bits_on_every_side() {
+    let line = "pub type CellNumber = u16;";
+    assert!(PLANNING_MIRROR.contains(line) && REGISTER.contains(line));
+    assert!(PLANNING_HEADER.contains("typedef uint16_t chanbook_cell_number;"));
 }
