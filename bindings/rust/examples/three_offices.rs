@@ -1,40 +1,58 @@
 //! Three planning offices assign carriers to sites, all at the same time and over a network that loses and repeats messages. Each office keeps
-//! a log of the assignments, slot by slot, and in the end the three logs are equal.
+//! a log of what was committed, slot by slot, and a register of cells from it. In the end the three logs and the three registers are equal.
 //!
 //!     cargo run --offline --manifest-path bindings/rust/Cargo.toml --example three_offices
 use chanbook_shard::raster::Arfcn;
+use chanbook_shard::register::{Assignment, CellEntry, CellNumber, Change, Register};
 use chanbook_shard::{ConsensusMessage, Delivery, PFModeSetting, Refusal, Reply, Settings, Shard};
 
-/// An assignment: a site gets a carrier of band n78. `channel` is its NR-ARFCN.
-struct Assignment {
+/// What an office wants of a site's cell: a carrier of band n78, by its NR-ARFCN, with a width in kHz, or that it is released.
+struct Wish {
     office: usize,
-    site: &'static str,
-    channel: u64,
+    cell: CellNumber,
+    change: Change,
 }
 
 const OFFICES: [&str; 3] = ["Porto", "Coimbra", "Lisbon"];
 
-/// What the offices want to assign. The engine knows an assignment only by a number: its place in this list.
-const WANTED: [Assignment; 9] = [
-    wanted(0, "Matosinhos harbour", 632628),
-    wanted(0, "Gaia hill", 636666),
-    wanted(0, "Campanha station", 641280),
-    wanted(1, "University tower", 632628),
-    wanted(1, "Mondego bridge", 638000),
-    wanted(1, "Figueira beach", 646666),
-    wanted(2, "Belem riverside", 636666),
-    wanted(2, "Oriente station", 643334),
-    wanted(2, "Monsanto mast", 650000),
+/// The sites, by the number of their cell.
+const SITES: [&str; 9] = [
+    "Matosinhos harbour",
+    "Gaia hill",
+    "Campanha station",
+    "University tower",
+    "Mondego bridge",
+    "Figueira beach",
+    "Belem riverside",
+    "Oriente station",
+    "Monsanto mast",
 ];
 
-const fn wanted(office: usize, site: &'static str, channel: u64) -> Assignment {
-    Assignment { office, site, channel }
+/// What the offices want, each its own in this order. The engine knows a wish only by a number: its place in this list. Gaia hill changes its
+/// carrier, and Monsanto mast is released.
+const WANTED: [Wish; 11] = [
+    assign(0, 0, 632628, 20_000),
+    assign(0, 1, 636666, 40_000),
+    assign(0, 2, 641280, 40_000),
+    assign(0, 1, 650000, 20_000),
+    assign(1, 3, 632628, 20_000),
+    assign(1, 4, 638000, 40_000),
+    assign(1, 5, 646666, 100_000),
+    assign(2, 8, 650000, 60_000),
+    assign(2, 6, 636666, 40_000),
+    Wish { office: 2, cell: 8, change: Change::Release },
+    assign(2, 7, 643334, 20_000),
+];
+
+const fn assign(office: usize, cell: CellNumber, carrier: u64, width: u64) -> Wish {
+    Wish { office, cell, change: Change::Assign(Assignment { carrier, width }) }
 }
 
-/// An office: its shard of the engine, its log, and what it still wants to assign.
+/// An office: its shard of the engine, its log and register, and what it still wants.
 struct Office {
     shard: Shard,
     log: Vec<u64>,
+    register: Register,
     wishes: Vec<u64>,
 }
 
@@ -90,8 +108,8 @@ fn propose_all(offices: &mut [Office; 3], network: &mut Network) {
     }
 }
 
-/// Hands a message to its office, and sends what the engine answers. A commit goes into the log. If it is the office's own wish, the wish is
-/// fulfilled; if not, the office proposes its wish again in the next slot.
+/// Hands a message to its office, and sends what the engine answers. A commit goes into the log and the register. If it is the office's own wish,
+/// the wish is fulfilled; if not, the office proposes its wish again in the next slot.
 fn deliver(office: &mut Office, to: usize, message: ConsensusMessage, network: &mut Network) {
     let reply = office.shard.receive(Delivery::of(message));
     if reply.outcome == Err(Refusal::SlotAhead) {
@@ -100,25 +118,45 @@ fn deliver(office: &mut Office, to: usize, message: ConsensusMessage, network: &
     }
     network.send(&reply);
     if let Some(commit) = reply.commit {
+        let Wish { cell, change, .. } = WANTED[commit.v as usize];
         office.log.push(commit.v);
+        office.register.apply(&CellEntry { slot: commit.slot, cell, change }).expect("an entry within the limits");
         office.wishes.retain(|wish| *wish != commit.v);
+    }
+}
+
+fn in_words(change: Change) -> String {
+    match change {
+        Change::Assign(Assignment { carrier, width }) => {
+            let carrier = Arfcn::new(carrier).expect("a raster number");
+            format!("channel {carrier}, {width} kHz wide")
+        }
+        Change::Release => "released".to_string(),
     }
 }
 
 fn print_log(name: &str, log: &[u64]) {
     println!("\nLog of {name}:");
     for (slot, &v) in log.iter().enumerate() {
-        let Assignment { office, site, channel } = &WANTED[v as usize];
-        let carrier = Arfcn::new(*channel).expect("a raster number");
-        println!("  slot {slot}: {site:<18} channel {carrier}, wanted by {}", OFFICES[*office]);
+        let Wish { office, cell, change } = &WANTED[v as usize];
+        println!("  slot {slot:>2}: {:<18} {}, wanted by {}", SITES[*cell as usize], in_words(*change), OFFICES[*office]);
     }
+}
+
+fn print_register(register: &Register) {
+    println!("\nRegister of each office, and its report:");
+    for cell in register.cells() {
+        println!("  cell {}: {:<18} {}", cell.number, SITES[cell.number as usize], in_words(Change::Assign(cell.assignment)));
+    }
+    print!("\n{}", register.report());
 }
 
 fn main() {
     let mut offices = [0, 1, 2].map(|me| Office {
         shard: Shard::new(&Settings::all_live(3, me as u64, PFModeSetting::Paxos)),
         log: vec![],
-        wishes: (0..9).filter(|wish| WANTED[*wish as usize].office == me).collect(),
+        register: Register::new(),
+        wishes: (0..WANTED.len() as u64).filter(|wish| WANTED[*wish as usize].office == me).collect(),
     });
     let mut network = Network { under_way: vec![], dice: 78, lost: 0, repeated: 0 };
 
@@ -134,5 +172,11 @@ fn main() {
         print_log(name, &office.log);
     }
     assert!(offices.iter().all(|office| office.log == offices[0].log));
-    println!("\nThe three logs are equal. {} messages were lost and {} repeated.", network.lost, network.repeated);
+    assert!(offices.iter().all(|office| office.register == offices[0].register));
+    assert!(offices.iter().all(|office| office.register.report() == "made,superseded,released,live\r\n10,1,1,8\r\n"));
+    print_register(&offices[0].register);
+    println!(
+        "\nThe three logs are equal, and so are the registers. {} messages were lost and {} repeated.",
+        network.lost, network.repeated
+    );
 }
