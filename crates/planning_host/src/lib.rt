@@ -1,7 +1,7 @@
 // What a host in C, C++ or Rust calls of the planning modules: numbers in and numbers out (include/chanbook_planning.h).
 ghost use mathlib.Core.Path.{_≡_};
 ghost use Rattle.register.specs.Register.{newRegister};
-ghost use Rattle.register_arrays.specs.Columns.{registerOf, entryOf, afterEntry, reportIn};
+ghost use Rattle.register_arrays.specs.Columns.{registerOf, entryFromNumbers, afterEntry, reportIn};
 ghost use Rattle.planning_host.specs.Conversions.{flatKhz, flatNumber};
 use register::CellNumber;
 
@@ -63,7 +63,7 @@ pub extern "C" fn chanbook_register_entry(
     carrier: u64,
     width: u64,
 ) -> u64
-    ensures { λ r. ⌜ (registerOf (now (cells .exit)) (now (carriers .exit)) (now (widths .exit)) (now (figures .exit)), r) ≡ afterEntry (registerOf (now (cells .entry)) (now (carriers .entry)) (now (widths .entry)) (now (figures .entry))) (entryOf slot kind cell carrier width) ⌝ }
+    ensures { λ r. ⌜ (registerOf (now (cells .exit)) (now (carriers .exit)) (now (widths .exit)) (now (figures .exit)), r) ≡ afterEntry (registerOf (now (cells .entry)) (now (carriers .entry)) (now (widths .entry)) (now (figures .entry))) (entryFromNumbers slot kind cell carrier width) ⌝ }
 {
     register_arrays::apply_entry(
         cells,

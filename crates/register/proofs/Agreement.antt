@@ -9,7 +9,7 @@ use native.Mathlib.Omega.{arith}
 use lib.Dec.{ltb, leb, eqb}
 use lib.ListN.{length, length-take}
 use lib.Seq.{take-at}
-use borrow.Author.Tests.{ltb-true, ltb-false, leb-true, leb-false, lt-ltb, le-ltb, le-leb, lt-leb}
+use borrow.Author.Tests.{ltb-true, ltb-false, leb-true, leb-false, lt-ltb, le-leb, lt-leb}
 use Rattle.basics.proofs.Tests.{either, not-both, same-test, and-left, and-right, and-both}
 use Rattle.message.specs.Rounds.{increment}
 use Rattle.raster.specs.Raster.{frequencyOf, frequencyRefusal}
@@ -29,8 +29,6 @@ use Rattle.register.specs.declared.Figures.{Figures}
 use Rattle.register.specs.declared.Register.{Register}
 use Rattle.register.specs.declared.EntryRefusal.{EntryRefusal}
 use Rattle.register.specs.declared.EntryRefusal.the-variants.{NumberTooLarge, NotAssignable, NoRoomForCell, CellNotLive}
-use Rattle.register.specs.declared.EntryOutcome.{EntryOutcome}
-use Rattle.register.specs.declared.EntryOutcome.the-variants.{Done, Older, Refused}
 use Rattle.register.specs.declared.Applied.{Applied}
 use Rattle.register.proofs.Cells.{lookUpCell, live-look-up, look-up-inserted, look-up-reassigned, look-up-removed, rising-inserted, rising-reassigned, rising-removed, inserted-length, reassigned-length, removed-length}
 use Rattle.register.proofs.Entries.{latest-kept, live-kept, latest-own, latest-other, live-more, live-same, live-less}
@@ -231,7 +229,7 @@ pub record Stepped (before : List CellEntry) (e : CellEntry) (x : Applied) : Typ
   pub number : entryNumber (x .outcome) ≡ numberFor before e
   pub agreeing : RegisterAgrees (e ∷ before) (x .register)
 
-taken-by-number : (before : List CellEntry) (e : CellEntry) (k : ℕ) → numberFor before e ≡ k → isTaken before e ≡ eqb k 0
+pub taken-by-number : (before : List CellEntry) (e : CellEntry) (k : ℕ) → numberFor before e ≡ k → isTaken before e ≡ eqb k 0
 unfolding isTakenGiven
 taken-by-number before e k h = ap (λ (m : ℕ). eqb m 0) h
 

@@ -10,13 +10,13 @@ use Rattle.register.specs.declared.Change.{Change}
 use Rattle.register.specs.declared.Change.the-variants.{Assign, Release}
 use Rattle.register.specs.declared.CellEntry.{CellEntry}
 
-abbrev narrow : Assignment
+abbrev pub narrow : Assignment
 narrow = record { carrier = 630000; width = 20000 }
 
 abbrev wide : Assignment
 wide = record { carrier = 3279165; width = 400000 }
 
-abbrev entry : ℕ → ℕ → Change → CellEntry
+abbrev pub entry : ℕ → ℕ → Change → CellEntry
 entry slot cell change = record { slot = slot; cell = cell; change = change }
 
 -- cell 7 is assigned, and again; cell 9 is assigned and released; latest first
@@ -41,9 +41,10 @@ pub figures : (tally makes office ≡ 3) × (tally supersedes office ≡ 1) × (
 unfolding tally latest isTakenGiven numberGiven above countIn cellsNamed among
 figures = (refl, refl, refl, refl)
 
--- an entry that is taken, and one for each number but 15
+-- an entry that is taken, and one for each number but 15, which Full.antt has; the slot last seen is older
 pub numbers : (isTaken office (entry 6 9 (Assign wide)) ≡ true) × (numberFor office (entry 9223372036854775807 7 Release) ≡ 2)
     × (numberFor office (entry 6 8 (Assign (record { carrier = 3279166; width = 1 }))) ≡ 14)
     × (numberFor office (entry 6 8 (Assign (record { carrier = 0; width = 400001 }))) ≡ 14) × (numberFor office (entry 6 9 Release) ≡ 16)
+    × (numberFor office (entry 5 7 Release) ≡ 64)
 unfolding latest isTakenGiven numberGiven above countIn cellsNamed among
-numbers = (refl, refl, refl, refl, refl)
+numbers = (refl, refl, refl, refl, refl, refl)

@@ -6,3 +6,4 @@ pub mod Entries
 pub mod Agreement
 pub mod Laws
 pub mod Examples
+pub mod Full

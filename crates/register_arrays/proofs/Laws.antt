@@ -22,7 +22,7 @@ use Rattle.register.specs.declared.Change.the-variants.{Assign, Release}
 use Rattle.register.specs.declared.EntryRefusal.the-variants.{NumberTooLarge, NotAssignable, NoRoomForCell, CellNotLive}
 use Rattle.register.specs.declared.Register.{Register}
 use Rattle.raster.specs.Raster.{frequencyOf}
-use Rattle.register_arrays.specs.Columns.{HavePlaces, cellsIn, registerOf, changeOf, entryOf, afterEntry}
+use Rattle.register_arrays.specs.Columns.{HavePlaces, cellsIn, registerOf, changeOf, entryFromNumbers, afterEntry}
 use Rattle.register_arrays.proofs.Columns.{Level, level, below}
 
 -- ---- the numbers with which a register stays as it is: the slot gives 2, or is older
@@ -122,7 +122,7 @@ module _ (ns cs ws f ms ds vs g : List ℕ) (before : HavePlaces ns cs ws) (figu
 
 -- ---- another kind
 pub other-kind : (r : Register) (slot kind cell carrier width : ℕ) → eqb kind 1 ≡ false → eqb kind 2 ≡ false → slot ≤ 9223372036854775806 → r .«next_slot» ≤ slot
-    → afterEntry r (entryOf slot kind cell carrier width) ≡ (slotSeen slot r, 14)
+    → afterEntry r (entryFromNumbers slot kind cell carrier width) ≡ (slotSeen slot r, 14)
 unfolding changeOf apply applyChange assign assignable frequencyOf
 other-kind r slot kind cell carrier width one two within later =
     simp (one, two, le-ltb 9223372036854775806 slot within, le-ltb slot (r .«next_slot») later)

@@ -10,7 +10,6 @@ use Rattle.register.specs.Cells.{cellOf}
 use Rattle.register.specs.Register.{apply}
 use Rattle.register.specs.Refusals.{entryNumber}
 use Rattle.register.specs.declared.Applied.{Applied}
-use Rattle.register.specs.declared.Assignment.{Assignment}
 use Rattle.register.specs.declared.Cell.{Cell}
 use Rattle.register.specs.declared.CellEntry.{CellEntry}
 use Rattle.register.specs.declared.Change.{Change}
@@ -55,8 +54,8 @@ changeOf kind carrier width =
     (cond (eqb kind 2) Release
     (Assign (record { carrier = 0; width = 0 })))
 
-abbrev pub entryOf : ℕ → ℕ → ℕ → ℕ → ℕ → CellEntry
-entryOf slot kind cell carrier width = record { slot = slot; cell = cell; change = changeOf kind carrier width }
+abbrev pub entryFromNumbers : ℕ → ℕ → ℕ → ℕ → ℕ → CellEntry
+entryFromNumbers slot kind cell carrier width = record { slot = slot; cell = cell; change = changeOf kind carrier width }
 
 -- the register after an entry, and the number of what became of it
 abbrev pub afterEntry : Register → CellEntry → Register × ℕ

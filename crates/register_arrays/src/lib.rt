@@ -8,7 +8,7 @@ ghost use lib.ListN.{length, set, take};
 ghost use Rattle.serving.specs.Serving.{atFront, without};
 ghost use Rattle.register.specs.Cells.{cellOf, found, withAt};
 ghost use Rattle.register.specs.Register.{newRegister, assign, release, apply};
-ghost use Rattle.register_arrays.specs.Columns.{HavePlaces, cellsIn, numbered, registerOf, appliedIn, entryOf, afterEntry, reportIn};
+ghost use Rattle.register_arrays.specs.Columns.{HavePlaces, cellsIn, numbered, registerOf, appliedIn, entryFromNumbers, afterEntry, reportIn};
 use message::increment;
 use register::Assignment;
 use register::CellEntry;
@@ -207,8 +207,8 @@ fn apply(
 }
 
 // Kind 1 is an assignment and kind 2 a release. Any other kind stands for an assignment without a width, so that it is refused with 14.
-fn entry_of(slot: u64, kind: u64, cell: CellNumber, carrier: u64, width: u64) -> CellEntry
-    ensures { λ r. ⌜ r ≡ entryOf slot kind cell carrier width ⌝ }
+fn entry_from_numbers(slot: u64, kind: u64, cell: CellNumber, carrier: u64, width: u64) -> CellEntry
+    ensures { λ r. ⌜ r ≡ entryFromNumbers slot kind cell carrier width ⌝ }
 {
     if kind == 1 {
         return CellEntry {
@@ -261,9 +261,9 @@ pub fn apply_entry(
     carrier: u64,
     width: u64,
 ) -> u64
-    ensures { λ r. ⌜ (registerOf (now (cells .exit)) (now (carriers .exit)) (now (widths .exit)) (now (figures .exit)), r) ≡ afterEntry (registerOf (now (cells .entry)) (now (carriers .entry)) (now (widths .entry)) (now (figures .entry))) (entryOf slot kind cell carrier width) ⌝ }
+    ensures { λ r. ⌜ (registerOf (now (cells .exit)) (now (carriers .exit)) (now (widths .exit)) (now (figures .exit)), r) ≡ afterEntry (registerOf (now (cells .entry)) (now (carriers .entry)) (now (widths .entry)) (now (figures .entry))) (entryFromNumbers slot kind cell carrier width) ⌝ }
 {
-    let entry = entry_of(slot, kind, cell, carrier, width);
+    let entry = entry_from_numbers(slot, kind, cell, carrier, width);
     let outcome = apply(cells, carriers, widths, figures, entry);
     outcome.number()
 }

@@ -2,9 +2,9 @@
 -- slots, each at its own moment.
 -- Assumes nothing.
 use mathlib.Core.Path.{_≡_, refl, sym, ap, _∙_}
-use mathlib.Core.Bool.{Bool, true, false, cond}
+use mathlib.Core.Bool.{Bool, true, false}
 use mathlib.Core.List.{List, [], _∷_}
-use mathlib.Core.Logic.{_⊎_, inl, inr}
+use mathlib.Core.Logic.{inl, inr}
 use Prim.Native.Nat.{ℕ, zero, suc}
 use native.Mathlib.Omega.{arith}
 use lib.Dec.{eqb}
@@ -16,9 +16,9 @@ use Rattle.register.specs.History.{registerAfter}
 use Rattle.register.specs.Taken.{laterEntries}
 use Rattle.register.specs.declared.CellEntry.{CellEntry}
 use Rattle.register.proofs.Laws.{equal-registers}
-use Rattle.group.specs.Claim.{MemberCall, Entry, entries, Legal, At, slotAt, plusCommit, CommitAt, Claim, NotSwift}
+use Rattle.group.specs.Claim.{MemberCall, Entry, entries, Legal, At, slotAt, CommitAt, Claim, NotSwift}
 use Rattle.group.proofs.Agreement.{agreement}
-use Rattle.register_runs.specs.Members.{CellChange, entryAt, plusEntry, entriesFor, registerOfMember, UpTo}
+use Rattle.register_runs.specs.Members.{CellChange, entryForCommit, entriesFor, registerOfMember, UpTo}
 
 -- ---- moments of a run
 pub whole : (run : List Entry) → UpTo run run
@@ -50,7 +50,7 @@ module _ (says : ℕ → CellChange) (run : List Entry) (claim : Claim run) wher
     up-to : UpTo before run
     slot : slotAt member before ≡ k
     commit : CommitAt k value run
-    is : entriesFor says member past ≡ entryAt says k value ∷ entriesFor says member before
+    is : entriesFor says member past ≡ entryForCommit says k value ∷ entriesFor says member before
 
   latest-commit : (member k : ℕ) (past : List Entry) → UpTo past run → slotAt member past ≡ suc k → Latest member k past
   unfolding entriesFor
@@ -102,8 +102,8 @@ module _ (says : ℕ → CellChange) (run : List Entry) (claim : Claim run) wher
       let other = latest-commit j k q w l in
       let value : one .value ≡ other .value = claim .agree k (one .value) k (other .value) (one .commit) (other .commit) .0 refl .1 in
       one .is
-      ∙ ap (λ (v : ℕ). entryAt says k v ∷ entriesFor says i (one .before)) value
-      ∙ ap (λ (es : List CellEntry). entryAt says k (other .value) ∷ es)
+      ∙ ap (λ (v : ℕ). entryForCommit says k v ∷ entriesFor says i (one .before)) value
+      ∙ ap (λ (es : List CellEntry). entryForCommit says k (other .value) ∷ es)
       (same-entries k i j (one .before) (other .before) (one .up-to) (other .up-to) (one .slot) (other .slot))
       ∙ sym (other .is)
 

@@ -2,28 +2,19 @@
 -- cell 7. So every hypothesis of the law holds somewhere, and the registers are not empty.
 -- Assumes nothing.
 use mathlib.Core.Path.{_≡_, refl, sym, _∙_}
-use mathlib.Core.Bool.{Bool, true, false}
 use mathlib.Core.List.{List, [], _∷_}
 use mathlib.Core.Logic.{inl, inr}
 use Prim.Native.Nat.{ℕ, _-_}
 use lib.Dec.{lit<}
-use lib.ListN.{replicate}
 use Rattle.sets.specs.Sets.{contains, count, size, insert}
-use Rattle.sets.specs.declared.OptionalSet.the-variants.{NoSet}
 use Rattle.message.specs.Rounds.{increment, roundOf, nextLeaderRound, roundBefore, roundEqual}
-use Rattle.message.specs.declared.ConsensusMsg.{ConsensusMsg}
 use Rattle.message.specs.declared.ConsensusMsg.the-variants.{Prepare, Accept, Commit}
-use Rattle.message.specs.declared.OptionalProcess.{OptionalProcess}
-use Rattle.message.specs.declared.OptionalProcess.the-variants.{NoProcess}
 use Rattle.message.specs.declared.OptionalRound.the-variants.{NoRound}
-use Rattle.message.specs.declared.OptionalValue.{OptionalValue}
 use Rattle.message.specs.declared.OptionalValue.the-variants.{NoValue, Value}
-use Rattle.message.specs.declared.PFMode.{PFMode}
 use Rattle.message.specs.declared.PFMode.the-variants.{Paxos}
 use Rattle.message.specs.declared.RoundV.the-variants.{PaxosV}
 use Rattle.settings.specs.Settings.{countsFit, membersFit, committersFit, modeFits, withinLimits}
 use Rattle.settings.specs.Questions.{committerFor, committerIn, delegateIn}
-use Rattle.settings.specs.declared.Settings.{Settings}
 use Rattle.round_state.specs.Paxos.{withSender, withOwn, heldAfterPromise, receivePromise, paxosProposeV, acceptFits, receiveAccept, acceptOwn, selfAccept}
 use Rattle.accept.specs.Accept.{isCommitter, answerAccept, tellsCommit, commitMessages, tryCommit, answered, follower, accepted, accepting}
 use Rattle.paxos_family.specs.Commit.{commitSlot}
@@ -37,15 +28,13 @@ use Rattle.consensus.specs.Call.{newShard, proposing, propose, receive, dispatc
 use Rattle.calls.specs.Asked.{gathererIn}
 use Rattle.consensus.specs.Handle.{onCommit, processed, processMessage, handle}
 use Rattle.delivery.specs.Limits.{roundNumbers, rvNumbers, msgNumbers, valueNumbers, processNumbers, numbersFit, rvProcesses, msgProcesses, requesterBelow, processesFit}
-use Rattle.calls.specs.declared.Call.the-variants.{Propose, Receive}
-use Rattle.calls.specs.declared.OptionalCommit.{OptionalCommit}
-use Rattle.calls.specs.declared.OptionalCommit.the-variants.{NoCommit, Committed}
+use Rattle.calls.specs.declared.Call.the-variants.{Propose}
 use Rattle.agreement.proofs.Tests.{neqb→ne}
 use Rattle.register.specs.Taken.{is, above, among, cellsNamed, countIn, numberGiven, isTakenGiven, latest, liveCount}
 use Rattle.register.specs.declared.Change.the-variants.{Assign}
 use Rattle.group.specs.Claim.{MemberCall, Entry, entriesFrom, entries, LegalFrom, Legal, slotAt}
 use Rattle.group.proofs.Example.{three, proposes, hears, first}
-use Rattle.register_runs.specs.Members.{CellChange, entryAt, entriesFor, registerOfMember}
+use Rattle.register_runs.specs.Members.{CellChange, entryForCommit, entriesFor, registerOfMember}
 use Rattle.register_runs.proofs.Agreeing.{whole, members-hold-equal-registers}
 
 -- member 0 proposes 10, members 0 and 1 prepare and accept it, and all commit it
@@ -79,11 +68,11 @@ calls-legal =
     (first (lit< tt) (_, _, inr (inl refl), refl, inl refl, refl, neqb→ne 0 2 tt) tt))))))
 
 -- each member is at slot 1, and its one entry assigns cell 7
-pub all-assign-cell-7 : (slotAt 0 run ≡ 1) × (slotAt 2 run ≡ 1) × (entriesFor says 0 run ≡ entryAt says 0 10 ∷ [])
+pub all-assign-cell-7 : (slotAt 0 run ≡ 1) × (slotAt 2 run ≡ 1) × (entriesFor says 0 run ≡ entryForCommit says 0 10 ∷ [])
 unfolding entriesFrom newShard callWith unlessSpent dispatch propose receive admit numbersFit processesFit ready otherLastValue valueAwaited roundNumbers rvNumbers msgNumbers valueNumbers processNumbers rvProcesses msgProcesses requesterBelow handle onCommit committed processMessage processed gathererIn proposing proposeClassic mayPropose electing proposePrepare processClassic onPrepare onAccept inPrepare enter fromLive isOlder inRound prepared holdFirst preparing answersNothing answerPrepare gather becomesPrepared acceptPhase broadcastAccept accepting accepted follower answered tryCommit isCommitter commitSlot paxosProposeV receivePromise heldAfterPromise receiveAccept acceptFits acceptOwn selfAccept withSender withOwn nextLeaderRound roundBefore roundEqual increment delegateIn withinLimits countsFit membersFit committersFit modeFits contains count size insert entriesFor
 all-assign-cell-7 = (refl, refl, refl)
 
-pub cell-7-is-assigned : (latest (entryAt says 0 10 ∷ []) 7 ≡ is (says 10 .change)) × (liveCount (entryAt says 0 10 ∷ []) ≡ 1)
+pub cell-7-is-assigned : (latest (entryForCommit says 0 10 ∷ []) 7 ≡ is (says 10 .change)) × (liveCount (entryForCommit says 0 10 ∷ []) ≡ 1)
 unfolding latest isTakenGiven numberGiven above countIn cellsNamed among
 cell-7-is-assigned = (refl, refl)
 

@@ -20,13 +20,13 @@ pub record CellChange : Type 0 where
   pub cell : ℕ
   pub change : Change
 
-abbrev pub entryAt : (ℕ → CellChange) → ℕ → ℕ → CellEntry
-entryAt says slot v = record { slot = slot; cell = says v .cell; change = says v .change }
+abbrev pub entryForCommit : (ℕ → CellChange) → ℕ → ℕ → CellEntry
+entryForCommit says slot v = record { slot = slot; cell = says v .cell; change = says v .change }
 
 -- one entry more, where there is a commit
 abbrev pub plusEntry : (ℕ → CellChange) → OptionalCommit → List CellEntry → List CellEntry
 plusEntry says NoCommit es = es
-plusEntry says (Committed slot v fast) es = entryAt says slot v ∷ es
+plusEntry says (Committed slot v fast) es = entryForCommit says slot v ∷ es
 
 -- the entries from a member's commits
 unfoldable pub entriesFor : (ℕ → CellChange) → ℕ → List Entry → List CellEntry

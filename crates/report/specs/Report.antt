@@ -29,5 +29,5 @@ unfoldable pub pageWith : Figures → ℕ → ReportPage
 pageWith f live = record { bytes = reportText f live ++ replicate (116 - length (reportText f live)) 0; len = length (reportText f live) }
 
 -- "The report, over all entries so far"
-abbrev pub pageOf : Register → ReportPage
-pageOf r = pageWith (r .figures) (livePlaces r)
+abbrev pub reportOf : Register → ReportPage
+reportOf r = pageWith (r .figures) (livePlaces r)

@@ -10,7 +10,7 @@ use Rattle.register_arrays.proofs.apply_entry.Tie as tie
 
 returns : tie.Need-returns
 returns c =
-    let applied : _ = c .before .apply .ensures ∙ ap (apply _) (c .before .before .before .before .before .before .entry-of .ensures) in
+    let applied : _ = c .before .apply .ensures ∙ ap (apply _) (c .before .before .before .before .before .before .entry-from-numbers .ensures) in
     simp (c .number .ensures) (ap (λ (x : Applied). (x .register, entryNumber (x .outcome))) applied)
 
 pub apply-entry-spec : {M : Type 1} → statement M

@@ -1,12 +1,10 @@
 -- `register_arrays::find_number` meets its contract: at i the first i numbers are lower. The measure is how many numbers are left.
 -- Assumes nothing.
 use Prim.Native.Nat.{_-_, _≤_}
-use mathlib.Core.Path.{_≡_, refl, ap, sym, _∙_}
-use mathlib.Core.Bool.{Bool}
-use native.Mathlib.Omega.{arith}
+use mathlib.Core.Path.{_≡_, refl, _∙_}
 use borrow.Author.Needs.{needs}
 use borrow.Author.Tests.{le-leb, lt-leb}
-use lib.Dec.{leb, eqb}
+use lib.Dec.{leb}
 use lib.ListN.{length, take}
 use Rattle.register.proofs.Places.{Passed, search-found, search-more, search-none}
 use Rattle.register_arrays.specs.Columns.{numbered}

@@ -3,7 +3,6 @@
 use Prim.Native.Nat.{_≤_}
 use mathlib.Core.Path.{_≡_}
 use native.Mathlib.Omega.{arith}
-use borrow.Author.Needs.{needs}
 use lib.ListN.{length, length-set}
 use Rattle.register.proofs.Places.{movedUp, move-start, move-more, move-end}
 use Rattle.register_arrays.proofs.insert_number.Statement.{statement}

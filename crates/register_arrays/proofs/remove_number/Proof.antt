@@ -3,7 +3,6 @@
 use Prim.Native.Nat.{_-_, _≤_, _<_}
 use mathlib.Core.Path.{_≡_}
 use native.Mathlib.Omega.{arith}
-use borrow.Author.Needs.{needs}
 use lib.ListN.{length, take, length-set}
 use Rattle.serving.specs.Serving.{atFront, without}
 use Rattle.serving.proofs.Lists.{remove-start, remove-more, remove-end}

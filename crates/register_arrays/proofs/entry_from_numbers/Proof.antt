@@ -1,9 +1,9 @@
--- `register_arrays::entry_of` meets its contract.
+-- `register_arrays::entry_from_numbers` meets its contract.
 -- Assumes nothing.
 use borrow.Author.Tests.{eq-eqb, ne-eqb}
 use Rattle.register_arrays.specs.Columns.{changeOf}
-use Rattle.register_arrays.proofs.entry_of.Statement.{statement}
-use Rattle.register_arrays.proofs.entry_of.Tie as tie
+use Rattle.register_arrays.proofs.entry_from_numbers.Statement.{statement}
+use Rattle.register_arrays.proofs.entry_from_numbers.Tie as tie
 
 returns : tie.Need-returns
 unfolding changeOf
@@ -17,5 +17,5 @@ returns-3 : tie.Need-returns-3
 unfolding changeOf
 returns-3 c = simp (ne-eqb _ _ (c .before .if1 .left), ne-eqb _ _ (c .if2 .left))
 
-pub entry-of-spec : {M : Type 1} → statement M
-entry-of-spec = tie.close (tie.spec returns returns-2 returns-3)
+pub entry-from-numbers-spec : {M : Type 1} → statement M
+entry-from-numbers-spec = tie.close (tie.spec returns returns-2 returns-3)
