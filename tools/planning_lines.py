@@ -1,17 +1,19 @@
 #!/usr/bin/env python3
 """Writes crates/planning/stdin, lines for the program `planning`, and crates/planning/stdout, the answers that it must give.
 
-    tools/planning_lines.py            # writes both files
+    tools/planning_lines.py            # writes both files, and the two of crates/cell_report
     tools/planning_lines.py numbers    # every carrier number with its frequency in kHz, a line each, on standard output
     tools/planning_lines.py long       # lines about as long as a line may be, on standard output, and
     tools/planning_lines.py answers    # the answers to the lines on standard input, on standard output
+    tools/planning_lines.py reports F  # inputs for the program `cell_report` and its outputs, as files N.in and N.out of the folder F
 
-What is answered follows document 02 alone. The format of a line is this project's own (docs/PLANNING.md). It shares nothing with the program. A request
-adds its words to WORDS and its lines to LINES.
+What is answered follows document 02 alone. The format of a line is this project's own (docs/PLANNING.md). It shares nothing with the programs. A request
+adds its forms of a line to FORMS and its lines to LINES.
 """
 
 import array
 import bisect
+import itertools
 import pathlib
 import random
 import sys
@@ -41,11 +43,11 @@ def every_frequency():
 FREQUENCIES = every_frequency()
 
 
-def khz_of(number):
+def khz_of(_, number):
     return f"khz {FREQUENCIES[number]}" if number < len(FREQUENCIES) else "refused 14"
 
 
-def number_of(khz):
+def number_of(_, khz):
     """The number whose frequency it is: looked up, not computed."""
     place = bisect.bisect_left(FREQUENCIES, khz)
     found = place < len(FREQUENCIES) and FREQUENCIES[place] == khz
@@ -182,12 +184,487 @@ NOT_LINES = [
     b"khz 5 18446744073709551616",
 ]
 
+# ---- E6: a register of cells from the commits
+
+LARGEST_CELL = 2**16 - 1
+LARGEST_SLOT = 2**63 - 2
+WIDEST = 400000
+PLACES = 512
+
+
+class Register:
+    """The entries of the slots so far, as document 02 has them: live cells with carrier and width, and what the report counts."""
+
+    def __init__(self):
+        self.last_seen = None
+        self.live = {}
+        self.made = 0
+        self.superseded = 0
+        self.released = 0
+
+    def sees(self, slot):
+        """Nothing where the slot is new, and seen from now on; else the answer. "unless the slot itself gives 2, which comes first"."""
+        if slot > LARGEST_SLOT:
+            return "refused 2"
+        if self.last_seen is not None and slot <= self.last_seen:
+            return "old"
+        self.last_seen = slot
+        return None
+
+    def assigned(self, cell, carrier, width):
+        """"14 comes before both, and a width outside its limits gives 14 too"."""
+        if carrier >= len(FREQUENCIES) or not 1 <= width <= WIDEST:
+            return "refused 14"
+        if cell not in self.live and len(self.live) == PLACES:
+            return "refused 15"
+        self.superseded += cell in self.live
+        self.made += 1
+        self.live[cell] = (carrier, width)
+        return "done"
+
+    def freed(self, cell):
+        if cell not in self.live:
+            return "refused 16"
+        del self.live[cell]
+        self.released += 1
+        return "done"
+
+
+def begin_register(planner):
+    planner.register = Register()
+    return "made"
+
+
+def assign(planner, slot, cell, carrier, width):
+    return planner.register.sees(slot) or planner.register.assigned(cell, carrier, width)
+
+
+def release(planner, slot, cell):
+    return planner.register.sees(slot) or planner.register.freed(cell)
+
+
+def report_of(planner):
+    """The four figures; "made equals the other three together"."""
+    register = planner.register
+    others = [register.superseded, register.released, len(register.live)]
+    assert register.made == sum(others)
+    return ",".join(map(str, [register.made] + others))
+
+
+def cells_of(planner):
+    """How many are live, and each of them by number; it has no position."""
+    live = planner.register.live
+    return "; ".join([f"{len(live)}"] + [f"{cell} {carrier} {width} - -" for cell, (carrier, width) in sorted(live.items())])
+
+
+LOOK = [b"report", b"cells"]
+
+# an edge of the raster and its neighbours, and what a number of 64 bits may be besides
+CARRIERS_TAKEN = [0, 1, 599999, 600000, 2016666, 2016667, 3279164, 3279165]
+CARRIERS_REFUSED = [3279166, 3279167, 2**31, 2**32, 2**32 + 600000, 2**63 - 1, 2**63, LARGEST]
+WIDTHS_TAKEN = [1, 2, 399999, 400000]
+WIDTHS_REFUSED = [0, 400001, 2**32, 2**32 + 20000, 2**63, LARGEST]
+SLOTS_REFUSED = [2**63 - 1, 2**63, 2**63 + 5, LARGEST]
+
+
+def assignment(slot, cell, carrier=632628, width=20000):
+    return f"entry {slot} a {cell} {carrier} {width}".encode("ascii")
+
+
+def removal(slot, cell):
+    return f"entry {slot} r {cell}".encode("ascii")
+
+
+def first_entries():
+    """Before any `register` line, and in the register that such a line begins."""
+    lines = LOOK + [removal(0, 7), assignment(0, 7), assignment(1, 7)] + LOOK
+    lines += [assignment(1, 7), assignment(0, 8), removal(1, 7), assignment(2, 7, 10, 20)] + LOOK + [removal(3, 7), removal(4, 7)] + LOOK
+    return lines + [b"register"] + LOOK + [assignment(0, 7), removal(1, 7), assignment(5, 7), assignment(5, 7), assignment(4, 7)] + LOOK
+
+
+def limit_lines():
+    """Each edge of carrier, width, cell and slot. A refused entry's slot is seen, and one that gives 2 is not."""
+    lines = [b"register"]
+    slot = 0
+    for carrier in CARRIERS_TAKEN + CARRIERS_REFUSED:
+        for width in WIDTHS_TAKEN + WIDTHS_REFUSED:
+            lines += [assignment(slot, slot % 9, carrier, width), removal(slot, slot % 9)]
+            slot += 1
+        lines += LOOK
+    for cell in [0, 1, 255, 256, 257, 32767, 32768, 65534, 65535]:
+        lines += [assignment(slot, cell), assignment(slot + 1, cell, 5, 6)] + LOOK + [removal(slot + 2, cell), removal(slot + 3, cell)]
+        slot += 4
+    for beyond in SLOTS_REFUSED:
+        lines += [assignment(beyond, 3), removal(beyond, 3), assignment(beyond, 3, LARGEST, 0)]
+    lines += LOOK + [assignment(slot, 3)] + LOOK
+    for late in [2**31, 2**32 - 1, 2**32, 2**62, 2**63 - 4, 2**63 - 3]:
+        lines += [assignment(late, late % 2**16), assignment(late, 4), assignment(late - 1, 4)]
+    lines += LOOK + [assignment(2**63 - 2, 3, 7, 8)] + LOOK
+    # the last slot is seen: what follows is older, or gives 2
+    for after in [2**63 - 2, 2**63 - 3, 0] + SLOTS_REFUSED:
+        lines += [assignment(after, 3), removal(after, 3), removal(after, 9), assignment(after, 3, LARGEST)]
+    lines += LOOK
+    # the last slot first of all, by an entry that is refused
+    lines += [b"register", removal(2**63 - 1, 1), removal(2**63 - 2, 1), assignment(2**63 - 2, 1), assignment(0, 1), assignment(LARGEST, 1)] + LOOK
+    return lines
+
+
+def filling(cells, slot):
+    return [assignment(slot + place, cell, place % 3279166, place % WIDEST + 1) for place, cell in enumerate(cells)]
+
+
+def places_served(cells, live, slot, chosen):
+    """With 512 live: a new cell is refused, a live one is not; a freed place serves again, once."""
+    lines = []
+    others = [cell for cell in cells if cell not in live]
+    live = list(live)
+    for turn in range(60):
+        new = others[turn % len(others)]
+        freed = live[chosen.randrange(len(live))]
+        lines += [assignment(slot, new), assignment(slot + 1, freed, turn, turn + 1), removal(slot + 2, new), removal(slot + 3, freed)]
+        lines += [removal(slot + 4, freed), assignment(slot + 5, new), assignment(slot + 6, freed), b"report"]
+        slot += 7
+        live.remove(freed)
+        live.append(new)
+        others.remove(new)
+        others.append(freed)
+    return lines, live, slot
+
+
+def full_lines():
+    """512 cells and one more, brought in rising, falling and in no order; every pair of causes there; then all are released."""
+    chosen = random.Random(512)
+    lines = []
+    orders = [list(range(600)), list(range(65535, 64935, -1)), chosen.sample(range(65536), 600)]
+    for cells in orders:
+        lines += [b"register"] + filling(cells[:511], 0) + [b"report", assignment(511, cells[511]), b"cells"]
+        lines += filling(cells[512:520], 512) + [b"report"]
+        more, live, slot = places_served(cells, cells[:512], 520, chosen)
+        lines += more + [b"cells"]
+        more, slot = pairs_of_causes(cells, live, slot)
+        lines += more + LOOK
+        leaving = chosen.sample(live, len(live))
+        lines += [removal(slot + place, cell) for place, cell in enumerate(leaving[:400])] + LOOK
+        lines += [removal(slot + 400 + place, cell) for place, cell in enumerate(leaving[400:])] + LOOK
+        lines += filling(cells[:512], slot + 512) + [assignment(slot + 1024, cells[512])] + LOOK
+    return lines
+
+
+def pairs_of_causes(cells, live, slot):
+    """With 512 live, each slot (above the limit, older, the last one seen, new) with each entry: carrier and width outside or inside their limits, for a
+    cell that is live and for a new one; releases of both."""
+    new = next(cell for cell in cells if cell not in live)
+    lines = [removal(slot, new)]
+    for cell, carrier, width in itertools.product([live[0], new], [5, 3279166, LARGEST], [1, 0, 400001]):
+        for given in [2**63 - 1, LARGEST, 0, slot, slot + 1]:
+            lines.append(assignment(given, cell, carrier, width))
+        slot += 1
+        lines.append(b"report")
+    for cell in [new, live[1]]:
+        for given in [2**63 - 1, LARGEST, 0, slot, slot + 1]:
+            lines.append(removal(given, cell))
+        slot += 1
+        lines.append(b"report")
+    # refused with 14: the cell is not live, so its release gives 16; and with a place free 15 is given no more
+    for carrier, width in [(3279166, 1), (5, 0)]:
+        lines += [assignment(slot + 1, new, carrier, width), removal(slot + 2, new), b"report"]
+        slot += 2
+    lines += [assignment(slot + 1, new), assignment(slot + 2, live[1])]
+    live.remove(live[1])
+    live.append(new)
+    return lines, slot + 3
+
+
+def random_run(chosen, count, pool, most_of_a_step):
+    """Entries of many kinds; most of their slots rise."""
+    slot = chosen.randint(0, 3)
+    lines = [b"register"]
+    for place in range(count):
+        kind = chosen.random()
+        if kind < 0.03:
+            given = chosen.choice(SLOTS_REFUSED)
+        elif kind < 0.15:
+            given = chosen.randint(0, slot)
+        else:
+            slot += chosen.randint(1, most_of_a_step)
+            given = slot
+        cell = chosen.choice(pool)
+        if chosen.random() < 0.35:
+            lines.append(removal(given, cell))
+        else:
+            carrier = chosen.choice(CARRIERS_REFUSED) if chosen.random() < 0.04 else chosen.randint(0, 3279165)
+            width = chosen.choice(WIDTHS_REFUSED) if chosen.random() < 0.04 else chosen.choice([chosen.randint(1, WIDEST), 5000, 20000, 100000])
+            lines.append(assignment(given, cell, carrier, width))
+        if place % 40 == 39:
+            lines.append(b"report")
+        if place % (10 * len(pool)) == 10 * len(pool) - 1:
+            lines.append(b"cells")
+    return lines + LOOK
+
+
+def random_runs():
+    chosen = random.Random(6)
+    lines = []
+    for _ in range(30):
+        lines += random_run(chosen, 150, chosen.sample(range(65536), chosen.randint(1, 12)), 2)
+    for _ in range(4):
+        lines += random_run(chosen, 1200, chosen.sample(range(65536), 100), 5)
+    # so many cells that places run out
+    lines += random_run(chosen, 4000, chosen.sample(range(65536), 1000), 1)
+    return lines
+
+
+def two_offices():
+    """The same entries in slot order, in one register alone and in another with repeats and older ones between them: both hold the same."""
+    chosen = random.Random(2)
+    lines = []
+    for _ in range(8):
+        first = random_run(chosen, 150, chosen.sample(range(65536), 20), 3)[1:-2]
+        entries = [line for line in first if line.startswith(b"entry")]
+        second = []
+        for place, line in enumerate(entries):
+            second.append(line)
+            if chosen.random() < 0.3:
+                second += [chosen.choice(entries[: place + 1]) for _ in range(chosen.randint(1, 3))]
+        lines += [b"register"] + entries + LOOK + [b"register"] + second + LOOK
+    return lines
+
+
+ZEROS_IN_ENTRIES = [
+    b"register",
+    b"entry 00 a 007 00632628 020000",
+    b"entry 0001 a 00065535 0 1",
+    b"entry 2 a 000000000000000000000000000000000065535 0000000000000000000000000000003279165 0400000",
+    b"entry 0003 r 0007",
+    b"entry 00000000009223372036854775807 r 7",
+    b"report",
+    b"cells",
+]
+
+NOT_ENTRIES = [
+    b"register ",
+    b" register",
+    b"register  ",
+    b"register\r",
+    b"register\t",
+    b"register\x00",
+    b"register x",
+    b"registers",
+    b"registe",
+    b"Register",
+    b"REGISTER",
+    b"register register",
+    b"report ",
+    b" report",
+    b"report 1",
+    b"report\r",
+    b"reports",
+    b"repor",
+    b"Report",
+    b"cells ",
+    b" cells",
+    b"cells 1",
+    b"cells\r",
+    b"cell",
+    b"cellss",
+    b"Cells",
+    b"entry",
+    b"entry ",
+    b"entry  ",
+    b"entry a",
+    b"entry r",
+    b"entry 90",
+    b"entry 90 ",
+    b"entry 90 a",
+    b"entry 90 a ",
+    b"entry 90 r",
+    b"entry 90 r ",
+    b"entry 90 a 1",
+    b"entry 90 a 1 ",
+    b"entry 90 a 1 2",
+    b"entry 90 a 1 2 ",
+    b"entry 90 a 1 2 3 ",
+    b"entry 90 a 1 2 3 4",
+    b"entry 90 r 1 ",
+    b"entry 90 r 1 2",
+    b"entry 90 r 1 2 3",
+    b"entry 90 a  1 2 3",
+    b"entry 90 a 1  2 3",
+    b"entry 90 a 1 2  3",
+    b"entry 90  a 1 2 3",
+    b"entry  90 a 1 2 3",
+    b" entry 90 a 1 2 3",
+    b"entry 90 r  1",
+    b"entry 90  r 1",
+    b"entry  90 r 1",
+    b" entry 90 r 1",
+    b"entry 90 a 1 2 3\r",
+    b"entry 90 r 1\r",
+    b"entry 90 a 1 2 3\t",
+    b"entry 90 a 1 2 3\x00",
+    b"entry 90 r 1\x00",
+    b"entry\t90 r 1",
+    b"entry 90\tr 1",
+    b"entry 90 r\t1",
+    b"entry 90 A 1 2 3",
+    b"entry 90 R 1",
+    b"entry 90 b 1 2 3",
+    b"entry 90 q 1",
+    b"entry 90 s 1",
+    b"entry 90 aa 1 2 3",
+    b"entry 90 ar 1 2 3",
+    b"entry 90 rr 1",
+    b"entry 90 ra 1",
+    b"entry 90 a1 2 3",
+    b"entry 90 r1",
+    b"entry 90a 1 2 3",
+    b"entry 90r 1",
+    b"entry 90  1 2 3",
+    b"entry 90 1 2 3",
+    b"entry 90 1 a 2 3",
+    b"entry a 90 1 2 3",
+    b"entry r 90 1",
+    b"entry90 r 1",
+    b"Entry 90 r 1",
+    b"ENTRY 90 r 1",
+    b"entries 90 r 1",
+    b"entr 90 r 1",
+    b"90 r 1",
+    b"a 1 2 3",
+    b"r 1",
+    b"entry +90 a 1 2 3",
+    b"entry -90 a 1 2 3",
+    b"entry 90 a +1 2 3",
+    b"entry 90 a -1 2 3",
+    b"entry 90 a 1 -2 3",
+    b"entry 90 a 1 2 -3",
+    b"entry 90 a 1 2 +3",
+    b"entry 90 r -1",
+    b"entry 90 r +1",
+    b"entry -0 r 1",
+    b"entry 90 a 1,2,3",
+    b"entry 90 a 1 2 3.0",
+    b"entry 90 a 1 0x2 3",
+    b"entry 90 a 1 2 3e3",
+    b"entry 90 a one 2 3",
+    b"entry 90 a 1 2 3k",
+    b"entry 90 a 1 2 k3",
+    b"entry 90 a 1/ 2 3",
+    b"entry 90 a 1 :2 3",
+    b"entry 90 a 65536 2 3",
+    b"entry 90 a 65537 2 3",
+    b"entry 90 a 131071 2 3",
+    b"entry 90 a 4294967296 2 3",
+    b"entry 90 a 18446744073709551615 2 3",
+    b"entry 90 a 18446744073709551616 2 3",
+    b"entry 90 a 00065536 2 3",
+    b"entry 90 r 65536",
+    b"entry 90 r 65537",
+    b"entry 90 r 4294967297",
+    b"entry 90 r 18446744073709551615",
+    b"entry 90 r 18446744073709551616",
+    b"entry 90 r 18446744073709551617",
+    b"entry 18446744073709551616 a 1 2 3",
+    b"entry 18446744073709551706 a 1 2 3",
+    b"entry 18446744073709551616 r 1",
+    b"entry 90 a 1 18446744073709551616 3",
+    b"entry 90 a 1 18446744073709551618 3",
+    b"entry 90 a 1 2 18446744073709551616",
+    b"entry 90 a 1 2 18446744073709551619",
+    b"entry 18446744073709551615 a 65536 2 3",
+    b"entry 0 a 65536 2 3",
+    b"entry 90 a 1 2 3 entry 91 r 1",
+    b"entry 90 r 1 register",
+    b"number 5 a 1 2 3",
+    b"entry 90 number 5",
+    b"entry 90 a 1 2 3 - -",
+    b"entry 90 a\xc2\xa01 2 3",
+    b"entry 90 \xff 1 2 3",
+]
+
+# each belongs to a request that is not there yet, and is a bad line until then
+LATER = [
+    b"register 0",
+    b"register 9223372036854775806",
+    b"entry 90 p 1 2 3",
+    b"entry 90 p 1 -2 -3",
+    b"stored 0 0 0 0 0",
+    b"stored 1 1 0 0 1 7 632628 20000",
+    b"conflicts 5 1 0 0 0",
+    b"free 0 5 1 0 0 0",
+    b"join 8192 |",
+    b"feed 90 5 r 1",
+    b"minute 1970 1 1 0 0",
+    b"date 0",
+    b"windows 0",
+    b"ask 0",
+]
+
+
+def left_for_later():
+    """Bad lines change nothing: what is live and what is counted stays, and slot 90 is not seen."""
+    before = [b"register", assignment(3, 1), assignment(4, 2), removal(5, 1)] + LOOK
+    lines = [line for bad in NOT_ENTRIES for line in (bad, b"report")]
+    return before + lines + LATER + LOOK + [assignment(90, 1, 2, 3), removal(90, 1)] + LOOK
+
+
+def register_lines():
+    lines = first_entries() + limit_lines() + full_lines() + random_runs() + two_offices() + ZEROS_IN_ENTRIES
+    assert sum(line.startswith(b"entry") for line in lines) > 20000
+    return lines
+
+
+# ---- E6: inputs of the program `cell_report`
+
+
+def ended(lines):
+    return b"".join(line + b"\n" for line in lines)
+
+
+def entries_of(lines):
+    return [line for line in lines if line.startswith(b"entry")]
+
+
+def report_input():
+    """The gate's input: places run out, entries are refused and older ones go by; no LF ends the last line."""
+    return ended(entries_of(random_run(random.Random(16), 3000, range(40000, 41000), 2))) + assignment(2**63 - 2, 7)
+
+
+def report_inputs():
+    """Others: of entry lines alone, and with one other line at each place where it may stand."""
+    some = [assignment(3, 1), assignment(4, 2), removal(5, 1), removal(5, 2), assignment(6, 2), removal(9, 9), assignment(LARGEST, 5)]
+    inputs = [b"", ended(some), ended(some)[:-1], ended(some[:1]), some[0], ended(entries_of(limit_lines()))]
+    inputs += [ended(entries_of(full_lines()))] + [ended(entries_of(run)) for run in (random_runs(), two_offices(), ZEROS_IN_ENTRIES)]
+    others = NOT_ENTRIES + LATER + NOT_LINES + [b"register", b"report", b"cells", b"number 5", b"khz 5", assignment(7, 1) + b" " * LONGEST]
+    for other in others:
+        inputs += [ended(some + [other]), ended([other] + some), ended(some[:3] + [other] + some[3:])] + ([ended(some) + other] if other else [])
+    # a line as long as one may be, and one that is a byte longer
+    for length in (LONGEST - 1, LONGEST, LONGEST + 1, 3 * LONGEST):
+        long_line = b"entry " + b"0" * (length - 13) + b"9 r 456"[:7]
+        assert len(long_line) == length
+        inputs += [ended(some + [long_line] + some), ended(some) + long_line, ended([long_line])]
+    return inputs
+
+
 # ---- lines and answers
 
-WORDS = {
-    b"number": (1, khz_of),
-    b"khz": (1, number_of),
-}
+# the fields of a line: a word, or a number up to the one that stands here; and what answers it, given what the earlier lines left
+FORMS = [
+    ((b"number", LARGEST), khz_of),
+    ((b"khz", LARGEST), number_of),
+    ((b"register",), begin_register),
+    ((b"entry", LARGEST, b"a", LARGEST_CELL, LARGEST, LARGEST), assign),
+    ((b"entry", LARGEST, b"r", LARGEST_CELL), release),
+    ((b"report",), report_of),
+    ((b"cells",), cells_of),
+]
+
+
+class Planner:
+    """What is kept from line to line: at first a new register."""
+
+    def __init__(self):
+        self.register = Register()
 
 
 def line_of(length):
@@ -206,7 +683,17 @@ def many_answers():
     return [f"khz {khz}".encode("ascii") for khz in FREQUENCIES[2016667:][:6000]]
 
 
-LINES = [carrier_lines, lambda: ZEROS, lambda: NOT_LINES, buffer_lines, many_answers]
+LINES = [
+    carrier_lines,
+    lambda: ZEROS,
+    lambda: NOT_LINES,
+    register_lines,
+    left_for_later,
+    buffer_lines,
+    lambda: [b"report", b"cells"],
+    many_answers,
+    lambda: [b"report", b"cells"],
+]
 
 # the last line, which no LF ends
 LAST = b"number 3279165"
@@ -224,12 +711,31 @@ def number_in(field):
     return value
 
 
-def answer(line):
-    word, *fields = line.split(b" ")
-    numbers = [number_in(field) for field in fields]
-    if len(line) > LONGEST or word not in WORDS or len(numbers) != WORDS[word][0] or None in numbers:
-        return "bad line"
-    return WORDS[word][1](*numbers)
+def numbers_in(form, fields):
+    """The numbers of a line that has this form, or None."""
+    if len(form) != len(fields):
+        return None
+    numbers = []
+    for wanted, field in zip(form, fields):
+        if isinstance(wanted, bytes):
+            if field != wanted:
+                return None
+        else:
+            number = number_in(field)
+            if number is None or number > wanted:
+                return None
+            numbers.append(number)
+    return numbers
+
+
+def answer(planner, line):
+    fields = line.split(b" ")
+    if len(line) <= LONGEST:
+        for form, answered in FORMS:
+            numbers = numbers_in(form, fields)
+            if numbers is not None:
+                return answered(planner, *numbers)
+    return "bad line"
 
 
 def lines_of(data):
@@ -239,7 +745,17 @@ def lines_of(data):
 
 
 def answers_of(data):
-    return "".join(answer(line) + "\n" for line in lines_of(data)).encode("ascii")
+    planner = Planner()
+    return "".join(answer(planner, line) + "\n" for line in lines_of(data)).encode("ascii")
+
+
+def printed_report(data):
+    """What the program `cell_report` prints for an input: every line is an entry line, or the input is refused."""
+    planner = Planner()
+    for line in lines_of(data):
+        if line.split(b" ")[0] != b"entry" or answer(planner, line) == "bad line":
+            return b"refused,1\r\n"
+    return f"made,superseded,released,live\r\n{report_of(planner)}\r\n".encode("ascii")
 
 
 def recorded():
@@ -262,10 +778,17 @@ def main():
         out.write(long_lines())
     elif sys.argv[1:] == ["answers"]:
         out.write(answers_of(sys.stdin.buffer.read()))
+    elif sys.argv[1:2] == ["reports"] and len(sys.argv) == 3:
+        folder = pathlib.Path(sys.argv[2])
+        for place, data in enumerate(report_inputs()):
+            folder.joinpath(f"{place}.in").write_bytes(data)
+            folder.joinpath(f"{place}.out").write_bytes(printed_report(data))
     elif sys.argv[1:] == []:
-        folder = pathlib.Path(__file__).resolve().parent.parent / "crates" / "planning"
-        folder.joinpath("stdin").write_bytes(recorded())
-        folder.joinpath("stdout").write_bytes(answers_of(recorded()))
+        crates = pathlib.Path(__file__).resolve().parent.parent / "crates"
+        crates.joinpath("planning", "stdin").write_bytes(recorded())
+        crates.joinpath("planning", "stdout").write_bytes(answers_of(recorded()))
+        crates.joinpath("cell_report", "stdin").write_bytes(report_input())
+        crates.joinpath("cell_report", "stdout").write_bytes(printed_report(report_input()))
     else:
         sys.exit(__doc__)
 
