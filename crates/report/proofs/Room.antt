@@ -6,29 +6,25 @@ use Prim.Native.Nat.{ℕ, _+_, _-_, _≤_}
 use native.Mathlib.Omega.{arith}
 use lib.ListN.{length, drop, replicate, length-append, length-replicate, replicate-append-replicate}
 use lib.Seq.{drop-at}
-use Rattle.texts.specs.Text.{Buffer, put, decimal, field}
-use Rattle.texts.proofs.Lengths.{put-fits, number}
+use Rattle.texts.specs.Text.{Buffer, put}
+use Rattle.texts.proofs.Lengths.{put-fits, decimal-length}
 use Rattle.register.specs.declared.Figures.{Figures}
 use Rattle.report.specs.declared.ReportPage.{ReportPage}
-use Rattle.report.specs.Report.{reportHeader, figureText, figuresLine, reportText, pageWith}
-
-decimal-length : (n : ℕ) → length (decimal n) ≤ 20
-unfolding field
-decimal-length n = omega (arith, number n)
+use Rattle.report.specs.Report.{reportHeader, figureText, figuresText, reportText, pageHolding, pageWith}
 
 figure-length : (n b : ℕ) → length (figureText n b) ≤ 21
 unfolding figureText
 figure-length n b = simp length-append (omega (arith, decimal-length n))
 
-line-length : (f : Figures) (live : ℕ) → length (figuresLine f live) ≤ 85
-unfolding figuresLine
-line-length f live =
+pub figures-length : (f : Figures) (live : ℕ) → length (figuresText f live) ≤ 83
+unfolding figuresText
+figures-length f live =
     simp length-append
-    (omega (arith, figure-length (f .made) 44, figure-length (f .superseded) 44, figure-length (f .released) 44, figure-length live 13))
+    (omega (arith, figure-length (f .made) 44, figure-length (f .superseded) 44, figure-length (f .released) 44, decimal-length live))
 
 pub report-length : (f : Figures) (live : ℕ) → length (reportText f live) ≤ 116
 unfolding reportText reportHeader
-report-length f live = omega (arith, length-append reportHeader (figuresLine f live), line-length f live)
+report-length f live = simp length-append (omega (arith, figures-length f live))
 
 -- what is left of 116 zeros
 drop-zeros : (k : ℕ) → k ≤ 116 → drop {A = ℕ} k (replicate 116 0) ≡ replicate (116 - k) 0
@@ -40,13 +36,15 @@ drop-zeros k h =
 abbrev page : List ℕ → ℕ → ReportPage
 page bytes len = record { bytes = bytes; len = len }
 
-pub put-page : (f : Figures) (live len : ℕ) (bytes : List ℕ)
-    → _≡_ {A = Buffer} (bytes, len) (put (reportText f live) (replicate 116 0, 0)) → page bytes len ≡ pageWith f live
-unfolding pageWith
-put-page f live len bytes e =
-    let text : List ℕ = reportText f live in
-    let short : length text ≤ 116 = report-length f live in
+pub put-page : (text : List ℕ) (len : ℕ) (bytes : List ℕ) → length text ≤ 116 → _≡_ {A = Buffer} (bytes, len) (put text (replicate 116 0, 0))
+    → page bytes len ≡ pageHolding text
+unfolding pageHolding
+put-page text len bytes short e =
     let start : 0 + length text ≡ length text = omega arith in
     let is : _≡_ {A = Buffer} (bytes, len) (text ++ drop (length text) (replicate 116 0), length text) =
     e ∙ put-fits text (replicate 116 0) 0 (omega arith) ∙ ap (λ (n : ℕ). (text ++ drop n (replicate 116 0), n)) start in
     ap (λ (p : Buffer). page (p .0) (p .1)) is ∙ ap (λ (z : List ℕ). page (text ++ z) (length text)) (drop-zeros (length text) short)
+
+pub put-report-page : (f : Figures) (live len : ℕ) (bytes : List ℕ) → _≡_ {A = Buffer} (bytes, len) (put (reportText f live) (replicate 116 0, 0)) → page bytes len ≡ pageWith f live
+unfolding pageWith
+put-report-page f live len bytes e = put-page (reportText f live) len bytes (report-length f live) e

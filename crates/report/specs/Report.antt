@@ -17,17 +17,25 @@ reportHeader = ascii "made,superseded,released,live" ++ (13 ∷ 10 ∷ [])
 unfoldable pub figureText : ℕ → ℕ → List ℕ
 figureText n b = decimal n ++ (b ∷ [])
 
--- the four figures, with a comma, 44, after each of the first three, and CR LF, 13 and 10, at the end
-unfoldable pub figuresLine : Figures → ℕ → List ℕ
-figuresLine f live = figureText (f .made) 44 ++ figureText (f .superseded) 44 ++ figureText (f .released) 44 ++ figureText live 13 ++ (10 ∷ [])
+-- the four figures, with commas, 44, between them
+unfoldable pub figuresText : Figures → ℕ → List ℕ
+figuresText f live = figureText (f .made) 44 ++ figureText (f .superseded) 44 ++ figureText (f .released) 44 ++ decimal live
 
+-- both lines end with CR LF, 13 and 10
 unfoldable pub reportText : Figures → ℕ → List ℕ
-reportText f live = reportHeader ++ figuresLine f live
+reportText f live = reportHeader ++ figuresText f live ++ (13 ∷ 10 ∷ [])
 
--- the text, followed by zeros up to 116 bytes, and its length
+-- in place of a report: document 01's "the one line `refused,1`"
+unfoldable pub refusalText : List ℕ
+refusalText = ascii "refused,1" ++ (13 ∷ 10 ∷ [])
+
+-- a text, followed by zeros up to 116 bytes, and its length
+unfoldable pub pageHolding : List ℕ → ReportPage
+pageHolding text = record { bytes = text ++ replicate (116 - length text) 0; len = length text }
+
 unfoldable pub pageWith : Figures → ℕ → ReportPage
-pageWith f live = record { bytes = reportText f live ++ replicate (116 - length (reportText f live)) 0; len = length (reportText f live) }
+pageWith f live = pageHolding (reportText f live)
 
 -- "The report, over all entries so far"
-abbrev pub reportOf : Register → ReportPage
-reportOf r = pageWith (r .figures) (livePlaces r)
+abbrev pub pageOf : Register → ReportPage
+pageOf r = pageWith (r .figures) (livePlaces r)

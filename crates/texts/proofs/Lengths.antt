@@ -46,6 +46,10 @@ field-length n = ap suc (digits-length 10 (digitCount 19 n) n)
 pub number : (n : ℕ) → length (field n) ≤ 21
 number n = omega (arith, field-length n, digit-count 19 n)
 
+pub decimal-length : (n : ℕ) → length (decimal n) ≤ 20
+unfolding field
+decimal-length n = omega (arith, number n)
+
 -- a number below 100
 pub short : (n : ℕ) → n < 100 → length (field n) ≤ 3
 unfolding digitCount
@@ -60,7 +64,7 @@ flag false = omega (arith, field-length 0)
 -- ---- lists
 
 module _ {A : Type 0} (f : A → List ℕ) (k : ℕ) (h : (x : A) → length (f x) ≤ k) where
-  each-length : (xs : List A) → length (each f xs) ≤ k * length xs
+  pub each-length : (xs : List A) → length (each f xs) ≤ k * length xs
   unfolding each
   each-length [] = omega arith
   each-length (x ∷ xs) = simp length-append (omega (arith, h x, each-length xs))
