@@ -1,74 +1,26 @@
-// A line of `planning`, from its bytes to what it asks, and the answer as bytes (docs/PLANNING.md). Numbers are read by `call_lines` and written by `texts`.
+// A line of `planning`, from its bytes to what it asks, and the answer as bytes (docs/PLANNING.md).
 ghost use mathlib.Core.Path.{_≡_};
-ghost use mathlib.Core.Bool.{_&&_};
 ghost use Rattle.texts.specs.Text.{put};
-ghost use Rattle.planning_lines.specs.Questions.{begins, oneNumber, numberFrom, frequencyQuestion, carrierQuestion, questionOf};
-ghost use Rattle.planning_lines.specs.Answers.{lineText, valueText, answerText};
-use call_lines::Scan;
+ghost use Rattle.planning_lines.specs.Questions.{frequencyQuestion, carrierQuestion, entryQuestion, registerQuestion, questionOf};
+ghost use Rattle.planning_lines.specs.Answers.{valueText, badLineText, afterLine, answerText};
+use line_fields::OptionalNumber;
+use register::Applied;
+use register::Register;
+use register_lines::OptionalEntry;
+use register_lines::RegisterQuestion;
 
 // What a line asks.
 pub enum Question {
     FrequencyOf(u64),
     CarrierOf(u64),
+    OfRegister(RegisterQuestion),
     BadLine,
 }
 
-// The number that a field holds, if it does.
-pub enum OptionalNumber {
-    Holds(u64),
-    NoNumber,
-}
-
-fn both(a: bool, b: bool) -> bool
-    ensures { λ r. ⌜ r ≡ (a && b) ⌝ }
-{
-    if a { b } else { false }
-}
-
-fn begins(line: &[u8], word: &[u8]) -> bool
-    ensures { λ r. ⌜ r ≡ begins (now (word .entry)) (now (line .entry)) ⌝ }
-{
-    if line.len() < word.len() {
-        return false;
-    }
-    let mut same = true;
-    let mut i = 0;
-    while i < word.len() {
-        same = both(same, word[i] == line[i]);
-        i += 1;
-    }
-    same
-}
-
-// The number of a field that is read to its end: one, without a fault.
-fn one_number(scan: Scan) -> OptionalNumber
-    ensures { λ r. ⌜ r ≡ oneNumber scan ⌝ }
-{
-    if scan.malformed {
-        return OptionalNumber::NoNumber;
-    }
-    if scan.above_limit {
-        return OptionalNumber::NoNumber;
-    }
-    if scan.before > 0 {
-        return OptionalNumber::NoNumber;
-    }
-    if scan.has_digit {
-        return OptionalNumber::Holds(scan.value);
-    }
-    OptionalNumber::NoNumber
-}
-
-// The number that a line holds from a place to its end.
-fn number_from(line: &[u8], at: usize) -> OptionalNumber
-    ensures { λ r. ⌜ r ≡ numberFrom (now (line .entry)) at ⌝ }
-{
-    if line.len() < at {
-        return OptionalNumber::NoNumber;
-    }
-    let mut place = [0u64; 1];
-    let numbers: &mut [u64] = &mut place;
-    one_number(call_lines::read_numbers(&line[at..], numbers))
+// The register after a line, and the place behind its answer.
+pub struct Answered {
+    pub register: Register,
+    pub put: usize,
 }
 
 fn frequency_question(number: OptionalNumber) -> Question
@@ -89,25 +41,41 @@ fn carrier_question(number: OptionalNumber) -> Question
     }
 }
 
+fn entry_question(entry: OptionalEntry) -> Question
+    ensures { λ r. ⌜ r ≡ entryQuestion entry ⌝ }
+{
+    match entry {
+        OptionalEntry::Gives(given) => Question::OfRegister(RegisterQuestion::Enter(given)),
+        OptionalEntry::NoEntry => Question::BadLine,
+    }
+}
+
+fn register_question(line: &[u8]) -> Question
+    ensures { λ r. ⌜ r ≡ registerQuestion (now (line .entry)) ⌝ }
+{
+    if line_fields::is_line(line, b"register") {
+        return Question::OfRegister(RegisterQuestion::Begin);
+    }
+    if line_fields::is_line(line, b"report") {
+        return Question::OfRegister(RegisterQuestion::ReportLine);
+    }
+    if line_fields::is_line(line, b"cells") {
+        return Question::OfRegister(RegisterQuestion::CellList);
+    }
+    entry_question(register_lines::entry_of(line))
+}
+
 // What a line asks, without its LF.
 pub fn question_of(line: &[u8]) -> Question
     ensures { λ r. ⌜ r ≡ questionOf (now (line .entry)) ⌝ }
 {
-    if begins(line, b"number ") {
-        return frequency_question(number_from(line, 7));
+    if line_fields::begins(line, b"number ") {
+        return frequency_question(line_fields::number_from(line, 7));
     }
-    if begins(line, b"khz ") {
-        return carrier_question(number_from(line, 4));
+    if line_fields::begins(line, b"khz ") {
+        return carrier_question(line_fields::number_from(line, 4));
     }
-    Question::BadLine
-}
-
-fn put_line(out: &mut [u8], at: usize, word: &[u8], n: u64) -> usize
-    ensures { λ r. ⌜ (now (out .exit), r) ≡ put (lineText (now (word .entry)) n) (now (out .entry), at) ⌝ }
-{
-    let second = texts::put_bytes(out, at, word);
-    let third = texts::put_field(out, second, n);
-    texts::put_byte(out, third, b'\n')
+    register_question(line)
 }
 
 // A value behind its word, or the number of a refusal.
@@ -115,14 +83,32 @@ fn put_value(out: &mut [u8], at: usize, word: &[u8], refusal: u64, value: u64) -
     ensures { λ r. ⌜ (now (out .exit), r) ≡ put (valueText (now (word .entry)) refusal value) (now (out .entry), at) ⌝ }
 {
     if refusal == 0 {
-        return put_line(out, at, word, value);
+        return line_fields::put_line(out, at, word, value);
     }
-    put_line(out, at, b"refused", refusal)
+    line_fields::put_line(out, at, b"refused", refusal)
+}
+
+pub fn put_bad_line(out: &mut [u8], at: usize) -> usize
+    ensures { λ r. ⌜ (now (out .exit), r) ≡ put badLineText (now (out .entry), at) ⌝ }
+{
+    texts::put_bytes(out, at, b"bad line\n")
+}
+
+// The register after a question, and what became of its entry.
+fn after_line(register: Register, question: Question) -> Applied
+    ensures { λ r. ⌜ r ≡ afterLine register question ⌝ }
+{
+    match question {
+        Question::FrequencyOf(n) => register_lines::done(register),
+        Question::CarrierOf(f) => register_lines::done(register),
+        Question::OfRegister(asked) => register_lines::after_question(register, asked),
+        Question::BadLine => register_lines::done(register),
+    }
 }
 
 // The answer to a question, with its LF.
-pub fn put_answer(out: &mut [u8], at: usize, question: Question) -> usize
-    ensures { λ r. ⌜ (now (out .exit), r) ≡ put (answerText question) (now (out .entry), at) ⌝ }
+fn put_answer(out: &mut [u8], at: usize, question: Question, applied: Applied) -> usize
+    ensures { λ r. ⌜ (now (out .exit), r) ≡ put (answerText question applied) (now (out .entry), at) ⌝ }
 {
     match question {
         Question::FrequencyOf(n) => {
@@ -133,13 +119,22 @@ pub fn put_answer(out: &mut [u8], at: usize, question: Question) -> usize
             let answer = raster::number_of(f);
             put_value(out, at, b"number", answer.refusal(), answer.number())
         }
-        Question::BadLine => texts::put_bytes(out, at, b"bad line\n"),
+        Question::OfRegister(asked) => register_lines::put_answer(out, at, asked, applied),
+        Question::BadLine => put_bad_line(out, at),
     }
 }
 
-// The answer to a line.
-pub fn answer_line(line: &[u8], out: &mut [u8], at: usize) -> usize
-    ensures { λ r. ⌜ (now (out .exit), r) ≡ put (answerText (questionOf (now (line .entry)))) (now (out .entry), at) ⌝ }
+// The answer to a line, and the register that the line leaves.
+pub fn answer_line(register: Register, line: &[u8], out: &mut [u8], at: usize) -> Answered
+    ensures { λ r. ⌜ r .register ≡ afterLine register (questionOf (now (line .entry))) .register ⌝ }
+    ensures { λ r. ⌜ (now (out .exit), r .put) ≡ put (answerText (questionOf (now (line .entry))) (afterLine register (questionOf (now (line .entry))))) (now (out .entry), at) ⌝ }
 {
-    put_answer(out, at, question_of(line))
+    let question = question_of(line);
+    let applied = after_line(register, question);
+    let put = put_answer(out, at, question, applied);
+    let after = applied.register;
+    Answered {
+        register: after,
+        put,
+    }
 }

@@ -1,0 +1,4 @@
+mod Turns
+mod Places
+pub mod ReadBack
+pub mod FieldsRead
