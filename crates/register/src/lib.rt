@@ -9,8 +9,8 @@ ghost use Rattle.register.specs.Register.{assignable, newRegister, liveC
 use message::increment;
 use raster::frequency_of;
 
-// "a 16-bit cell number"
-pub type CellNumber = u16;
+// "Cell numbers grow from 16 to 32 bits in entries and register" (E7)
+pub type CellNumber = u32;
 
 // "an assignment (carrier number, width in kHz from 1 to 400,000)"
 pub struct Assignment {
