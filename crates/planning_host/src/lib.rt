@@ -2,6 +2,8 @@
 ghost use mathlib.Core.Path.{_≡_};
 ghost use Rattle.register.specs.Register.{newRegister};
 ghost use Rattle.register_arrays.specs.Columns.{registerOf, entryFromNumbers, afterEntry, reportIn};
+ghost use Rattle.stored_register.specs.Stored.{widened};
+ghost use Rattle.stored_arrays.specs.Columns.{storedIn};
 ghost use Rattle.planning_host.specs.Conversions.{flatKhz, flatNumber};
 use register::CellNumber;
 
@@ -84,4 +86,30 @@ pub extern "C" fn chanbook_register_report(figures: &[u64; 5], out: &mut [u8; 11
     ensures { λ r. ⌜ (now (out .exit), r) ≡ reportIn (now (figures .entry)) ⌝ }
 {
     register_arrays::put_page(figures, out)
+}
+
+// E7: the register that a stored one becomes, whose cells have numbers of 16 bits.
+#[no_mangle]
+pub extern "C" fn chanbook_register_widened(
+    stored_cells: &[u16; 512],
+    stored_carriers: &[u64; 512],
+    stored_widths: &[u64; 512],
+    stored_figures: &[u64; 5],
+    cells: &mut [u64; 512],
+    carriers: &mut [u64; 512],
+    widths: &mut [u64; 512],
+    figures: &mut [u64; 5],
+)
+    ensures { λ _. ⌜ registerOf (now (cells .exit)) (now (carriers .exit)) (now (widths .exit)) (now (figures .exit)) ≡ widened (storedIn (now («stored_cells» .entry)) (now («stored_carriers» .entry)) (now («stored_widths» .entry)) (now («stored_figures» .entry))) ⌝ }
+{
+    stored_arrays::widen(
+        stored_cells,
+        stored_carriers,
+        stored_widths,
+        stored_figures,
+        cells,
+        carriers,
+        widths,
+        figures,
+    );
 }
