@@ -13,13 +13,23 @@ pub struct FlatValue {
 }
 
 /// A cell's number in an entry.
-pub type CellNumber = u16;
+pub type CellNumber = u32;
 
 /// The four arrays of a register, which its functions are lent one by one. Place i of the first three is live cell i, by cell number.
 #[repr(C)]
 #[derive(Clone, Copy, Debug, PartialEq, Eq)]
 pub struct FlatRegister {
     pub cells: [u64; 512],
+    pub carriers: [u64; 512],
+    pub widths: [u64; 512],
+    pub figures: [u64; 5],
+}
+
+/// The numbers of a register that was stored while cell numbers had 16 bits.
+#[repr(C)]
+#[derive(Clone, Copy, Debug, PartialEq, Eq)]
+pub struct FlatStoredRegister {
+    pub cells: [u16; 512],
     pub carriers: [u64; 512],
     pub widths: [u64; 512],
     pub figures: [u64; 5],
@@ -65,4 +75,16 @@ unsafe extern "C" {
 
     /// The report at the start of `out`, and how many bytes it has.
     pub safe fn chanbook_register_report(figures: &[u64; 5], out: &mut [u8; 116]) -> u64;
+
+    /// The stored register in the arrays of a register.
+    pub safe fn chanbook_register_widened(
+        stored_cells: &[u16; 512],
+        stored_carriers: &[u64; 512],
+        stored_widths: &[u64; 512],
+        stored_figures: &[u64; 5],
+        cells: &mut [u64; 512],
+        carriers: &mut [u64; 512],
+        widths: &mut [u64; 512],
+        figures: &mut [u64; 5],
+    );
 }

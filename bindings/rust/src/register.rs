@@ -1,5 +1,5 @@
 //! A register of cells from the commits: which carrier and width each cell has, and how many assignments were made, superseded and released.
-pub use crate::planning_sys::CellNumber;
+pub use crate::planning_sys::{CellNumber, FlatStoredRegister as StoredRegister};
 use crate::planning_sys::{self as sys, FlatRegister};
 use std::fmt;
 
@@ -218,6 +218,29 @@ impl Register {
     /// ```
     pub fn from_flat(flat: Box<FlatRegister>) -> Register {
         Register { flat }
+    }
+
+    /// A register that was stored while cell numbers had 16 bits. Each cell keeps its number and its assignment, the report is the same, and new entries
+    /// go on where the stored ones ended.
+    ///
+    /// ```
+    /// use chanbook_shard::register::{Applied, Assignment, CellEntry, Change, Register, StoredRegister};
+    /// let mut stored = StoredRegister { cells: [0; 512], carriers: [0; 512], widths: [0; 512], figures: [9, 3, 1, 1, 1] };
+    /// (stored.cells[0], stored.carriers[0], stored.widths[0]) = (65_535, 632_628, 20_000);
+    ///
+    /// let mut register = Register::from_stored(&stored);
+    /// assert_eq!(register.report(), "made,superseded,released,live\r\n3,1,1,1\r\n");
+    /// let change = Change::Assign(Assignment { carrier: 636_666, width: 40_000 });
+    /// assert_eq!(register.apply(&CellEntry { slot: 8, cell: 65_536, change }), Ok(Applied::Older));
+    /// assert_eq!(register.apply(&CellEntry { slot: 9, cell: 65_536, change }), Ok(Applied::Done));
+    /// assert_eq!(register.cells().map(|cell| cell.number).collect::<Vec<_>>(), [65_535, 65_536]);
+    /// ```
+    pub fn from_stored(stored: &StoredRegister) -> Register {
+        let mut register = Register::new();
+        let FlatRegister { cells, carriers, widths, figures } = &mut *register.flat;
+        let StoredRegister { cells: numbers, carriers: stored_carriers, widths: stored_widths, figures: stored_figures } = stored;
+        sys::chanbook_register_widened(numbers, stored_carriers, stored_widths, stored_figures, cells, carriers, widths, figures);
+        register
     }
 }
 

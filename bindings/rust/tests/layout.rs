@@ -48,6 +48,7 @@ fn field_in_c(name: &str, line: &str) -> String {
     let (of, field) = declared.split_once(' ').expect("a type and a field");
     let of = match of {
         "uint64_t" => "u64".to_string(),
+        "uint16_t" => "u16".to_string(),
         other => flat_of(other),
     };
     match field.trim_end_matches(']').split_once('[') {
@@ -122,10 +123,11 @@ fn the_flat_forms_are_those_of_the_header() {
 fn the_planning_forms_are_those_of_the_source_and_of_the_header() {
     let mirror = fields_in_rust(PLANNING_MIRROR);
     let value = ["FlatValue.refusal: u64", "FlatValue.value: u64"];
-    let register = ["cells: [u64; 512]", "carriers: [u64; 512]", "widths: [u64; 512]", "figures: [u64; 5]"];
-    let register = register.map(|field| format!("FlatRegister.{field}"));
+    let columns = ["carriers: [u64; 512]", "widths: [u64; 512]", "figures: [u64; 5]"];
+    let fields = |name: &str, cells: &str| [vec![cells], columns.to_vec()].concat().iter().map(|field| format!("{name}.{field}")).collect::<Vec<_>>();
     assert_eq!(mirror[..2], value);
-    assert_eq!(mirror[2..], register);
+    assert_eq!(mirror[2..6], fields("FlatRegister", "cells: [u64; 512]"));
+    assert_eq!(mirror[6..], fields("FlatStoredRegister", "cells: [u16; 512]"));
     assert_eq!(fields_in_c(PLANNING_HEADER), mirror);
     assert_eq!(fields_in_rust(PLANNING_HOST), value, "a register's arrays are lent one by one");
 }
@@ -136,6 +138,7 @@ fn argument_in_c(argument: &str) -> String {
     let (of, declared) = rest.split_once(' ').expect("a type and a name");
     let of = match of {
         "uint64_t" => "u64",
+        "uint16_t" => "u16",
         "uint8_t" => "u8",
         "chanbook_cell_number" => "CellNumber",
         other => panic!("{other}"),
@@ -148,7 +151,8 @@ fn argument_in_c(argument: &str) -> String {
 
 #[test]
 fn the_functions_of_a_register_are_those_of_the_source_and_of_the_header() {
-    for (function, count) in [("chanbook_register_new", 4), ("chanbook_register_entry", 9), ("chanbook_register_report", 2)] {
+    let functions = [("chanbook_register_new", 4), ("chanbook_register_entry", 9), ("chanbook_register_report", 2), ("chanbook_register_widened", 8)];
+    for (function, count) in functions {
         let mirror = arguments(PLANNING_MIRROR, &format!("fn {function}("));
         assert_eq!(mirror.len(), count, "{function}");
         let header = arguments(PLANNING_HEADER, &format!(" {function}("));
@@ -159,7 +163,7 @@ fn the_functions_of_a_register_are_those_of_the_source_and_of_the_header() {
 
 #[test]
 fn a_cell_number_has_as_many_bits_on_every_side() {
-    let line = "pub type CellNumber = u16;";
+    let line = "pub type CellNumber = u32;";
     assert!(PLANNING_MIRROR.contains(line) && REGISTER.contains(line));
-    assert!(PLANNING_HEADER.contains("typedef uint16_t chanbook_cell_number;"));
+    assert!(PLANNING_HEADER.contains("typedef uint32_t chanbook_cell_number;"));
 }

@@ -102,7 +102,7 @@ fn some_entry(random: &mut Random, next: u64, cells: u64, releases: usize) -> Nu
     Numbers {
         slot: some_slot(random, next),
         kind: seldom(random, 50, any_number, kind),
-        cell: ((random.next() % cells) * 65_535 / (cells - 1)) as CellNumber,
+        cell: ((random.next() % cells) * u64::from(CellNumber::MAX) / (cells - 1)) as CellNumber,
         carrier: seldom(random, 20, any_carrier, carrier),
         width: seldom(random, 20, any_width, width),
     }

@@ -61,8 +61,8 @@ struct chanbook_register {
     uint64_t figures[5];
 };
 
-/* A cell's number in an entry. A host that has longer ones asks first whether they fit: C would take them modulo 2^16 before the call. */
-typedef uint16_t chanbook_cell_number;
+/* A cell's number in an entry (E7). A host that has longer ones asks first whether they fit: C would take them modulo 2^32 before the call. */
+typedef uint32_t chanbook_cell_number;
 
 /* The kinds of entry. Any other is refused with 14. */
 enum {
@@ -81,6 +81,21 @@ uint64_t chanbook_register_entry(uint64_t cells[512], uint64_t carriers[512], ui
 /* The report as CSV: the header made,superseded,released,live and one line, each ended with CR LF. Hands back how many bytes it has; zeros stand
    behind them. */
 uint64_t chanbook_register_report(const uint64_t figures[5], uint8_t out[116]);
+
+/* E7, a register that was stored while cell numbers had 16 bits: its numbers, as they stood in the arrays. A host that stored the arrays themselves, 64 bits a
+   number, goes on with them as they are. */
+struct chanbook_stored_register {
+    uint16_t cells[512];
+    uint64_t carriers[512];
+    uint64_t widths[512];
+    uint64_t figures[5];
+};
+
+/* The stored register in the arrays of a register: each cell has its number, its carrier and its width, and the figures and the next slot are the stored
+   ones. So the report is the same, and it is gone on with as if all its entries had been given to this library. Whatever numbers are stored. */
+void chanbook_register_widened(const uint16_t stored_cells[512], const uint64_t stored_carriers[512], const uint64_t stored_widths[512],
+                               const uint64_t stored_figures[5], uint64_t cells[512], uint64_t carriers[512], uint64_t widths[512],
+                               uint64_t figures[5]);
 
 #ifdef __cplusplus
 }

@@ -1,6 +1,6 @@
 /* The exported functions of the planning modules. The raster: the ends of its ranges, every number there and back, and what has no number. The
    register: each number of an entry at its limits and beyond, two causes at once, 512 cells and one more, what a refused and an older entry
-   leave, arrays of any numbers, and the report's bytes.
+   leave, arrays of any numbers, the report's bytes, cells above 65,535, and stored registers that are gone on with.
    Build: cc -I crates/planning_host/include crates/planning_host/test/planning_test.c target/staticlib/libplanning_host.a -o planning_test */
 #include <stdio.h>
 #include <stdlib.h>
@@ -134,7 +134,7 @@ static void limits_of_an_assignment(void)
 {
     begin();
     require(assign(0, 0, 0, 1) == CHANBOOK_DONE, "the least of each number", 0);
-    require(assign(1, 65535, 3279165, 400000) == CHANBOOK_DONE, "the largest of each number", 1);
+    require(assign(1, 4294967295u, 3279165, 400000) == CHANBOOK_DONE, "the largest of each number", 1);
     require(assign(2, 7, 3279166, 1) == CHANBOOK_NO_RASTER, "a carrier past the last", 2);
     require(assign(3, 7, 4294967296, 1) == CHANBOOK_NO_RASTER, "a carrier of 33 bits", 3);
     require(assign(4, 7, MOST, 1) == CHANBOOK_NO_RASTER, "a carrier of 64 bits", 4);
@@ -144,7 +144,7 @@ static void limits_of_an_assignment(void)
     require(assign(8, 7, 0, MOST) == CHANBOOK_NO_RASTER, "a width of 64 bits", 8);
     figures_are(9, 2, 0, 0, 2);
     cell_is(0, 0, 0, 1);
-    cell_is(1, 65535, 3279165, 400000);
+    cell_is(1, 4294967295u, 3279165, 400000);
 }
 
 static void limits_of_the_kind(void)
@@ -241,7 +241,7 @@ static void one_more_than_512(void)
     for (unsigned i = 0; i < CHANBOOK_LIVE_CELLS; i++)
         cell_is(i * 311 % 512, 10 * (i * 311 % 512 + 1), i, 1000 + i);
     leaves_the_rest(CHANBOOK_NO_ROOM, 512, CHANBOOK_ASSIGNMENT, 0, 1, 1);
-    leaves_the_rest(CHANBOOK_NO_ROOM, 513, CHANBOOK_ASSIGNMENT, 65535, 1, 1);
+    leaves_the_rest(CHANBOOK_NO_ROOM, 513, CHANBOOK_ASSIGNMENT, 4294967295u, 1, 1);
     require(assign(514, 5120, 600000, 20000) == CHANBOOK_DONE, "a live cell with 512 live", 514);
     cell_is(511, 5120, 600000, 20000);
     figures_are(515, 513, 1, 0, 512);
@@ -321,6 +321,104 @@ static void reports(void)
     report_is("18446744073709551615,18446744073709551615,18446744073709551615,512");
 }
 
+/* ---- longer cell numbers */
+
+static void longer_cell(uint64_t slot, chanbook_cell_number cell, uint64_t carrier)
+{
+    require(release(slot, cell) == CHANBOOK_CELL_NOT_LIVE, "a cell that is not live", cell);
+    require(assign(slot + 1, cell, carrier, carrier + 1) == CHANBOOK_DONE, "a cell of its own", cell);
+}
+
+/* Cells that are one number in their last 16 bits, or in all but the first, are cells of their own and stand by number. */
+static void longer_cell_numbers(void)
+{
+    static const chanbook_cell_number rising[] = { 7, 65535, 65536, 65543, 131079, 2147483655u, 4294901767u, 4294967295u };
+    enum { COUNT = sizeof rising / sizeof *rising };
+    begin();
+    for (unsigned i = 0; i < COUNT; i++)
+        longer_cell(2 * i, rising[i * 5 % COUNT], i * 5 % COUNT);
+    for (unsigned i = 0; i < COUNT; i++)
+        cell_is(i, rising[i], i, 1 + i);
+    figures_are(16, COUNT, 0, 0, COUNT);
+    require(release(16, 65543) == CHANBOOK_DONE, "a release", 16);
+    cell_is(0, 7, 0, 1);
+    cell_is(3, 131079, 4, 5);
+    figures_are(17, COUNT, 0, 1, COUNT - 1);
+}
+
+/* ---- a stored register */
+
+/* What a host stored of the register: 16 bits of each cell's number. */
+static struct chanbook_stored_register stored_of(const struct chanbook_register *r)
+{
+    struct chanbook_stored_register stored;
+    for (unsigned i = 0; i < CHANBOOK_LIVE_CELLS; i++)
+        stored.cells[i] = (uint16_t)r->cells[i];
+    memcpy(stored.carriers, r->carriers, sizeof stored.carriers);
+    memcpy(stored.widths, r->widths, sizeof stored.widths);
+    memcpy(stored.figures, r->figures, sizeof stored.figures);
+    return stored;
+}
+
+static void widen(const struct chanbook_stored_register *stored, struct chanbook_register *r)
+{
+    chanbook_register_widened(stored->cells, stored->carriers, stored->widths, stored->figures, r->cells, r->carriers, r->widths, r->figures);
+}
+
+/* An entry on one of 700 cells. */
+static uint64_t some_entry(struct chanbook_register *r, uint64_t row, uint64_t slot, uint64_t step)
+{
+    return chanbook_register_entry(r->cells, r->carriers, r->widths, r->figures, slot, 1 + (row >> 40) % 8 / 7,
+                                   (chanbook_cell_number)((row >> 20) % 700 * step), row % 3279166, (row >> 8) % 400000 + 1);
+}
+
+/* One register gets every entry. The other is stored and read after each hundred of those with old cells, and then goes on with new ones: every answer
+   and every number is the same. */
+static void stored_and_gone_on_with(void)
+{
+    static struct chanbook_register one, other;
+    uint64_t row = 7;
+    begin();
+    one = other = held;
+    for (uint64_t slot = 0; slot < 8000; slot++) {
+        uint64_t step = slot < 5000 ? 93 : 6135667;
+        row = row * 6364136223846793005u + 1442695040888963407u;
+        require(some_entry(&one, row, slot, step) == some_entry(&other, row, slot, step), "another number in slot", slot);
+        require(memcmp(&one, &other, sizeof one) == 0, "another register after slot", slot);
+        if (slot < 5000 && slot % 100 == 99) {
+            struct chanbook_stored_register stored = stored_of(&other);
+            memset(&other, 0xa5, sizeof other);
+            widen(&stored, &other);
+        }
+    }
+    require(one.cells[511] > 65535 && one.figures[CHANBOOK_LIVE] == 512, "no longer cells", one.cells[511]);
+}
+
+/* Whatever numbers are stored: they stand in the arrays, between marks that stay. */
+static void any_stored_numbers(void)
+{
+    static struct { uint64_t before[8]; struct chanbook_register r; uint64_t after[8]; } lent, marks;
+    static struct chanbook_stored_register stored, kept;
+    uint64_t row = 16;
+    memset(&marks, 0xa5, sizeof marks);
+    for (unsigned round = 0; round < 2000; round++) {
+        for (unsigned i = 0; i < sizeof stored; i++) {
+            row = row * 6364136223846793005u + 1442695040888963407u;
+            ((unsigned char *)&stored)[i] = (unsigned char)(row >> 56);
+        }
+        lent = marks;
+        kept = stored;
+        widen(&stored, &lent.r);
+        require(memcmp(&stored, &kept, sizeof stored) == 0, "the stored numbers, round", round);
+        for (unsigned i = 0; i < CHANBOOK_LIVE_CELLS; i++)
+            require(lent.r.cells[i] == stored.cells[i] && lent.r.carriers[i] == stored.carriers[i] && lent.r.widths[i] == stored.widths[i], "another cell, round",
+                    round);
+        require(memcmp(lent.r.figures, stored.figures, sizeof stored.figures) == 0, "other figures, round", round);
+        require(memcmp(lent.before, marks.before, sizeof lent.before) == 0 && memcmp(lent.after, marks.after, sizeof lent.after) == 0,
+                "a mark is gone, round", round);
+    }
+}
+
 static void the_register(void)
 {
     a_new_register();
@@ -333,6 +431,9 @@ static void the_register(void)
     every_cell_released();
     arrays_of_any_numbers();
     reports();
+    longer_cell_numbers();
+    stored_and_gone_on_with();
+    any_stored_numbers();
 }
 
 int main(void)
