@@ -365,11 +365,11 @@ static void widen(const struct chanbook_stored_register *stored, struct chanbook
     chanbook_register_widened(stored->cells, stored->carriers, stored->widths, stored->figures, r->cells, r->carriers, r->widths, r->figures);
 }
 
-/* An entry on one of 700 cells. */
-static uint64_t some_entry(struct chanbook_register *r, uint64_t row, uint64_t slot, uint64_t step)
+/* An entry on one of so many cells, each a step above the one before. */
+static uint64_t some_entry(struct chanbook_register *r, uint64_t row, uint64_t slot, uint64_t cells, uint64_t step)
 {
     return chanbook_register_entry(r->cells, r->carriers, r->widths, r->figures, slot, 1 + (row >> 40) % 8 / 7,
-                                   (chanbook_cell_number)((row >> 20) % 700 * step), row % 3279166, (row >> 8) % 400000 + 1);
+                                   (chanbook_cell_number)((row >> 20) % cells * step), row % 3279166, (row >> 8) % 400000 + 1);
 }
 
 /* One register gets every entry. The other is stored and read after each hundred of those with old cells, and then goes on with new ones: every answer
@@ -381,9 +381,9 @@ static void stored_and_gone_on_with(void)
     begin();
     one = other = held;
     for (uint64_t slot = 0; slot < 8000; slot++) {
-        uint64_t step = slot < 5000 ? 93 : 6135667;
+        uint64_t cells = slot < 5000 ? 300 : 700, step = slot < 5000 ? 219 : 6135667;
         row = row * 6364136223846793005u + 1442695040888963407u;
-        require(some_entry(&one, row, slot, step) == some_entry(&other, row, slot, step), "another number in slot", slot);
+        require(some_entry(&one, row, slot, cells, step) == some_entry(&other, row, slot, cells, step), "another number in slot", slot);
         require(memcmp(&one, &other, sizeof one) == 0, "another register after slot", slot);
         if (slot < 5000 && slot % 100 == 99) {
             struct chanbook_stored_register stored = stored_of(&other);
