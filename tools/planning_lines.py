@@ -186,7 +186,7 @@ NOT_LINES = [
 
 # ---- E6: a register of cells from the commits
 
-LARGEST_CELL = 2**16 - 1
+LARGEST_CELL = 2**32 - 1  # "Cell numbers grow from 16 to 32 bits in entries and register" (E7)
 LARGEST_SLOT = 2**63 - 2
 WIDEST = 400000
 PLACES = 512
@@ -201,6 +201,7 @@ class Register:
         self.made = 0
         self.superseded = 0
         self.released = 0
+        self.unaccounted = 0  # what a stored register's figures fail to add up by
 
     def sees(self, slot):
         """Nothing where the slot is new, and seen from now on; else the answer. "unless the slot itself gives 2, which comes first"."""
@@ -247,7 +248,7 @@ def report_of(planner):
     """The four figures; "made equals the other three together"."""
     register = planner.register
     others = [register.superseded, register.released, len(register.live)]
-    assert register.made == sum(others)
+    assert register.made - register.unaccounted == sum(others)
     return ",".join(map(str, [register.made] + others))
 
 
@@ -291,7 +292,7 @@ def limit_lines():
             lines += [assignment(slot, slot % 9, carrier, width), removal(slot, slot % 9)]
             slot += 1
         lines += LOOK
-    for cell in [0, 1, 255, 256, 257, 32767, 32768, 65534, 65535]:
+    for cell in [0, 1, 255, 256, 257, 32767, 32768, 65534, 65535, 65536, 65537, 131071, 131072, 2**31 - 1, 2**31, 2**32 - 2, 2**32 - 1]:
         lines += [assignment(slot, cell), assignment(slot + 1, cell, 5, 6)] + LOOK + [removal(slot + 2, cell), removal(slot + 3, cell)]
         slot += 4
     for beyond in SLOTS_REFUSED:
@@ -551,15 +552,12 @@ NOT_ENTRIES = [
     b"entry 90 a 1 2 k3",
     b"entry 90 a 1/ 2 3",
     b"entry 90 a 1 :2 3",
-    b"entry 90 a 65536 2 3",
-    b"entry 90 a 65537 2 3",
-    b"entry 90 a 131071 2 3",
     b"entry 90 a 4294967296 2 3",
     b"entry 90 a 18446744073709551615 2 3",
     b"entry 90 a 18446744073709551616 2 3",
-    b"entry 90 a 00065536 2 3",
-    b"entry 90 r 65536",
-    b"entry 90 r 65537",
+    b"entry 90 a 4294967297 2 3",
+    b"entry 90 a 0004294967296 2 3",
+    b"entry 90 r 4294967296",
     b"entry 90 r 4294967297",
     b"entry 90 r 18446744073709551615",
     b"entry 90 r 18446744073709551616",
@@ -571,8 +569,8 @@ NOT_ENTRIES = [
     b"entry 90 a 1 18446744073709551618 3",
     b"entry 90 a 1 2 18446744073709551616",
     b"entry 90 a 1 2 18446744073709551619",
-    b"entry 18446744073709551615 a 65536 2 3",
-    b"entry 0 a 65536 2 3",
+    b"entry 18446744073709551615 a 4294967296 2 3",
+    b"entry 0 a 4294967296 2 3",
     b"entry 90 a 1 2 3 entry 91 r 1",
     b"entry 90 r 1 register",
     b"number 5 a 1 2 3",
@@ -588,8 +586,6 @@ LATER = [
     b"register 9223372036854775806",
     b"entry 90 p 1 2 3",
     b"entry 90 p 1 -2 -3",
-    b"stored 0 0 0 0 0",
-    b"stored 1 1 0 0 1 7 632628 20000",
     b"conflicts 5 1 0 0 0",
     b"free 0 5 1 0 0 0",
     b"join 8192 |",
@@ -614,6 +610,153 @@ def register_lines():
     return lines
 
 
+# ---- E7: longer cell numbers, and registers that were stored with cells of 16 bits
+
+LARGEST_STORED_CELL = 2**16 - 1
+
+
+def begin_stored(planner, following, made, superseded, released, count, *rest):
+    """"Stored cells keep number and assignment": the register that a stored one of 16-bit cells widens to."""
+    cells = [rest[place : place + 3] for place in range(0, len(rest), 3)]
+    numbers = [cell[0] for cell in cells]
+    if len(rest) != 3 * count or count > PLACES:
+        return "bad line"
+    if any(number > LARGEST_STORED_CELL for number in numbers) or any(a >= b for a, b in zip(numbers, numbers[1:])):
+        return "bad line"
+    if any(carrier >= len(FREQUENCIES) or not 1 <= width <= WIDEST for _, carrier, width in cells):
+        return "bad line"
+    register = Register()
+    register.last_seen = following - 1 if following > 0 else None
+    register.live = {cell: (carrier, width) for cell, carrier, width in cells}
+    register.made, register.superseded, register.released = made, superseded, released
+    register.unaccounted = made - superseded - released - count
+    planner.register = register
+    return "made"
+
+
+def stored_line(following, made, superseded, released, cells, count=None):
+    """The line for a stored register; its count may be another than that of its cells."""
+    numbers = [following, made, superseded, released, len(cells) if count is None else count]
+    return b"stored " + " ".join(map(str, numbers + [number for cell in cells for number in cell])).encode("ascii")
+
+
+def stored_after(lines):
+    """The line for what a register of these entries holds."""
+    planner = Planner()
+    for line in lines:
+        answer(planner, line)
+    register = planner.register
+    following = 0 if register.last_seen is None else register.last_seen + 1
+    cells = [(cell,) + assigned for cell, assigned in sorted(register.live.items())]
+    return stored_line(following, register.made, register.superseded, register.released, cells)
+
+
+def longer_cells():
+    """Cells that are one number in their last 16, 24 or 31 bits are cells of their own, and stand by number."""
+    alike = [7, 7 + 2**16, 7 + 2**17, 7 + 2**24, 7 + 2**31, 7 + 2**31 + 2**16]
+    edges = [65534, 65535, 65536, 65537, 131071, 2**31 - 1, 2**31, 2**32 - 2, 2**32 - 1]
+    lines = [b"register"]
+    slot = 0
+    for cells in (alike, edges, edges[::-1]):
+        for cell in cells:
+            lines += [removal(slot, cell), assignment(slot + 1, cell, slot, slot + 1)]
+            slot += 2
+        lines += LOOK
+        for cell in cells[::2]:
+            lines += [assignment(slot, cell, slot, slot + 1), removal(slot + 1, cell), removal(slot + 2, cell)] + LOOK
+            slot += 3
+        for cell in cells:
+            lines.append(removal(slot, cell))
+            slot += 1
+        lines += LOOK
+    return lines
+
+
+def longer_runs():
+    chosen = random.Random(7)
+    lines = []
+    for _ in range(6):
+        pool = [chosen.randrange(2**32) for _ in range(8)]
+        lines += random_run(chosen, 150, pool + [cell % 2**16 for cell in pool], 2)
+    # so many cells that places run out
+    lines += random_run(chosen, 1500, chosen.sample(range(2**32 - 1200, 2**32), 700), 1)
+    return lines
+
+
+def gone_on_with():
+    """Old entries, then the register that was stored after them, then new entries; and the same entries in one register. Reports and cells agree."""
+    chosen = random.Random(1632)
+    lines = []
+    for count, many in [(0, 3), (1, 3), (40, 20), (150, 60), (1400, 700)]:
+        old_pool = chosen.sample(range(2**16), many)
+        new_pool = old_pool + [chosen.randrange(2**16, 2**32) for _ in range(many)]
+        old = [line for line in random_run(chosen, count, old_pool, 1) if line.startswith(b"entry")]
+        start = max([int(line.split()[1]) for line in old if int(line.split()[1]) <= LARGEST_SLOT], default=0)
+        new = []
+        for place in range(120):
+            cell = chosen.choice(new_pool)
+            slot = start + 1 + place if chosen.random() < 0.9 else chosen.randint(0, start)
+            new.append(removal(slot, cell) if chosen.random() < 0.3 else assignment(slot, cell, chosen.randrange(3279166), chosen.randint(1, WIDEST)))
+        lines += [b"register"] + old + LOOK + [stored_after(old)] + LOOK + new + LOOK
+        lines += [b"register"] + old + new + LOOK + [b"register", stored_after(old)] + old + LOOK
+    return lines
+
+
+def stored_places():
+    """So many cells, the least and the largest numbers, and the next slot at its ends."""
+    lines = []
+    for cells in (range(511), range(512), range(2**16 - 512, 2**16), range(0, 2**16, 128)):
+        held = [(cell, place, place + 1) for place, cell in enumerate(cells)]
+        lines += [stored_line(1000, 1000 + len(held), 600, 400, held)] + LOOK + [assignment(999, 700), assignment(1000, 2**16), assignment(1001, 2**16 + 1)]
+        lines += [assignment(1002, held[-1][0], 5, 6), removal(1003, held[0][0]), assignment(1004, 2**32 - 1)] + LOOK
+    ends = [(0, 0, 1), (65535, 3279165, 400000)]
+    for following in [0, 1, 2**63 - 2, 2**63 - 1, 2**63, LARGEST]:
+        lines += [stored_line(following, 2, 0, 0, ends), removal(0, 0), assignment(2**63 - 3, 1), removal(2**63 - 2, 65535), assignment(2**63 - 1, 2)] + LOOK
+    # figures that no entries leave are gone on with too
+    lines += [stored_line(5, 2**63, 1, 2, ends), assignment(5, 0), removal(6, 0), assignment(7, 65536)] + LOOK
+    return lines + [stored_line(0, 0, 0, 0, []), b"stored 00 000 0 0 0000"] + LOOK + [b"stored 01 002 0000 1 0001 00065535 003279165 0000400000"] + LOOK
+
+
+def not_stored():
+    """Bad lines, each behind a register that stays as it is."""
+    two = [(7, 5, 1), (9, 5, 1)]
+    three = two + [(11, 5, 1)]
+    bad = [b"stored", b"stored ", b"stored 0", b"stored 0 0 0 0", b"stored 0 0 0 0 ", b"stored 0 0 0 0 0 ", b"stored 0 0 0 0  0", b" stored 0 0 0 0 0"]
+    bad += [b"stored  0 0 0 0 0", b"stored 0 0 0 0 0\r", b"stored\t0 0 0 0 0", b"Stored 0 0 0 0 0", b"stor 0 0 0 0 0", b"storeds 0 0 0 0 0", b"stored0 0 0 0 0"]
+    bad += [b"stored -0 0 0 0 0", b"stored +1 0 0 0 0", b"stored 0 0 0 0 x", b"stored 0 0 0 0 0x0", b"stored 0,0,0,0,0", b"stored 0 0 0 0 1 7 5 1.0", b"stored \xff 0 0 0 0"]
+    # the count and the fields
+    bad += [stored_line(1, 1, 0, 0, two, count) for count in [0, 1, 3, 512, 2**32 + 2, 2**63 + 2, 2 * 2**64 // 3, 2**64 // 3 + 2, LARGEST]]
+    bad += [stored_line(1, 1, 0, 0, [], count) for count in [1, 512, 513, (2**64 + 2) // 3, (2**65 + 1) // 3, LARGEST, LARGEST + 1]]
+    bad += [stored_line(1, 1, 0, 0, two) + more for more in (b" ", b" 11", b" 11 5", b" 11 5 1", b" 11 5 1 ", b" a 5 1")]
+    bad += [stored_line(1, 1, 0, 0, three)[: -len(cut)] for cut in (b" 1", b" 5 1", b" 11 5 1")]
+    # more than 512 cells, and so many numbers as no line has
+    for count in (513, 514, 681, 682, 683, 3000):
+        many = [(cell, 5, 1) for cell in range(count)]
+        bad += [stored_line(1, 1, 0, 0, many), stored_line(1, 1, 0, 0, many, 512)]
+    # cells: above 65,535, the same twice, falling
+    for cell in [2**16, 2**16 + 1, 2**17 - 1, 2**31, 2**32 - 1, 2**32, 2**32 + 11, 2**48 + 11, 2**63, LARGEST, LARGEST + 1, LARGEST + 12]:
+        bad += [stored_line(1, 1, 0, 0, two + [(cell, 5, 1)]), stored_line(1, 1, 0, 0, [(cell, 5, 1)])]
+    bad += [stored_line(1, 1, 0, 0, cells) for cells in (two + two[1:], two[:1] + two, two[::-1], three[::-1], [three[0], three[2], three[1]], [(0, 5, 1), (0, 5, 1)])]
+    bad.append(stored_line(1, 1, 0, 0, [(cell, 5, 1) for cell in list(range(511)) + [510]]))
+    # carriers and widths
+    for place in range(3):
+        for carrier, width in [(c, 1) for c in CARRIERS_REFUSED + [LARGEST + 1, LARGEST + 6]] + [(5, w) for w in WIDTHS_REFUSED + [LARGEST + 1, LARGEST + 2]]:
+            bad.append(stored_line(1, 1, 0, 0, three[:place] + [(three[place][0], carrier, width)] + three[place + 1 :]))
+    # numbers that do not fit
+    for place in range(4):
+        for large in (LARGEST + 1, LARGEST + 2, 10**20):
+            bad.append(stored_line(*[large if place == other else 1 for other in range(4)], two))
+    lines = [stored_line(4, 3, 0, 1, two)] + LOOK
+    for line in bad:
+        assert answer(Planner(), line) == "bad line", line
+        lines += [line, b"report"]
+    return lines + LOOK + [assignment(4, 7), assignment(5, 65536)] + LOOK
+
+
+def stored_lines():
+    return longer_cells() + longer_runs() + gone_on_with() + stored_places() + not_stored()
+
+
 # ---- E6: inputs of the program `cell_report`
 
 
@@ -635,7 +778,8 @@ def report_inputs():
     some = [assignment(3, 1), assignment(4, 2), removal(5, 1), removal(5, 2), assignment(6, 2), removal(9, 9), assignment(LARGEST, 5)]
     inputs = [b"", ended(some), ended(some)[:-1], ended(some[:1]), some[0], ended(entries_of(limit_lines()))]
     inputs += [ended(entries_of(full_lines()))] + [ended(entries_of(run)) for run in (random_runs(), two_offices(), ZEROS_IN_ENTRIES)]
-    others = NOT_ENTRIES + LATER + NOT_LINES + [b"register", b"report", b"cells", b"number 5", b"khz 5", assignment(7, 1) + b" " * LONGEST]
+    inputs += [ended(entries_of(run)) for run in (longer_cells(), longer_runs())]
+    others = NOT_ENTRIES + LATER + NOT_LINES + [b"register", b"report", b"cells", b"number 5", b"khz 5", b"stored 0 0 0 0 0", assignment(7, 1) + b" " * LONGEST]
     for other in others:
         inputs += [ended(some + [other]), ended([other] + some), ended(some[:3] + [other] + some[3:])] + ([ended(some) + other] if other else [])
     # a line as long as one may be, and one that is a byte longer
@@ -648,13 +792,15 @@ def report_inputs():
 
 # ---- lines and answers
 
-# the fields of a line: a word, or a number up to the one that stands here; and what answers it, given what the earlier lines left
+# the fields of a line: a word, or a number up to the one that stands here, and numbers of 64 bits to the end of the line where dots stand; and what
+# answers it, given what the earlier lines left
 FORMS = [
     ((b"number", LARGEST), khz_of),
     ((b"khz", LARGEST), number_of),
     ((b"register",), begin_register),
     ((b"entry", LARGEST, b"a", LARGEST_CELL, LARGEST, LARGEST), assign),
     ((b"entry", LARGEST, b"r", LARGEST_CELL), release),
+    ((b"stored", LARGEST, LARGEST, LARGEST, LARGEST, LARGEST, ...), begin_stored),
     ((b"report",), report_of),
     ((b"cells",), cells_of),
 ]
@@ -688,6 +834,7 @@ LINES = [
     lambda: ZEROS,
     lambda: NOT_LINES,
     register_lines,
+    stored_lines,
     left_for_later,
     buffer_lines,
     lambda: [b"report", b"cells"],
@@ -713,6 +860,8 @@ def number_in(field):
 
 def numbers_in(form, fields):
     """The numbers of a line that has this form, or None."""
+    if form[-1] is ...:
+        form = form[:-1] + (LARGEST,) * (len(fields) - len(form) + 1)
     if len(form) != len(fields):
         return None
     numbers = []

@@ -28,7 +28,7 @@ fn answer_block(old: Register, from: usize, input: &[u8], out: &mut [u8]) -> Aft
             break;
         }
         put = line_blocks::with_room(out, put);
-        let answered = planning_lines::answer_line(register, &input[used..end], out, put);
+        let answered = stored_lines::answer_line(register, &input[used..end], out, put);
         register = answered.register;
         put = answered.put;
         used = end + 1;
@@ -40,7 +40,7 @@ fn answer_block(old: Register, from: usize, input: &[u8], out: &mut [u8]) -> Aft
 // Answers the last line, which no LF ends, where there is one.
 fn answer_last(register: Register, input: &[u8], out: &mut [u8]) {
     if input.len() > 0 {
-        let answered = planning_lines::answer_line(register, input, out, 0);
+        let answered = stored_lines::answer_line(register, input, out, 0);
         line_blocks::write_output(out, answered.put);
     }
 }

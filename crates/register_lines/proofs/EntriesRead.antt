@@ -50,7 +50,7 @@ behind-letter line at a b rest e =
 
 -- ---- a change, from its letter on; it ends with the line
 
-assignment-read : (line : List ℕ) (at n c w : ℕ) → n ≤ 65535 → c ≤ 18446744073709551615 → w ≤ 18446744073709551615
+assignment-read : (line : List ℕ) (at n c w : ℕ) → n ≤ 4294967295 → c ≤ 18446744073709551615 → w ≤ 18446744073709551615
     → drop at line ≡ decimal n ++ (32 ∷ (decimal c ++ (32 ∷ decimal w)))
     → assignmentAt line at ≡ Says (record { cell = n; change = Assign (record { carrier = c; width = w }); end = length line })
 unfolding assignmentAt assignmentOf
@@ -62,15 +62,15 @@ assignment-read line at n c w ln lc lw e =
       field-read line (second line at) c (decimal w) lc e2,
       last-read line (third line at) w lw e3,
       last-ends line (third line at) w e3,
-      le-ltb 65535 n ln,
+      le-ltb 4294967295 n ln,
     )
 
-release-read : (line : List ℕ) (at n : ℕ) → n ≤ 65535 → drop at line ≡ decimal n
+release-read : (line : List ℕ) (at n : ℕ) → n ≤ 4294967295 → drop at line ≡ decimal n
     → releaseAt line at ≡ Says (record { cell = n; change = Release; end = length line })
 unfolding releaseAt releaseOf
-release-read line at n ln e = simp (last-read line at n (omega arith) e, last-ends line at n e, le-ltb 65535 n ln)
+release-read line at n ln e = simp (last-read line at n (omega arith) e, last-ends line at n e, le-ltb 4294967295 n ln)
 
-change-read : (line : List ℕ) (at n : ℕ) (k : Change) → n ≤ 65535 → ChangeFits k → drop at line ≡ changeLine n k
+change-read : (line : List ℕ) (at n : ℕ) (k : Change) → n ≤ 4294967295 → ChangeFits k → drop at line ≡ changeLine n k
     → changeAt line at ≡ Says (record { cell = n; change = k; end = length line })
 unfolding changeAt field
 change-read line at n (Assign a) ln fits e =

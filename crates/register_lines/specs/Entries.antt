@@ -14,11 +14,11 @@ use Rattle.register_lines.specs.declared.OptionalChange.the-variants.{Sa
 use Rattle.register_lines.specs.declared.OptionalEntry.{OptionalEntry}
 use Rattle.register_lines.specs.declared.OptionalEntry.the-variants.{Gives, NoEntry}
 
--- ---- from its letter on. A cell number has 16 bits: one above 65,535 does not fit
+-- ---- from its letter on. A cell number has 32 bits: one above 4,294,967,295 does not fit
 
 unfoldable pub assignmentOf : OptionalNumber → OptionalNumber → OptionalNumber → ℕ → OptionalChange
 assignmentOf cell carrier width end =
-    cond (ltb 65535 (valueOf cell)) NoChange
+    cond (ltb 4294967295 (valueOf cell)) NoChange
     (cond (isNumber cell && isNumber carrier && isNumber width)
     (Says (record { cell = valueOf cell; change = Assign (record { carrier = valueOf carrier; width = valueOf width }); end = end })) NoChange)
 
@@ -37,7 +37,7 @@ assignmentAt line at =
 
 unfoldable pub releaseOf : OptionalNumber → ℕ → OptionalChange
 releaseOf cell end =
-    cond (ltb 65535 (valueOf cell)) NoChange
+    cond (ltb 4294967295 (valueOf cell)) NoChange
     (cond (isNumber cell) (Says (record { cell = valueOf cell; change = Release; end = end })) NoChange)
 
 -- `CELL`

@@ -26,7 +26,7 @@ ChangeFits (Assign a) = (a .carrier ≤ 18446744073709551615) × (a .width ≤ 1
 ChangeFits Release = Unit {0}
 
 abbrev pub EntryFits : CellEntry → Type 0
-EntryFits e = (e .slot ≤ 18446744073709551615) × (e .cell ≤ 65535) × ChangeFits (e .change)
+EntryFits e = (e .slot ≤ 18446744073709551615) × (e .cell ≤ 4294967295) × ChangeFits (e .change)
 
 abbrev pub EntriesFit : List CellEntry → Type 0
 EntriesFit [] = Unit {0}

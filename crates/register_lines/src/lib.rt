@@ -62,7 +62,7 @@ fn assignment_of(
     ensures { λ r. ⌜ r ≡ assignmentOf cell carrier width end ⌝ }
 {
     let number = cell.value();
-    if number > 65535 {
+    if number > 4294967295 {
         return OptionalChange::NoChange;
     }
     let two = line_fields::both(cell.is_number(), carrier.is_number());
@@ -97,7 +97,7 @@ fn release_of(cell: OptionalNumber, end: usize) -> OptionalChange
     ensures { λ r. ⌜ r ≡ releaseOf cell end ⌝ }
 {
     let number = cell.value();
-    if number > 65535 {
+    if number > 4294967295 {
         return OptionalChange::NoChange;
     }
     if cell.is_number() {

@@ -4,8 +4,11 @@ ghost use mathlib.Core.Path.{_≡_};
 ghost use Prim.Native.Nat.{_<_, _≤_};
 ghost use lib.ListN.{length, getD};
 ghost use Rattle.serving.specs.Serving.{atFront};
+ghost use Rattle.texts.specs.Text.{put};
+ghost use Rattle.stored_lines.specs.Answers.{afterStored, storedText, registerAfterLine, lineAnswer};
 ghost use Rattle.stored_lines.specs.Lines.{isRead, risesAt, isCellAt, areCells, storedCellAt, storedCells, emptyCells, storedOfNumbers, isStored, storedLine};
 use call_lines::Scan;
+use planning_lines::Answered;
 use register::Assignment;
 use register::Figures;
 use register::Register;
@@ -161,4 +164,33 @@ pub fn stored_line(bytes: &[u8]) -> StoredLine
         taken: false,
         register: Register::new(),
     }
+}
+
+// A line that is one begins its register; any other is a bad line, and the register stays.
+fn answer_stored(register: Register, bytes: &[u8], out: &mut [u8], at: usize) -> Answered
+    ensures { λ r. ⌜ r .register ≡ afterStored register (storedLine (now (bytes .entry))) ⌝ }
+    ensures { λ r. ⌜ (now (out .exit), r .put) ≡ put (storedText (storedLine (now (bytes .entry)))) (now (out .entry), at) ⌝ }
+{
+    let line = stored_line(bytes);
+    if line.taken {
+        let put = texts::put_bytes(out, at, b"made\n");
+        let begun = line.register;
+        return Answered {
+            register: begun,
+            put,
+        };
+    }
+    let put = planning_lines::put_bad_line(out, at);
+    Answered { register, put }
+}
+
+// The answer to a line of `planning`, and the register that the line leaves.
+pub fn answer_line(register: Register, line: &[u8], out: &mut [u8], at: usize) -> Answered
+    ensures { λ r. ⌜ r .register ≡ registerAfterLine register (now (line .entry)) ⌝ }
+    ensures { λ r. ⌜ (now (out .exit), r .put) ≡ put (lineAnswer register (now (line .entry))) (now (out .entry), at) ⌝ }
+{
+    if line_fields::begins(line, b"stored ") {
+        return answer_stored(register, &line[7..], out, at);
+    }
+    planning_lines::answer_line(register, line, out, at)
 }

@@ -35,15 +35,15 @@ map-in n a [] h = h
 map-in n a (d ∷ cs) (inl h) = inl (ap₂ storedCell (ap (λ (c : Cell). c .number) h) (ap (λ (c : Cell). c .assignment) h))
 map-in n a (d ∷ cs) (inr h) = inr (map-in n a cs h)
 
-module _ (s : StoredRegister) (n : ℕ) (a : Assignment) where
-  live-widened : liveCells (widened s) ≡ map widenedCell (storedLiveCells s)
-  live-widened = sym (map-take widenedCell (min (s .«live_count») 512) (s .cells))
+pub live-widened : (s : StoredRegister) → liveCells (widened s) ≡ map widenedCell (storedLiveCells s)
+live-widened s = sym (map-take widenedCell (min (s .«live_count») 512) (s .cells))
 
+module _ (s : StoredRegister) (n : ℕ) (a : Assignment) where
   pub cell-kept : In (storedCell n a) (storedLiveCells s) → In (cellOf n a) (liveCells (widened s))
-  cell-kept h = rw live-widened (in-map (storedCell n a) (storedLiveCells s) h)
+  cell-kept h = rw (live-widened s) (in-map (storedCell n a) (storedLiveCells s) h)
 
   pub no-other-cell : In (cellOf n a) (liveCells (widened s)) → In (storedCell n a) (storedLiveCells s)
-  no-other-cell h = map-in n a (storedLiveCells s) (rw live-widened at h)
+  no-other-cell h = map-in n a (storedLiveCells s) (rw (live-widened s) at h)
 
 -- ---- what E6 stored of the register of its entries becomes the register of these entries
 all-kept : (cs : List Cell) → OldCells cs → map widenedCell (map storedCellOf cs) ≡ cs

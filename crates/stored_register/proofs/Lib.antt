@@ -1,4 +1,5 @@
 pub mod Cells
 pub mod Old
 pub mod Laws
+pub mod Behind
 pub mod Examples

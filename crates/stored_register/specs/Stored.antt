@@ -1,8 +1,10 @@
 -- A register as E6 stored it, and the register that it becomes (document 02, E7): "Stored cells keep number and assignment".
 -- Assumes nothing.
+use mathlib.Core.Path.{_≡_}
 use mathlib.Core.List.{List, [], _∷_, map}
 use Prim.Native.Nat.{ℕ, _%_, _<_, min}
 use lib.ListN.{take}
+use Rattle.register.specs.Register.{livePlaces, liveCells}
 use Rattle.register.specs.declared.Assignment.{Assignment}
 use Rattle.register.specs.declared.Cell.{Cell}
 use Rattle.register.specs.declared.CellEntry.{CellEntry}
@@ -37,3 +39,11 @@ widenedCell c = record { number = c .number; assignment = c .assignment }
 
 abbrev pub widened : StoredRegister → Register
 widened s = record { «next_slot» = s .«next_slot»; figures = s .figures; «live_count» = s .«live_count»; cells = map widenedCell (s .cells) }
+
+-- ---- registers with the same live cells: what stands behind these may be anything
+abbrev pub Alike : Register → Register → Type 0
+Alike r q = (r .«next_slot» ≡ q .«next_slot») × (r .figures ≡ q .figures) × (livePlaces r ≡ livePlaces q) × (liveCells r ≡ liveCells q)
+
+abbrev pub AlikeStored : StoredRegister → StoredRegister → Type 0
+AlikeStored s t =
+    (s .«next_slot» ≡ t .«next_slot») × (s .figures ≡ t .figures) × (s .«live_count» ≡ t .«live_count») × (storedLiveCells s ≡ storedLiveCells t)
