@@ -32,6 +32,7 @@ mod random;
 mod reader;
 mod record;
 mod replay;
+mod short_runs;
 mod shrink;
 mod swift;
 mod recording;
@@ -46,6 +47,7 @@ fn run(arguments: &[String]) -> std::io::Result<bool> {
     match arguments.first().map(|name| name.as_str()) {
         None | Some("answer") => answer::run().map(|()| true),
         Some("record") => record::run(),
+        Some("short_runs") => short_runs::run().map(|()| true),
         Some("swift") => Ok(swift::run()),
         Some("compare") => match compare::Options::read(&arguments[1..]) {
             Some(options) => compare::run(&options),
@@ -63,7 +65,7 @@ fn run(arguments: &[String]) -> std::io::Result<bool> {
             Some(options) => Ok(one_slot::run(&options)),
             None => Err(std::io::Error::other(one_slot::USAGE)),
         },
-        Some(name) => Err(std::io::Error::other(format!("oracle answer | record | swift | compare | exhaust | ties | slot, not {name}"))),
+        Some(name) => Err(std::io::Error::other(format!("oracle answer | record | short_runs | swift | compare | exhaust | ties | slot, not {name}"))),
     }
 }
 
