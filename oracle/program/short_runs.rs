@@ -9,9 +9,14 @@ const MOST_EVENTS: usize = 5;
 
 #[derive(Clone, Copy)]
 enum Event {
-    Proposal { member: usize },
+    Proposal {
+        member: usize,
+    },
     /// The place is that of the message among all sent.
-    Delivery { member: usize, place: usize },
+    Delivery {
+        member: usize,
+        place: usize,
+    },
 }
 
 #[derive(Clone)]
