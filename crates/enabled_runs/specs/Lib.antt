@@ -1,0 +1,4 @@
+pub mod Enabled
+pub mod Listing
+pub mod Order
+pub mod Offices
