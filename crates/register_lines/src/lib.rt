@@ -1,7 +1,6 @@
 // Lines about a register of cells (docs/PLANNING.md): an entry line, from its bytes to the entry, and what is written of a register.
 ghost use mathlib.Core.Path.{_≡_};
 ghost use Rattle.texts.specs.Text.{put};
-ghost use Rattle.register.specs.Refusals.{entryRefusalNumber};
 ghost use Rattle.register.specs.Register.{done};
 ghost use Rattle.register_lines.specs.Entries.{assignmentOf, assignmentAt, releaseOf, releaseAt, changeAt, entryAt, entryWith, entryOf};
 ghost use Rattle.register_lines.specs.Answers.{outcomeText, figuresAnswer, cellText, cellsText, afterQuestion, registerAnswer};
@@ -14,7 +13,6 @@ use register::CellEntry;
 use register::CellNumber;
 use register::Change;
 use register::EntryOutcome;
-use register::EntryRefusal;
 use register::Register;
 use report::ReportPage;
 
@@ -188,17 +186,6 @@ pub fn entry_of(line: &[u8]) -> OptionalEntry
 
 // ---- what is written of a register
 
-fn refusal_number(why: EntryRefusal) -> u64
-    ensures { λ r. ⌜ r ≡ entryRefusalNumber why ⌝ }
-{
-    match why {
-        EntryRefusal::NumberTooLarge => 2,
-        EntryRefusal::NotAssignable => 14,
-        EntryRefusal::NoRoomForCell => 15,
-        EntryRefusal::CellNotLive => 16,
-    }
-}
-
 // What became of an entry, with LF.
 pub fn put_outcome(out: &mut [u8], at: usize, outcome: EntryOutcome) -> usize
     ensures { λ r. ⌜ (now (out .exit), r) ≡ put (outcomeText outcome) (now (out .entry), at) ⌝ }
@@ -206,12 +193,7 @@ pub fn put_outcome(out: &mut [u8], at: usize, outcome: EntryOutcome) -> usize
     match outcome {
         EntryOutcome::Done => texts::put_bytes(out, at, b"done\n"),
         EntryOutcome::Older => texts::put_bytes(out, at, b"old\n"),
-        EntryOutcome::Refused(why) => line_fields::put_line(
-            out,
-            at,
-            b"refused",
-            refusal_number(why),
-        ),
+        EntryOutcome::Refused(why) => line_fields::put_line(out, at, b"refused", why.number()),
     }
 }
 

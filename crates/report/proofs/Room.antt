@@ -10,7 +10,7 @@ use Rattle.texts.specs.Text.{Buffer, put}
 use Rattle.texts.proofs.Lengths.{put-fits, decimal-length}
 use Rattle.register.specs.declared.Figures.{Figures}
 use Rattle.report.specs.declared.ReportPage.{ReportPage}
-use Rattle.report.specs.Report.{reportHeader, figureText, figuresText, reportText, pageHolding, pageWith}
+use Rattle.report.specs.Report.{reportHeader, figureText, figuresText, reportText, pageHolding}
 
 figure-length : (n b : ℕ) → length (figureText n b) ≤ 21
 unfolding figureText
@@ -44,7 +44,3 @@ put-page text len bytes short e =
     let is : _≡_ {A = Buffer} (bytes, len) (text ++ drop (length text) (replicate 116 0), length text) =
     e ∙ put-fits text (replicate 116 0) 0 (omega arith) ∙ ap (λ (n : ℕ). (text ++ drop n (replicate 116 0), n)) start in
     ap (λ (p : Buffer). page (p .0) (p .1)) is ∙ ap (λ (z : List ℕ). page (text ++ z) (length text)) (drop-zeros (length text) short)
-
-pub put-report-page : (f : Figures) (live len : ℕ) (bytes : List ℕ) → _≡_ {A = Buffer} (bytes, len) (put (reportText f live) (replicate 116 0, 0)) → page bytes len ≡ pageWith f live
-unfolding pageWith
-put-report-page f live len bytes e = put-page (reportText f live) len bytes (report-length f live) e

@@ -15,7 +15,7 @@ returns-2 c = simp (c .before .before .before .before .before .enum-told2 .given
 
 returns-3 : tie.Need-returns-3
 unfolding outcomeText
-returns-3 c = simp (c .before .before .before .before .before .before .before .outcome .given .1, ← c .before .before .before .refusal-number .ensures, ← c .before .before .put-line .ensures)
+returns-3 c = simp (c .before .before .before .before .before .before .before .outcome .given .1, ← c .before .before .before .number .ensures, ← c .before .before .put-line .ensures)
 
 pub put-outcome-spec : {M : Type 1} → statement M
 put-outcome-spec =

@@ -1,7 +1,8 @@
 -- `report::page_with` meets its contract.
 -- Assumes nothing.
 use borrow.Author.Needs.{needs}
-use Rattle.report.proofs.Room.{put-report-page}
+use Rattle.report.specs.Report.{pageWith}
+use Rattle.report.proofs.Room.{report-length, put-page}
 use Rattle.report.proofs.page_with.Statement.{statement}
 use Rattle.report.proofs.page_with.Tie as tie
 
@@ -12,7 +13,8 @@ put-report-requires : tie.Need-put-report-requires
 put-report-requires c κs = search needs
 
 returns : tie.Need-returns
-returns c = put-report-page _ _ _ _ (c .before .put-report .ensures)
+unfolding pageWith
+returns c = put-page _ _ _ (report-length _ _) (c .before .put-report .ensures)
 
 pub page-with-spec : {M : Type 1} → statement M
 page-with-spec = tie.close (tie.spec slice-aggregate-put-report put-report-requires returns)
