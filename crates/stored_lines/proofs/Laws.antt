@@ -1,18 +1,18 @@
--- What a line `stored` begins, where it is one: the cells that stand in it are live, with their numbers and assignments, and rise.
+-- What a line `stored` begins, where it is one: the cells that stand in it are live, with their numbers and assignments.
 -- Assumes nothing.
-use mathlib.Core.Path.{_≡_, refl, sym, ap, subst, _∙_}
+use mathlib.Core.Path.{_≡_, refl, ap, subst}
 use mathlib.Core.Bool.{Bool, true, false, cond, _&&_}
-use mathlib.Core.List.{List, [], _∷_, _++_, map}
+use mathlib.Core.List.{List, [], _∷_, _++_}
 use mathlib.Core.Logic.{_⊎_, inl, inr}
 use Prim.Native.Nat.{ℕ, zero, suc, _+_, _*_, _≤_, _<_, min}
 use native.Mathlib.Nat.{mod-eq-of-lt}
 use native.Mathlib.Omega.{arith}
 use lib.Dec.{eqb, ltb, leb}
-use lib.ListN.{length, getD, take}
+use lib.ListN.{getD, take}
 use lib.Seq.{take-at}
 use borrow.Author.Tests.{ltb-true, ltb-false, leb-true}
 use Rattle.basics.specs.Lists.{In}
-use Rattle.basics.proofs.Tests.{either, not-both, and-left, and-right}
+use Rattle.basics.proofs.Tests.{either, and-left, and-right}
 use Rattle.call_lines.specs.Reading.{scanOf}
 use Rattle.serving.specs.Serving.{atFront}
 use Rattle.register.specs.Cells.{cellOf}
@@ -21,7 +21,7 @@ use Rattle.register.specs.declared.Register.{Register}
 use Rattle.stored_register.specs.Stored.{storedCell, storedLiveCells, widened}
 use Rattle.stored_register.specs.declared.StoredCell.{StoredCell}
 use Rattle.stored_register.proofs.Laws.{cell-kept}
-use Rattle.stored_lines.specs.Lines.{storedNumberAt, storedAssignmentAt, isRead, isCellAt, areCells, storedCellAt, storedCells, emptyCells, storedOfNumbers, isStored, storedNumbers, storedLine}
+use Rattle.stored_lines.specs.Lines.{storedNumberAt, storedAssignmentAt, isRead, isCellAt, areCells, storedCellAt, storedCells, storedOfNumbers, isStored, storedNumbers, storedLine}
 use Rattle.stored_lines.specs.declared.StoredLine.{StoredLine}
 use Rattle.stored_lines.proofs.Turns.{each-cell, stored-count, few-cells}
 

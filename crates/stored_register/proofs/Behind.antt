@@ -24,8 +24,7 @@ use Rattle.register.specs.declared.CellEntry.{CellEntry}
 use Rattle.register.specs.declared.Figures.{Figures}
 use Rattle.register.specs.declared.Register.{Register}
 use Rattle.report.specs.Report.{reportOf, pageWith}
-use Rattle.stored_register.specs.Stored.{storedOf, storedLiveCells, OldEntries, widenedCell, widened, Alike, AlikeStored}
-use Rattle.stored_register.specs.declared.StoredCell.{StoredCell}
+use Rattle.stored_register.specs.Stored.{storedOf, OldEntries, widenedCell, widened, Alike, AlikeStored}
 use Rattle.stored_register.specs.declared.StoredRegister.{StoredRegister}
 use Rattle.stored_register.proofs.Laws.{live-widened, register-kept}
 

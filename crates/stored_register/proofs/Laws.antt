@@ -2,8 +2,8 @@
 -- Assumes nothing.
 use mathlib.Core.Path.{_≡_, refl, sym, ap, ap₂, _∙_}
 use mathlib.Core.List.{List, [], _∷_, _++_, map, reverseAux}
-use mathlib.Core.Logic.{_⊎_, inl, inr}
-use Prim.Native.Nat.{ℕ, min, _<_, _%_}
+use mathlib.Core.Logic.{inl, inr}
+use Prim.Native.Nat.{ℕ, min}
 use native.Mathlib.Nat.{mod-eq-of-lt}
 use lib.ListN.{take}
 use Rattle.basics.specs.Lists.{In}
