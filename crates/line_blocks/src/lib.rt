@@ -52,7 +52,7 @@ pub fn first_line(input: &[u8], skipping: bool) -> Start
 
 // Reads more behind the bytes that are kept, and hands back how many there are then.
 pub fn read_behind(input: &mut [u8], kept: usize) -> usize
-    ensures { λ r. ⌜ Counts r (now (input .exit)) × (take kept (now (input .exit)) ≡ take kept (now (input .entry))) ⌝ }
+    ensures { λ r. ⌜ Counts r (now (input .exit)) × (min kept (length (now (input .entry))) ≤ r) × (take kept (now (input .exit)) ≡ take kept (now (input .entry))) ⌝ }
 {
     if kept < input.len() {
         let part = &mut input[kept..];

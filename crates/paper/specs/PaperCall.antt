@@ -128,7 +128,8 @@ module _ (here : Place) where
   nothing = leaves (here .old) []
 
   -- The value is learned. Section 3: the next slot is an instance of its own, with a replica that has responded to nothing (in MultiPaxos and
-  -- MultiPaxos3P, to the first leader's number) and accepted nothing.
+  -- MultiPaxos3P, to the first leader's number) and accepted nothing. DIFFERENCE ("what a message carries besides"): a commit has a fast mark, which no
+  -- classic mode sets.
   abbrev pub commits : ℕ → List Outgoing → Seen
   commits v ms =
       record {

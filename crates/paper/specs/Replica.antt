@@ -1,6 +1,6 @@
 -- A replica in the terms of *Paxos Made Simple* (crates/paxos/specs/PaxosMadeSimple.antt), its messages, and the steps that it makes: each is a
 -- rule of the paper. What is not the paper's is marked DIFFERENCE, with the name of its row in docs/DIFFERENCES.md, "The Rust and the paper".
--- Of the engine's definitions it cites the order of rounds (`roundBefore`), sets of processes (`insert`, `size`) and the value of a promise (`valueOf`).
+-- Of the engine's definitions it cites the order of rounds (`roundBefore`) and sets of processes (`insert`, `size`).
 -- Assumes nothing.
 use mathlib.Core.Bool.{Bool, true, false, cond, _||_}
 use mathlib.Core.List.{[], _∷_}
@@ -9,7 +9,6 @@ use Prim.Native.Nat.{ℕ}
 use Rattle.sets.specs.Sets.{insert, size}
 use Rattle.paxos.specs.PaxosMadeSimple.{Proposal, Acceptor, Message, Proposer, higher, responds, prepare, ignores, accept}
 use Rattle.paxos.specs.PaxosMadeSimple.Message.{prepareRequest, promise, acceptRequest, acceptance}
-use Rattle.message.specs.Promises.{valueOf}
 use Rattle.message.specs.Rounds.{roundBefore}
 use Rattle.message.specs.declared.ConsensusMsg.{ConsensusMsg}
 use Rattle.message.specs.declared.ConsensusMsg.the-variants.{Prepare, Accept}
@@ -93,9 +92,14 @@ brings (some p) wish = PaxosV (Round (p .number)) (p .value)
 brings none (some rv) = rv
 brings none none = PaxosV NoRound 0
 
+-- the value that a Prepare brings
+abbrev pub valueBrought : RoundV → ℕ
+valueBrought (FastV proposer v) = v
+valueBrought (PaxosV at v) = v
+
 -- "any value if the responses reported no proposals": that of the wish
 abbrev pub ownValue : Option RoundV → ℕ
-ownValue wish = valueOf (brings none wish)
+ownValue wish = valueBrought (brings none wish)
 
 -- DIFFERENCE ("requests and answers"): a Prepare is a prepare request or a promise, an Accept is an accept request or an acceptance
 abbrev pub written : ℕ → Option RoundV → Message PaxosRound ℕ → ConsensusMsg

@@ -10,7 +10,7 @@ use Rattle.register.specs.History.{applyAll}
 use Rattle.register.specs.Register.{newRegister, apply}
 use Rattle.register.specs.declared.CellEntry.{CellEntry}
 use Rattle.register.specs.declared.Register.{Register}
-use Rattle.report.specs.Report.{refusalText, pageHolding, reportOf}
+use Rattle.report.specs.Report.{refusalText, pageHolding, registerPage}
 use Rattle.register_lines.specs.Entries.{entryOf}
 use Rattle.register_lines.specs.Reports.{takeEntry, takeLine, takeLines, noLines, pageAfter}
 use Rattle.register_lines.specs.Written.{entryLine, entryLines, EntriesFit}
@@ -28,7 +28,7 @@ lines-taken r [] fits = refl
 lines-taken r (e ∷ es) fits =
     ap (λ (o : OptionalEntry). takeLines (takeEntry r o) (entryLines es)) (entry-read e (fits .0)) ∙ lines-taken (apply r e .register) es (fits .1)
 
-pub report-of-entries : (es : List CellEntry) → EntriesFit es → pageAfter (takeLines noLines (entryLines es)) ≡ reportOf (applyAll newRegister es)
+pub report-of-entries : (es : List CellEntry) → EntriesFit es → pageAfter (takeLines noLines (entryLines es)) ≡ registerPage (applyAll newRegister es)
 unfolding pageAfter
 report-of-entries es fits = ap pageAfter (lines-taken newRegister es fits)
 

@@ -5,7 +5,7 @@ use mathlib.Core.List.{List, [], _∷_}
 use Prim.Native.Nat.{ℕ}
 use Rattle.register.specs.Register.{newRegister, apply}
 use Rattle.register.specs.declared.Register.{Register}
-use Rattle.report.specs.Report.{refusalText, pageHolding, reportOf}
+use Rattle.report.specs.Report.{refusalText, pageHolding, registerPage}
 use Rattle.report.specs.declared.ReportPage.{ReportPage}
 use Rattle.register_lines.specs.Entries.{entryOf}
 use Rattle.register_lines.specs.declared.LinesTaken.{LinesTaken}
@@ -31,4 +31,4 @@ noLines = record { register = newRegister; refused = false }
 
 -- the report, or "the one line `refused,1`" in its place
 unfoldable pub pageAfter : LinesTaken → ReportPage
-pageAfter t = cond (t .refused) (pageHolding refusalText) (reportOf (t .register))
+pageAfter t = cond (t .refused) (pageHolding refusalText) (registerPage (t .register))

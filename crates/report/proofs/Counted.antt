@@ -9,9 +9,9 @@ use Rattle.register.specs.Taken.{figuresOf, liveCount}
 use Rattle.register.specs.declared.CellEntry.{CellEntry}
 use Rattle.register.specs.declared.Figures.{Figures}
 use Rattle.register.proofs.Laws.{figures-counted, live-places-counted}
-use Rattle.report.specs.Report.{pageWith, reportOf}
+use Rattle.report.specs.Report.{pageWith, registerPage}
 
-pub report-counted : (es : List CellEntry) → reportOf (registerAfter es) ≡ pageWith (figuresOf es) (liveCount es)
+pub report-counted : (es : List CellEntry) → registerPage (registerAfter es) ≡ pageWith (figuresOf es) (liveCount es)
 report-counted es =
     ap (λ (f : Figures). pageWith f (livePlaces (registerAfter es))) (figures-counted es)
     ∙ ap (λ (n : ℕ). pageWith (figuresOf es) n) (live-places-counted es)

@@ -37,5 +37,5 @@ unfoldable pub pageWith : Figures → ℕ → ReportPage
 pageWith f live = pageHolding (reportText f live)
 
 -- "The report, over all entries so far"
-abbrev pub reportOf : Register → ReportPage
-reportOf r = pageWith (r .figures) (livePlaces r)
+abbrev pub registerPage : Register → ReportPage
+registerPage r = pageWith (r .figures) (livePlaces r)

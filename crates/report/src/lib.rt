@@ -1,7 +1,7 @@
 // The report of a register of cells, as CSV (RFC 4180; document 02, E6).
 ghost use mathlib.Core.Path.{_≡_};
 ghost use Rattle.texts.specs.Text.{put};
-ghost use Rattle.report.specs.Report.{figureText, figuresText, reportText, refusalText, pageHolding, pageWith, reportOf};
+ghost use Rattle.report.specs.Report.{figureText, figuresText, reportText, refusalText, pageHolding, pageWith, registerPage};
 use register::Figures;
 use register::Register;
 use register::live_places;
@@ -52,7 +52,7 @@ pub fn page_with(figures: Figures, live: u64) -> ReportPage
 }
 
 pub fn report(register: Register) -> ReportPage
-    ensures { λ r. ⌜ r ≡ reportOf register ⌝ }
+    ensures { λ r. ⌜ r ≡ registerPage register ⌝ }
 {
     let live = live_places(register.live_count) as u64;
     let figures = register.figures;

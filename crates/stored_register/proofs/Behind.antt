@@ -23,7 +23,7 @@ use Rattle.register.specs.declared.Change.the-variants.{Assign, Release}
 use Rattle.register.specs.declared.CellEntry.{CellEntry}
 use Rattle.register.specs.declared.Figures.{Figures}
 use Rattle.register.specs.declared.Register.{Register}
-use Rattle.report.specs.Report.{reportOf, pageWith}
+use Rattle.report.specs.Report.{registerPage, pageWith}
 use Rattle.stored_register.specs.Stored.{storedOf, OldEntries, widenedCell, widened, Alike, AlikeStored}
 use Rattle.stored_register.specs.declared.StoredRegister.{StoredRegister}
 use Rattle.stored_register.proofs.Laws.{live-widened, register-kept}
@@ -101,7 +101,7 @@ unfolding applyAll
 entries-alike r q [] like = like
 entries-alike r q (e ∷ es) like = entries-alike (apply r e .register) (apply q e .register) es (entry-alike r q e like .1)
 
-pub report-alike : (r q : Register) → Alike r q → reportOf r ≡ reportOf q
+pub report-alike : (r q : Register) → Alike r q → registerPage r ≡ registerPage q
 report-alike r q like = ap₂ pageWith (like .1) (like .2)
 
 -- ---- a stored register that has the live cells of E6's, and anything behind them

@@ -16,7 +16,7 @@ use Rattle.register.specs.declared.Cell.{Cell}
 use Rattle.register.specs.declared.CellEntry.{CellEntry}
 use Rattle.register.specs.declared.Register.{Register}
 use Rattle.register.proofs.Laws.{in-order}
-use Rattle.report.specs.Report.{reportOf, pageWith}
+use Rattle.report.specs.Report.{registerPage, pageWith}
 use Rattle.report.proofs.Counted.{report-counted}
 use Rattle.stored_register.specs.Stored.{storedCell, storedCellOf, storedOf, storedLiveCells, OldEntries, widenedCell, widened}
 use Rattle.stored_register.specs.declared.StoredCell.{StoredCell}
@@ -56,8 +56,8 @@ register-kept es h =
     ap (λ (cs : List Cell). record { «next_slot» = r .«next_slot»; figures = r .figures; «live_count» = r .«live_count»; cells = cs }) (all-kept (r .cells) (old-after es h))
 
 -- "the report over old entries is the same", byte for byte: it shows the counts of these entries
-pub same-report : (es : List CellEntry) → OldEntries es → reportOf (widened (storedOf (registerAfter es))) ≡ pageWith (figuresOf es) (liveCount es)
-same-report es h = ap reportOf (register-kept es h) ∙ report-counted es
+pub same-report : (es : List CellEntry) → OldEntries es → registerPage (widened (storedOf (registerAfter es))) ≡ pageWith (figuresOf es) (liveCount es)
+same-report es h = ap registerPage (register-kept es h) ∙ report-counted es
 
 -- ---- a stored register that is gone on with: old entries and then new ones are one list of entries
 one-list : (r : Register) (es more : List CellEntry) → applyAll r (es ++ more) ≡ applyAll (applyAll r es) more

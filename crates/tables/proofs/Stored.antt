@@ -1,4 +1,4 @@
--- What is read from a table after a store: the number that was stored for its process, and the old one for every other.
+-- Where the number of a process stands in a table, and what is read after a store: the number that was stored for its process, and the old one for every other.
 -- Assumes nothing.
 use mathlib.Core.Path.{_≡_, refl, sym, ap, subst, _∙_}
 use mathlib.Core.Logic.{_⊎_, inl, inr}
@@ -14,7 +14,8 @@ use Rattle.basics.proofs.Tests.{either}
 use Rattle.tables.specs.Tables.{lookUp, store}
 
 module _ (table : List ℕ) (long : length table ≡ 64) (p : ℕ) (process : p < 64) where
-  in-table : (l : List ℕ) → lookUp l p ≡ getD l p 0
+  -- place p is that of process p
+  pub in-table : (l : List ℕ) → lookUp l p ≡ getD l p 0
   unfolding lookUp
   in-table l = ap (λ (t : Bool). cond t (getD l p 0) 0) (lt-ltb p 64 process)
 

@@ -1,4 +1,4 @@
--- `line_blocks::read_behind` hands back no more than the length of the input, and leaves the bytes that are kept.
+-- `line_blocks::read_behind` hands back no more than the length of the input and no less than what is kept, and leaves the bytes that are kept.
 -- Assumes nothing.
 use mathlib.Core.Path.{refl}
 use Prim.Native.Nat.{_-_}
@@ -34,10 +34,10 @@ same-length c = search needs
 returns : tie.Need-returns
 returns c =
     let a = c .before .before .before .before .before .before .before .before .before .before .before .args in
-    (counts _ _ (search needs), take-put (a .kept) (length (a .input .now) - a .kept) (a .input .now) (c .before .before .before .before .before .before .read .last .1 .0) (omega arith))
+    (counts _ _ (search needs), omega arith, take-put (a .kept) (length (a .input .now) - a .kept) (a .input .now) (c .before .before .before .before .before .before .read .last .1 .0) (omega arith))
 
 returns-2 : tie.Need-returns-2
-returns-2 c = (counts _ _ (search needs), refl)
+returns-2 c = (counts _ _ (search needs), omega arith, refl)
 
 pub read-behind-spec : {M : Type 1} → statement M
 read-behind-spec =
