@@ -221,7 +221,8 @@ impl Register {
     }
 
     /// A register that was stored while cell numbers had 16 bits. Each cell keeps its number and its assignment, the report is the same, and new entries
-    /// go on where the stored ones ended.
+    /// go on where the stored ones ended. It is equal (`==`) to another office's where all 512 places were stored; what stands behind the live cells
+    /// changes no answer, but is compared.
     ///
     /// ```
     /// use chanbook_shard::register::{Applied, Assignment, CellEntry, Change, Register, StoredRegister};

@@ -34,7 +34,7 @@ struct chanbook_value chanbook_raster_khz(uint64_t number);
 struct chanbook_value chanbook_raster_number(uint64_t khz);
 
 /* E6, a register of cells from the commits. A host keeps the four arrays, begins them with chanbook_register_new, and lends them for each entry.
-   Place i of cells, carriers and widths is live cell i, by cell number; what stands behind the live cells is of no account. The arrays do not
+   Place i of cells, carriers and widths is live cell i, by cell number; what stands behind the live cells changes no answer. The arrays do not
    overlap, each is as the call before left it, and nothing else writes to it. One thread at a time may hold a register.
    Two offices that give equal entries in slot order hold equal registers, every number of the four arrays, whatever repeats and older entries stand
    between. So the hosts of a group give one and the same entry for a committed value, and its slot is the commit's. */

@@ -1,5 +1,5 @@
 -- What a host may rely on: an entry that is refused with 2, or is older, leaves every number of the arrays as it was; a kind that is neither 1 nor 2
--- gives 14, behind 2 and older, and its slot is seen.
+-- gives 14, behind 2 and older, and its slot is seen; kind 1 is an assignment and kind 2 a release; the report is that of the register in the arrays.
 -- Assumes nothing.
 use mathlib.Core.Path.{_≡_, refl, sym, ap, _∙_}
 use mathlib.Core.Bool.{Bool, true, false, cond, _||_, not}
@@ -22,7 +22,8 @@ use Rattle.register.specs.declared.Change.the-variants.{Assign, Release}
 use Rattle.register.specs.declared.EntryRefusal.the-variants.{NumberTooLarge, NotAssignable, NoRoomForCell, CellNotLive}
 use Rattle.register.specs.declared.Register.{Register}
 use Rattle.raster.specs.Raster.{frequencyOf}
-use Rattle.register_arrays.specs.Columns.{HavePlaces, cellsIn, registerOf, changeOf, entryFromNumbers, afterEntry}
+use Rattle.report.specs.Report.{registerPage}
+use Rattle.register_arrays.specs.Columns.{HavePlaces, cellsIn, registerOf, changeOf, entryFromNumbers, afterEntry, reportIn}
 use Rattle.register_arrays.proofs.Columns.{Level, level, below}
 
 -- ---- the numbers with which a register stays as it is: the slot gives 2, or is older
@@ -126,3 +127,17 @@ pub other-kind : (r : Register) (slot kind cell carrier width : ℕ) → eqb kin
 unfolding changeOf apply applyChange assign assignable frequencyOf
 other-kind r slot kind cell carrier width one two within later =
     simp (one, two, le-ltb 9223372036854775806 slot within, le-ltb slot (r .«next_slot») later)
+
+-- ---- which kind is which, and whose report is handed back
+pub kind-assigns : (carrier width : ℕ) → changeOf 1 carrier width ≡ Assign (record { carrier = carrier; width = width })
+unfolding changeOf
+kind-assigns carrier width = refl
+
+pub kind-releases : (carrier width : ℕ) → changeOf 2 carrier width ≡ Release
+unfolding changeOf
+kind-releases carrier width = refl
+
+-- the report of the figures is that of the register which stands in the arrays
+pub report-of-arrays : (cells carriers widths figures : List ℕ)
+    → reportIn figures ≡ (registerPage (registerOf cells carriers widths figures) .bytes, registerPage (registerOf cells carriers widths figures) .len)
+report-of-arrays cells carriers widths figures = refl

@@ -17,7 +17,7 @@ use register::Register;
 use report::ReportPage;
 
 // What a line says of a cell, and where that ends.
-pub struct CellChange {
+pub struct LineChange {
     pub cell: CellNumber,
     pub change: Change,
     pub end: usize,
@@ -25,7 +25,7 @@ pub struct CellChange {
 
 // What a line says of a cell from a place on, if it does.
 pub enum OptionalChange {
-    Says(CellChange),
+    Says(LineChange),
     NoChange,
 }
 
@@ -69,7 +69,7 @@ fn assignment_of(
             carrier: carrier.value(),
             width: width.value(),
         };
-        return OptionalChange::Says(CellChange {
+        return OptionalChange::Says(LineChange {
             cell: number as CellNumber,
             change: Change::Assign(assignment),
             end,
@@ -99,7 +99,7 @@ fn release_of(cell: OptionalNumber, end: usize) -> OptionalChange
         return OptionalChange::NoChange;
     }
     if cell.is_number() {
-        return OptionalChange::Says(CellChange {
+        return OptionalChange::Says(LineChange {
             cell: number as CellNumber,
             change: Change::Release,
             end,

@@ -76,3 +76,8 @@ widened-then-applied old new h =
     let kept : widened (storedOf (applyAll newRegister old)) ≡ applyAll newRegister old =
     ap (λ (r : Register). widened (storedOf r)) turned ∙ register-kept (reverseAux old []) (old-turned old [] h tt) ∙ sym turned in
     ap (λ (r : Register). applyAll r new) kept ∙ sym (one-list newRegister old new)
+
+-- whatever is stored, the next slot, the figures and the live count are kept
+pub rest-kept : (s : StoredRegister)
+    → (widened s .«next_slot» ≡ s .«next_slot») × (widened s .figures ≡ s .figures) × (widened s .«live_count» ≡ s .«live_count»)
+rest-kept s = (refl, refl, refl)
