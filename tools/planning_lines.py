@@ -5,6 +5,8 @@
     tools/planning_lines.py numbers    # every carrier number with its frequency in kHz, a line each, on standard output
     tools/planning_lines.py long       # lines about as long as a line may be, on standard output, and
     tools/planning_lines.py answers    # the answers to the lines on standard input, on standard output
+    tools/planning_lines.py joins      # lines of E10, which the program does not take, on standard output, and
+    tools/planning_lines.py joined     # the answers to such lines on standard input, on standard output
     tools/planning_lines.py reports F  # inputs for the program `cell_report` and its outputs, as files N.in and N.out of the folder F
 
 What is answered follows document 02 alone. The format of a line is this project's own (docs/PLANNING.md). It shares nothing with the programs. A request
@@ -790,6 +792,233 @@ def report_inputs():
     return inputs
 
 
+# ---- E10: two lists of commits joined into one
+
+LARGEST_VALUE = 2**63 - 1
+LONGEST_LIST = 4096
+LONGEST_JOIN = 8192
+
+
+def is_consecutive(slots):
+    return all(after == before + 1 for before, after in zip(slots, slots[1:]))
+
+
+def joined(places, first, second):
+    """The number of a refusal, or the joined list, of two lists of slots and values: 2, 18, 19 and 20 in that order."""
+    both = first + second
+    if any(slot > LARGEST_SLOT or value > LARGEST_VALUE for slot, value in both):
+        return 2
+    lists = [[slot for slot, _ in entries] for entries in (first, second)]
+    if places < LONGEST_JOIN or any(len(slots) > LONGEST_LIST or not is_consecutive(slots) for slots in lists):
+        return 18
+    # "a gap between the lists": their slots together are not consecutive
+    if not is_consecutive(sorted({slot for slot, _ in both})):
+        return 19
+    # "one slot with two values"
+    if len(set(both)) != len({slot for slot, _ in both}):
+        return 20
+    return sorted(set(both))
+
+
+def join_answer(line):
+    """The answer to a line `join PLACES s v .. | s v ..`."""
+    fields = line.split(b" ")
+    if len(line) > LONGEST or fields[0] != b"join" or fields.count(b"|") != 1:
+        return "bad line"
+    bar = fields.index(b"|")
+    sides = [[number_in(field) for field in side] for side in (fields[1:bar], fields[bar + 1 :])]
+    if any(None in side for side in sides) or len(sides[0]) % 2 != 1 or len(sides[1]) % 2 != 0:
+        return "bad line"
+    places, *first = sides[0]
+    result = joined(places, pairs_of(first), pairs_of(sides[1]))
+    if isinstance(result, int):
+        return f"refused {result}"
+    return " ".join([f"{len(result)}"] + [f"{slot} {value}" for slot, value in result])
+
+
+def pairs_of(numbers):
+    return list(zip(numbers[::2], numbers[1::2]))
+
+
+def join_line(first, second, places=LONGEST_JOIN):
+    fields = ["join", f"{places}"] + [f"{n}" for entry in first for n in entry] + ["|"] + [f"{n}" for entry in second for n in entry]
+    return " ".join(fields).encode("ascii")
+
+
+def agreed(begin, count):
+    """A list of one group: each slot has one value wherever it stands."""
+    return [(slot, (7 * slot + 3) % 10) for slot in range(begin, begin + count)]
+
+
+def other_value(entries, place):
+    """The list with another value at a place."""
+    slot, value = entries[place]
+    return entries[:place] + [(slot, value + 1)] + entries[place + 1 :]
+
+
+def in_both_orders(first, second, places=LONGEST_JOIN):
+    return [join_line(first, second, places), join_line(second, first, places)]
+
+
+def meeting_lines():
+    """Two short lists in every way that they can lie: apart, touching, overlapping, one within the other, the same, empty."""
+    lists = [[]] + [agreed(begin, count) for begin in range(6) for count in range(1, 5)]
+    lines = [join_line(first, second) for first in lists for second in lists]
+    # another value at each place of the first list, in the other list or not
+    for first, second in itertools.product(lists[1:], lists[1:]):
+        if set(first) & set(second):
+            lines += [join_line(other_value(first, place), second) for place in {0, len(first) - 1}]
+    return lines
+
+
+def slot_end_lines():
+    """Lists at the last slot, and values at the largest."""
+    ends = [2**32, 2**62, LARGEST_SLOT]
+    lines = []
+    for end in ends:
+        for count, more in itertools.product(range(1, 4), range(4)):
+            lines += in_both_orders(agreed(end - count + 1, count), agreed(end - more, more))
+            lines += in_both_orders(agreed(end - count - more, count), agreed(end - 1, 2))
+    for value in [2**32, 2**62, LARGEST_VALUE - 1, LARGEST_VALUE]:
+        lines += in_both_orders([(5, value)], [(5, value), (6, 0)]) + in_both_orders([(5, value)], [(5, value - 1), (6, 0)])
+    # the least and the last slot are no neighbours
+    return lines + in_both_orders([(0, 1)], [(LARGEST_SLOT, 1)]) + in_both_orders([(0, 1)], [(2**63 - 1, 1)]) + in_both_orders([(0, 1)], [(LARGEST, 1)])
+
+
+def cause_lines():
+    """Each pair of causes, with each number of places about the limit."""
+    whole = agreed(10, 3)
+    too_large = [[(LARGEST_SLOT + 1, 1)], [(10, LARGEST_VALUE + 1)], [(LARGEST, LARGEST)], whole + [(13, 2**63)], whole + [(2**63 - 1, 4)]]
+    apart = [[(10, 3), (10, 3)], [(10, 3), (12, 7)], [(11, 0), (10, 3)], whole + [(12, 7)], [(9, 6)] + whole[1:], whole[::-1]]
+    gaps = [agreed(14, 2), agreed(0, 9), [(20, 1)]]
+    contradicted = [other_value(whole, 0), other_value(whole, 2), [(12, 9), (13, 4)], [(9, 6), (10, 9)]]
+    kinds = [[], whole] + too_large + apart + gaps + contradicted
+    lines = [join_line(first, second) for first in kinds for second in kinds]
+    for places in [0, 1, 3, 4095, 4096, 8190, 8191, 8193, 8194, 65536, 2**32, 2**32 + 8191, 2**63, LARGEST]:
+        lines += [join_line(first, second, places) for first in kinds[:2] for second in kinds]
+    return lines
+
+
+def long_list_lines():
+    """Lists of 4,096 and of 4,097 entries, and results of 8,191, 8,192 and 4,096."""
+    low, high = agreed(0, LONGEST_LIST), agreed(LONGEST_LIST, LONGEST_LIST)
+    within = agreed(LONGEST_LIST - 1, LONGEST_LIST)
+    lines = in_both_orders(low, high) + [join_line(low, high, places) for places in (LONGEST_JOIN - 1, LONGEST_JOIN + 1)]
+    lines += [join_line(low, within), join_line(within, other_value(low, LONGEST_LIST - 1)), join_line(low, low)]
+    lines += [join_line(low, other_value(low, place)) for place in (0, LONGEST_LIST - 1)]
+    lines += [join_line(low, []), join_line([], high), join_line(low, agreed(LONGEST_LIST + 1, 1)), join_line(agreed(1, 1), low)]
+    # one entry more than a list may have: alone, beside a gap, beside a contradiction, with a number too large behind it
+    longer = agreed(0, LONGEST_LIST + 1)
+    lines += in_both_orders(longer, []) + [join_line(longer, [(9000, 1)]), join_line(longer, [(0, 9)])]
+    lines += [join_line(longer[:-1] + [(LONGEST_LIST, 2**63)], []), join_line([], longer[:-1] + [(2**63 - 1, 0)])]
+    return lines + [join_line(other_value(longer, LONGEST_LIST), longer[-1:]), join_line([(0, 0)] * 9999, []), join_line([], [(0, 0)] * 9999 + [(0, 2**63)])]
+
+
+def random_lists():
+    """Lists of one group that mostly meet, some with an entry changed."""
+    chosen = random.Random(10)
+    lines = []
+    for _ in range(400):
+        begin = chosen.choice([0, chosen.randint(0, 40), chosen.randint(0, LARGEST_SLOT - 200)])
+        lists = [agreed(begin + chosen.randint(0, 12), chosen.randint(0, 12)) for _ in range(2)]
+        for side in (0, 1):
+            if lists[side] and chosen.random() < 0.15:
+                lists[side] = other_value(lists[side], chosen.randrange(len(lists[side])))
+            if len(lists[side]) > 2 and chosen.random() < 0.05:
+                del lists[side][chosen.randrange(len(lists[side]))]
+        lines.append(join_line(*lists))
+    return lines
+
+
+NOT_JOINS = [
+    b"join",
+    b"join ",
+    b"join |",
+    b"join  |",
+    b"join 8192",
+    b"join 8192 ",
+    b"join 8192|",
+    b"join 8192 | ",
+    b" join 8192 |",
+    b"join  8192 |",
+    b"join 8192  |",
+    b"join 8192 |\r",
+    b"join 8192 |\t",
+    b"join 8192 |\x00",
+    b"join 8192 | |",
+    b"join 8192 | | 0 7",
+    b"join 8192 || 0 7",
+    b"join 8192 0 7",
+    b"join 8192 0 |",
+    b"join 8192 | 0",
+    b"join 8192 0 7 1 |",
+    b"join 8192 0 | 7",
+    b"join 8192 0 7 | 0",
+    b"join 8192 0 7 | 0 7 1",
+    b"join 8192 0 7 | 0 7 |",
+    b"join 8192 0 7 | 0 7 | 0 7",
+    b"join 8192 0 7|",
+    b"join 8192 0 7| 1 8",
+    b"join 8192 0 7 |1 8",
+    b"join 8192 |0 7",
+    b"join 8192 0 7 |  1 8",
+    b"join 8192 0 7  | 1 8",
+    b"join 8192 0  7 | 1 8",
+    b"join 8192 0 7 | 1  8",
+    b"join 8192 0 7 | 1 8 ",
+    b"join 0 7 | 1 8",
+    b"join | 0 7",
+    b"join -8192 |",
+    b"join 8192 -1 7 |",
+    b"join 8192 0 -7 |",
+    b"join 8192 0 +7 |",
+    b"join 8192 0,7 |",
+    b"join 8192 0 x |",
+    b"join 8192 | 0 x",
+    b"join 8192 a 7 |",
+    b"join 8192 0 7 / 1 8",
+    b"join 8192 0 7 l 1 8",
+    b"join 8192 0 7 I 1 8",
+    b"join 8192 0 7 \xa6 1 8",
+    b"join x |",
+    b"join 18446744073709551616 |",
+    b"join 8192 18446744073709551616 7 |",
+    b"join 8192 0 18446744073709551616 |",
+    b"join 8192 | 18446744073709551616 7",
+    b"join 8192 | 0 18446744073709551623",
+    b"join 0 18446744073709551616 0 |",
+    b"Join 8192 |",
+    b"JOIN 8192 |",
+    b"joins 8192 |",
+    b"joi 8192 |",
+    b"join8192 |",
+    b"8192 |",
+    b"|",
+    b"| join 8192",
+]
+
+ZEROS_IN_JOINS = [
+    b"join 008192 |",
+    b"join 00008191 |",
+    b"join 8192 00 007 | 0000001 8",
+    b"join 8192 0000000000000000000000009223372036854775806 0009223372036854775807 | 09223372036854775805 00",
+    b"join 8192 00018446744073709551615 0 |",
+    b"join 8192 | 0 " + b"0" * 3000 + b"7",
+]
+
+
+def join_lines():
+    return meeting_lines() + slot_end_lines() + cause_lines() + long_list_lines() + random_lists() + ZEROS_IN_JOINS + longest_joins() + NOT_JOINS
+
+
+def longest_joins():
+    """Lines about as long as a line may be, with as many entries as they can have; one of them has a last number that is too large."""
+    fill = b" 0 0" * ((LONGEST - 40) // 4)
+    lines = [b"join 8192" + fill + b" |", b"join 8192 |" + fill, b"join 8192 |" + fill + b" 0 9223372036854775808", b"join 8192 |" + fill + b" 0"]
+    assert all(LONGEST - 40 < len(line) <= LONGEST for line in lines)
+    return lines + [lines[1] + b" 0 0" * 20]
+
+
 # ---- lines and answers
 
 # the fields of a line: a word, or a number up to the one that stands here, and numbers of 64 bits to the end of the line where dots stand; and what
@@ -925,6 +1154,10 @@ def main():
         out.write("".join(f"{number} {khz}\n" for number, khz in enumerate(FREQUENCIES)).encode("ascii"))
     elif sys.argv[1:] == ["long"]:
         out.write(long_lines())
+    elif sys.argv[1:] == ["joins"]:
+        out.write(b"".join(line + b"\n" for line in join_lines()))
+    elif sys.argv[1:] == ["joined"]:
+        out.write("".join(join_answer(line) + "\n" for line in lines_of(sys.stdin.buffer.read())).encode("ascii"))
     elif sys.argv[1:] == ["answers"]:
         out.write(answers_of(sys.stdin.buffer.read()))
     elif sys.argv[1:2] == ["reports"] and len(sys.argv) == 3:

@@ -23,8 +23,8 @@
 //!
 //! A read is served once a majority has answered, and each response counts one, as in the original: a host hands a `ReadResponse` in once.
 //!
-//! Beside the engine, [`raster`] turns carrier numbers of TS 38.104 into kHz and back, and [`register`] keeps what the committed entries say of the
-//! cells: which carrier each has, and a report.
+//! Beside the engine, [`raster`] turns carrier numbers of TS 38.104 into kHz and back, [`register`] keeps what the committed entries say of the
+//! cells: which carrier each has, and a report, and [`catch_up`] joins lists of commits and feeds them to a register.
 //!
 //! # Example
 //!
@@ -52,6 +52,7 @@
 #![warn(missing_docs)]
 
 mod call;
+pub mod catch_up;
 mod message;
 pub mod planning_sys;
 pub mod raster;

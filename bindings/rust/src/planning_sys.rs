@@ -1,7 +1,7 @@
 //! The flat forms and functions of crates/planning_host, which stand beside the engine's ([`sys`](crate::sys)). Numbers go in and numbers come out, and
 //! every function is total on every number.
 //!
-//! [`raster`](crate::raster) and [`register`](crate::register) are the interface for a host.
+//! [`raster`](crate::raster), [`register`](crate::register) and [`catch_up`](crate::catch_up) are the interface for a host.
 #![allow(missing_docs)]
 
 /// The number of document 02 that refuses, with 0 as the value; or 0 and the value.
@@ -33,6 +33,15 @@ pub struct FlatStoredRegister {
     pub carriers: [u64; 512],
     pub widths: [u64; 512],
     pub figures: [u64; 5],
+}
+
+/// The number of document 02 that refuses the list, with nothing fed; or 0, and the first slot that was refused with its number, both 0 where none was.
+#[repr(C)]
+#[derive(Clone, Copy, Debug, PartialEq, Eq, Default)]
+pub struct FlatFed {
+    pub refusal: u64,
+    pub slot: u64,
+    pub number: u64,
 }
 
 /// The places of a register's figures.
@@ -87,4 +96,40 @@ unsafe extern "C" {
         widths: &mut [u64; 512],
         figures: &mut [u64; 5],
     );
+
+    /// Two lists joined into the lent places: a slice is a pointer and the number of its elements.
+    pub fn chanbook_join(
+        a_slots: *const u64,
+        a_slot_count: usize,
+        a_values: *const u64,
+        a_value_count: usize,
+        b_slots: *const u64,
+        b_slot_count: usize,
+        b_values: *const u64,
+        b_value_count: usize,
+        slots: *mut u64,
+        slot_places: usize,
+        values: *mut u64,
+        value_places: usize,
+    ) -> FlatValue;
+
+    /// A list fed to a register, with the host's entry beside each value.
+    pub fn chanbook_feed(
+        cells: &mut [u64; 512],
+        carriers: &mut [u64; 512],
+        widths: &mut [u64; 512],
+        figures: &mut [u64; 5],
+        slots: *const u64,
+        slot_count: usize,
+        values: *const u64,
+        value_count: usize,
+        kinds: *const u64,
+        kind_count: usize,
+        entry_cells: *const CellNumber,
+        entry_cell_count: usize,
+        entry_carriers: *const u64,
+        entry_carrier_count: usize,
+        entry_widths: *const u64,
+        entry_width_count: usize,
+    ) -> FlatFed;
 }

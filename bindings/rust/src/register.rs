@@ -21,6 +21,16 @@ pub enum Change {
     Release,
 }
 
+impl Change {
+    /// The kind of an entry, and its carrier and width.
+    pub(crate) fn in_numbers(self) -> (u64, Assignment) {
+        match self {
+            Change::Assign(assignment) => (sys::ASSIGNMENT, assignment),
+            Change::Release => (sys::RELEASE, Assignment { carrier: 0, width: 0 }),
+        }
+    }
+}
+
 /// What a slot's commit says of a cell.
 #[derive(Clone, Copy, Debug, PartialEq, Eq, PartialOrd, Ord, Hash)]
 pub struct CellEntry {
@@ -157,10 +167,7 @@ impl Register {
 
     /// An entry. What is not done changes no cell and no figure.
     pub fn apply(&mut self, entry: &CellEntry) -> Result<Applied, EntryRefusal> {
-        let (kind, Assignment { carrier, width }) = match entry.change {
-            Change::Assign(assignment) => (sys::ASSIGNMENT, assignment),
-            Change::Release => (sys::RELEASE, Assignment { carrier: 0, width: 0 }),
-        };
+        let (kind, Assignment { carrier, width }) = entry.change.in_numbers();
         let FlatRegister { cells, carriers, widths, figures } = &mut *self.flat;
         match sys::chanbook_register_entry(cells, carriers, widths, figures, entry.slot, kind, entry.cell, carrier, width) {
             sys::DONE => Ok(Applied::Done),
@@ -205,6 +212,10 @@ impl Register {
     /// The numbers of the register, for a host that puts it aside.
     pub fn flat(&self) -> &FlatRegister {
         &self.flat
+    }
+
+    pub(crate) fn flat_mut(&mut self) -> &mut FlatRegister {
+        &mut self.flat
     }
 
     /// A register that was put aside. Whatever numbers it has, each entry gets an answer; what is proved of figures and cells is proved of a

@@ -1,6 +1,6 @@
 //! The flat forms of this crate have the fields of crates/flat, of crates/host and of the C header, in the same order and of the same types. All are numbers and
 //! `#[repr(C)]`, and so equal fields are equal sizes and offsets. The two calls in place have the rows of the source and of the header, in the same
-//! order, and so have the functions of a register.
+//! order, and so have the functions of a register and of lists.
 
 use std::collections::BTreeMap;
 
@@ -127,9 +127,11 @@ fn the_planning_forms_are_those_of_the_source_and_of_the_header() {
     let fields = |name: &str, cells: &str| [vec![cells], columns.to_vec()].concat().iter().map(|field| format!("{name}.{field}")).collect::<Vec<_>>();
     assert_eq!(mirror[..2], value);
     assert_eq!(mirror[2..6], fields("FlatRegister", "cells: [u64; 512]"));
-    assert_eq!(mirror[6..], fields("FlatStoredRegister", "cells: [u16; 512]"));
+    assert_eq!(mirror[6..10], fields("FlatStoredRegister", "cells: [u16; 512]"));
+    let fed = ["FlatFed.refusal: u64", "FlatFed.slot: u64", "FlatFed.number: u64"];
+    assert_eq!(mirror[10..], fed);
     assert_eq!(fields_in_c(PLANNING_HEADER), mirror);
-    assert_eq!(fields_in_rust(PLANNING_HOST), value, "a register's arrays are lent one by one");
+    assert_eq!(fields_in_rust(PLANNING_HOST), [value.as_slice(), &fed].concat(), "a register's arrays are lent one by one");
 }
 
 /// `cells: &mut [u64; 512]` for `uint64_t cells[512]`, and `slot: u64` for `uint64_t slot`.
@@ -158,6 +160,41 @@ fn the_functions_of_a_register_are_those_of_the_source_and_of_the_header() {
         let header = arguments(PLANNING_HEADER, &format!(" {function}("));
         assert_eq!(header.into_iter().map(argument_in_c).collect::<Vec<_>>(), mirror);
         assert_eq!(arguments(PLANNING_HOST, &format!("fn {function}(")), mirror);
+    }
+}
+
+/// The types of an argument of the source as C sees them: a slice is a pointer and the number of its elements.
+fn lent_in_source(argument: &str) -> Vec<String> {
+    let (_, of) = argument.split_once(": ").expect("a name and a type");
+    match of.strip_suffix(']').filter(|of| !of.contains(';')) {
+        None => vec![of.to_string()],
+        Some(slice) => vec![slice.replace("&mut [", "*mut ").replace("&[", "*const "), "usize".to_string()],
+    }
+}
+
+/// `*const u64` for `const uint64_t *slots`, `usize` for `size_t slot_count`, and an array as of a register.
+fn lent_in_c(argument: &str) -> String {
+    if argument.starts_with("size_t ") {
+        return "usize".to_string();
+    }
+    let array = argument_in_c(&argument.replace('*', ""));
+    let (_, of) = array.split_once(": ").expect("a name and a type");
+    match argument.split_once('*') {
+        None => of.to_string(),
+        Some((kind, _)) => format!("*{} {of}", if kind.starts_with("const ") { "const" } else { "mut" }),
+    }
+}
+
+#[test]
+fn the_functions_of_lists_are_those_of_the_source_and_of_the_header() {
+    for (function, count) in [("chanbook_join", 12), ("chanbook_feed", 16)] {
+        let mirror = arguments(PLANNING_MIRROR, &format!("fn {function}("));
+        let types: Vec<_> = mirror.iter().map(|argument| argument.split_once(": ").expect("a type").1.to_string()).collect();
+        assert_eq!(types.len(), count, "{function}");
+        let header = arguments(PLANNING_HEADER, &format!(" {function}("));
+        assert_eq!(header.into_iter().map(lent_in_c).collect::<Vec<_>>(), types);
+        let source = arguments(PLANNING_HOST, &format!("fn {function}("));
+        assert_eq!(source.into_iter().flat_map(lent_in_source).collect::<Vec<_>>(), types);
     }
 }
 

@@ -3,6 +3,7 @@
 #ifndef CHANBOOK_PLANNING_H
 #define CHANBOOK_PLANNING_H
 
+#include <stddef.h>
 #include <stdint.h>
 
 #ifdef __cplusplus
@@ -11,10 +12,13 @@ extern "C" {
 
 /* Why a call is refused: numbers of document 02. */
 enum {
-    CHANBOOK_TOO_LARGE = 2,     /* the slot is above 2^63-2 */
-    CHANBOOK_NO_RASTER = 14,    /* no raster number or no raster frequency; in an entry also a width outside its limits, or an unknown kind */
-    CHANBOOK_NO_ROOM = 15,      /* a new cell with 512 live */
-    CHANBOOK_CELL_NOT_LIVE = 16 /* release of a cell that is not live */
+    CHANBOOK_TOO_LARGE = 2,       /* a slot is above 2^63-2; in a list also a value above 2^63-1 */
+    CHANBOOK_NO_RASTER = 14,      /* no raster number or no raster frequency; in an entry also a width outside its limits, or an unknown kind */
+    CHANBOOK_NO_ROOM = 15,        /* a new cell with 512 live */
+    CHANBOOK_CELL_NOT_LIVE = 16,  /* release of a cell that is not live */
+    CHANBOOK_OUTSIDE_LIMITS = 18, /* too many entries in a list, slots not consecutive, slices of unequal length, or too few places */
+    CHANBOOK_GAP = 19,            /* a gap between two lists, or between a register and a list */
+    CHANBOOK_TWO_VALUES = 20      /* one slot with two values */
 };
 
 /* What document 02 gives no number: these are ours, and none of them is one of its numbers, 1 to 23. */
@@ -96,6 +100,38 @@ struct chanbook_stored_register {
 void chanbook_register_widened(const uint16_t stored_cells[512], const uint64_t stored_carriers[512], const uint64_t stored_widths[512],
                                const uint64_t stored_figures[5], uint64_t cells[512], uint64_t carriers[512], uint64_t widths[512],
                                uint64_t figures[5]);
+
+/* E10: how many entries a list may have that is joined, and how many places must be lent for the result, which is how many may be fed. */
+enum {
+    CHANBOOK_LIST_ENTRIES = 4096,
+    CHANBOOK_JOIN_PLACES = 8192
+};
+
+/* E10, two lists of commits joined into one. A list is its slots and its values, each an array and how many numbers it has; they may lie anywhere, but the
+   places for the result overlap nothing else that is lent. Refused with 2, 18, 19 or 20, the first of them whose cause holds; then all places are
+   unchanged. Otherwise the value is how many entries stand in the first places of both arrays, and the places behind them are unchanged. An empty
+   list may have a null pointer. */
+struct chanbook_value chanbook_join(
+    const uint64_t *a_slots, size_t a_slot_count, const uint64_t *a_values, size_t a_value_count,
+    const uint64_t *b_slots, size_t b_slot_count, const uint64_t *b_values, size_t b_value_count,
+    uint64_t *slots, size_t slot_places, uint64_t *values, size_t value_places);
+
+/* refusal: 0 and the list is fed, or 2, 18 or 19 and nothing of it is. slot and number: the first entry that was refused and document 02's number, both
+   0 where none was. */
+struct chanbook_fed {
+    uint64_t refusal;
+    uint64_t slot;
+    uint64_t number;
+};
+
+/* E10, a list fed to a register (E6), with the host's entry beside each value: kind, cell, carrier and width as in chanbook_register_entry. Each entry from the
+   slot after the last one seen is taken as there, also those behind a refused one; what lies before that slot is not fed. 2, 18 (more than 8,192
+   entries, slots not consecutive, or slices of unequal length) or 19 (it begins past that slot) and nothing fed. */
+struct chanbook_fed chanbook_feed(
+    uint64_t cells[512], uint64_t carriers[512], uint64_t widths[512], uint64_t figures[5],
+    const uint64_t *slots, size_t slot_count, const uint64_t *values, size_t value_count,
+    const uint64_t *kinds, size_t kind_count, const chanbook_cell_number *entry_cells, size_t entry_cell_count,
+    const uint64_t *entry_carriers, size_t entry_carrier_count, const uint64_t *entry_widths, size_t entry_width_count);
 
 #ifdef __cplusplus
 }

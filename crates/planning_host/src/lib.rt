@@ -4,7 +4,12 @@ ghost use Rattle.register.specs.Register.{newRegister};
 ghost use Rattle.register_arrays.specs.Columns.{registerOf, entryFromNumbers, afterEntry, reportIn};
 ghost use Rattle.stored_register.specs.Stored.{widened};
 ghost use Rattle.stored_arrays.specs.Columns.{storedIn};
+ghost use Rattle.catch_up.specs.Joining.{listOf};
+ghost use Rattle.feeding.specs.Feeding.{fedListOf};
 ghost use Rattle.planning_host.specs.Conversions.{flatKhz, flatNumber};
+ghost use Rattle.planning_host.specs.Lists.{flatJoin, JoinsFlat, flatFed, FeedsFlat};
+use catch_up::Joined;
+use feeding::FeedAnswer;
 use register::CellNumber;
 
 // The number of document 02 that refuses, with 0 as the value; or 0 and the value.
@@ -12,6 +17,15 @@ use register::CellNumber;
 pub struct FlatValue {
     pub refusal: u64,
     pub value: u64,
+}
+
+// What became of a list that was to be fed: the number that refuses it, with nothing fed; or 0, and the first slot that was refused with its number,
+// both 0 where none was.
+#[repr(C)]
+pub struct FlatFed {
+    pub refusal: u64,
+    pub slot: u64,
+    pub number: u64,
 }
 
 // E5: the frequency of a carrier number, in kHz.
@@ -112,4 +126,79 @@ pub extern "C" fn chanbook_register_widened(
         widths,
         figures,
     );
+}
+
+fn flat_join(answer: Joined) -> FlatValue
+    ensures { λ r. ⌜ r ≡ flatJoin answer ⌝ }
+{
+    FlatValue {
+        refusal: answer.refusal(),
+        value: answer.count(),
+    }
+}
+
+// E10: joins two lists, each a slice of slots and a slice of values, into the lent places. The value is how many entries stand in the first places.
+#[no_mangle]
+pub extern "C" fn chanbook_join(
+    a_slots: &[u64],
+    a_values: &[u64],
+    b_slots: &[u64],
+    b_values: &[u64],
+    slots: &mut [u64],
+    values: &mut [u64],
+) -> FlatValue
+    ensures { λ r. ⌜ JoinsFlat (listOf (now («a_slots» .entry)) (now («a_values» .entry))) (listOf (now («b_slots» .entry)) (now («b_values» .entry)))
+        (listOf (now (slots .entry)) (now (values .entry))) (listOf (now (slots .exit)) (now (values .exit))) r ⌝ }
+{
+    flat_join(catch_up::join(a_slots, a_values, b_slots, b_values, slots, values))
+}
+
+fn flat_fed(answer: FeedAnswer) -> FlatFed
+    ensures { λ r. ⌜ r ≡ flatFed answer ⌝ }
+{
+    match answer {
+        FeedAnswer::Fed(first) => FlatFed {
+            refusal: 0,
+            slot: first.slot(),
+            number: first.number(),
+        },
+        FeedAnswer::NotFed(why) => FlatFed {
+            refusal: catch_up::join_number(why),
+            slot: 0,
+            number: 0,
+        },
+    }
+}
+
+// E10: feeds a list, with the host's entry beside each value, to a register: kinds, cells, carriers and widths as in chanbook_register_entry.
+#[no_mangle]
+pub extern "C" fn chanbook_feed(
+    cells: &mut [u64; 512],
+    carriers: &mut [u64; 512],
+    widths: &mut [u64; 512],
+    figures: &mut [u64; 5],
+    slots: &[u64],
+    values: &[u64],
+    kinds: &[u64],
+    entry_cells: &[CellNumber],
+    entry_carriers: &[u64],
+    entry_widths: &[u64],
+) -> FlatFed
+    ensures { λ r. ⌜ FeedsFlat (registerOf (now (cells .entry)) (now (carriers .entry)) (now (widths .entry)) (now (figures .entry)))
+        (fedListOf (now (slots .entry)) (now (values .entry)) (now (kinds .entry)) (now («entry_cells» .entry)) (now («entry_carriers» .entry)) (now («entry_widths» .entry)))
+        (registerOf (now (cells .exit)) (now (carriers .exit)) (now (widths .exit)) (now (figures .exit))) r ⌝ }
+{
+    let answer = feeding::feed(
+        cells,
+        carriers,
+        widths,
+        figures,
+        slots,
+        values,
+        kinds,
+        entry_cells,
+        entry_carriers,
+        entry_widths,
+    );
+    flat_fed(answer)
 }

@@ -44,15 +44,15 @@ earlier e past (x ∷ xs) (inr h) = inr (earlier e past xs h)
 
 module _ (says : ℕ → CellChange) (run : List Entry) (claim : Claim run) where
   -- the latest commit of a member that is at slot k + 1: it is of slot k, and behind it stand those of the moment before it
-  record Latest (member k : ℕ) (past : List Entry) : Type 0 where
-    value : ℕ
-    before : List Entry
-    up-to : UpTo before run
-    slot : slotAt member before ≡ k
-    commit : CommitAt k value run
-    is : entriesFor says member past ≡ entryForCommit says k value ∷ entriesFor says member before
+  pub record Latest (member k : ℕ) (past : List Entry) : Type 0 where
+    pub value : ℕ
+    pub before : List Entry
+    pub up-to : UpTo before run
+    pub slot : slotAt member before ≡ k
+    pub commit : CommitAt k value run
+    pub is : entriesFor says member past ≡ entryForCommit says k value ∷ entriesFor says member before
 
-  latest-commit : (member k : ℕ) (past : List Entry) → UpTo past run → slotAt member past ≡ suc k → Latest member k past
+  pub latest-commit : (member k : ℕ) (past : List Entry) → UpTo past run → slotAt member past ≡ suc k → Latest member k past
   unfolding entriesFor
   latest-commit member k [] u h = absurd (omega arith)
   latest-commit member k (e ∷ past) u h =
@@ -83,7 +83,7 @@ module _ (says : ℕ → CellChange) (run : List Entry) (claim : Claim run) wher
             is = simp (t, c, is-k);
           }
 
-  no-commit : (member : ℕ) (past : List Entry) → slotAt member past ≡ 0 → entriesFor says member past ≡ []
+  pub no-commit : (member : ℕ) (past : List Entry) → slotAt member past ≡ 0 → entriesFor says member past ≡ []
   unfolding entriesFor
   no-commit member [] h = refl
   no-commit member (e ∷ past) h = go (eqb member (e .member)) refl (e .reply .commit) refl (λ z. no-commit member past z)

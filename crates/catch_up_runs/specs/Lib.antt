@@ -1,0 +1,2 @@
+-- What the laws of `catch_up_runs` cite.
+pub mod Runs

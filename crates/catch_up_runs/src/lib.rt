@@ -1,0 +1,1 @@
+// Lists of commits of a group run, joined: the laws are in proofs/.
