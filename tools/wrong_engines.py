@@ -1,5 +1,5 @@
 #!/usr/bin/env python3
-"""Tries wrong engines: each file of tools/wrong_engines changes the engine's definitions, and the law that it names must refuse it.
+"""Tries wrong engines: each file of tools/wrong_engines changes the engine's definitions, and the proof of the law that it names must break.
 
     tools/wrong_engines.py [LABEL ..]
 
@@ -11,6 +11,9 @@ refuse such an engine is a law alone. Without functions the crates check in seco
 
 A file has a line `refused: FILE LAW`, and then `file:`, `old:` and `new:` lines: the text stands in the file once, and several `new:` lines replace it by
 several lines. The first error of the check must be in FILE, within LAW. It is run beside the gate, from anywhere, and leaves the repository alone.
+
+What a line shows is that a proof no longer goes through. It does not show that the law is false of the engine: the right engine, written in other words,
+breaks the same proofs and is counted as refused too. Whether a law is false of a wrong engine has to be read.
 """
 import os
 import re
