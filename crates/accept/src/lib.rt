@@ -1,4 +1,6 @@
 // What an Accept does: who is told of an accepted value, who counts, and the commit that the last of the accepts brings.
+#![tactic(auto)]
+
 ghost use Rattle.std.specs.Prelude.{◌≡◌};
 ghost use Rattle.accept.specs.Accept.{tells_committer, is_committer, accept_to, committer_hears, answer_accept, commit_message, tells_commit, commit_messages, try_commit, accept_answer, continues_fast, counts_accepts, accepted, after_accepted, accepting};
 

@@ -1,5 +1,7 @@
 // The answer to a call line as bytes: docs/ORACLE.md, "Answer lines". The line of an answer has at most 27,257 bytes, and where so many are lent
 // nothing of it is left out (`answer_length`, `answer_fits`, proofs/Lengths.antt). Whoever calls lends 32,768.
+#![tactic(auto)]
+
 ghost use Rattle.std.specs.Prelude.{◌≡◌};
 ghost use Rattle.texts.specs.Text.{put};
 ghost use Rattle.answer_lines.specs.Answer.{answer_text};

@@ -2,6 +2,8 @@
 // local_ready), and 128 served ones of four (id, tag, waited_for, fast). A flag is 0 for no and any other number for yes. The contracts are
 // those of crates/serving, on the reads that the numbers stand for. Behind the exported functions an array is passed on as a slice: from the
 // moment that it is lent so a proof knows its length.
+#![tactic(auto)]
+
 ghost use Rattle.std.specs.Prelude.{◌≡◌, ◌<◌, ◌≤◌, length, get_or, set, take};
 ghost use Rattle.serving.specs.Serving.{place, without, at_front, receive_ready, commit_slot};
 ghost use Rattle.array_reads.specs.Rows.{open_rows, served_rows, table_of, tracked_in, no_read};
@@ -10,7 +12,7 @@ use message::ReadId;
 use read_tracker::{OpenRead, ReadTracker, ServedRead};
 
 // The tracker after a response or a commit, with the number of reads that it served, which stand in the first places of the served ones.
-#[derive(Drop)]
+#[derive(Clone, Copy)]
 pub struct Counted {
     pub tracker: ReadTracker,
     pub served_count: u64,

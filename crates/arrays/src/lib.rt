@@ -1,5 +1,7 @@
 // The arrays of numbers that a host lends, and the flat forms that they are: each function reads a flat form out of an array, or writes one into it. The arrays
 // are the memory of the flat forms, so that a host keeps structs.
+#![tactic(auto)]
+
 ghost use Rattle.std.specs.Prelude.{◌≡◌};
 ghost use Rattle.arrays.specs.Arrays.{setup_of, core_of, core_numbers, message_of, call_of, outgoing_numbers, put_message, rest_numbers};
 ghost use Rattle.steps.specs.declared.OptionalMessage.TheVariants.{Send};
@@ -10,7 +12,7 @@ use flat::{FlatCall, FlatCore, FlatHeld, FlatMessage, FlatOption, FlatPromise, F
 use steps::{OptionalMessage, Outgoing};
 
 // The settings without their tables, and whether the shard is made.
-#[derive(Drop)]
+#[derive(Clone, Copy)]
 pub struct Setup {
     pub made: u64,
     pub process_count: u64,

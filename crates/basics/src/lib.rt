@@ -1,1 +1,2 @@
 // Laws of tests (proofs/Tests.antt) and membership of a list (specs/Lists.antt) for the other crates. No program stands here.
+#![tactic(auto)]

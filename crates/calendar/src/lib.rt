@@ -1,11 +1,13 @@
 // The Gregorian calendar of the years 1970 to 9999: dates to minutes since 1970-01-01 00:00 UTC and back. Every number is answered: for a date
 // or a time that there is not, and for a minute past the year 9999, by a case that stands for document 02's 17.
+#![tactic(auto)]
+
 ghost use Rattle.std.specs.Prelude.{◌≡◌, true, ◌≤◌, ◌<◌};
 ghost use Rattle.calendar.specs.Calendar.{is_leap, days_of_years, month_days, days_of_months, is_month, is_day, is_time, is_date, days_before, minute_of, to_minute, year_of, month_of, date_of, to_date, EarlyYear, minute_refusal, minute_in, date_refusal, date_in};
 
 // A day of the calendar with the time of day, in UTC. Five numbers of 64 bits, so that any can be asked of.
 #[repr(C)]
-#[derive(Drop)]
+#[derive(Clone, Copy)]
 pub struct Date {
     pub year: u64,
     pub month: u64,
@@ -15,14 +17,14 @@ pub struct Date {
 }
 
 // What a date has: a minute, or none, where the calendar or the years 1970 to 9999 lack the day or the day lacks the time.
-#[derive(Drop)]
+#[derive(Clone, Copy)]
 pub enum MinuteOfDate {
     Minute(u64),
     NoSuchDate,
 }
 
 // What a minute has: a date, or none, where it is past the year 9999.
-#[derive(Drop)]
+#[derive(Clone, Copy)]
 pub enum DateOfMinute {
     OnDate(Date),
     PastLastYear,

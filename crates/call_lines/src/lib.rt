@@ -1,9 +1,11 @@
 // A call line, from its bytes to numbers (docs/ORACLE.md, "Call lines"), and the faults that a line can have.
+#![tactic(auto)]
+
 ghost use Rattle.std.specs.Prelude.{◌≡◌, ◌||◌, ◌-◌, ◌<◌};
 ghost use Rattle.call_lines.specs.Reading.{next_place, is_full, with_digit, start, not_decimal, after_digit, after_space, after_byte, scan_fault, stored, scan_of, numbers_of};
 
 // Why a line is no call, in the order of looking.
-#[derive(Drop)]
+#[derive(Clone, Copy)]
 pub enum Fault {
     NoFault,
     NotDecimal,
@@ -19,7 +21,7 @@ pub enum Fault {
 
 // How far a line is read: the number under way, how many came before it, whether it has a digit, and what was wrong so far. The
 // count stops at 2048, the number that a line may have.
-#[derive(Drop)]
+#[derive(Clone, Copy)]
 pub struct Scan {
     pub value: u64,
     pub before: usize,

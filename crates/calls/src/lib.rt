@@ -1,5 +1,7 @@
 // Calls and replies, and what is decided of a call before it is handled: that it is refused, or what the handlers ask of the settings and of
 // its message. So a refusal costs no look at the tables of the settings.
+#![tactic(auto)]
+
 ghost use Rattle.std.specs.Prelude.{◌≡◌};
 ghost use Rattle.calls.specs.Asked.{asked_of, proposer_gathers, gatherer_in, heard_of, nothing_heard, heard_in};
 ghost use Rattle.calls.specs.Decision.{if_fit, read_fits, admission_of, unless_spent, if_made, decision_for, decision_of};
@@ -10,14 +12,14 @@ use round_state::Member;
 use settings::Settings;
 use steps::{Asked, Core, Heard, Messages};
 
-#[derive(Drop)]
+#[derive(Clone, Copy)]
 pub enum Call {
     Propose(u64),
     StartRead { tag: u64, arrival_slot: u64 },
     Receive(Delivery),
 }
 
-#[derive(Drop)]
+#[derive(Clone, Copy)]
 pub enum OptionalCommit {
     NoCommit,
     Committed { slot: u64, v: u64, fast: bool },
@@ -25,7 +27,7 @@ pub enum OptionalCommit {
 
 // What a call hands back besides the shard: its outcome, the messages to send, the commit, and the number of reads served, which
 // stand in the first places of the shard's table of served reads.
-#[derive(Drop)]
+#[derive(Clone, Copy)]
 pub struct Reply {
     pub outcome: Outcome,
     pub messages: Messages,
@@ -34,7 +36,7 @@ pub struct Reply {
 }
 
 // A call that is handled, with what the handlers ask of the settings and of its message.
-#[derive(Drop)]
+#[derive(Clone, Copy)]
 pub struct Taken {
     pub asked: Asked,
     pub heard: Heard,
@@ -42,7 +44,7 @@ pub struct Taken {
 }
 
 // What is decided of a call before it is handled.
-#[derive(Drop)]
+#[derive(Clone, Copy)]
 pub enum Decision {
     Refuse(Refusal),
     Handle(Taken),

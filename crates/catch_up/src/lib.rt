@@ -1,5 +1,7 @@
 // Two lists of commits joined into one, in places that a host lends (document 02, E10, "Catch up from a neighbour's list"). A list is a slice of
 // slots and a slice of values. The causes of a refusal stand in specs/Causes.antt, what is computed in specs/Joining.antt.
+#![tactic(auto)]
+
 ghost use Rattle.std.specs.Prelude.{◌≡◌, ◌&&◌, ◌++◌, ◌+◌, ◌-◌, ◌≤◌, min, eqb, ltb, length, drop};
 ghost use Rattle.std.proofs.lemmas.List.Edits.{sets};
 ghost use Rattle.serving.specs.Serving.{at_front};
@@ -7,7 +9,7 @@ ghost use Rattle.catch_up.specs.Causes.{join_number};
 ghost use Rattle.catch_up.specs.Joining.{list_of, some_above, too_large, counts_from, first_slot, outside, InLimits, checked_of, counts_within, differ, in_order, join_refusal, join_count, Gives, Joins};
 
 // Document 02's numbers 2, 18, 19 and 20, in the order in which they are looked for.
-#[derive(Drop)]
+#[derive(Clone, Copy)]
 pub enum JoinRefusal {
     NumberTooLarge,
     OutsideLimits,
@@ -16,7 +18,7 @@ pub enum JoinRefusal {
 }
 
 // How many entries the two lists have together, or why they were not joined.
-#[derive(Drop)]
+#[derive(Clone, Copy)]
 pub enum Joined {
     Entries(u64),
     Refused(JoinRefusal),
@@ -45,7 +47,7 @@ impl Joined {
 }
 
 // What is looked for in one list alone: 2, and 18.
-#[derive(Drop)]
+#[derive(Clone, Copy)]
 struct Checked {
     too_large: bool,
     outside: bool,

@@ -1,5 +1,7 @@
 // The report of the entry lines on standard input, as CSV (document 02, E6; docs/PLANNING.md). It is printed when the input ends. A line that is no
 // entry line settles the answer, `refused,1`; so does one of more than 1,048,576 bytes, and a read that fails, since entries may then be missing.
+#![tactic(auto)]
+
 ghost use Rattle.io.specs.Counts.{IsPrefixLen};
 
 use register::Register;
@@ -7,7 +9,7 @@ use register_lines::LinesTaken;
 
 // Between two blocks: the lines so far, how many bytes of one that has not ended stand at the start of the input buffer, and whether the input
 // may go on.
-#[derive(Drop)]
+#[derive(Clone, Copy)]
 struct BetweenBlocks {
     taken: LinesTaken,
     kept: usize,
@@ -15,14 +17,14 @@ struct BetweenBlocks {
 }
 
 // The lines of a block, and how many bytes of the input are used.
-#[derive(Drop)]
+#[derive(Clone, Copy)]
 struct AfterLines {
     taken: LinesTaken,
     used: usize,
 }
 
 // How many bytes there are, and whether the read failed.
-#[derive(Drop)]
+#[derive(Clone, Copy)]
 struct BytesRead {
     end: usize,
     failed: bool,

@@ -1,5 +1,7 @@
 // The shard and its calls: what the Rust's consensus.rs does around the handlers. A call takes the shard by value and hands back the next
 // one with its reply. It is first decided whether the call is taken; then it works on the parts of the state that it changes.
+#![tactic(auto)]
+
 ghost use Rattle.std.specs.Prelude.{◌≡◌};
 ghost use Rattle.consensus.specs.Call.{new_core, new_state, new_shard, call_of};
 
@@ -13,14 +15,14 @@ use state_calls::State;
 use steps::{Core, Rounds};
 
 // A shard. One whose settings are outside the limits is not made, and remembers why.
-#[derive(Drop)]
+#[derive(Clone, Copy)]
 pub struct Shard {
     pub made: Outcome,
     pub settings: Settings,
     pub state: State,
 }
 
-#[derive(Drop)]
+#[derive(Clone, Copy)]
 pub struct Answer {
     pub shard: Shard,
     pub reply: Reply,

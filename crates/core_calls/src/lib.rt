@@ -1,5 +1,7 @@
 // A call on the core of a shard. Most calls change the core alone; the answer says where a call needs more: in EPaxos and SwiftPaxos the rounds,
 // and for reads their table. So a shard that is lent can be changed part by part.
+#![tactic(auto)]
+
 ghost use Rattle.std.specs.Prelude.{◌≡◌};
 ghost use Rattle.core_calls.specs.Replies.{refused_reply, sent_reply, is_fast, committed_reply};
 ghost use Rattle.core_calls.specs.CoreCall.{sends_from, refuses_in, needs_more, core_committed, core_finish_at, core_finish, core_proposed, core_processed, core_on_commit, next_readable, read_answer, core_on_read_request, core_on_read_response, core_handle, core_taken, core_call};
@@ -12,7 +14,7 @@ use steps::{
 };
 
 // What a call makes of the core, and its reply. Where `deeper` is set the call goes on with the rounds or with the reads.
-#[derive(Drop)]
+#[derive(Clone, Copy)]
 pub struct CoreAnswer {
     pub core: Core,
     pub reply: Reply,

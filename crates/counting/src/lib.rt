@@ -1,5 +1,7 @@
 // Answers that are only counted, accepts by the leader and promises by whoever gathers them: one set of the core grows by the sender, and nothing is
 // sent. They are found by the numbers of the call and of the core, before a message or the settings are put together.
+#![tactic(auto)]
+
 ghost use Rattle.std.specs.Prelude.{◌≡◌};
 ghost use Rattle.counting.specs.Counting.{round_in, member_of, majority_of, in_own_round, repeats_held, accepts_with, counts_accept, keeps_held, promises_with, completes, gathers, counts_promise, counts, with_counted};
 

@@ -1,5 +1,7 @@
 // A message that comes in, with the words of the host, and what is decided of it before it is handled: whether its numbers and processes are
 // within the limits, and whether the shard is ready for it (the Rust's ready_to_process).
+#![tactic(auto)]
+
 ghost use Rattle.std.specs.Prelude.{◌≡◌};
 ghost use Rattle.delivery.specs.Limits.{numbers_fit, processes_fit};
 ghost use Rattle.delivery.specs.Admit.{is_ahead, is_own_slot, is_other_last, needs_value, other_last_value, value_awaited, ready, admit};
@@ -12,7 +14,7 @@ use message::{
 use steps::Core;
 
 // What the host says of a message: whether it holds the message's value, the value's requester, and the fast mark of a read.
-#[derive(Drop)]
+#[derive(Clone, Copy)]
 pub struct Said {
     pub value_held: bool,
     pub requester: OptionalProcess,
@@ -21,7 +23,7 @@ pub struct Said {
 
 // A message that comes in, with the host's words. The requester of the value in the held promise belongs to the call and not to
 // the message.
-#[derive(Drop)]
+#[derive(Clone, Copy)]
 pub struct Delivery {
     pub message: ConsensusMessage,
     pub said: Said,

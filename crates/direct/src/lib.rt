@@ -1,5 +1,7 @@
 // A call on a shard that a host lends as arrays of numbers, changed in place. The arrays are the memory of a shard, of a call and of a reply as structs.
 // A call that is refused writes nothing. EPaxos and SwiftPaxos are passed on where the fast half has to act: then too nothing is written.
+#![tactic(auto)]
+
 ghost use Rattle.std.specs.Prelude.{◌≡◌};
 ghost use Rattle.array_reads.specs.Rows.{open_rows};
 ghost use Rattle.arrays.specs.Arrays.{setup_of, core_of, call_of};

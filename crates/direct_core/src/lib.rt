@@ -1,6 +1,8 @@
 // Proposals, Commits, Prepares and Accepts in the classic modes on arrays that are lent: the core is taken out, handled by value, and written back with
 // the reply. A ReadRequest writes the reply alone, and a refusal nothing. Each function that is large has one caller, so that it is compiled into it and
 // its values stay in registers. Proposals, and steps that commit nothing, have a way of their own for the same reason.
+#![tactic(auto)]
+
 ghost use Rattle.std.specs.Prelude.{◌≡◌};
 ghost use Rattle.arrays.specs.Arrays.{core_of};
 ghost use Rattle.direct_core.specs.Lent.{came, left};
@@ -40,7 +42,7 @@ pub const COMMIT: u64 = 4;
 pub const READ_RESPONSE: u64 = 6;
 
 // The number of the refusal, or 0, and whether open reads may have become ready, so that they have to be served.
-#[derive(Drop)]
+#[derive(Clone, Copy)]
 pub struct Handled {
     pub number: u64,
     pub may_serve: bool,

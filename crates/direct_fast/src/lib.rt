@@ -1,5 +1,7 @@
 // A call in EPaxos or SwiftPaxos on a shard that a host lends as arrays of numbers, changed in place: what `chanbook_direct_call` passes on. A call
 // that is refused writes nothing. It stands in a library of its own, so that the handlers, which the classic modes share, have one caller in each.
+#![tactic(auto)]
+
 ghost use Rattle.std.specs.Prelude.{◌≡◌};
 ghost use Rattle.arrays.specs.Arrays.{setup_of, call_of};
 ghost use Rattle.direct_core.specs.Lent.{came, left};

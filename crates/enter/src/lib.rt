@@ -1,4 +1,6 @@
 // What a Prepare and an Accept have in common: who takes part, which messages are old, and the round that a message enters.
+#![tactic(auto)]
+
 ghost use Rattle.std.specs.Prelude.{◌≡◌};
 ghost use Rattle.enter.specs.Enter.{can_propose, source_taken, in_round, is_older, from_live, enter};
 

@@ -1,4 +1,6 @@
 // The fast path of EPaxos: answers to a fast proposal, the commit that they bring, and the value that is adopted from them.
+#![tactic(auto)]
+
 ghost use Rattle.std.specs.Prelude.{◌≡◌};
 ghost use Rattle.epaxos_path.specs.EPaxos.{requester_of, epaxos_commit, adopting, epaxos_adopt, epaxos_decide, after_epaxos_answer, epaxos_answer};
 ghost use Rattle.fast_state.specs.Adopt.{lowest_best};

@@ -1,5 +1,7 @@
 // EPaxos on the second half of the round state: fast answers and the scores of their proposers, the fast commit, and the value that is
 // adopted where there are two proposers or more.
+#![tactic(auto)]
+
 ghost use Rattle.std.specs.Prelude.{◌≡◌, cond, eqb};
 ghost use Rattle.tables.specs.Tables.{look_up};
 ghost use Rattle.fast_state.specs.Fast.{score_after, epaxos_counted, epaxos_answered, epaxos_propose_v, epaxos_can_commit};

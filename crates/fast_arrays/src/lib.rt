@@ -1,4 +1,6 @@
 // The fast half of a shard as the arrays of numbers that a host lends: what is read out of them, and a change that is made where they stand.
+#![tactic(auto)]
+
 ghost use Rattle.std.specs.Prelude.{◌≡◌};
 ghost use Rattle.fast_arrays.specs.FastArrays.{fast_arrays, answers_in, answers_numbers, put_change, cleared, put_after};
 ghost use Rattle.fast_state.specs.Fast.{to_v_after, epaxos_scores_after, swift_scores_after};

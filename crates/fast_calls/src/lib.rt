@@ -1,4 +1,6 @@
 // The end of a call in EPaxos or SwiftPaxos: the answer of the core, and what becomes of the fast half.
+#![tactic(auto)]
+
 ghost use Rattle.std.specs.Prelude.{◌≡◌};
 ghost use Rattle.fast_calls.specs.FastCall.{after_next, fast_finish};
 
@@ -7,13 +9,13 @@ use fast_state::FastChange;
 use steps::{Asked, ChangeStep, Core, CoreStep, Next};
 
 // What becomes of the fast half where the call is taken: a change, or a commit clears it.
-#[derive(Drop)]
+#[derive(Clone, Copy)]
 pub enum After {
     Changed(FastChange),
     Cleared,
 }
 
-#[derive(Drop)]
+#[derive(Clone, Copy)]
 pub struct FastAnswer {
     pub answer: CoreAnswer,
     pub after: After,

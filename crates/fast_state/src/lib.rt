@@ -1,6 +1,8 @@
 // The round state of the paxos family, second half: fast answers, proposers and their scores, and what EPaxos and SwiftPaxos have in
 // common; and the two halves together. A call changes the answers and, in the tables by proposer, the entry of one proposer: so the handlers hand
 // back this change, and the tables are read where they stand.
+#![tactic(auto)]
+
 ghost use Rattle.std.specs.Prelude.{◌≡◌};
 ghost use Rattle.fast_state.specs.Fast.{answers_of, unchanged, taken as taken_fast, refused as refused_fast, to_v_after, epaxos_scores_after, swift_scores_after, changed, no_answers, preaccepted_after, second_answer, is_unanswered};
 ghost use Rattle.fast_state.specs.RoundState.{new_round_state};
@@ -9,7 +11,7 @@ use message::{OptionalProcess, OptionalRound, OptionalValue, Outcome, Refusal};
 use round_state::{HeldPromise, Member, PaxosState};
 
 // EPaxos and SwiftPaxos state. The Rust's map from proposers to values is an array by process, with the set of those present.
-#[derive(Drop)]
+#[derive(Clone, Copy)]
 pub struct FastState {
     pub fast_answer_set: u64,
     pub fast_preaccepted: u64,
@@ -21,7 +23,7 @@ pub struct FastState {
 }
 
 // The same without the tables.
-#[derive(Drop)]
+#[derive(Clone, Copy)]
 pub struct FastAnswers {
     pub fast_answer_set: u64,
     pub fast_preaccepted: u64,
@@ -30,7 +32,7 @@ pub struct FastAnswers {
 }
 
 // What a call changes in the tables: nothing, the value of a proposer, or its value and its score.
-#[derive(Drop)]
+#[derive(Clone, Copy)]
 pub enum Entry {
     SameEntries,
     Recorded { proposer: u64, v: u64 },
@@ -39,33 +41,33 @@ pub enum Entry {
 }
 
 // What a call changes in the state: the answers that there are afterwards, and the entry of a proposer.
-#[derive(Drop)]
+#[derive(Clone, Copy)]
 pub struct FastChange {
     pub answers: FastAnswers,
     pub entry: Entry,
 }
 
-#[derive(Drop)]
+#[derive(Clone, Copy)]
 pub struct PaxosFamilyRoundState {
     pub paxos: PaxosState,
     pub fast: FastState,
 }
 
 // A step of the fast half, and whether it is refused.
-#[derive(Drop)]
+#[derive(Clone, Copy)]
 pub struct FastStep {
     pub change: FastChange,
     pub outcome: Outcome,
 }
 
 // The best score so far, and its proposer.
-#[derive(Drop)]
+#[derive(Clone, Copy)]
 pub struct Best {
     pub score: u64,
     pub proposer: OptionalProcess,
 }
 
-#[derive(Drop)]
+#[derive(Clone, Copy)]
 pub enum Adoption {
     NoAdoption,
     Adopt(u64),

@@ -1,4 +1,6 @@
 // The line for a line that is no call, as bytes: docs/ORACLE.md, "Answer lines", the reasons.
+#![tactic(auto)]
+
 ghost use Rattle.std.specs.Prelude.{◌≡◌};
 ghost use Rattle.texts.specs.Text.{put};
 ghost use Rattle.fault_lines.specs.Faults.{fault_text};

@@ -1,5 +1,7 @@
 // A list of commits fed to a register of cells (document 02, E10: "A second call feeds it to the register, with the host's entry beside each value"). The
 // register stands in lent arrays, as in crates/register_arrays, and an entry's kind, cell, carrier and width are numbers as there.
+#![tactic(auto)]
+
 ghost use Rattle.std.specs.Prelude.{◌≡◌, [], ◌&&◌, ltb, length};
 ghost use Rattle.catch_up.specs.Joining.{first_slot};
 ghost use Rattle.register_arrays.specs.Columns.{register_of};
@@ -10,14 +12,14 @@ use catch_up::JoinRefusal;
 use register::CellNumber;
 
 // The first slot that was refused, with document 02's number.
-#[derive(Drop)]
+#[derive(Clone, Copy)]
 pub enum FirstRefused {
     NoneRefused,
     RefusedAt(u64, u64),
 }
 
 // The list is fed, or nothing of it and why: 2, 18 or 19.
-#[derive(Drop)]
+#[derive(Clone, Copy)]
 pub enum FeedAnswer {
     Fed(FirstRefused),
     NotFed(JoinRefusal),

@@ -1,5 +1,7 @@
 // A flat form of the parts of a shard, of calls and of replies that has numbers only, for a host in C or Rust: no enum crosses `extern "C"`. 0 is no and
 // any other number yes; what is not given is 0 where the engine writes it. Every flat form stands for some part or call, whatever numbers are in it.
+#![tactic(auto)]
+
 ghost use Rattle.std.specs.Prelude.{map, ◌≡◌};
 ghost use Rattle.flat.specs.Decode.{is_yes, decoded_value, decoded_process, decoded_set, decoded_round, decoded_promise, decoded_held, decoded_mode, decoded_made, decoded_settings, decoded_core, decoded_fast, decoded_rounds, decoded_open, decoded_served, decoded_table, decoded_msg, is_known, decoded_source, decoded_message, decoded_delivery, decoded_call};
 ghost use Rattle.flat.specs.Encode.{encoded_bool, encoded_outcome, encoded_value, encoded_process, encoded_round, encoded_promise, encoded_held, encoded_core, encoded_fast, encoded_rounds, encoded_open, encoded_served, encoded_table, encoded_msg, encoded_message, encoded_to, encoded_outgoing, encoded_commit, encoded_reply, no_promise, no_message};
@@ -19,14 +21,14 @@ use steps::{Core, Destination, OptionalMessage, Rounds};
 
 // A number, if it is given.
 #[repr(C)]
-#[derive(Drop)]
+#[derive(Clone, Copy)]
 pub struct FlatOption {
     pub given: u64,
     pub n: u64,
 }
 
 #[repr(C)]
-#[derive(Drop)]
+#[derive(Clone, Copy)]
 pub struct FlatRound {
     pub given: u64,
     pub round_group: u64,
@@ -35,7 +37,7 @@ pub struct FlatRound {
 
 // A promise: of a proposer on the fast path, or with the round in which the value was accepted, if it was.
 #[repr(C)]
-#[derive(Drop)]
+#[derive(Clone, Copy)]
 pub struct FlatPromise {
     pub fast: u64,
     pub proposer: u64,
@@ -44,7 +46,7 @@ pub struct FlatPromise {
 }
 
 #[repr(C)]
-#[derive(Drop)]
+#[derive(Clone, Copy)]
 pub struct FlatHeld {
     pub given: u64,
     pub promise: FlatPromise,
@@ -52,7 +54,7 @@ pub struct FlatHeld {
 
 // Mode: 0 Paxos, 1 MultiPaxos, 2 MultiPaxos3P, 3 EPaxos, 4 Pando, 5 SwiftPaxos.
 #[repr(C)]
-#[derive(Drop)]
+#[derive(Clone, Copy)]
 pub struct FlatSettings {
     pub process_count: u64,
     pub replica_count: u64,
@@ -67,7 +69,7 @@ pub struct FlatSettings {
 }
 
 #[repr(C)]
-#[derive(Drop)]
+#[derive(Clone, Copy)]
 pub struct FlatCore {
     pub slot: u64,
     pub last_v: FlatOption,
@@ -81,7 +83,7 @@ pub struct FlatCore {
 }
 
 #[repr(C)]
-#[derive(Drop)]
+#[derive(Clone, Copy)]
 pub struct FlatFast {
     pub fast_answer_set: u64,
     pub fast_preaccepted: u64,
@@ -93,14 +95,14 @@ pub struct FlatFast {
 }
 
 #[repr(C)]
-#[derive(Drop)]
+#[derive(Clone, Copy)]
 pub struct FlatRounds {
     pub core: FlatCore,
     pub fast: FlatFast,
 }
 
 #[repr(C)]
-#[derive(Drop)]
+#[derive(Clone, Copy)]
 pub struct FlatOpenRead {
     pub id: u64,
     pub tag: u64,
@@ -110,7 +112,7 @@ pub struct FlatOpenRead {
 }
 
 #[repr(C)]
-#[derive(Drop)]
+#[derive(Clone, Copy)]
 pub struct FlatServedRead {
     pub id: u64,
     pub tag: u64,
@@ -119,7 +121,7 @@ pub struct FlatServedRead {
 }
 
 #[repr(C)]
-#[derive(Drop)]
+#[derive(Clone, Copy)]
 pub struct FlatTable {
     pub reads: [FlatOpenRead; 128],
     pub served: [FlatServedRead; 128],
@@ -127,7 +129,7 @@ pub struct FlatTable {
 
 // Kind: 1 Prepare, 2 Accept, 3 ForwardRequest, 4 Commit, 5 ReadRequest, 6 ReadResponse.
 #[repr(C)]
-#[derive(Drop)]
+#[derive(Clone, Copy)]
 pub struct FlatMessage {
     pub kind: u64,
     pub slot: u64,
@@ -143,7 +145,7 @@ pub struct FlatMessage {
 
 // Kind: 0 a proposal of v, 1 a new read with the tag v, and else a message.
 #[repr(C)]
-#[derive(Drop)]
+#[derive(Clone, Copy)]
 pub struct FlatCall {
     pub kind: u64,
     pub v: u64,
@@ -157,7 +159,7 @@ pub struct FlatCall {
 
 // Kind: 0 no message, 1 a message to the process `to`, 2 a message to every other process, with the one that is served first.
 #[repr(C)]
-#[derive(Drop)]
+#[derive(Clone, Copy)]
 pub struct FlatOutgoing {
     pub kind: u64,
     pub to: u64,
@@ -166,7 +168,7 @@ pub struct FlatOutgoing {
 }
 
 #[repr(C)]
-#[derive(Drop)]
+#[derive(Clone, Copy)]
 pub struct FlatCommit {
     pub given: u64,
     pub slot: u64,
@@ -176,7 +178,7 @@ pub struct FlatCommit {
 
 // The outcome is 0, or the number of the refusal.
 #[repr(C)]
-#[derive(Drop)]
+#[derive(Clone, Copy)]
 pub struct FlatReply {
     pub outcome: u64,
     pub first: FlatOutgoing,

@@ -1,5 +1,7 @@
 // What is decided of a call before it is handled, and what the handlers ask of the settings and of a message, on the flat forms: each question looks at the
 // numbers that it needs, so that no table and no message is copied for a call that is refused or ignored.
+#![tactic(auto)]
+
 ghost use Rattle.std.specs.Prelude.{◌≡◌, []};
 ghost use Rattle.arrays.specs.Arrays.{settings_of, setup_of, core_of, call_of};
 ghost use Rattle.calls.specs.Asked.{asked_of, heard_of};

@@ -1,5 +1,7 @@
 // A register of group settings in arrays of numbers that a host lends, changed in place (document 02, E13): the arrays of crates/register_arrays, and two
 // numbers of the settings, their number and the slot from which widths are in whole MHz. The contracts are those of crates/group_register.
+#![tactic(auto)]
+
 ghost use Rattle.std.specs.Prelude.{◌≡◌};
 ghost use Rattle.stored_register.specs.Stored.{widened};
 ghost use Rattle.stored_arrays.specs.Columns.{stored_in};

@@ -1,4 +1,6 @@
 // A group for test runs: an array of shards by value, of which a call replaces one.
+#![tactic(auto)]
+
 ghost use Rattle.std.specs.Prelude.{◌≡◌};
 ghost use Rattle.group.specs.Claim.{member_settings};
 ghost use Rattle.group_by_value.specs.Group.{new_group, called};
@@ -9,13 +11,13 @@ use message::{Outcome, Refusal};
 use settings::Settings;
 use steps::{Messages, OptionalMessage};
 
-#[derive(Drop)]
+#[derive(Clone, Copy)]
 pub struct Group {
     pub members: [Shard; 64],
 }
 
 // The group after a call, and what the call handed back.
-#[derive(Drop)]
+#[derive(Clone, Copy)]
 pub struct GroupAnswer {
     pub group: Group,
     pub reply: Reply,

@@ -1,5 +1,7 @@
 // A register of cells begun from group settings (document 02, E13): "From a slot named in the settings (one above 2^63−2 gives 1), an assignment must
 // have a width that is a multiple of 1,000 kHz." It stands above E6's register (crates/register), which does not move.
+#![tactic(auto)]
+
 ghost use Rattle.std.specs.Prelude.{◌≡◌};
 ghost use Rattle.group_register.specs.Settings.{settings_from, settings_refusal};
 ghost use Rattle.group_register.specs.WholeMhz.{is_odd};
@@ -10,27 +12,27 @@ use report::ReportPage;
 
 // What a register keeps of the group settings that it was begun from: their number, 0 where it is made of them, and the slot from which widths are in
 // whole MHz.
-#[derive(Drop)]
+#[derive(Clone, Copy)]
 pub struct RegisterSettings {
     pub number: u64,
     pub whole_mhz_from: u64,
 }
 
-#[derive(Drop)]
+#[derive(Clone, Copy)]
 pub struct GroupRegister {
     pub settings: RegisterSettings,
     pub register: Register,
 }
 
 // What became of an entry: the register is not made, and gives the number of its settings; 23, the width is not in whole MHz; or as in E6.
-#[derive(Drop)]
+#[derive(Clone, Copy)]
 pub enum GroupOutcome {
     Unmade(u64),
     OddWidth,
     AsRegister(EntryOutcome),
 }
 
-#[derive(Drop)]
+#[derive(Clone, Copy)]
 pub struct GroupApplied {
     pub group: GroupRegister,
     pub outcome: GroupOutcome,

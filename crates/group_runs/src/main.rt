@@ -1,6 +1,8 @@
 // Random runs of groups, and demand 3's claim checked on the log of each. A run is legal: a message is delivered only to a member that it
 // was sent to. It may be lost, late, delivered twice, or before one that was sent earlier; members stop; and what the host adds is any.
 // Where document 02 says on which answer the leader commits (E14), its commits are counted by the answers that it has heard.
+#![tactic(auto)]
+
 use calls::{Call, OptionalCommit, Reply};
 use delivery::{Delivery, Said};
 use group_by_value::Group;
@@ -17,7 +19,7 @@ const TURNS: u64 = 100;
 
 // What is counted in the runs of a mode. Places 1 to 12 of refusals count the refusals of these numbers. Place n of on_answers counts the
 // leader's commits on the n-th answer, and otherwise those that do not come on the answer of majority less one.
-#[derive(Drop)]
+#[derive(Clone, Copy)]
 struct Counts {
     runs: u64,
     calls: u64,
@@ -31,7 +33,7 @@ struct Counts {
 // How a run goes: how many turns of its beginning are proposals, so that several go on in one slot; in 256ths of its turns, up to where
 // the later ones are proposals, and up to where messages are delivered and not lost; among how many of the latest messages most
 // deliveries choose. A steady host names one requester in all calls.
-#[derive(Drop)]
+#[derive(Clone, Copy)]
 struct Habits {
     first_proposals: u64,
     proposals: u64,
@@ -43,7 +45,7 @@ struct Habits {
 
 // What there is of a run besides the group: the generator's last number, the members that have stopped, those whose answers the leader has
 // heard in its slot, the messages under way, the log and the counts.
-#[derive(Drop)]
+#[derive(Clone, Copy)]
 struct World {
     habits: Habits,
     random: u64,
@@ -57,13 +59,13 @@ struct World {
 }
 
 // The next call, if there is one.
-#[derive(Drop)]
+#[derive(Clone, Copy)]
 enum Chosen {
     Nothing,
     OnMember(u64, Call),
 }
 
-#[derive(Drop)]
+#[derive(Clone, Copy)]
 struct Turn {
     world: World,
     chosen: Chosen,

@@ -1,5 +1,7 @@
 // The settings of a group with what its planners agree on besides (document 02): those of the engine, and from E13 on a slot. They stand above the engine,
 // so that a shard keeps of them its own settings and its mark alone.
+#![tactic(auto)]
+
 ghost use Rattle.std.specs.Prelude.{◌≡◌};
 ghost use Rattle.group_settings.specs.GroupSettings.{settings_outcome, settings_number, decoded_group_settings, flat_settings_number};
 
@@ -8,7 +10,7 @@ use message::{Outcome, Refusal};
 use settings::Settings;
 
 // The slot from which a width must be whole MHz (E13). A host that wants none names the last slot that there is, 2^63−2.
-#[derive(Drop)]
+#[derive(Clone, Copy)]
 pub struct GroupSettings {
     pub settings: Settings,
     pub whole_mhz_from: u64,
@@ -16,7 +18,7 @@ pub struct GroupSettings {
 
 // The same in numbers only, for a host in C or Rust.
 #[repr(C)]
-#[derive(Drop)]
+#[derive(Clone, Copy)]
 pub struct FlatGroupSettings {
     pub settings: FlatSettings,
     pub whole_mhz_from: u64,

@@ -1,4 +1,6 @@
 // A shard begins from the settings of its group.
+#![tactic(auto)]
+
 ghost use Rattle.std.specs.Prelude.{◌≡◌};
 ghost use Rattle.group_shard.specs.Begin.{begin_shard};
 

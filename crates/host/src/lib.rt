@@ -1,5 +1,7 @@
 // A shard as one struct of numbers, by value: how it begins, and a call. A host makes its calls in place, over the same memory as arrays
 // (crates/direct, crates/direct_fast); the call here is the plain one that those are tested against.
+#![tactic(auto)]
+
 ghost use Rattle.std.specs.Prelude.{◌≡◌};
 ghost use Rattle.host.specs.Shards.{decoded_state, encoded_state, decoded_shard};
 ghost use Rattle.host.specs.Calls.{flat_answer, flat_call, flat_made, flat_new};
@@ -10,7 +12,7 @@ use message::Outcome;
 use state_calls::State;
 
 #[repr(C)]
-#[derive(Drop)]
+#[derive(Clone, Copy)]
 pub struct FlatState {
     pub rounds: FlatRounds,
     pub table: FlatTable,
@@ -18,7 +20,7 @@ pub struct FlatState {
 
 // `made` is 0 for a shard that is made. With any other number it refuses every call with 1; the engine writes 1.
 #[repr(C)]
-#[derive(Drop)]
+#[derive(Clone, Copy)]
 pub struct FlatShard {
     pub made: u64,
     pub settings: FlatSettings,
@@ -26,7 +28,7 @@ pub struct FlatShard {
 }
 
 #[repr(C)]
-#[derive(Drop)]
+#[derive(Clone, Copy)]
 pub struct FlatAnswer {
     pub shard: FlatShard,
     pub reply: FlatReply,

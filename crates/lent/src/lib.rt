@@ -1,5 +1,7 @@
 // Thin outer handlers over a shard that its owner lends and that is changed in place. Each takes out the part that the call changes, calls the
 // by-value function on it and writes the part back; a refusal writes back what was there.
+#![tactic(auto)]
+
 ghost use Rattle.std.specs.Prelude.{◌≡◌};
 ghost use Rattle.calls.specs.Decision.{decision_of};
 ghost use Rattle.consensus.specs.ByParts.{by_state, by_rounds, by_core};

@@ -1,4 +1,6 @@
 // Whether the numbers and the process numbers of a message are within the limits: refusals 2 and 3.
+#![tactic(auto)]
+
 ghost use Rattle.std.specs.Prelude.{◌≡◌};
 ghost use Rattle.limits.specs.Limits.{is_number, is_slot, round_numbers, rv_numbers, msg_numbers, value_numbers, process_numbers, rv_processes, msg_processes, requester_below};
 

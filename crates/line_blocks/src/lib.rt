@@ -1,11 +1,13 @@
 // Lines of standard input and answers to standard output, in blocks, for `replay` and `planning`: what is answered is written before the next
 // block is waited for. A line that fills the whole input buffer and has not ended there is too long; the rest of it is skipped.
+#![tactic(auto)]
+
 ghost use Rattle.std.specs.Prelude.{◌≡◌, ◌-◌, ◌≤◌, min, length, take};
 ghost use Rattle.io.specs.Counts.{IsPrefixLen};
 ghost use Rattle.line_blocks.specs.Lines.{FirstEnd, FirstLine, moved_to_start, with_room};
 
 // Where the answering of a block begins, and whether the line that is skipped goes on behind the block.
-#[derive(Drop)]
+#[derive(Clone, Copy)]
 pub struct Start {
     pub from: usize,
     pub skipping: bool,

@@ -1,5 +1,7 @@
 // The numbers of a line as a call (docs/ORACLE.md, "Call lines"). A number past the end of the line counts as 0, so that no function here
 // asks how long the line is; the line's fault says whether it is a call at all.
+#![tactic(auto)]
+
 ghost use Rattle.std.specs.Prelude.{◌≡◌, ◌<◌, get_or};
 ghost use Rattle.line_calls.specs.Calls.{optional_value, optional_process, optional_round, promise_of, prepare_of, accept_of, message_of, words_place, said_at, delivery_at, call_of_numbers};
 

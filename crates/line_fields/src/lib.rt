@@ -1,5 +1,7 @@
 // The fields of a line, which single blanks separate, and lines that have a word and a number (docs/PLANNING.md). Numbers are read by `call_lines` and
 // written by `texts`.
+#![tactic(auto)]
+
 ghost use Rattle.std.specs.Prelude.{◌≡◌, ◌&&◌, min, length, drop};
 ghost use Rattle.io.specs.Counts.{IsPrefixLen};
 ghost use Rattle.texts.specs.Text.{put};
@@ -8,14 +10,14 @@ ghost use Rattle.line_fields.specs.Fields.{begins, is_line, one_number, is_numbe
 use call_lines::Scan;
 
 // The number that a field holds, if it does.
-#[derive(Drop)]
+#[derive(Clone, Copy)]
 pub enum OptionalNumber {
     Holds(u64),
     NoNumber,
 }
 
 // The number that a field holds, if it does, and where the field ends: at a blank, or with the line.
-#[derive(Drop)]
+#[derive(Clone, Copy)]
 pub struct NumberField {
     pub number: OptionalNumber,
     pub end: usize,

@@ -1,4 +1,6 @@
 // The numbers of a line as settings or a state, and what is wrong with them (docs/ORACLE.md, "Call lines").
+#![tactic(auto)]
+
 ghost use Rattle.std.specs.Prelude.{◌≡◌, ◌&&◌, ◌≤◌, ◌<◌, min, ltb};
 ghost use Rattle.line_states.specs.States.{optional_set, mode_of, entry_at, table_to, settings_with, settings_at, settings_of, held_of, paxos_of, core_at, proposers_to, fast_at, read_at, read_table_at, state_at, state_of};
 ghost use Rattle.line_states.specs.Faults.{is_kind, settings_count_at, state_count_at, expected_count, is_flag, read_flags, settings_flags, state_flags_at, message_flags, flags_fit, mode_fits, promise_fits, settings_places, proposers_fit, state_places_at, places_fit, numbers_fault};

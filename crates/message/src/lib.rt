@@ -1,5 +1,7 @@
 // Modes, rounds, promises, messages and refusals: the Rust's message.rs of consensus and of paxos_family, PFModeSetting, and document 01's
 // table.
+#![tactic(auto)]
+
 ghost use Rattle.std.specs.Prelude.{◌≡◌, ◌-◌};
 ghost use Rattle.message.specs.Modes.{is_multi_paxos, is_swift_paxos, has_fast_path};
 ghost use Rattle.message.specs.Rounds.{increment, starting_round, next_leader_round, round_before, round_equal, before, equal, is_round, unwrap_or_default};
@@ -8,7 +10,7 @@ ghost use Rattle.message.specs.Refusals.{refusal_number};
 ghost use Rattle.message.specs.Messages.{msg_slot};
 
 // The modes of the paxos family: the Rust's PFModeSetting, whose tables stand beside it in the settings.
-#[derive(Drop)]
+#[derive(Clone, Copy)]
 pub enum PFMode {
     Paxos,
     MultiPaxos,
@@ -61,51 +63,51 @@ impl PFMode {
 }
 
 // A round, ordered by group and then by leader.
-#[derive(Drop)]
+#[derive(Clone, Copy)]
 pub struct PaxosRound {
     pub round_group: u64,
     pub leader: u64,
 }
 
 // The Rust's Option<PaxosRound>. No round comes before every round.
-#[derive(Drop)]
+#[derive(Clone, Copy)]
 pub enum OptionalRound {
     NoRound,
     Round(PaxosRound),
 }
 
 // A promise: the value that a process proposed on the fast path, or a value with the round in which it was accepted, if it was.
-#[derive(Drop)]
+#[derive(Clone, Copy)]
 pub enum RoundV {
     FastV { proposer: u64, v: u64 },
     PaxosV { accept_round: OptionalRound, v: u64 },
 }
 
 // The Rust's Option<usize>, for a value, a slot and a process number.
-#[derive(Drop)]
+#[derive(Clone, Copy)]
 pub enum OptionalValue {
     NoValue,
     Value(u64),
 }
 
-#[derive(Drop)]
+#[derive(Clone, Copy)]
 pub enum OptionalSlot {
     NoSlot,
     Slot(u64),
 }
 
-#[derive(Drop)]
+#[derive(Clone, Copy)]
 pub enum OptionalProcess {
     NoProcess,
     Process(u64),
 }
 
 // Identifies a read among those that a process issued for one shard. It is never a slot.
-#[derive(Drop)]
+#[derive(Clone, Copy)]
 pub struct ReadId(pub u64);
 
 // The six messages: the Rust's ConsensusMsg, with its PaxosMsg in line.
-#[derive(Drop)]
+#[derive(Clone, Copy)]
 pub enum ConsensusMsg {
     Prepare {
         slot: u64,
@@ -134,7 +136,7 @@ pub enum ConsensusMsg {
 }
 
 // A message with its source and the last value that the source had committed.
-#[derive(Drop)]
+#[derive(Clone, Copy)]
 pub struct ConsensusMessage {
     pub msg: ConsensusMsg,
     pub src: u64,
@@ -142,7 +144,7 @@ pub struct ConsensusMessage {
 }
 
 // Why a call is refused, in the order of document 01's table. The definition refusal_number has the numbers.
-#[derive(Drop)]
+#[derive(Clone, Copy)]
 pub enum Refusal {
     SettingsOutsideLimits,
     NumberTooLarge,
@@ -159,7 +161,7 @@ pub enum Refusal {
 }
 
 // What became of a call, or of a step of it.
-#[derive(Drop)]
+#[derive(Clone, Copy)]
 pub enum Outcome {
     Done,
     Refused(Refusal),

@@ -1,4 +1,6 @@
 // The messages of a reply as bytes: docs/ORACLE.md, "Answer lines", 2.
+#![tactic(auto)]
+
 ghost use Rattle.std.specs.Prelude.{◌≡◌};
 ghost use Rattle.texts.specs.Text.{put};
 ghost use Rattle.message_lines.specs.Messages.{optional_process_text, message_text, destination_text, optional_message_text, messages_text};

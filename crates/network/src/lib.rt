@@ -1,4 +1,6 @@
 // The messages under way in a group run, each with the member that it goes to.
+#![tactic(auto)]
+
 ghost use Rattle.std.specs.Prelude.{◌≡◌};
 ghost use Rattle.network.specs.Network.{no_parcel, new_network, posted, without, posted_to_other, posted_to_all, sent, under};
 
@@ -6,14 +8,14 @@ use message::{ConsensusMessage, ConsensusMsg, OptionalValue};
 use steps::{Destination, Outgoing};
 
 // A message on its way to one member.
-#[derive(Drop)]
+#[derive(Clone, Copy)]
 pub struct Parcel {
     pub member: u64,
     pub message: ConsensusMessage,
 }
 
 // The messages under way, in the first count places.
-#[derive(Drop)]
+#[derive(Clone, Copy)]
 pub struct Network {
     pub parcels: [Parcel; 128],
     pub count: u64,

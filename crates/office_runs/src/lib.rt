@@ -1,4 +1,6 @@
 // A run of the three offices of request E12, event after event: the group by value, and what the run has brought so far.
+#![tactic(auto)]
+
 ghost use Rattle.std.specs.Prelude.{◌≡◌};
 ghost use Rattle.sets.specs.Sets.{insert};
 ghost use Rattle.group.specs.Steps.{is_done};
@@ -18,26 +20,26 @@ use steps::{Destination, Messages, OptionalMessage, Outgoing};
 
 // A call hands back at most three messages and one commit, so that in each of these there is room for five events. The first count places are
 // filled, in time order.
-#[derive(Drop)]
+#[derive(Clone, Copy)]
 pub struct SentSoFar {
     pub places: [Sending; 15],
     pub count: u64,
 }
 
-#[derive(Drop)]
+#[derive(Clone, Copy)]
 pub struct EventsSoFar {
     pub places: [EventPlace; 5],
     pub count: u64,
 }
 
-#[derive(Drop)]
+#[derive(Clone, Copy)]
 pub struct CommitsSoFar {
     pub places: [CommitBy; 5],
     pub count: u64,
 }
 
 // The group of three after a run, the set of those that have proposed, and what the run has brought.
-#[derive(Drop)]
+#[derive(Clone, Copy)]
 pub struct OfficeRun {
     pub members: [Shard; 3],
     pub proposed: u64,
@@ -47,7 +49,7 @@ pub struct OfficeRun {
 }
 
 // Whether an event may come next, and the run with it; where it may not, the run as it was.
-#[derive(Drop)]
+#[derive(Clone, Copy)]
 pub struct Trial {
     pub allowed: bool,
     pub run: OfficeRun,

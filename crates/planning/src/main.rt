@@ -1,10 +1,12 @@
 // The planners' command line: reads questions on standard input, a line each, and writes the answers, a line each (docs/PLANNING.md). A line of
 // more than 1,048,576 bytes, without its LF, is too long and so a bad line.
+#![tactic(auto)]
+
 use register::Register;
 
 // Between two blocks: the register, how many bytes of a line that has not ended stand at the start of the input buffer, whether the rest of a
 // line that is too long is being skipped, and whether the input may go on.
-#[derive(Drop)]
+#[derive(Clone, Copy)]
 struct BetweenBlocks {
     register: Register,
     kept: usize,
@@ -13,7 +15,7 @@ struct BetweenBlocks {
 }
 
 // The register after the lines of a block, and how many bytes of the input are used.
-#[derive(Drop)]
+#[derive(Clone, Copy)]
 struct AfterLines {
     register: Register,
     used: usize,

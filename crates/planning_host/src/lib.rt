@@ -1,4 +1,6 @@
 // What a host in C, C++ or Rust calls of the planning modules: numbers in and numbers out (include/chanbook_planning.h).
+#![tactic(auto)]
+
 ghost use Rattle.std.specs.Prelude.{◌≡◌};
 ghost use Rattle.register.specs.Register.{new_register};
 ghost use Rattle.register_arrays.specs.Columns.{register_of, entry_from_numbers, after_entry, report_in};
@@ -15,7 +17,7 @@ use register::CellNumber;
 
 // The number of document 02 that refuses, with 0 as the value; or 0 and the value.
 #[repr(C)]
-#[derive(Drop)]
+#[derive(Clone, Copy)]
 pub struct FlatValue {
     pub refusal: u64,
     pub value: u64,
@@ -24,7 +26,7 @@ pub struct FlatValue {
 // What became of a list that was to be fed: the number that refuses it, with nothing fed; or 0, and the first slot that was refused with its number,
 // both 0 where none was.
 #[repr(C)]
-#[derive(Drop)]
+#[derive(Clone, Copy)]
 pub struct FlatFed {
     pub refusal: u64,
     pub slot: u64,

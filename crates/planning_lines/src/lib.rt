@@ -1,4 +1,6 @@
 // A line of `planning`, from its bytes to what it asks, and the answer as bytes (docs/PLANNING.md).
+#![tactic(auto)]
+
 ghost use Rattle.std.specs.Prelude.{◌≡◌};
 ghost use Rattle.texts.specs.Text.{put};
 ghost use Rattle.planning_lines.specs.Questions.{frequency_question, carrier_question, entry_question, register_question, question_of};
@@ -9,7 +11,7 @@ use register::{Applied, Register};
 use register_lines::{OptionalEntry, RegisterQuestion};
 
 // What a line asks.
-#[derive(Drop)]
+#[derive(Clone, Copy)]
 pub enum Question {
     FrequencyOf(u64),
     CarrierOf(u64),
@@ -18,7 +20,7 @@ pub enum Question {
 }
 
 // The register after a line, and the place behind its answer.
-#[derive(Drop)]
+#[derive(Clone, Copy)]
 pub struct Answered {
     pub register: Register,
     pub put: usize,

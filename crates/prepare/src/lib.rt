@@ -1,4 +1,6 @@
 // What a Prepare does: the promise that is held and answered, and the promises that the round's delegate gathers until it proposes a value.
+#![tactic(auto)]
+
 ghost use Rattle.std.specs.Prelude.{◌≡◌};
 ghost use Rattle.prepare.specs.Prepare.{hold_first, may_answer, answer_prepare, leaves_leader, answers_nothing, preparing, after_held, prepared, off_fast_path, broadcast_accept, after_own_accept, accept_phase, with_promise, becomes_prepared, gather, has_accepted};
 

@@ -1,4 +1,6 @@
 // Values, rounds and promises as bytes, as they stand in a message and in a shard: docs/ORACLE.md, "Answer lines", 2 and 5.
+#![tactic(auto)]
+
 ghost use Rattle.std.specs.Prelude.{◌≡◌};
 ghost use Rattle.texts.specs.Text.{put};
 ghost use Rattle.promise_lines.specs.Promises.{optional_value_text, optional_round_text, promise_text, held_text};

@@ -1,4 +1,6 @@
 // Who may propose, and in which round.
+#![tactic(auto)]
+
 ghost use Rattle.std.specs.Prelude.{◌≡◌};
 ghost use Rattle.proposal.specs.Proposal.{not_allowed, electing, proposal_round, round_allowed, may_propose};
 

@@ -1,4 +1,6 @@
 // What a proposal does: the first step of the mode, a Prepare, an Accept, or a fast proposal.
+#![tactic(auto)]
+
 ghost use Rattle.std.specs.Prelude.{◌≡◌};
 ghost use Rattle.propose.specs.Propose.{proposed, propose_prepare, after_own_promise, propose_accept, propose_classic, after_own_answer, own_answer, leads_from_start, propose_change, propose_fast};
 

@@ -1,9 +1,11 @@
 // The quorums for a number of replicas, by document 01's formula.
+#![tactic(auto)]
+
 ghost use Rattle.std.specs.Prelude.{◌≡◌, max, min};
 ghost use Rattle.quorum.specs.Quorum.{row_of};
 
 // The quorums for one number of replicas: a majority, EPaxos's, and the fast one.
-#[derive(Drop)]
+#[derive(Clone, Copy)]
 pub struct QuorumRow {
     pub majority: u64,
     pub epaxos: u64,

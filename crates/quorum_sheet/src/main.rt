@@ -1,5 +1,7 @@
 // The quorum sheet: reads a number of replicas, from 1 to 64, on the first line of standard input, and writes
 // the quorums for each count from 1 to it as CSV.
+#![tactic(auto)]
+
 ghost use Rattle.io.specs.Counts.{IsPrefixLen};
 
 // Reads standard input, a byte at a time so that an answer waits for nothing after the line, until LF, the end of the

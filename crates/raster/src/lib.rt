@@ -1,16 +1,18 @@
 // Carrier numbers (NR-ARFCN) of 3GPP TS 38.104, to whole kHz and back (document 02, E5).
+#![tactic(auto)]
+
 ghost use Rattle.std.specs.Prelude.{◌≡◌, ◌+◌, ◌<◌, ◌≤◌};
 ghost use Rattle.raster.specs.Raster.{frequency_of, whole_steps, number_of, frequency_refusal, khz_of, carrier_refusal, carrier_of};
 
 // The frequency of a carrier number.
-#[derive(Drop)]
+#[derive(Clone, Copy)]
 pub enum Frequency {
     Khz(u64),
     NoRasterNumber,
 }
 
 // The carrier number of a frequency in kHz.
-#[derive(Drop)]
+#[derive(Clone, Copy)]
 pub enum Carrier {
     Number(u64),
     NoRasterFrequency,

@@ -1,12 +1,14 @@
 // The reads of a shard that are not served yet (the Rust's read_tracker.rs): their table, a new read, and what one answer adds to a read.
 // The Rust's map is a table of 128 places, the open reads in front, in the order of their ids.
+#![tactic(auto)]
+
 ghost use Rattle.std.specs.Prelude.{◌≡◌};
 ghost use Rattle.read_tracker.specs.Reads.{new_tracker, new_table, new_read, insert, open_places, after_response, after_commit, has_quorum, serve};
 
 use message::{ReadId, Refusal, increment, saturating_sub};
 
 // A read that waits for its quorum: the Rust's ReadOnlyCommand with its id. The host keeps the command under the tag.
-#[derive(Drop)]
+#[derive(Clone, Copy)]
 pub struct OpenRead {
     pub id: ReadId,
     pub tag: u64,
@@ -16,7 +18,7 @@ pub struct OpenRead {
 }
 
 // A read that is served: the Rust's command with its CommitReport.
-#[derive(Drop)]
+#[derive(Clone, Copy)]
 pub struct ServedRead {
     pub id: ReadId,
     pub tag: u64,
@@ -25,27 +27,27 @@ pub struct ServedRead {
 }
 
 // What each call changes of the reads: the id of the next one, and how many are open.
-#[derive(Drop)]
+#[derive(Clone, Copy)]
 pub struct ReadTracker {
     pub next_id: u64,
     pub open_count: u64,
 }
 
 // The open reads stand in the first open_count places. A call puts the reads that it serves into the first places of `served`.
-#[derive(Drop)]
+#[derive(Clone, Copy)]
 pub struct ReadTable {
     pub reads: [OpenRead; 128],
     pub served: [ServedRead; 128],
 }
 
 // What became of a new read: refused, or taken under an id.
-#[derive(Drop)]
+#[derive(Clone, Copy)]
 pub enum Opened {
     Refused(Refusal),
     Id(ReadId),
 }
 
-#[derive(Drop)]
+#[derive(Clone, Copy)]
 pub struct Inserted {
     pub tracker: ReadTracker,
     pub table: ReadTable,

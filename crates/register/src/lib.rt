@@ -1,4 +1,6 @@
 // A register of cells from the commits (document 02, E6).
+#![tactic(auto)]
+
 ghost use Rattle.std.specs.Prelude.{◌≡◌, ◌<◌, ◌≤◌, min, take};
 ghost use Rattle.serving.specs.Serving.{at_front, without};
 ghost use Rattle.register.specs.Cells.{found, with_at};
@@ -12,21 +14,21 @@ use raster::frequency_of;
 pub type CellNumber = u32;
 
 // "an assignment (carrier number, width in kHz from 1 to 400,000)"
-#[derive(Drop)]
+#[derive(Clone, Copy)]
 pub struct Assignment {
     pub carrier: u64,
     pub width: u64,
 }
 
 // "either an assignment .. or a release"
-#[derive(Drop)]
+#[derive(Clone, Copy)]
 pub enum Change {
     Assign(Assignment),
     Release,
 }
 
 // What a slot's commit says of a cell.
-#[derive(Drop)]
+#[derive(Clone, Copy)]
 pub struct CellEntry {
     pub slot: u64,
     pub cell: CellNumber,
@@ -34,14 +36,14 @@ pub struct CellEntry {
 }
 
 // A live cell.
-#[derive(Drop)]
+#[derive(Clone, Copy)]
 pub struct Cell {
     pub number: CellNumber,
     pub assignment: Assignment,
 }
 
 // The assignments made, superseded and released so far.
-#[derive(Drop)]
+#[derive(Clone, Copy)]
 pub struct Figures {
     pub made: u64,
     pub superseded: u64,
@@ -49,7 +51,7 @@ pub struct Figures {
 }
 
 // The slot after the last one seen, the figures, and the live cells: they stand in the first live_count places, by number.
-#[derive(Drop)]
+#[derive(Clone, Copy)]
 pub struct Register {
     pub next_slot: u64,
     pub figures: Figures,
@@ -58,7 +60,7 @@ pub struct Register {
 }
 
 // Why an entry is refused.
-#[derive(Drop)]
+#[derive(Clone, Copy)]
 pub enum EntryRefusal {
     NumberTooLarge,
     NotAssignable,
@@ -67,7 +69,7 @@ pub enum EntryRefusal {
 }
 
 // What became of an entry: it was done, its slot was not after the last one seen, or it was refused.
-#[derive(Drop)]
+#[derive(Clone, Copy)]
 pub enum EntryOutcome {
     Done,
     Older,
@@ -101,14 +103,14 @@ impl EntryOutcome {
     }
 }
 
-#[derive(Drop)]
+#[derive(Clone, Copy)]
 pub struct Applied {
     pub register: Register,
     pub outcome: EntryOutcome,
 }
 
 // Where a cell stands, or would stand, among the live ones, and whether it is live.
-#[derive(Drop)]
+#[derive(Clone, Copy)]
 pub struct Found {
     pub at: usize,
     pub live: bool,

@@ -2,6 +2,8 @@
 // i holds the number, the carrier and the width of live cell i, and five figures: the next slot, assignments made, superseded and released,
 // and the number of live cells. The contracts are those of crates/register, on the register that the numbers stand for, whatever they are.
 // Behind the exported functions a column is passed on as a slice: from the moment that it is lent so a proof knows its length.
+#![tactic(auto)]
+
 ghost use Rattle.std.specs.Prelude.{◌≡◌, ◌<◌, ◌≤◌, length, set, take};
 ghost use Rattle.serving.specs.Serving.{at_front, without};
 ghost use Rattle.register.specs.Cells.{cell_of, found, with_at};

@@ -1,4 +1,6 @@
 // Lines about a register of cells (docs/PLANNING.md): an entry line, from its bytes to the entry, and what is written of a register.
+#![tactic(auto)]
+
 ghost use Rattle.std.specs.Prelude.{◌≡◌};
 ghost use Rattle.texts.specs.Text.{put};
 ghost use Rattle.register.specs.Register.{done};
@@ -11,7 +13,7 @@ use register::{Applied, Assignment, Cell, CellEntry, CellNumber, Change, EntryOu
 use report::ReportPage;
 
 // What a line says of a cell, and where that ends.
-#[derive(Drop)]
+#[derive(Clone, Copy)]
 pub struct LineChange {
     pub cell: CellNumber,
     pub change: Change,
@@ -19,21 +21,21 @@ pub struct LineChange {
 }
 
 // What a line says of a cell from a place on, if it does.
-#[derive(Drop)]
+#[derive(Clone, Copy)]
 pub enum OptionalChange {
     Says(LineChange),
     NoChange,
 }
 
 // The entry that a line gives, if it does.
-#[derive(Drop)]
+#[derive(Clone, Copy)]
 pub enum OptionalEntry {
     Gives(CellEntry),
     NoEntry,
 }
 
 // What a line asks of the register: a new one, one entry more, the figures of its report, or its live cells.
-#[derive(Drop)]
+#[derive(Clone, Copy)]
 pub enum RegisterQuestion {
     Begin,
     Enter(CellEntry),
@@ -42,7 +44,7 @@ pub enum RegisterQuestion {
 }
 
 // The register after the entry lines so far, and whether one of the lines was no entry line.
-#[derive(Drop)]
+#[derive(Clone, Copy)]
 pub struct LinesTaken {
     pub register: Register,
     pub refused: bool,

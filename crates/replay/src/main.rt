@@ -1,5 +1,7 @@
 // Reads calls on standard input, a line each, runs them on one shard, and writes the answers, a line each (docs/ORACLE.md, "Call lines" and
 // "Answer lines"). A line that does not fit a block of 65,536 bytes is too long.
+#![tactic(auto)]
+
 ghost use Rattle.std.specs.Prelude.{◌≡◌};
 ghost use Rattle.io.specs.Counts.{IsPrefixLen};
 ghost use Rattle.replay.specs.Answer.{answered, new_answer, with_state, answer_of};
@@ -13,7 +15,7 @@ use state_calls::State;
 
 // The shard between two blocks: the shard, how many bytes of a line that has not ended stand at the start of the input buffer, whether
 // the rest of a line that is too long is being skipped, and whether the input may go on.
-#[derive(Drop)]
+#[derive(Clone, Copy)]
 struct BetweenBlocks {
     shard: Shard,
     kept: usize,
@@ -22,7 +24,7 @@ struct BetweenBlocks {
 }
 
 // The shard after a line, or after some, with how many bytes of input are used and of output are put.
-#[derive(Drop)]
+#[derive(Clone, Copy)]
 struct Answered {
     shard: Shard,
     used: usize,

@@ -1,4 +1,6 @@
 // A reply as bytes: its outcome, messages, commit and served reads (docs/ORACLE.md, "Answer lines", 1 to 4).
+#![tactic(auto)]
+
 ghost use Rattle.std.specs.Prelude.{◌≡◌};
 ghost use Rattle.texts.specs.Text.{put, first_places};
 ghost use Rattle.reply_lines.specs.Reply.{outcome_text, commit_text, served_text, reply_text};

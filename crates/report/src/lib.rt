@@ -1,4 +1,6 @@
 // The report of a register of cells, as CSV (RFC 4180; document 02, E6).
+#![tactic(auto)]
+
 ghost use Rattle.std.specs.Prelude.{◌≡◌};
 ghost use Rattle.texts.specs.Text.{put};
 ghost use Rattle.report.specs.Report.{figure_text, figures_text, report_text, refusal_text, page_holding, page_with, register_page};
@@ -7,7 +9,7 @@ use register::{Figures, Register, live_places};
 
 // The text of a report at the start of bytes, zeros after it, and the length of the text. A header of 31 bytes and a line of at most 85
 // are 116 bytes, so there is room enough.
-#[derive(Drop)]
+#[derive(Clone, Copy)]
 pub struct ReportPage {
     pub bytes: [u8; 116],
     pub len: usize,

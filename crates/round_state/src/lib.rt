@@ -1,5 +1,7 @@
 // The round state of the paxos family, first half: rounds, the held promise, and who is counted. With the crates fast_state, epaxos_state and
 // swift_state it is the Rust's round_state.rs. Each operation takes the state and hands back the next one.
+#![tactic(auto)]
+
 ghost use Rattle.std.specs.Prelude.{◌≡◌};
 ghost use Rattle.round_state.specs.Paxos.{get_v, get_last_accepted_round, is_held, is_prepared, paxos_can_commit, taken, refused, with_sender, with_own, counted, with_round, with_held, goto_round, next_round, full_clear, held_after_promise, receive_promise, paxos_propose_v, held_is, accept_fits, receive_accept, accept_own, self_accept, adopt_from_epaxos};
 
@@ -7,7 +9,7 @@ use message::{OptionalRound, OptionalValue, Outcome, PaxosRound, Refusal, RoundV
 use quorum::QuorumRow;
 
 // What the round state asks of the settings: the own number, whether it is a replica's, and the quorums.
-#[derive(Drop)]
+#[derive(Clone, Copy)]
 pub struct Member {
     pub my_pid: u64,
     pub replica: bool,
@@ -15,14 +17,14 @@ pub struct Member {
 }
 
 // The Rust's Option<RoundV>: the promise that is held.
-#[derive(Drop)]
+#[derive(Clone, Copy)]
 pub enum HeldPromise {
     NothingHeld,
     Held(RoundV),
 }
 
 // Paxos and MultiPaxos state. The prepared and accepted counts are the sizes of their sets.
-#[derive(Drop)]
+#[derive(Clone, Copy)]
 pub struct PaxosState {
     pub round: OptionalRound,
     pub max_rv: HeldPromise,
@@ -31,13 +33,13 @@ pub struct PaxosState {
 }
 
 // What a promise makes of the state.
-#[derive(Drop)]
+#[derive(Clone, Copy)]
 pub struct Promised {
     pub state: PaxosState,
 }
 
 // A step of the state, and whether it is refused.
-#[derive(Drop)]
+#[derive(Clone, Copy)]
 pub struct PaxosStep {
     pub state: PaxosState,
     pub outcome: Outcome,

@@ -1,5 +1,7 @@
 // A call on the rounds of a shard, which are the core with the fast half: what EPaxos and SwiftPaxos change. A call comes here when the core has
 // passed it on; the answer says where it still goes on with the table of the reads.
+#![tactic(auto)]
+
 ghost use Rattle.std.specs.Prelude.{◌≡◌};
 ghost use Rattle.rounds_calls.specs.RoundsCall.{with_fast, rounds_send, rounds_refuse, next_slot, rounds_committed, rounds_finish_at, rounds_finish, rounds_handle, rounds_taken, rounds_passed, rounds_call};
 
@@ -10,7 +12,7 @@ use message::{ConsensusMsg, Refusal};
 use steps::{Asked, Heard, Messages, Next, Rounds, RoundsStep, no_messages};
 
 // What a call makes of the rounds, and its reply. Where `deeper` is set the call goes on with the reads.
-#[derive(Drop)]
+#[derive(Clone, Copy)]
 pub struct RoundsAnswer {
     pub rounds: Rounds,
     pub reply: Reply,

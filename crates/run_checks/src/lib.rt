@@ -1,4 +1,6 @@
 // For random group runs: a generator, and a log with the check of demand 3's claim on it.
+#![tactic(auto)]
+
 ghost use Rattle.std.specs.Prelude.{◌≡◌, ◌&&◌, ◌||◌, cond, min, ◌+◌, ◌<◌};
 ghost use Rattle.run_checks.specs.Random.{next_random};
 ghost use Rattle.run_checks.specs.Log.{proposal_of, commit_of, is_commit_of, agrees, is_same, proposes, before_of, and_then, allows, passes, new_log, logged, slot_in};
@@ -13,7 +15,7 @@ pub fn next_random(x: u64) -> u64
 }
 
 // What the log keeps of a call: a proposal that was not refused, with the slot of its member, or a commit, with the slot that it names.
-#[derive(Drop)]
+#[derive(Clone, Copy)]
 pub struct Event {
     pub commit: bool,
     pub member: u64,
@@ -22,7 +24,7 @@ pub struct Event {
 }
 
 // The events in their order, in the first count places.
-#[derive(Drop)]
+#[derive(Clone, Copy)]
 pub struct Log {
     pub events: [Event; 256],
     pub count: u64,
@@ -30,7 +32,7 @@ pub struct Log {
 
 // What the events before one say of it: whether the commits of its slot have its value, whether its value was proposed in its slot, and
 // the number of its member's commits.
-#[derive(Drop)]
+#[derive(Clone, Copy)]
 pub struct Before {
     pub agree: bool,
     pub proposed: bool,

@@ -1,4 +1,6 @@
 // The parts of a line of the listing of short runs (request E12): events and commits, joined by blanks.
+#![tactic(auto)]
+
 ghost use Rattle.std.specs.Prelude.{◌≡◌, min};
 ghost use Rattle.texts.specs.Text.{put};
 ghost use Rattle.run_lines.specs.Lines.{pair, event_text, commit_by_text, joined_by_blanks, blank, event_place_text, first_five};

@@ -1,5 +1,7 @@
 // What a response and a commit do with the open reads: which of them are served, and which stay open. The Rust's read_tracker.rs,
 // `receive_ready` and `commit_slot`.
+#![tactic(auto)]
+
 ghost use Rattle.std.specs.Prelude.{◌≡◌, ◌<◌, ◌≤◌, take};
 ghost use Rattle.read_tracker.specs.Reads.{open_reads};
 ghost use Rattle.serving.specs.Serving.{place, without, at_front, receive_ready, commit_slot};
@@ -8,7 +10,7 @@ use message::ReadId;
 use read_tracker::{OpenRead, ReadTable, ReadTracker};
 
 // Tracker and table after a response or a commit, with the number of reads that it served.
-#[derive(Drop)]
+#[derive(Clone, Copy)]
 pub struct Tracked {
     pub tracker: ReadTracker,
     pub table: ReadTable,

@@ -1,9 +1,11 @@
 // Sets of process numbers as 64 bits, in place of the Rust's BitSet: process p is in the set s where bit p of s is 1.
+#![tactic(auto)]
+
 ghost use Rattle.std.specs.Prelude.{◌≡◌};
 ghost use Rattle.sets.specs.Sets.{contains, insert, size, fits, is_empty};
 
 // The Rust's Option<BitSet>.
-#[derive(Drop)]
+#[derive(Clone, Copy)]
 pub enum OptionalSet {
     NoSet,
     Set(u64),

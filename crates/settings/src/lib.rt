@@ -1,4 +1,6 @@
 // The settings of a group, as its host makes them for one member, their limits, and what the engine asks of them.
+#![tactic(auto)]
+
 ghost use Rattle.std.specs.Prelude.{◌≡◌};
 ghost use Rattle.settings.specs.Settings.{counts_fit, members_fit, committers_fit, quorum_fits, mode_fits, within_limits};
 ghost use Rattle.settings.specs.Questions.{quorums_of, is_replica, is_live_replica, delegate_in, committer_for, committer_in, starting_round_of};
@@ -9,7 +11,7 @@ use sets::OptionalSet;
 
 // The tables have a place for each process. Committers are given for all processes or for none, as in the Rust;
 // delegates count in Pando alone, and the fixed quorum in SwiftPaxos alone.
-#[derive(Drop)]
+#[derive(Clone, Copy)]
 pub struct Settings {
     pub process_count: u64,
     pub replica_count: u64,

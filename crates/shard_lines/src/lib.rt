@@ -1,4 +1,6 @@
 // A shard as bytes: its numbers, its proposers and its open reads (docs/ORACLE.md, "Answer lines", 5 to 7).
+#![tactic(auto)]
+
 ghost use Rattle.std.specs.Prelude.{◌≡◌};
 ghost use Rattle.texts.specs.Text.{put, first_places};
 ghost use Rattle.shard_lines.specs.Shard.{core_text, sets_text, if_proposer, proposers_below, open_text, shard_text};

@@ -1,4 +1,6 @@
 // The quorum sheet: the quorums for 1 up to a number of replicas, as CSV (RFC 4180).
+#![tactic(auto)]
+
 ghost use Rattle.std.specs.Prelude.{◌≡◌, [], ◌∷◌, ◌+◌, ◌≤◌, ◌<◌, length};
 ghost use Rattle.sheet.specs.Text.{Put, text, field};
 ghost use Rattle.sheet.specs.Sheet.{line_of, sheet_of};
@@ -6,7 +8,7 @@ ghost use Rattle.sheet.specs.Answer.{answer_of, page_of};
 
 // An answer: its text at the start of bytes, zeros after it, and the length of the text. A header
 // of 31 bytes and 64 lines of at most 13 are 863 bytes, so there is room enough.
-#[derive(Drop)]
+#[derive(Clone, Copy)]
 pub struct Page {
     pub bytes: [u8; 863],
     pub len: usize,

@@ -1,4 +1,5 @@
 // The answers of the quorum sheet to many inputs, one after the other.
+#![tactic(auto)]
 
 // Writes the answer to the input.
 fn write_answer(input: &[u8]) {

@@ -1,4 +1,6 @@
 // The number of replicas that the first line of an input asks for.
+#![tactic(auto)]
+
 ghost use Rattle.std.specs.Prelude.{◌≡◌, get_or};
 ghost use Rattle.sheet_count.specs.Count.{count_of_bytes, count_asked};
 

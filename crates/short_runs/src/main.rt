@@ -1,5 +1,7 @@
 // Every run of a group of three in Paxos mode, at most five events long, as CSV (request E12). It reads nothing. The lister goes down one event at a
 // time with the events left falling, and writes each run's line before those of the runs that extend it.
+#![tactic(auto)]
+
 ghost use Rattle.std.specs.Prelude.{◌≡◌, ◌≤◌, length, take};
 ghost use Rattle.io.specs.Counts.{IsPrefixLen};
 ghost use Rattle.texts.specs.Text.{put};

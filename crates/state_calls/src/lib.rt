@@ -1,5 +1,7 @@
 // A call on everything of a shard that calls change: the core first, then in EPaxos and SwiftPaxos the rounds, and then the table of the reads
 // where some may have become ready or one is opened.
+#![tactic(auto)]
+
 ghost use Rattle.std.specs.Prelude.{◌≡◌, not};
 ghost use Rattle.round_state.specs.Paxos.{is_held};
 ghost use Rattle.state_calls.specs.StateCall.{with_tracker, with_table, served, serve_ready, count_response, after_insert, open_read, reads_handle, reads_taken, with_reads, state_passed, state_after, state_call};
@@ -14,13 +16,13 @@ use serving::Tracked;
 use steps::{Asked, Core, Rounds, one_message};
 
 // Everything that calls change: core and fast half, and the table of the reads.
-#[derive(Drop)]
+#[derive(Clone, Copy)]
 pub struct State {
     pub rounds: Rounds,
     pub table: ReadTable,
 }
 
-#[derive(Drop)]
+#[derive(Clone, Copy)]
 pub struct StateAnswer {
     pub state: State,
     pub reply: Reply,

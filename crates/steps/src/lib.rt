@@ -1,6 +1,8 @@
 // What the handlers work on: the part of a shard that they change, what they ask of the settings and of a message, and the steps that they
 // are chains of. A step hands back the next state, the messages to send, and how the call goes on; a refused step is dropped whole by the
 // shard that made the call, so that nothing has to be undone.
+#![tactic(auto)]
+
 ghost use Rattle.std.specs.Prelude.{◌≡◌};
 ghost use Rattle.fast_state.specs.Fast.{unchanged};
 ghost use Rattle.steps.specs.Steps.{no_messages, one_message, two_messages, also_behind, also, sends, to_all, first_served, held_rv, held_v, with_paxos, left_fast_path, stays, continues, commits, refuses, with_change, change_rounds, goes_on};
@@ -16,7 +18,7 @@ use sets::OptionalSet;
 
 // What every call may change: slot, last committed value, whether the slot has left the fast path, the first half of the round
 // state, and the next read id with the number of open reads.
-#[derive(Drop)]
+#[derive(Clone, Copy)]
 pub struct Core {
     pub slot: u64,
     pub last_v: OptionalValue,
@@ -26,14 +28,14 @@ pub struct Core {
 }
 
 // With the half of the round state that EPaxos and SwiftPaxos change besides.
-#[derive(Drop)]
+#[derive(Clone, Copy)]
 pub struct Rounds {
     pub core: Core,
     pub fast: FastState,
 }
 
 // What the handlers ask of the settings.
-#[derive(Drop)]
+#[derive(Clone, Copy)]
 pub struct Asked {
     pub member: Member,
     pub mode: PFMode,
@@ -45,7 +47,7 @@ pub struct Asked {
 // What the handlers ask of a Prepare or an Accept besides its fields: its source, whether that is a live replica, who gathers the
 // promises of its round, and the requesters that the host names for its value and for the value in the held promise, with the
 // committer of the first.
-#[derive(Drop)]
+#[derive(Clone, Copy)]
 pub struct Heard {
     pub src: u64,
     pub source_live: bool,
@@ -56,26 +58,26 @@ pub struct Heard {
 }
 
 // Where a message goes: to one process, or to every other process, with the one that is served first.
-#[derive(Drop)]
+#[derive(Clone, Copy)]
 pub enum Destination {
     One(u64),
     All(OptionalProcess),
 }
 
-#[derive(Drop)]
+#[derive(Clone, Copy)]
 pub struct Outgoing {
     pub destination: Destination,
     pub message: ConsensusMessage,
 }
 
-#[derive(Drop)]
+#[derive(Clone, Copy)]
 pub enum OptionalMessage {
     NoMessage,
     Send(Outgoing),
 }
 
 // At most three messages, in the order in which they are sent.
-#[derive(Drop)]
+#[derive(Clone, Copy)]
 pub struct Messages {
     pub first: OptionalMessage,
     pub second: OptionalMessage,
@@ -83,7 +85,7 @@ pub struct Messages {
 }
 
 // How a call goes on after a step: not at all, with the next step, with the commit of a value, or it is refused.
-#[derive(Drop)]
+#[derive(Clone, Copy)]
 pub enum Next {
     Stays,
     Continues,
@@ -105,7 +107,7 @@ impl Next {
     }
 }
 
-#[derive(Drop)]
+#[derive(Clone, Copy)]
 pub struct CoreStep {
     pub core: Core,
     pub messages: Messages,
@@ -113,7 +115,7 @@ pub struct CoreStep {
 }
 
 // A step in EPaxos and SwiftPaxos, which says besides what changes in the fast half.
-#[derive(Drop)]
+#[derive(Clone, Copy)]
 pub struct ChangeStep {
     pub core: Core,
     pub messages: Messages,
@@ -121,7 +123,7 @@ pub struct ChangeStep {
     pub change: FastChange,
 }
 
-#[derive(Drop)]
+#[derive(Clone, Copy)]
 pub struct RoundsStep {
     pub rounds: Rounds,
     pub messages: Messages,

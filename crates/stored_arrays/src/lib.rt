@@ -1,4 +1,6 @@
 // A stored register of 16-bit cells in arrays of numbers, read into the arrays of a register (document 02, E7).
+#![tactic(auto)]
+
 ghost use Rattle.std.specs.Prelude.{◌≡◌, length};
 ghost use Rattle.stored_register.specs.Stored.{widened};
 ghost use Rattle.register_arrays.specs.Columns.{register_of};

@@ -1,5 +1,7 @@
 // The line of `planning` that begins the register which a stored one of 16-bit cells becomes (docs/PLANNING.md; document 02, E7): the next slot,
 // assignments made, superseded and released, the number of cells, and of each cell its number, carrier and width.
+#![tactic(auto)]
+
 ghost use Rattle.std.specs.Prelude.{◌≡◌, ◌<◌, ◌≤◌, length, get_or};
 ghost use Rattle.serving.specs.Serving.{at_front};
 ghost use Rattle.texts.specs.Text.{put};
@@ -12,7 +14,7 @@ use register::{Assignment, Figures, Register};
 use stored_register::{StoredCell, StoredRegister};
 
 // Whether the bytes behind the line's word are such numbers, and the register that they begin; a new one where they are not.
-#[derive(Drop)]
+#[derive(Clone, Copy)]
 pub struct StoredLine {
     pub taken: bool,
     pub register: Register,

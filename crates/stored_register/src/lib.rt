@@ -1,18 +1,20 @@
 // A register of cells as E6 stored it, with cell numbers of 16 bits, and the register that it becomes (document 02, E7).
+#![tactic(auto)]
+
 ghost use Rattle.std.specs.Prelude.{◌≡◌, map};
 ghost use Rattle.stored_register.specs.Stored.{widened_cell, widened};
 
 use register::{Assignment, Cell, CellNumber, Figures, Register};
 
 // A cell of E6: its number has 16 bits.
-#[derive(Drop)]
+#[derive(Clone, Copy)]
 pub struct StoredCell {
     pub number: u16,
     pub assignment: Assignment,
 }
 
 // A register of E6, field by field.
-#[derive(Drop)]
+#[derive(Clone, Copy)]
 pub struct StoredRegister {
     pub next_slot: u64,
     pub figures: Figures,

@@ -1,4 +1,6 @@
 // The fast path of SwiftPaxos: answers to a fast proposal and the commit that they bring, at a replica and at a client.
+#![tactic(auto)]
+
 ghost use Rattle.std.specs.Prelude.{◌≡◌, ◌&&◌};
 ghost use Rattle.swift_path.specs.Swift.{is_fixed, swift_commits, after_swift_answer, swift_answer, swift_client_prepare, after_client_accept, client_accept, leader_answered, from_leader, accept_answered, after_accept_answer, swift_accept, swift_client_accept, after_replica_answer, swift_answered_accept};
 

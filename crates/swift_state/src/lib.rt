@@ -1,4 +1,6 @@
 // SwiftPaxos on the second half of the round state: the answers of the fast quorum, which may be fixed, the leader's answer, and the commit.
+#![tactic(auto)]
+
 ghost use Rattle.std.specs.Prelude.{◌≡◌};
 ghost use Rattle.fast_state.specs.Fast.{swift_quorum, in_quorum, leader_answer_after, swift_counted, swift_recorded, swift_uncounted, swift_first, swift_answered, swift_own, swift_unanswered, swift_propose_v, swift_can_commit};
 

@@ -1,4 +1,6 @@
 // A number for each process, as an array by process: in place of the Rust's Vec<usize> and HashMap<usize, usize>.
+#![tactic(auto)]
+
 ghost use Rattle.std.specs.Prelude.{◌≡◌, ◌&&◌, min, ltb};
 ghost use Rattle.tables.specs.Tables.{look_up, store, all_below};
 

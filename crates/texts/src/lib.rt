@@ -1,6 +1,8 @@
 // Texts put into a buffer: bytes, and numbers in decimal. Each function whose name begins with put writes at the place `at` of the buffer and
 // hands back the place after what it wrote; its contract says which text that is. A byte for which there is no room is left out, so that no
 // function asks how much room there is; where there is room the text is put whole (`put_fits`, proofs/Lengths.antt).
+#![tactic(auto)]
+
 ghost use Rattle.std.specs.Prelude.{◌≡◌, [], ◌∷◌};
 ghost use Rattle.texts.specs.Text.{put, decimal, field, fields, flag_number};
 

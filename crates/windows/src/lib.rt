@@ -1,5 +1,7 @@
 // Change windows (document 02, E8): their check when settings are made, what is kept of them for questions, and whether a minute is inside one, and if
 // not, when the next begins. A question looks at the kept minutes alone, and at no date.
+#![tactic(auto)]
+
 ghost use Rattle.std.specs.Prelude.{◌≡◌, true, map, ◌≤◌, length, take};
 ghost use Rattle.windows.specs.Windows.{start_of, end_of, is_window, all_fit, agreed, check_windows, holds_minute, some_holds, nearer, nearest_start, ask_minutes, window_refusal_number, check_number, minute_places, no_windows, kept_of, kept_in, ask_kept};
 
@@ -7,7 +9,7 @@ use calendar::Date;
 
 // The first minute belongs to the window and the last does not.
 #[repr(C)]
-#[derive(Drop)]
+#[derive(Clone, Copy)]
 pub struct Window {
     pub start: Date,
     pub end: Date,
@@ -15,7 +17,7 @@ pub struct Window {
 
 // The first `count` places hold the windows, in any order; they may overlap. The other places are never looked at.
 #[repr(C)]
-#[derive(Drop)]
+#[derive(Clone, Copy)]
 pub struct Windows {
     pub places: [Window; 128],
     pub count: u64,
@@ -23,7 +25,7 @@ pub struct Windows {
 
 // What is kept of windows: document 02's number where they are refused, and 0 where they are made; then how many there are, and in the first places
 // the minutes in which each starts and ends.
-#[derive(Drop)]
+#[derive(Clone, Copy)]
 pub struct KeptWindows {
     pub starts: [u64; 128],
     pub ends: [u64; 128],
@@ -32,7 +34,7 @@ pub struct KeptWindows {
 }
 
 // Why windows, or a question about them, are refused.
-#[derive(Drop)]
+#[derive(Clone, Copy)]
 pub enum WindowRefusal {
     // More than 128 windows.
     TooManyWindows,
@@ -41,14 +43,14 @@ pub enum WindowRefusal {
 }
 
 // What the check of windows gives when settings are made.
-#[derive(Drop)]
+#[derive(Clone, Copy)]
 pub enum WindowCheck {
     Made,
     Refused(WindowRefusal),
 }
 
 // What is said of a minute: it is inside a window, or the first minute of the nearest later window, or that none follows.
-#[derive(Drop)]
+#[derive(Clone, Copy)]
 pub enum WindowAnswer {
     Refused(WindowRefusal),
     Inside,
