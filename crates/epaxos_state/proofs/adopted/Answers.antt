@@ -1,0 +1,8 @@
+-- `epaxos_state::adopted` meets its contract.
+-- Assumes nothing.
+use Rattle.fast_state.specs.Adopt.{adopted}
+use Rattle.epaxos_state.proofs.adopted.Goals as goal
+
+pub returns-in-Process : goal.returns-in-Process
+unfolding adopted
+returns-in-Process c = simp (c.in-Process.is, ← c.value_in.ensures)

@@ -1,0 +1,13 @@
+-- `flat::decode_round` meets its contract.
+-- Assumes nothing.
+use borrow.Author.Tests.{eq-eqb, ne_eqb}
+use Rattle.flat.specs.Decode.{decoded_round}
+use Rattle.flat.proofs.decode_round.Goals as goal
+
+pub returns-then-f-eq0 : goal.returns-then-f-eq0
+unfolding decoded_round
+returns-then-f-eq0 c = simp (eq-eqb _ _ c.if-f-eq0.true)
+
+pub returns : goal.returns
+unfolding decoded_round
+returns c = simp (ne_eqb _ _ c.if-f-eq0.false)

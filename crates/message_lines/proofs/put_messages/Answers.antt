@@ -1,0 +1,9 @@
+-- `message_lines::put_messages` meets its contract.
+-- Assumes nothing.
+use Rattle.message_lines.specs.Messages.{messages_text}
+use Rattle.texts.proofs.Putting.{put_then}
+use Rattle.message_lines.proofs.put_messages.Goals as goal
+
+pub returns : goal.returns
+unfolding messages_text
+returns c = put_then _ _ _ (put_then _ _ _ c.put_optional_message-after_first.ensures c.put_optional_message-after_second.ensures) c.put_optional_message.ensures

@@ -1,0 +1,28 @@
+-- `paxos_family::process_change` meets its contract.
+-- Assumes nothing.
+use Rattle.paxos_family.specs.Process.{process_change}
+use Rattle.paxos_family.proofs.process_change.Goals as goal
+
+pub returns-in-Prepare : goal.returns-in-Prepare
+unfolding process_change
+returns-in-Prepare c = simp (c.in-Prepare.is, ← c.on_fast_prepare.ensures)
+
+pub returns-in-Accept : goal.returns-in-Accept
+unfolding process_change
+returns-in-Accept c = simp (c.in-Accept.is, ← c.on_fast_accept.ensures)
+
+pub returns-in-ForwardRequest : goal.returns-in-ForwardRequest
+unfolding process_change
+returns-in-ForwardRequest c = simp (c.in-ForwardRequest.is, ← c.stays_unchanged.ensures)
+
+pub returns-in-Commit : goal.returns-in-Commit
+unfolding process_change
+returns-in-Commit c = simp (c.in-Commit.is, ← c.stays_unchanged-in-Commit.ensures)
+
+pub returns-in-ReadRequest : goal.returns-in-ReadRequest
+unfolding process_change
+returns-in-ReadRequest c = simp (c.in-ReadRequest.is, ← c.stays_unchanged-in-ReadRequest.ensures)
+
+pub returns-in-ReadResponse : goal.returns-in-ReadResponse
+unfolding process_change
+returns-in-ReadResponse c = simp (c.in-ReadResponse.is, ← c.stays_unchanged-in-ReadResponse.ensures)

@@ -1,0 +1,21 @@
+-- `register::apply` meets its contract.
+-- Assumes nothing.
+use borrow.Author.Tests.{lt-ltb, le-ltb}
+use Rattle.register.specs.Register.{apply_change, apply}
+use Rattle.register.proofs.apply.Goals as goal
+
+pub returns-then-entry-gt9223372036854775806 : goal.returns-then-entry-gt9223372036854775806
+unfolding apply
+returns-then-entry-gt9223372036854775806 c = simp (lt-ltb _ _ c.if-entry-gt9223372036854775806.true)
+
+pub returns-then-entry-register : goal.returns-then-entry-register
+unfolding apply
+returns-then-entry-register c = simp (le-ltb _ _ c.if-entry-gt9223372036854775806.false, lt-ltb _ _ c.if-entry-register.true)
+
+pub returns-in-Assign : goal.returns-in-Assign
+unfolding apply apply_change
+returns-in-Assign c = simp (le-ltb _ _ c.if-entry-gt9223372036854775806.false, le-ltb _ _ c.if-entry-register.false, c.in-Assign.is, ← c.assign.ensures)
+
+pub returns-in-Release : goal.returns-in-Release
+unfolding apply apply_change
+returns-in-Release c = simp (le-ltb _ _ c.if-entry-gt9223372036854775806.false, le-ltb _ _ c.if-entry-register.false, c.in-Release.is, ← c.release.ensures)

@@ -1,0 +1,56 @@
+-- `register::assign` meets its contract.
+-- Assumes nothing.
+use native.Mathlib.Omega.{arith}
+use borrow.Author.Rules.{rules}
+use borrow.Author.Tests.{not-false}
+use mathlib.Core.Path.{◌≡◌, sym, ◌∙◌}
+use lib.ListN.{length, length-map}
+use Rattle.register.specs.Register.{assign}
+use Rattle.register.proofs.Ends.{at_most, at_below, assign_supersedes, assign_full, assign_makes}
+use Rattle.register.proofs.assign.Goals as goal
+
+-- the register has its 512 places
+long : (c : tie.Start) → length c.args.t1.cells ≡ 512
+long c = sym (length-map c.args.t1.cells _) ∙ c.well-formed.0.1.1.1.1.1.0.1.0.1
+
+pub returns-then-not-assignable : goal.returns-then-not-assignable
+unfolding assign
+returns-then-not-assignable c = simp (← c.assignable.ensures, c.if-not-assignable.true)
+
+pub offset_bounds-register-at : goal.offset_bounds-register-at
+offset_bounds-register-at c =
+    let f : _ = c in
+    let start : _ = f.before.before.before.before in
+    omega (arith, at_below start.args.t1 _ _ _ (long start) f.before.live-places.ensures f.find-cell.ensures c.if-found.true)
+
+pub bounds-register-at : goal.bounds-register-at
+bounds-register-at c =
+    let f : _ = c in
+    let start : _ = f.before.before.before.before in
+    omega (arith, at_below start.args.t1 _ _ _ (long start) f.before.live-places.ensures f.find-cell.ensures c.if-found.true)
+
+pub returns-then-found : goal.returns-then-found
+returns-then-found c =
+    let f : _ = c in
+    let start : _ = f.before.before.before.before in
+    assign_supersedes _ _ _ _ (long start) f.before.live-places.ensures f.find-cell.ensures _ (sym f.before.before.before.assignable.ensures ∙ not-false _ f.before.before.if1.false)
+    c.if-found.true _ _ c.increment-made.ensures c.increment-superseded.ensures
+
+pub returns-then-places-ge512 : goal.returns-then-places-ge512
+returns-then-places-ge512 c =
+    let f : _ = c in
+    let start : _ = f.before.before.before.before in
+    assign_full _ _ _ _ (long start) f.before.live-places.ensures f.find-cell.ensures _ (sym f.before.before.before.assignable.ensures ∙ not-false _ f.before.before.if1.false) c.if-found.false c.if-places-ge512.true
+
+pub insert_cell-cells-requires : goal.insert_cell-cells-requires
+insert_cell-cells-requires c =
+    let f : _ = c in
+    let start : _ = f.before.before.before.before in
+    (at_most start.args.t1 _ _ _ (long start) f.before.live-places.ensures f.find-cell.ensures, search rules)
+
+pub returns : goal.returns
+returns c =
+    let f : _ = c in
+    let start : _ = f.before.before.before.before in
+    assign_makes _ _ _ _ (long start) f.before.live-places.ensures f.find-cell.ensures _ (sym f.before.before.before.assignable.ensures ∙ not-false _ f.before.before.if1.false)
+    c.if-found.false c.if-places-ge512.false _ c.increment-made-2.ensures _ c.insert_cell-cells.ensures

@@ -1,0 +1,31 @@
+-- `register::find_cell` meets its contract.
+-- Assumes nothing.
+use mathlib.Core.Path.{◌≡◌, refl, sym, ◌∙◌}
+use borrow.Author.Rules.{rules}
+use borrow.Author.Tests.{le-leb, lt-leb}
+use lib.ListN.{length, length-map}
+use Rattle.register.proofs.Places.{search_found, search_more, search_none}
+use Rattle.register.proofs.find_cell.Goals as goal
+
+-- the register has its 512 places
+long : (c : tie.Start invariant-loop decreases-loop) → length c.args.t1.cells ≡ 512
+long c = sym (length-map c.args.t1.cells _) ∙ c.well-formed.0.1.1.1.1.1.0.1.0.1
+
+pub loop-i-init : goal.loop-i-init
+loop-i-init c = (search rules, (search rules, refl))
+
+pub returns-then-cell-number : goal.returns-then-cell-number
+returns-then-cell-number c =
+    let turn : _ = c in
+    simp (← turn.before.before.live-places.ensures)
+    (search_found _ _ _ _ _ turn.loop-test.true (search rules) (long turn.before.before.before) turn.before.loop.invariant.1 (le-leb _ _ c.if-cell-number.true))
+
+pub loop-i-preserved : goal.loop-i-preserved
+loop-i-preserved c =
+    let turn : _ = c in
+    (search rules, search_more _ _ _ _ _ turn.loop-test.true (search rules) (long turn.before.before.before) turn.before.loop.invariant.1 (lt-leb _ _ c.if-cell-number.false))
+
+pub returns : goal.returns
+returns c =
+    simp (← c.live_places-places.ensures)
+    (search_none _ _ _ _ c.loop-i.invariant.0 c.loop-i-test.false c.loop-i.invariant.1)

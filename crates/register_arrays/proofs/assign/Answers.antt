@@ -1,0 +1,68 @@
+-- `register_arrays::assign` meets its contract.
+-- Assumes nothing.
+use native.Mathlib.Omega.{arith}
+use borrow.Author.Rules.{rules}
+use borrow.Author.Tests.{not-false}
+use mathlib.Core.Bool.{true}
+use mathlib.Core.Path.{◌≡◌, sym, ◌∙◌}
+use lib.ListN.{length}
+use Rattle.register.specs.Cells.{found}
+use Rattle.register.specs.Register.{live_cells, assignable, assign}
+use Rattle.register.specs.declared.Register.{Register}
+use Rattle.register.proofs.Ends.{at_most, at_below, assign_supersedes, assign_full, assign_makes}
+use Rattle.register_arrays.specs.Columns.{register_of}
+use Rattle.register_arrays.proofs.Searching.{register_long, found_live}
+use Rattle.register_arrays.proofs.assign.Goals as goal
+
+-- the register that the arrays stand for
+abbrev held : tie.Start → Register
+held c = register_of c.args.cells.now c.args.carriers.now c.args.widths.now c.args.figures.now
+
+long : (c : tie.Start) → length (held c).cells ≡ 512
+long c = register_long c.args.cells.now c.args.carriers.now c.args.widths.now c.args.figures.now c.requires
+
+located : (s : tie.After-find-number) → s.find-number.result ≡ found s.before.before.before.before.before.before.before.before.before.args.number (live_cells (held s.before.before.before.before.before.before.before.before.before))
+located s =
+    let start : _ = s.before.before.before.before.before.before.before.before.before in
+    found_live start.args.cells.now start.args.carriers.now start.args.widths.now start.args.figures.now start.requires start.args.number _ _ s.before.before.live-places.ensures s.find-number.ensures
+
+fits : (s : tie.After-find-number) → assignable s.before.before.before.before.before.before.before.before.before.args.assignment ≡ true
+fits s = sym s.before.before.before.before.before.assignable.ensures ∙ not-false _ s.before.before.before.before.if1.false
+
+pub returns-then-not-assignable : goal.returns-then-not-assignable
+unfolding assign
+returns-then-not-assignable c = simp (← c.assignable.ensures, c.if-not-assignable.true)
+
+pub put_cell-requires : goal.put_cell-requires
+put_cell-requires c =
+    let s : _ = c in
+    let start : _ = s.before.before.before.before.before.before.before.before.before in
+    let below = at_below (held start) _ _ _ (long start) s.before.before.live-places.ensures (located s) c.if-found.true in
+    (search rules, omega (arith, below, s.before.before.live-places.ensures))
+
+pub returns-then-found : goal.returns-then-found
+returns-then-found c =
+    let s : _ = c in
+    let start : _ = s.before.before.before.before.before.before.before.before.before in
+    simp c.put_cell.ensures
+    (assign_supersedes (held start) _ _ _ (long start) s.before.before.live-places.ensures (located s) _ (fits s)
+    c.if-found.true _ _ c.increment-made.ensures c.increment-superseded.ensures)
+
+pub returns-then-places-ge512 : goal.returns-then-places-ge512
+returns-then-places-ge512 c =
+    let s : _ = c in
+    let start : _ = s.before.before.before.before.before.before.before.before.before in
+    assign_full (held start) _ _ _ (long start) s.before.before.live-places.ensures (located s) _ (fits s) c.if-found.false c.if-places-ge512.true
+
+pub insert_cell-requires : goal.insert_cell-requires
+insert_cell-requires c =
+    let s : _ = c in
+    let start : _ = s.before.before.before.before.before.before.before.before.before in
+    (search rules, at_most (held start) _ _ _ (long start) s.before.before.live-places.ensures (located s), search rules)
+
+pub returns : goal.returns
+returns c =
+    let s : _ = c in
+    let start : _ = s.before.before.before.before.before.before.before.before.before in
+    assign_makes (held start) _ _ _ (long start) s.before.before.live-places.ensures (located s) _ (fits s)
+    c.if-found.false c.if-places-ge512.false _ c.increment-made-2.ensures _ c.insert_cell.ensures

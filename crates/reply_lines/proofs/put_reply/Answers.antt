@@ -1,0 +1,9 @@
+-- `reply_lines::put_reply` meets its contract.
+-- Assumes nothing.
+use Rattle.reply_lines.specs.Reply.{reply_text}
+use Rattle.texts.proofs.Putting.{put_then}
+use Rattle.reply_lines.proofs.put_reply.Goals as goal
+
+pub returns : goal.returns
+unfolding reply_text
+returns c = put_then _ _ _ (put_then _ _ _ (put_then _ _ _ c.put_outcome-second.ensures c.put_messages-third.ensures) c.put_commit-fourth.ensures) c.put_served.ensures

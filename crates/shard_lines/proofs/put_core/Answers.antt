@@ -1,0 +1,9 @@
+-- `shard_lines::put_core` meets its contract.
+-- Assumes nothing.
+use Rattle.shard_lines.specs.Shard.{core_text}
+use Rattle.texts.proofs.Putting.{put_then}
+use Rattle.shard_lines.proofs.put_core.Goals as goal
+
+pub returns : goal.returns
+unfolding core_text
+returns c = rw (← c.flag_number.ensures) (put_then _ _ _ (put_then _ _ _ (put_then _ _ _ (put_then _ _ _ c.put_fields-second.ensures c.put_optional_value-third.ensures) c.put_field-fourth.ensures) c.put_optional_round-fifth.ensures) c.put_held.ensures)

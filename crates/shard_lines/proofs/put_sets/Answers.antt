@@ -1,0 +1,9 @@
+-- `shard_lines::put_sets` meets its contract.
+-- Assumes nothing.
+use Rattle.shard_lines.specs.Shard.{sets_text}
+use Rattle.texts.proofs.Putting.{put_then}
+use Rattle.shard_lines.proofs.put_sets.Goals as goal
+
+pub returns : goal.returns
+unfolding sets_text
+returns c = put_then _ _ _ (put_then _ _ _ c.put_fields-second.ensures c.put_optional_value-third.ensures) c.put_field.ensures

@@ -1,0 +1,12 @@
+-- `swift_path::swift_client_prepare` meets its contract.
+-- Assumes nothing.
+use Rattle.swift_path.specs.Swift.{swift_client_prepare}
+use Rattle.swift_path.proofs.swift_client_prepare.Goals as goal
+
+pub returns-then-is : goal.returns-then-is
+unfolding swift_client_prepare
+returns-then-is c = simp (← c.is.ensures, c.if-is.true, ← c.swift_answer.ensures)
+
+pub returns : goal.returns
+unfolding swift_client_prepare
+returns c = simp (← c.is.ensures, c.if-is.false, ← c.stays_unchanged.ensures)
