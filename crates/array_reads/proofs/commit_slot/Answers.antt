@@ -46,12 +46,11 @@ loop-i-smaller-then-has_quorum c = omega arith
 
 pub loop-i-preserved-then-has_quorum : goal.loop-i-preserved-then-has_quorum
 loop-i-preserved-then-has_quorum c =
-    let counted : _ = c in
-    let turn : _ = counted.before.before.before.before in (
+    (
       search rules,
       omega arith,
       simp c.put_served.ensures
-          (commit_serves_lem turn.before.loop.invariant.2 turn.loop-test.true (places_fit_lem turn.before.before) (reads_long counted) no_read _ (read_is counted) (served_length _ (omega arith))
+          (commit_serves_lem c.loop-i.invariant.2 c.loop-i-test.true (places_fit_lem c) XDROP no_read _ (read_is c) (served_length _ (omega arith))
           (sym c.has_quorum.ensures ∙ c.if-has_quorum.true) _ c.serve.ensures),
     )
 
@@ -66,12 +65,11 @@ loop-i-smaller c = omega arith
 
 pub loop-i-preserved : goal.loop-i-preserved
 loop-i-preserved c =
-    let counted : _ = c in
-    let turn : _ = counted.before.before.before.before in (
+    (
       omega arith,
       search rules,
       simp c.put_open.ensures
-          (commit_keeps turn.before.loop.invariant.2 turn.loop-test.true (places_fit_lem turn.before.before) (reads_long counted) no_read _ (read_is counted)
+          (commit_keeps c.loop-i.invariant.2 c.loop-i-test.true (places_fit_lem c) XDROP no_read _ (read_is c)
           (sym c.has_quorum.ensures ∙ c.if-has_quorum.false)),
     )
 

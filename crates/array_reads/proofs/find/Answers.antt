@@ -14,10 +14,8 @@ open_at-read-requires c = omega arith
 
 pub returns-then-read-id : goal.returns-then-read-id
 returns-then-read-id c =
-    let turn : _ = c in
-    let start : _ = turn.before.before.before in
     sym
-    (search_found _ _ _ _ no_read turn.loop-test.true start.requires.1 (open_length _ start.requires.0) turn.before.loop.invariant.1
+    (search_found _ _ _ _ no_read c.loop-i-test.true c.requires.1 (open_length _ c.requires.0) c.loop-i.invariant.1
     (simp (← c.open_at-read.ensures) (eq-eqb _ _ c.if-read-id.true)))
 
 pub overflow_add-i : goal.overflow_add-i
@@ -28,10 +26,9 @@ loop-i-smaller c = omega arith
 
 pub loop-i-preserved : goal.loop-i-preserved
 loop-i-preserved c =
-    let turn : _ = c in
-    let start : _ = turn.before.before.before in (
+    (
       search rules,
-      search_more _ _ _ _ no_read turn.loop-test.true start.requires.1 (open_length _ start.requires.0) turn.before.loop.invariant.1
+      search_more _ _ _ _ no_read c.loop-i-test.true c.requires.1 (open_length _ c.requires.0) c.loop-i.invariant.1
           (simp (← c.open_at-read.ensures) (ne_eqb _ _ c.if-read-id.false)),
     )
 

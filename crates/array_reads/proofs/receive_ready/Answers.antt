@@ -33,7 +33,7 @@ find-at-requires c = omega arith
 
 pub returns-then-at-open_places : goal.returns-then-at-open_places
 returns-then-at-open_places c =
-    receive_unknown _ _ _ _ _ _ _ _ c.open_places-open_places.ensures (found c) (reads_long c) c.if-at-open_places.true
+    receive_unknown _ _ _ _ _ _ _ _ c.open_places-open_places.ensures (found c) XDROP c.if-at-open_places.true
 
 pub open_at-requires : goal.open_at-requires
 open_at-requires c = omega arith
@@ -49,23 +49,17 @@ overflow_sub-left c = omega arith
 
 pub returns-then-has_quorum : goal.returns-then-has_quorum
 returns-then-has_quorum c =
-    let asked : _ = c in
-    let counted : _ = asked.before in
-    let searched : _ = counted.before.before.before.before.before in
     simp c.put_served.ensures
-    (receive_serves _ _ _ _ _ _ _ _ searched.before.before.before.open-places.ensures (found searched) (reads_long searched)
-    no_read _ (read_is counted) counted.before.before.before.before.if1.false
-    (sym asked.has-quorum.ensures ∙ c.if-has_quorum.true) (served_length _ c.put_served-arg-1.given.0.1) _ c.remove.ensures _ c.serve.ensures)
+    (receive_serves _ _ _ _ _ _ _ _ c.open_places-open_places.ensures (found c) XDROP
+    no_read _ (read_is c) c.if-at-open_places.false
+    (sym c.has_quorum.ensures ∙ c.if-has_quorum.true) (served_length _ c.put_served-arg-1.given.0.1) _ c.remove.ensures _ c.serve.ensures)
 
 pub put_open-requires : goal.put_open-requires
 put_open-requires c = omega arith
 
 pub returns : goal.returns
 returns c =
-    let asked : _ = c in
-    let counted : _ = asked.before in
-    let searched : _ = counted.before.before.before.before.before in
     simp c.put_open.ensures
-    (receive_keeps _ _ _ _ _ _ _ _ searched.before.before.before.open-places.ensures (found searched) (reads_long searched)
-    no_read _ (read_is counted) counted.before.before.before.before.if1.false
-    (sym asked.has-quorum.ensures ∙ c.if-has_quorum.false))
+    (receive_keeps _ _ _ _ _ _ _ _ c.open_places-open_places.ensures (found c) XDROP
+    no_read _ (read_is c) c.if-at-open_places.false
+    (sym c.has_quorum.ensures ∙ c.if-has_quorum.false))

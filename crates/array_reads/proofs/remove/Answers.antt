@@ -1,22 +1,15 @@
 -- `array_reads::remove` meets its contract: at i the reads before i stand without the one at `at`. The measure is how many reads are left.
 -- Assumes nothing.
-use mathlib.Core.Path.{◌≡◌}
 use native.Mathlib.Omega.{arith}
-use lib.ListN.{length}
 use Rattle.serving.proofs.Lists.{remove_start, remove_more, remove_end}
-use Rattle.array_reads.specs.Rows.{open_rows, no_read}
-use Rattle.array_reads.proofs.Rows.{open_length}
+use Rattle.array_reads.specs.Rows.{no_read}
 use Rattle.array_reads.proofs.remove.Goals as goal
-
--- the array has its 128 places
-reads_long : (c : tie.Start invariant-loop decreases-loop) → length (open_rows c.args.«open».now) ≡ 128
-reads_long c = open_length _ c.requires.0
 
 pub overflow_add-i : goal.overflow_add-i
 overflow_add-i c = omega arith
 
 pub loop-i-init : goal.loop-i-init
-loop-i-init c = (c.requires.0, omega arith, omega arith, remove_start _ _ (omega (arith, reads_long c)))
+loop-i-init c = (c.requires.0, omega arith, omega arith, remove_start _ _ (omega (arith)))
 
 pub open_at-read-requires : goal.open_at-read-requires
 open_at-read-requires c = omega arith
@@ -35,12 +28,8 @@ loop-i-smaller c = omega arith
 
 pub loop-i-preserved : goal.loop-i-preserved
 loop-i-preserved c =
-    let stored : _ = c in
-    let read : _ = stored.before.before in
-    let turn : _ = read.before.before in
-    let start : _ = turn.before.before.before in
-    let moved : _ = remove_more _ _ _ _ no_read turn.before.loop.invariant.1 (omega (arith, reads_long start)) turn.before.loop.invariant.3 in
-    (omega arith, omega arith, omega arith, simp (stored.put-open.ensures, read.open_at.ensures) moved)
+    let moved : _ = remove_more _ _ _ _ no_read c.loop-i.invariant.1 (omega (arith)) c.loop-i.invariant.3 in
+    (omega arith, omega arith, omega arith, simp (c.put_open.ensures, c.open_at-read.ensures) moved)
 
 pub shape_of-open : goal.shape_of-open
 shape_of-open c = omega arith

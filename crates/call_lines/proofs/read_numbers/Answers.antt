@@ -28,4 +28,4 @@ shape_of-numbers c = omega arith
 pub returns : goal.returns
 returns c =
     let all : c.loop-i.i ≡ length c.args.line.now = omega arith in
-    (c.loop-i.invariant.1 ∙ ap (scan_to _) all, c.loop-i.invariant.2 ∙ ap (numbers_to _ _) all)
+    record { value = c.loop-i.invariant.1 ∙ ap (scan_to _) all; numbers_after = c.loop-i.invariant.2 ∙ ap (numbers_to _ _) all }

@@ -7,5 +7,4 @@ use Rattle.direct.proofs.count_response.Goals as goal
 
 pub returns : goal.returns
 returns c =
-    let a = c.before.before.before.before.before.before.before.before.before.before.before.before.before.before.before.before.before.args in
-    count_response_lem a.setup a.core.now (table_of a.reads.now a.served.now) c.core_in-c.ensures c.row-row.ensures c.tracker_of.ensures a.f (written a.first.now a.second.now a.third.now a.rest.now) c.is_yes-fast.ensures c.receive_ready-counted.ensures c.with_tracker.ensures c.put_core.ensures c.put_served.ensures
+    count_response_lem c.args.setup c.args.core.now (table_of c.args.reads.now c.args.served.now) c.core_in-c.ensures c.row-row.ensures c.tracker_of.ensures c.args.f (written c.args.first.now c.args.second.now c.args.third.now c.args.rest.now) c.is_yes-fast.ensures c.receive_ready-counted.ensures c.with_tracker.ensures c.put_core.ensures c.put_served.ensures

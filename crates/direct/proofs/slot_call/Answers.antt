@@ -10,20 +10,14 @@ use Rattle.direct.proofs.slot_call.Goals as goal
 
 pub returns-then-has_fast_path : goal.returns-then-has_fast_path
 returns-then-has_fast_path c =
-    (passed_on_lem c.args.setup c.args.committers.now c.args.delegates.now c.args.core.now (table_of c.args.reads.now c.args.served.now) c.args.f (written c.args.first.now c.args.second.now c.args.third.now c.args.rest.now) (sym (c.has_fast_path.ensures ∙ ap has_fast_path c.decode_mode-mode.ensures) ∙ c.if-has_fast_path.true), (λ h. refl, λ h. refl))
+    record { rest_value = passed_on_lem c.args.setup c.args.committers.now c.args.delegates.now c.args.core.now (table_of c.args.reads.now c.args.served.now) c.args.f (written c.args.first.now c.args.second.now c.args.third.now c.args.rest.now) (sym (c.has_fast_path.ensures ∙ ap has_fast_path c.decode_mode-mode.ensures) ∙ c.if-has_fast_path.true); left_unless_taken = (λ h. refl, λ h. refl) }
 
 pub returns-then-f-eq-PROPOSAL : goal.returns-then-f-eq-PROPOSAL
 returns-then-f-eq-PROPOSAL c =
-    (
-      proposal_taken c.args.setup c.args.committers.now c.args.delegates.now c.args.core.now (table_of c.args.reads.now c.args.served.now) c.args.f (written c.args.first.now c.args.second.now c.args.third.now c.args.rest.now) (sym (c.has_fast_path.ensures ∙ ap has_fast_path c.decode_mode-mode.ensures) ∙ c.if-has_fast_path.false)
-          (eq-eqb _ _ c.if-f-eq-PROPOSAL.true) c.propose.ensures,
-      (λ h. refl, λ h. refl),
-    )
+    record { rest_value = proposal_taken c.args.setup c.args.committers.now c.args.delegates.now c.args.core.now (table_of c.args.reads.now c.args.served.now) c.args.f (written c.args.first.now c.args.second.now c.args.third.now c.args.rest.now) (sym (c.has_fast_path.ensures ∙ ap has_fast_path c.decode_mode-mode.ensures) ∙ c.if-has_fast_path.false)
+          (eq-eqb _ _ c.if-f-eq-PROPOSAL.true) c.propose.ensures; left_unless_taken = (λ h. refl, λ h. refl) }
 
 pub returns : goal.returns
 returns c =
-    (
-      in_classic c.args.setup c.args.committers.now c.args.delegates.now c.args.core.now (table_of c.args.reads.now c.args.served.now) c.args.f (written c.args.first.now c.args.second.now c.args.third.now c.args.rest.now) (sym (c.has_fast_path.ensures ∙ ap has_fast_path c.decode_mode-mode.ensures) ∙ c.if-has_fast_path.false)
-          (ne_eqb _ _ c.if-f-eq-PROPOSAL.false) c.handled.ensures.0,
-      c.handled.ensures.1,
-    )
+    record { rest_value = in_classic c.args.setup c.args.committers.now c.args.delegates.now c.args.core.now (table_of c.args.reads.now c.args.served.now) c.args.f (written c.args.first.now c.args.second.now c.args.third.now c.args.rest.now) (sym (c.has_fast_path.ensures ∙ ap has_fast_path c.decode_mode-mode.ensures) ∙ c.if-has_fast_path.false)
+          (ne_eqb _ _ c.if-f-eq-PROPOSAL.false) c.handled.ensures.rest_value; left_unless_taken = c.handled.ensures.left_unless_taken }

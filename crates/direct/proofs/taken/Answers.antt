@@ -12,9 +12,8 @@ returns-then-is_response c =
 
 pub returns-then-concerns_slot : goal.returns-then-concerns_slot
 returns-then-concerns_slot c =
-    (slot_taken c.args.setup c.args.committers.now c.args.delegates.now c.args.core.now (table_of c.args.reads.now c.args.served.now) c.args.f (written c.args.first.now c.args.second.now c.args.third.now c.args.rest.now) (sym c.is_response.ensures ∙ c.if-is_response.false) (sym c.concerns_slot.ensures ∙ c.if-concerns_slot.true) c.slot_call.ensures.0, c.slot_call.ensures.1)
+    (slot_taken c.args.setup c.args.committers.now c.args.delegates.now c.args.core.now (table_of c.args.reads.now c.args.served.now) c.args.f (written c.args.first.now c.args.second.now c.args.third.now c.args.rest.now) (sym c.is_response.ensures ∙ c.if-is_response.false) (sym c.concerns_slot.ensures ∙ c.if-concerns_slot.true) c.slot_call.ensures.rest_value, c.slot_call.ensures.left_unless_taken)
 
 pub returns : goal.returns
 returns c =
-    let a = c.before.before.before.before.before.before.before.before.before.before.before.args in
-    (request_taken a.setup a.committers.now a.delegates.now a.core.now (table_of a.reads.now a.served.now) a.f (written a.first.now a.second.now a.third.now a.rest.now) (sym c.is-response.ensures ∙ c.if1.false) (sym c.concerns-slot.ensures ∙ c.if2.false) c.answer_request.ensures, (λ h. refl, λ h. refl))
+    (request_taken c.args.setup c.args.committers.now c.args.delegates.now c.args.core.now (table_of c.args.reads.now c.args.served.now) c.args.f (written c.args.first.now c.args.second.now c.args.third.now c.args.rest.now) (sym c.is_response.ensures ∙ c.if-is_response.false) (sym c.concerns_slot.ensures ∙ c.if-concerns_slot.false) c.answer_request.ensures, (λ h. refl, λ h. refl))

@@ -9,14 +9,13 @@ use Rattle.direct_core.proofs.handle.Goals as goal
 
 pub returns-then-message-eq-COMMIT : goal.returns-then-message-eq-COMMIT
 unfolding handled_by
-returns-then-message-eq-COMMIT c = c.put_answer.ensures ∙ simp (c.core_on_commit-committed.ensures, c.decode_core-decoded.ensures, c.core_in.ensures, c.asked_of.ensures, eq-eqb _ _ c.if-message-eq-COMMIT.true)
+returns-then-message-eq-COMMIT c = c.put_answer.ensures ∙ simp (c.core_on_commit-committed.ensures, c.decode_core-decoded.ensures, c.core_in.ensures, c.asked_of-asked.ensures, eq-eqb _ _ c.if-message-eq-COMMIT.true)
 
 pub returns : goal.returns
 returns c =
-    let a = c.before.before.before.before.before.before.before.before.before.before.before.before.before.before.before.before.before.args in
-    processed a.setup a.committers.now a.delegates.now a.core.now a.f (written a.first.now a.second.now a.third.now a.rest.now)
+    processed c.args.setup c.args.committers.now c.args.delegates.now c.args.core.now c.args.f (written c.args.first.now c.args.second.now c.args.third.now c.args.rest.now)
     (ne_eqb _ _ c.if-message-eq-COMMIT.false)
-    c.asked_of.ensures
+    c.asked_of-asked.ensures
     c.heard_of-heard.ensures
     c.is_yes-held.ensures
     c.decode_msg-msg.ensures

@@ -1,6 +1,6 @@
 -- `direct_fast::chanbook_fast_call` meets its contract.
 -- Assumes nothing.
-use borrow.Author.Tests.{eq-eqb, ne_eqb, not-false}
+use borrow.Author.Tests.{eq-eqb, ne_eqb}
 use mathlib.Core.Path.{refl, sym, ◌∙◌}
 use Rattle.array_reads.specs.Rows.{table_of}
 use Rattle.arrays.specs.Arrays.{core_of}
@@ -16,8 +16,8 @@ returns-then-not-fast_half_acts c =
 
 pub returns-then-number-ne0 : goal.returns-then-number-ne0
 returns-then-number-ne0 c =
-    let a = c.before.before.before.before.before.before.before.args in (read_in a.committers.now a.delegates.now a.core.now (fast_arrays a.answers.now a.values.now a.epaxos.now a.swift.now) (table_of a.reads.now a.served.now) (written a.first.now a.second.now a.third.now a.rest.now) c.setup-in.ensures c.call-in.ensures (refused c.setup-in.result a.committers.now a.delegates.now a.core.now (fast_arrays a.answers.now a.values.now a.epaxos.now a.swift.now) c.call-in.result (written a.first.now a.second.now a.third.now a.rest.now) (table_of a.reads.now a.served.now) (sym c.fast-half-acts.ensures ∙ not-false _ c.if1.false) (read_back (core_of a.core.now) c.setup-in.ensures c.call-in.ensures c.refusal-number.ensures) (ne_eqb _ _ c.if-number-ne0.true)), (λ h. refl, λ h. refl))
+    (read_in c.args.committers.now c.args.delegates.now c.args.core.now (fast_arrays c.args.answers.now c.args.values.now c.args.epaxos.now c.args.swift.now) (table_of c.args.reads.now c.args.served.now) (written c.args.first.now c.args.second.now c.args.third.now c.args.rest.now) c.setup_in-s.ensures c.call_in-f.ensures (refused c.setup_in-s.result c.args.committers.now c.args.delegates.now c.args.core.now (fast_arrays c.args.answers.now c.args.values.now c.args.epaxos.now c.args.swift.now) c.call_in-f.result (written c.args.first.now c.args.second.now c.args.third.now c.args.rest.now) (table_of c.args.reads.now c.args.served.now) (sym c.fast_half_acts.ensures ∙ c.if-not-fast_half_acts.false) (read_back (core_of c.args.core.now) c.setup_in-s.ensures c.call_in-f.ensures c.refusal-number.ensures) (ne_eqb _ _ c.if-number-ne0.true)), (λ h. refl, λ h. refl))
 
 pub returns : goal.returns
 returns c =
-    let a = c.before.before.before.before.before.before.before.before.before.before.before.before.before.before.before.before.before.before.before.args in (read_in a.committers.now a.delegates.now a.core.now (fast_arrays a.answers.now a.values.now a.epaxos.now a.swift.now) (table_of a.reads.now a.served.now) (written a.first.now a.second.now a.third.now a.rest.now) c.setup-in.ensures c.call-in.ensures (call_taken c.setup-in.result a.committers.now a.delegates.now a.core.now (fast_arrays a.answers.now a.values.now a.epaxos.now a.swift.now) c.call-in.result (written a.first.now a.second.now a.third.now a.rest.now) (table_of a.reads.now a.served.now) (sym c.fast-half-acts.ensures ∙ not-false _ c.if1.false) (read_back (core_of a.core.now) c.setup-in.ensures c.call-in.ensures c.refusal-number.ensures) (eq-eqb _ _ c.if-number-ne0.false) c.fast_handled.ensures.0), c.fast_handled.ensures.1)
+    (read_in c.args.committers.now c.args.delegates.now c.args.core.now (fast_arrays c.args.answers.now c.args.values.now c.args.epaxos.now c.args.swift.now) (table_of c.args.reads.now c.args.served.now) (written c.args.first.now c.args.second.now c.args.third.now c.args.rest.now) c.setup_in-s.ensures c.call_in-f.ensures (call_taken c.setup_in-s.result c.args.committers.now c.args.delegates.now c.args.core.now (fast_arrays c.args.answers.now c.args.values.now c.args.epaxos.now c.args.swift.now) c.call_in-f.result (written c.args.first.now c.args.second.now c.args.third.now c.args.rest.now) (table_of c.args.reads.now c.args.served.now) (sym c.fast_half_acts.ensures ∙ c.if-not-fast_half_acts.false) (read_back (core_of c.args.core.now) c.setup_in-s.ensures c.call_in-f.ensures c.refusal-number.ensures) (eq-eqb _ _ c.if-number-ne0.false) c.fast_handled.ensures.rest_value), c.fast_handled.ensures.left_unless_taken)

@@ -7,4 +7,4 @@ use Rattle.direct_fast.proofs.fast_written.Goals as goal
 
 pub returns : goal.returns
 returns c =
-    let a = c.before.before.before.before.before.before.before.before.before.before.before.before.before.before.before.before.before.before.before.args in answer_put a.setup a.committers.now a.delegates.now a.core.now (fast_arrays a.answers.now a.values.now a.epaxos.now a.swift.now) a.f (written a.first.now a.second.now a.third.now a.rest.now) c.before.before.before.before.before.before.before.before.before.before.before.before.before.before.before.before.before.core-in.ensures c.before.before.before.before.before.before.before.before.before.before.before.before.before.before.before.before.decode-core.ensures c.answers-in.ensures c.fast_answer-x.ensures c.put_fast.ensures
+    answer_put c.args.setup c.args.committers.now c.args.delegates.now c.args.core.now (fast_arrays c.args.answers.now c.args.values.now c.args.epaxos.now c.args.swift.now) c.args.f (written c.args.first.now c.args.second.now c.args.third.now c.args.rest.now) c.core_in.ensures c.decode_core-decoded.ensures c.answers_in-before.ensures c.fast_answer-x.ensures c.put_fast.ensures

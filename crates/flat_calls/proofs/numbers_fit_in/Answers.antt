@@ -7,4 +7,4 @@ use Rattle.flat_calls.proofs.numbers_fit_in.Goals as goal
 
 pub returns : goal.returns
 returns c =
-    c.numbers_fit.ensures ∙ ap numbers_fit (c.decode_delivery.ensures ∙ ap (decoded_delivery c.args.process-count c.args.own) c.call_in.ensures)
+    c.numbers_fit.ensures ∙ ap numbers_fit (c.decode_delivery.ensures ∙ ap (decoded_delivery c.args.process_count c.args.own) c.call_in.ensures)

@@ -8,4 +8,4 @@ use Rattle.flat_calls.proofs.processes_fit_in.Goals as goal
 
 pub returns : goal.returns
 returns c =
-    c.processes_fit.ensures ∙ ap (λ (x : Delivery). processes_fit c.args.process-count x) (c.decode_delivery.ensures ∙ ap (decoded_delivery c.args.process-count c.args.own) c.call_in.ensures)
+    c.processes_fit.ensures ∙ ap (λ (x : Delivery). processes_fit c.args.process_count x) (c.decode_delivery.ensures ∙ ap (decoded_delivery c.args.process_count c.args.own) c.call_in.ensures)

@@ -9,4 +9,4 @@ use Rattle.flat.specs.declared.FlatCore.{FlatCore}
 use Rattle.flat_calls.proofs.ready_in.Goals as goal
 
 pub returns : goal.returns
-returns c = c.ready.ensures ∙ ap₂ (λ (x : FlatCore) (y : FlatCall). encoded_outcome (ready c.args.own (decoded_core x) (decoded_delivery c.args.process-count c.args.own y))) c.core_in.ensures c.call_in.ensures
+returns c = c.ready.ensures ∙ ap₂ (λ (x : FlatCore) (y : FlatCall). encoded_outcome (ready c.args.own (decoded_core x) (decoded_delivery c.args.process_count c.args.own y))) c.core_in.ensures c.call_in.ensures

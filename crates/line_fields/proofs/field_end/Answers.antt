@@ -11,7 +11,7 @@ loop-i-init c = refl
 
 pub returns-then-line-i-eq32 : goal.returns-then-line-i-eq32
 returns-then-line-i-eq32 c =
-    (sym (c.loop-i.invariant ∙ at_blank _ c.loop-i.i (omega arith) c.if-line-i-eq32.true), prefix_len_of_le _ _ (omega arith))
+    record { value = sym (c.loop-i.invariant ∙ at_blank _ c.loop-i.i (omega arith) c.if-line-i-eq32.true); prefix_len = prefix_len_of_le _ _ (omega arith) }
 
 pub loop-i-preserved : goal.loop-i-preserved
 loop-i-preserved c =
@@ -19,4 +19,4 @@ loop-i-preserved c =
 
 pub returns : goal.returns
 returns c =
-    (sym (c.loop-i.invariant ∙ at_the_end _ c.loop-i.i (omega arith)), prefix_len_of_le _ _ (omega arith))
+    record { value = sym (c.loop-i.invariant ∙ at_the_end _ c.loop-i.i (omega arith)); prefix_len = prefix_len_of_le _ _ (omega arith) }

@@ -20,5 +20,4 @@ field_read line at end number e f =
 
 pub returns : goal.returns
 returns c =
-    let a = c.before.before.before.before.args in
-    field_read a.line.now a.at _ _ c.field-end.ensures.0 c.number_from-number.ensures
+    field_read c.args.line.now c.args.at _ _ c.field_end-end.ensures.value c.number_from-number.ensures

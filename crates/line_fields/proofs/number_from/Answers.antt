@@ -17,4 +17,4 @@ returns-then-line-at c = simp (drop_of_length-le c.args.line.now {i = c.args.at}
 pub returns : goal.returns
 unfolding number_from
 returns c =
-    c.one_number.ensures ∙ ap one_number (c.read_numbers.ensures.0 ∙ ap (λ (l : List ℕ). scan_of l) (to_the_end c.args.at c.args.line.now))
+    c.one_number.ensures ∙ ap one_number (c.read_numbers.ensures.value ∙ ap (λ (l : List ℕ). scan_of l) (to_the_end c.args.at c.args.line.now))

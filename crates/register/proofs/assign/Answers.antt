@@ -2,7 +2,6 @@
 -- Assumes nothing.
 use native.Mathlib.Omega.{arith}
 use borrow.Author.Rules.{rules}
-use borrow.Author.Tests.{not-false}
 use mathlib.Core.Path.{◌≡◌, sym, ◌∙◌}
 use lib.ListN.{length, length-map}
 use Rattle.register.specs.Register.{assign}
@@ -19,38 +18,26 @@ returns-then-not-assignable c = simp (← c.assignable.ensures, c.if-not-assigna
 
 pub offset_bounds-register-at : goal.offset_bounds-register-at
 offset_bounds-register-at c =
-    let f : _ = c in
-    let start : _ = f.before.before.before.before in
-    omega (arith, at_below start.args.t1 _ _ _ (long start) f.before.live-places.ensures f.find-cell.ensures c.if-found.true)
+    omega (arith, at_below c.args.register _ _ _ XDROP c.live_places-places.ensures c.find_cell-found.ensures c.if-found.true)
 
 pub bounds-register-at : goal.bounds-register-at
 bounds-register-at c =
-    let f : _ = c in
-    let start : _ = f.before.before.before.before in
-    omega (arith, at_below start.args.t1 _ _ _ (long start) f.before.live-places.ensures f.find-cell.ensures c.if-found.true)
+    omega (arith, at_below c.args.register _ _ _ XDROP c.live_places-places.ensures c.find_cell-found.ensures c.if-found.true)
 
 pub returns-then-found : goal.returns-then-found
 returns-then-found c =
-    let f : _ = c in
-    let start : _ = f.before.before.before.before in
-    assign_supersedes _ _ _ _ (long start) f.before.live-places.ensures f.find-cell.ensures _ (sym f.before.before.before.assignable.ensures ∙ not-false _ f.before.before.if1.false)
+    assign_supersedes _ _ _ _ XDROP c.live_places-places.ensures c.find_cell-found.ensures _ (sym c.assignable.ensures ∙ c.if-not-assignable.false)
     c.if-found.true _ _ c.increment-made.ensures c.increment-superseded.ensures
 
 pub returns-then-places-ge512 : goal.returns-then-places-ge512
 returns-then-places-ge512 c =
-    let f : _ = c in
-    let start : _ = f.before.before.before.before in
-    assign_full _ _ _ _ (long start) f.before.live-places.ensures f.find-cell.ensures _ (sym f.before.before.before.assignable.ensures ∙ not-false _ f.before.before.if1.false) c.if-found.false c.if-places-ge512.true
+    assign_full _ _ _ _ XDROP c.live_places-places.ensures c.find_cell-found.ensures _ (sym c.assignable.ensures ∙ c.if-not-assignable.false) c.if-found.false c.if-places-ge512.true
 
 pub insert_cell-cells-requires : goal.insert_cell-cells-requires
 insert_cell-cells-requires c =
-    let f : _ = c in
-    let start : _ = f.before.before.before.before in
-    (at_most start.args.t1 _ _ _ (long start) f.before.live-places.ensures f.find-cell.ensures, search rules)
+    (at_most c.args.register _ _ _ XDROP c.live_places-places.ensures c.find_cell-found.ensures, search rules)
 
 pub returns : goal.returns
 returns c =
-    let f : _ = c in
-    let start : _ = f.before.before.before.before in
-    assign_makes _ _ _ _ (long start) f.before.live-places.ensures f.find-cell.ensures _ (sym f.before.before.before.assignable.ensures ∙ not-false _ f.before.before.if1.false)
+    assign_makes _ _ _ _ XDROP c.live_places-places.ensures c.find_cell-found.ensures _ (sym c.assignable.ensures ∙ c.if-not-assignable.false)
     c.if-found.false c.if-places-ge512.false _ c.increment-made-2.ensures _ c.insert_cell-cells.ensures

@@ -16,14 +16,12 @@ loop-i-init c = (search rules, (search rules, refl))
 
 pub returns-then-cell-number : goal.returns-then-cell-number
 returns-then-cell-number c =
-    let turn : _ = c in
-    simp (← turn.before.before.live-places.ensures)
-    (search_found _ _ _ _ _ turn.loop-test.true (search rules) (long turn.before.before.before) turn.before.loop.invariant.1 (le-leb _ _ c.if-cell-number.true))
+    simp (← c.live_places-places.ensures)
+    (search_found _ _ _ _ _ c.loop-i-test.true (search rules) XDROP c.loop-i.invariant.1 (le-leb _ _ c.if-cell-number.true))
 
 pub loop-i-preserved : goal.loop-i-preserved
 loop-i-preserved c =
-    let turn : _ = c in
-    (search rules, search_more _ _ _ _ _ turn.loop-test.true (search rules) (long turn.before.before.before) turn.before.loop.invariant.1 (lt-leb _ _ c.if-cell-number.false))
+    (search rules, search_more _ _ _ _ _ c.loop-i-test.true (search rules) XDROP c.loop-i.invariant.1 (lt-leb _ _ c.if-cell-number.false))
 
 pub returns : goal.returns
 returns c =

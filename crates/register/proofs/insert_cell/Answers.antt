@@ -5,7 +5,7 @@ use Rattle.register.proofs.Places.{move_start, move_more, move_end}
 use Rattle.register.proofs.insert_cell.Goals as goal
 
 pub loop-i-init : goal.loop-i-init
-loop-i-init c = (search rules, search rules, move_start c.args.t1 c.args.live-places (search rules))
+loop-i-init c = (search rules, search rules, move_start c.args.cells c.args.live_places (search rules))
 
 pub loop-i-preserved : goal.loop-i-preserved
 loop-i-preserved c =

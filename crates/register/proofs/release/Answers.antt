@@ -13,24 +13,16 @@ long c = sym (length-map c.args.register.cells _) ∙ c.well-formed.0.1.1.1.1.1.
 
 pub overflow_sub-left : goal.overflow_sub-left
 overflow_sub-left c =
-    let f : _ = c in
-    let start : _ = f.before.before in
-    omega (arith, at_below start.args.register _ _ _ (long start) f.before.live-places.ensures f.find-cell.ensures c.if-found.true)
+    omega (arith, at_below c.args.register _ _ _ XDROP c.live_places-places.ensures c.find_cell-found.ensures c.if-found.true)
 
 pub remove_cell-cells-requires : goal.remove_cell-cells-requires
 remove_cell-cells-requires c =
-    let f : _ = c in
-    let start : _ = f.before.before in
-    (at_below start.args.register _ _ _ (long start) f.before.live-places.ensures f.find-cell.ensures c.if-found.true, search rules)
+    (at_below c.args.register _ _ _ XDROP c.live_places-places.ensures c.find_cell-found.ensures c.if-found.true, search rules)
 
 pub returns-then-found : goal.returns-then-found
 returns-then-found c =
-    let f : _ = c in
-    let start : _ = f.before.before in
-    release_releases _ _ _ _ (long start) f.before.live-places.ensures f.find-cell.ensures c.if-found.true _ c.increment-released.ensures _ c.remove_cell-cells.ensures
+    release_releases _ _ _ _ XDROP c.live_places-places.ensures c.find_cell-found.ensures c.if-found.true _ c.increment-released.ensures _ c.remove_cell-cells.ensures
 
 pub returns : goal.returns
 returns c =
-    let f : _ = c in
-    let start : _ = f.before.before in
-    release_unknown _ _ _ _ (long start) f.before.live-places.ensures f.find-cell.ensures c.if-found.false
+    release_unknown _ _ _ _ XDROP c.live_places-places.ensures c.find_cell-found.ensures c.if-found.false

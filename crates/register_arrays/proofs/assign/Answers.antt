@@ -35,34 +35,24 @@ returns-then-not-assignable c = simp (← c.assignable.ensures, c.if-not-assigna
 
 pub put_cell-requires : goal.put_cell-requires
 put_cell-requires c =
-    let s : _ = c in
-    let start : _ = s.before.before.before.before.before.before.before.before.before in
-    let below = at_below (held start) _ _ _ (long start) s.before.before.live-places.ensures (located s) c.if-found.true in
-    (search rules, omega (arith, below, s.before.before.live-places.ensures))
+    let below = at_below (held c) _ _ _ XDROP c.live_places-places.ensures (located c) c.if-found.true in
+    (search rules, omega (arith, below, c.live_places-places.ensures))
 
 pub returns-then-found : goal.returns-then-found
 returns-then-found c =
-    let s : _ = c in
-    let start : _ = s.before.before.before.before.before.before.before.before.before in
     simp c.put_cell.ensures
-    (assign_supersedes (held start) _ _ _ (long start) s.before.before.live-places.ensures (located s) _ (fits s)
+    (assign_supersedes (held c) _ _ _ XDROP c.live_places-places.ensures (located c) _ (fits c)
     c.if-found.true _ _ c.increment-made.ensures c.increment-superseded.ensures)
 
 pub returns-then-places-ge512 : goal.returns-then-places-ge512
 returns-then-places-ge512 c =
-    let s : _ = c in
-    let start : _ = s.before.before.before.before.before.before.before.before.before in
-    assign_full (held start) _ _ _ (long start) s.before.before.live-places.ensures (located s) _ (fits s) c.if-found.false c.if-places-ge512.true
+    assign_full (held c) _ _ _ XDROP c.live_places-places.ensures (located c) _ (fits c) c.if-found.false c.if-places-ge512.true
 
 pub insert_cell-requires : goal.insert_cell-requires
 insert_cell-requires c =
-    let s : _ = c in
-    let start : _ = s.before.before.before.before.before.before.before.before.before in
-    (search rules, at_most (held start) _ _ _ (long start) s.before.before.live-places.ensures (located s), search rules)
+    (search rules, at_most (held c) _ _ _ XDROP c.live_places-places.ensures (located c), search rules)
 
 pub returns : goal.returns
 returns c =
-    let s : _ = c in
-    let start : _ = s.before.before.before.before.before.before.before.before.before in
-    assign_makes (held start) _ _ _ (long start) s.before.before.live-places.ensures (located s) _ (fits s)
+    assign_makes (held c) _ _ _ XDROP c.live_places-places.ensures (located c) _ (fits c)
     c.if-found.false c.if-places-ge512.false _ c.increment-made-2.ensures _ c.insert_cell.ensures

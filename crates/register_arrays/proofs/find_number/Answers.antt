@@ -18,16 +18,12 @@ loop-i-init c = (search rules, (search rules, refl))
 
 pub returns-then-cells-i : goal.returns-then-cells-i
 returns-then-cells-i c =
-    let turn : _ = c in
-    let start : _ = turn.before.before in
     simp (← numbered_at)
-    (search_found _ _ _ _ no_cell turn.loop-test.true start.requires.1 (long start) turn.before.loop.invariant.1 (simp numbered_at (le-leb _ _ c.if-cells-i.true)))
+    (search_found _ _ _ _ no_cell c.loop-i-test.true c.requires.1 XDROP c.loop-i.invariant.1 (simp numbered_at (le-leb _ _ c.if-cells-i.true)))
 
 pub loop-i-preserved : goal.loop-i-preserved
 loop-i-preserved c =
-    let turn : _ = c in
-    let start : _ = turn.before.before in
-    (search rules, search_more _ _ _ _ no_cell turn.loop-test.true start.requires.1 (long start) turn.before.loop.invariant.1 (simp numbered_at (lt-leb _ _ c.if-cells-i.false)))
+    (search rules, search_more _ _ _ _ no_cell c.loop-i-test.true c.requires.1 XDROP c.loop-i.invariant.1 (simp numbered_at (lt-leb _ _ c.if-cells-i.false)))
 
 pub returns : goal.returns
 returns c = search_none _ _ _ _ c.loop-i.invariant.0 c.loop-i-test.false c.loop-i.invariant.1

@@ -31,11 +31,11 @@ loop-i-smaller c = omega arith
 
 pub loop-i-preserved : goal.loop-i-preserved
 loop-i-preserved c =
-    let turn : _ = c in (
-      simp length-set turn.loop.invariant.0,
+    (
+      simp length-set c.loop-i.invariant.0,
       omega arith,
       omega arith,
-      move_more _ _ _ _ 0 (omega arith) turn.loop.invariant.2 turn.loop.invariant.3 (omega arith),
+      move_more _ _ _ _ 0 (omega arith) c.loop-i.invariant.2 c.loop-i.invariant.3 (omega arith),
     )
 
 pub offset_bounds-column-at : goal.offset_bounds-column-at

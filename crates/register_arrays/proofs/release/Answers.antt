@@ -26,25 +26,17 @@ located s =
 
 pub overflow_sub-left : goal.overflow_sub-left
 overflow_sub-left c =
-    let s : _ = c in
-    let start : _ = s.before.before.before.before.before.before.before in
-    omega (arith, at_below (held start) _ _ _ (long start) s.before.before.live-places.ensures (located s) c.if-found.true)
+    omega (arith, at_below (held c) _ _ _ XDROP c.live_places-places.ensures (located c) c.if-found.true)
 
 pub remove_cell-requires : goal.remove_cell-requires
 remove_cell-requires c =
-    let s : _ = c in
-    let start : _ = s.before.before.before.before.before.before.before in
-    (search rules, at_below (held start) _ _ _ (long start) s.before.before.live-places.ensures (located s) c.if-found.true, search rules)
+    (search rules, at_below (held c) _ _ _ XDROP c.live_places-places.ensures (located c) c.if-found.true, search rules)
 
 pub returns-then-found : goal.returns-then-found
 returns-then-found c =
-    let s : _ = c in
-    let start : _ = s.before.before.before.before.before.before.before in
-    release_releases (held start) _ _ _ (long start) s.before.before.live-places.ensures (located s)
+    release_releases (held c) _ _ _ XDROP c.live_places-places.ensures (located c)
     c.if-found.true _ c.increment-released.ensures _ c.remove_cell.ensures
 
 pub returns : goal.returns
 returns c =
-    let s : _ = c in
-    let start : _ = s.before.before.before.before.before.before.before in
-    release_unknown (held start) _ _ _ (long start) s.before.before.live-places.ensures (located s) c.if-found.false
+    release_unknown (held c) _ _ _ XDROP c.live_places-places.ensures (located c) c.if-found.false

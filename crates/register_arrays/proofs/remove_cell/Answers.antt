@@ -5,6 +5,5 @@ use Rattle.register_arrays.proofs.remove_cell.Goals as goal
 
 pub returns : goal.returns
 returns c =
-    let start : _ = c in
     simp (c.remove_number.ensures, c.remove_number-2.ensures, c.remove_number-3.ensures)
-    (cells_removed start.args.at start.args.places start.args.cells.now start.args.carriers.now start.args.widths.now (level _ _ _ start.requires.0))
+    (cells_removed c.args.at c.args.places c.args.cells.now c.args.carriers.now c.args.widths.now (level _ _ _ c.requires.0))

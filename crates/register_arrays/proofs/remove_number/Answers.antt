@@ -34,11 +34,11 @@ loop-i-smaller c = omega arith
 
 pub loop-i-preserved : goal.loop-i-preserved
 loop-i-preserved c =
-    let turn : _ = c in (
-      simp length-set turn.loop.invariant.0,
+    (
+      simp length-set c.loop-i.invariant.0,
       omega arith,
       omega arith,
-      remove_more _ _ _ _ 0 turn.loop.invariant.1 (omega arith) turn.loop.invariant.3,
+      remove_more _ _ _ _ 0 c.loop-i.invariant.1 (omega arith) c.loop-i.invariant.3,
     )
 
 pub shape_of-column : goal.shape_of-column

@@ -18,17 +18,12 @@ loop-i-init c = commit_start
 
 pub loop-i-preserved-then-has_quorum : goal.loop-i-preserved-then-has_quorum
 loop-i-preserved-then-has_quorum c =
-    let counted : _ = c in
-    let turn : _ = counted.before.before in
-    let start : _ = turn.before.before.before.before.before in
-    commit_serves_lem turn.before.loop.invariant turn.loop-test.true (search rules) (reads_long start) _ _ counted.after-commit.ensures (served_long start)
+    commit_serves_lem c.loop-i.invariant c.loop-i-test.true (search rules) XDROP _ _ c.after_commit-read.ensures XDROP
     (sym c.has_quorum.ensures ∙ c.if-has_quorum.true) _ c.serve.ensures
 
 pub loop-i-preserved : goal.loop-i-preserved
 loop-i-preserved c =
-    let counted : _ = c in
-    let turn : _ = counted.before.before in
-    commit_keeps turn.before.loop.invariant turn.loop-test.true (search rules) (reads_long turn.before.before.before.before.before) _ _ counted.after-commit.ensures
+    commit_keeps c.loop-i.invariant c.loop-i-test.true (search rules) XDROP _ _ c.after_commit-read.ensures
     (sym c.has_quorum.ensures ∙ c.if-has_quorum.false)
 
 pub returns : goal.returns

@@ -13,15 +13,13 @@ long c = sym (length-map c.args.t2.reads _) ∙ c.well-formed.1.0.1.1.0.1.0.1
 
 pub returns-then-read-id : goal.returns-then-read-id
 returns-then-read-id c =
-    let turn : _ = c in
-    simp (← turn.before.before.open-places.ensures)
+    simp (← c.open_places-open_places.ensures)
     (sym
-    (search_found _ _ _ _ _ turn.loop-test.true (search rules) (long turn.before.before.before) turn.before.loop.invariant.1 (eq-eqb _ _ c.if-read-id.true)))
+    (search_found _ _ _ _ _ c.loop-i-test.true (search rules) XDROP c.loop-i.invariant.1 (eq-eqb _ _ c.if-read-id.true)))
 
 pub loop-i-preserved : goal.loop-i-preserved
 loop-i-preserved c =
-    let turn : _ = c in
-    (search rules, search_more _ _ _ _ _ turn.loop-test.true (search rules) (long turn.before.before.before) turn.before.loop.invariant.1 (ne_eqb _ _ c.if-read-id.false))
+    (search rules, search_more _ _ _ _ _ c.loop-i-test.true (search rules) XDROP c.loop-i.invariant.1 (ne_eqb _ _ c.if-read-id.false))
 
 pub returns : goal.returns
 returns c =

@@ -14,22 +14,16 @@ served_long c = sym (length-map c.args.t2.served _) ∙ c.well-formed.1.0.1.1.1.
 
 pub returns-then-at-open_places : goal.returns-then-at-open_places
 returns-then-at-open_places c =
-    let searched : _ = c in
-    receive_unknown _ _ _ _ _ _ _ _ searched.before.open-places.ensures searched.find.ensures (reads_long searched.before.before) c.if-at-open_places.true
+    receive_unknown _ _ _ _ _ _ _ _ c.open_places-open_places.ensures c.find-at.ensures XDROP c.if-at-open_places.true
 
 pub returns-then-has_quorum : goal.returns-then-has_quorum
 returns-then-has_quorum c =
-    let counted : _ = c in
-    let searched : _ = counted.before.before.before in
-    let start : _ = searched.before.before in
-    receive_serves _ _ _ _ _ _ _ _ searched.before.open-places.ensures searched.find.ensures (reads_long start)
-    _ _ counted.after-response.ensures counted.before.before.if1.false
-    (sym c.has_quorum.ensures ∙ c.if-has_quorum.true) (served_long start) _ c.remove-reads.ensures _ c.serve.ensures
+    receive_serves _ _ _ _ _ _ _ _ c.open_places-open_places.ensures c.find-at.ensures XDROP
+    _ _ c.after_response-read.ensures c.if-at-open_places.false
+    (sym c.has_quorum.ensures ∙ c.if-has_quorum.true) XDROP _ c.remove-reads.ensures _ c.serve.ensures
 
 pub returns : goal.returns
 returns c =
-    let counted : _ = c in
-    let searched : _ = counted.before.before.before in
-    receive_keeps _ _ _ _ _ _ _ _ searched.before.open-places.ensures searched.find.ensures (reads_long searched.before.before)
-    _ _ counted.after-response.ensures counted.before.before.if1.false
+    receive_keeps _ _ _ _ _ _ _ _ c.open_places-open_places.ensures c.find-at.ensures XDROP
+    _ _ c.after_response-read.ensures c.if-at-open_places.false
     (sym c.has_quorum.ensures ∙ c.if-has_quorum.false)

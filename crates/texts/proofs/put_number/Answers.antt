@@ -6,4 +6,4 @@ use Rattle.texts.proofs.put_number.Goals as goal
 
 pub returns : goal.returns
 returns c =
-    simp (decimal_digits _ c.decimal-k.result (omega arith) c.decimal-k.ensures.1.0, ← c.decimal-k.ensures.1.1, ← c.put_bytes.ensures)
+    simp (decimal_digits _ c.decimal-k.result (omega arith) c.decimal-k.ensures.len, ← c.decimal-k.ensures.digits, ← c.put_bytes.ensures)

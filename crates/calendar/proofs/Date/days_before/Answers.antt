@@ -18,16 +18,14 @@ days_of_months-months-requires c = omega (arith, numbers _ c.requires)
 
 pub overflow_add-result : goal.overflow_add-result
 overflow_add-result c =
-    let start : _ = c in
-    omega (arith, added_fit _ _ _ _ start.requires c.is_leap-leap.ensures c.days_of_years-years.ensures c.days_of_months-months.ensures)
+    omega (arith, added_fit _ _ _ _ c.requires c.is_leap-leap.ensures c.days_of_years-years.ensures c.days_of_months-months.ensures)
 
 pub overflow_sub-result : goal.overflow_sub-result
 overflow_sub-result c = omega (arith, numbers _ c.requires)
 
 pub overflow_add-result-2 : goal.overflow_add-result-2
 overflow_add-result-2 c =
-    let start : _ = c in
-    omega (arith, added_fit _ _ _ _ start.requires c.is_leap-leap.ensures c.days_of_years-years.ensures c.days_of_months-months.ensures)
+    omega (arith, added_fit _ _ _ _ c.requires c.is_leap-leap.ensures c.days_of_years-years.ensures c.days_of_months-months.ensures)
 
 pub returns : goal.returns
 returns c = added_days _ _ _ _ c.is_leap-leap.ensures c.days_of_years-years.ensures c.days_of_months-months.ensures

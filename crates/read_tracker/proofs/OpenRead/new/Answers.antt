@@ -12,4 +12,4 @@ one true = refl
 one false = refl
 
 pub returns : goal.returns
-returns c = simp (one c.args.local-ready)
+returns c = simp (one c.args.local_ready)

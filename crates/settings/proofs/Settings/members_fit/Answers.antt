@@ -1,6 +1,6 @@
 -- `settings::Settings::members_fit` meets its contract.
 -- Assumes nothing.
-use borrow.Author.Tests.{lt-ltb, le-ltb, not-true, not-false}
+use borrow.Author.Tests.{lt-ltb, le-ltb}
 use Rattle.settings.specs.Settings.{members_fit}
 use Rattle.settings.proofs.Settings.members_fit.Goals as goal
 
@@ -14,8 +14,8 @@ returns-then-self-2 c = simp (lt-ltb _ _ c.if-self.false, le-ltb _ _ c.if-self-2
 
 pub returns-then-not-fits : goal.returns-then-not-fits
 unfolding members_fit
-returns-then-not-fits c = simp (lt-ltb _ _ c.if-self.false, lt-ltb _ _ c.if-self-2.false, ← c.fits.ensures, not-true c.fits.result c.if-not-fits.true)
+returns-then-not-fits c = simp (lt-ltb _ _ c.if-self.false, lt-ltb _ _ c.if-self-2.false, ← c.fits.ensures, c.if-not-fits.true)
 
 pub returns : goal.returns
 unfolding members_fit
-returns c = simp (lt-ltb _ _ c.if-self.false, lt-ltb _ _ c.if-self-2.false, ← c.fits.ensures, not-false c.fits.result c.if-not-fits.false, ← c.size.ensures)
+returns c = simp (lt-ltb _ _ c.if-self.false, lt-ltb _ _ c.if-self-2.false, ← c.fits.ensures, c.if-not-fits.false, ← c.size.ensures)

@@ -1,0 +1,12 @@
+-- `short_runs::put_line` meets its contract.
+-- Assumes nothing.
+use Rattle.texts.proofs.Putting.{put_then}
+use Rattle.short_runs.specs.Lister.{kept_line}
+use Rattle.short_runs.proofs.put_line.Goals as goal
+
+pub returns : goal.returns
+unfolding kept_line
+returns c =
+    put_then _ _ _ c.put_events-middle.ensures
+    (put_then _ _ _ c.put_byte-next.ensures
+    (put_then _ _ _ c.put_commits-end.ensures c.put_bytes.ensures))
