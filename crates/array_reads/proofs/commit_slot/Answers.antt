@@ -5,20 +5,16 @@ use Prim.Native.Nat.{◌≤◌}
 use mathlib.Core.Path.{◌≡◌, refl, ap, sym, ◌∙◌}
 use native.Mathlib.Omega.{arith}
 use borrow.Author.Rules.{rules}
-use lib.ListN.{length, get_or}
+use lib.ListN.{get_or}
 use Rattle.read_tracker.specs.Reads.{after_commit}
 use Rattle.serving.proofs.Commits.{commit_start, commit_serves_lem, commit_keeps, commit_ends}
 use Rattle.array_reads.specs.Rows.{open_rows, no_read}
-use Rattle.array_reads.proofs.Rows.{open_length, served_length}
+use Rattle.array_reads.proofs.Rows.{served_length}
 use Rattle.array_reads.proofs.commit_slot.Goals as goal
 
 -- no more reads are open than there are places
 places_fit_lem : (c : tie.After-open-places invariant-loop decreases-loop) → c.open-places.result ≤ 128
 places_fit_lem c = omega arith
-
--- the array has its 128 places
-reads_long : (c : tie.After-after-commit invariant-loop decreases-loop) → length (open_rows c.before.before.before.before.before.before.before.args.«open».now) ≡ 128
-reads_long c = open_length _ (omega arith)
 
 -- the read of a turn
 read_is : (c : tie.After-after-commit invariant-loop decreases-loop)
@@ -50,7 +46,7 @@ loop-i-preserved-then-has_quorum c =
       search rules,
       omega arith,
       simp c.put_served.ensures
-          (commit_serves_lem c.loop-i.invariant.2 c.loop-i-test.true (places_fit_lem c) XDROP no_read _ (read_is c) (served_length _ (omega arith))
+          (commit_serves_lem c.loop-i.invariant.2 c.loop-i-test.true (places_fit_lem c) (omega arith) no_read _ (read_is c) (served_length _ (omega arith))
           (sym c.has_quorum.ensures ∙ c.if-has_quorum.true) _ c.serve.ensures),
     )
 
@@ -69,7 +65,7 @@ loop-i-preserved c =
       omega arith,
       search rules,
       simp c.put_open.ensures
-          (commit_keeps c.loop-i.invariant.2 c.loop-i-test.true (places_fit_lem c) XDROP no_read _ (read_is c)
+          (commit_keeps c.loop-i.invariant.2 c.loop-i-test.true (places_fit_lem c) (omega arith) no_read _ (read_is c)
           (sym c.has_quorum.ensures ∙ c.if-has_quorum.false)),
     )
 

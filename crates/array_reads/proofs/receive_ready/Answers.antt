@@ -2,17 +2,13 @@
 -- Assumes nothing.
 use mathlib.Core.Path.{◌≡◌, ap, sym, ◌∙◌}
 use native.Mathlib.Omega.{arith}
-use lib.ListN.{length, get_or}
+use lib.ListN.{get_or}
 use Rattle.read_tracker.specs.Reads.{after_response, open_reads}
 use Rattle.serving.specs.Serving.{place}
 use Rattle.serving.proofs.Responses.{receive_unknown, receive_keeps, receive_serves}
 use Rattle.array_reads.specs.Rows.{open_rows, table_of, no_read}
-use Rattle.array_reads.proofs.Rows.{open_length, served_length}
+use Rattle.array_reads.proofs.Rows.{served_length}
 use Rattle.array_reads.proofs.receive_ready.Goals as goal
-
--- the array has its 128 places
-reads_long : (c : tie.After-find) → length (open_rows c.before.before.before.before.args.«open».now) ≡ 128
-reads_long c = open_length _ (omega arith)
 
 -- the place that was found, in the words of the tracker
 found : (c : tie.After-find)
@@ -33,7 +29,7 @@ find-at-requires c = omega arith
 
 pub returns-then-at-open_places : goal.returns-then-at-open_places
 returns-then-at-open_places c =
-    receive_unknown _ _ _ _ _ _ _ _ c.open_places-open_places.ensures (found c) XDROP c.if-at-open_places.true
+    receive_unknown _ _ _ _ _ _ _ _ c.open_places-open_places.ensures (found c) (omega arith) c.if-at-open_places.true
 
 pub open_at-requires : goal.open_at-requires
 open_at-requires c = omega arith
@@ -50,7 +46,7 @@ overflow_sub-left c = omega arith
 pub returns-then-has_quorum : goal.returns-then-has_quorum
 returns-then-has_quorum c =
     simp c.put_served.ensures
-    (receive_serves _ _ _ _ _ _ _ _ c.open_places-open_places.ensures (found c) XDROP
+    (receive_serves _ _ _ _ _ _ _ _ c.open_places-open_places.ensures (found c) (omega arith)
     no_read _ (read_is c) c.if-at-open_places.false
     (sym c.has_quorum.ensures ∙ c.if-has_quorum.true) (served_length _ c.put_served-arg-1.given.0.1) _ c.remove.ensures _ c.serve.ensures)
 
@@ -60,6 +56,6 @@ put_open-requires c = omega arith
 pub returns : goal.returns
 returns c =
     simp c.put_open.ensures
-    (receive_keeps _ _ _ _ _ _ _ _ c.open_places-open_places.ensures (found c) XDROP
+    (receive_keeps _ _ _ _ _ _ _ _ c.open_places-open_places.ensures (found c) (omega arith)
     no_read _ (read_is c) c.if-at-open_places.false
     (sym c.has_quorum.ensures ∙ c.if-has_quorum.false))

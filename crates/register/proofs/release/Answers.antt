@@ -2,27 +2,21 @@
 -- Assumes nothing.
 use native.Mathlib.Omega.{arith}
 use borrow.Author.Rules.{rules}
-use mathlib.Core.Path.{◌≡◌, sym, ◌∙◌}
-use lib.ListN.{length, length-map}
 use Rattle.register.proofs.Ends.{at_below, release_releases, release_unknown}
 use Rattle.register.proofs.release.Goals as goal
 
--- the register has its 512 places
-long : (c : tie.Start) → length c.args.register.cells ≡ 512
-long c = sym (length-map c.args.register.cells _) ∙ c.well-formed.0.1.1.1.1.1.0.1.0.1
-
 pub overflow_sub-left : goal.overflow_sub-left
 overflow_sub-left c =
-    omega (arith, at_below c.args.register _ _ _ XDROP c.live_places-places.ensures c.find_cell-found.ensures c.if-found.true)
+    omega (arith, at_below c.args.register _ _ _ (omega arith) c.live_places-places.ensures c.find_cell-found.ensures c.if-found.true)
 
 pub remove_cell-cells-requires : goal.remove_cell-cells-requires
 remove_cell-cells-requires c =
-    (at_below c.args.register _ _ _ XDROP c.live_places-places.ensures c.find_cell-found.ensures c.if-found.true, search rules)
+    (at_below c.args.register _ _ _ (omega arith) c.live_places-places.ensures c.find_cell-found.ensures c.if-found.true, search rules)
 
 pub returns-then-found : goal.returns-then-found
 returns-then-found c =
-    release_releases _ _ _ _ XDROP c.live_places-places.ensures c.find_cell-found.ensures c.if-found.true _ c.increment-released.ensures _ c.remove_cell-cells.ensures
+    release_releases _ _ _ _ (omega arith) c.live_places-places.ensures c.find_cell-found.ensures c.if-found.true _ c.increment-released.ensures _ c.remove_cell-cells.ensures
 
 pub returns : goal.returns
 returns c =
-    release_unknown _ _ _ _ XDROP c.live_places-places.ensures c.find_cell-found.ensures c.if-found.false
+    release_unknown _ _ _ _ (omega arith) c.live_places-places.ensures c.find_cell-found.ensures c.if-found.false

@@ -5,21 +5,17 @@ use borrow.Author.Rules.{rules}
 use borrow.Author.Tests.{not-false}
 use mathlib.Core.Bool.{true}
 use mathlib.Core.Path.{◌≡◌, sym, ◌∙◌}
-use lib.ListN.{length}
 use Rattle.register.specs.Cells.{found}
 use Rattle.register.specs.Register.{live_cells, assignable, assign}
 use Rattle.register.specs.declared.Register.{Register}
 use Rattle.register.proofs.Ends.{at_most, at_below, assign_supersedes, assign_full, assign_makes}
 use Rattle.register_arrays.specs.Columns.{register_of}
-use Rattle.register_arrays.proofs.Searching.{register_long, found_live}
+use Rattle.register_arrays.proofs.Searching.{found_live}
 use Rattle.register_arrays.proofs.assign.Goals as goal
 
 -- the register that the arrays stand for
 abbrev held : tie.Start → Register
 held c = register_of c.args.cells.now c.args.carriers.now c.args.widths.now c.args.figures.now
-
-long : (c : tie.Start) → length (held c).cells ≡ 512
-long c = register_long c.args.cells.now c.args.carriers.now c.args.widths.now c.args.figures.now c.requires
 
 located : (s : tie.After-find-number) → s.find-number.result ≡ found s.before.before.before.before.before.before.before.before.before.args.number (live_cells (held s.before.before.before.before.before.before.before.before.before))
 located s =
@@ -35,24 +31,24 @@ returns-then-not-assignable c = simp (← c.assignable.ensures, c.if-not-assigna
 
 pub put_cell-requires : goal.put_cell-requires
 put_cell-requires c =
-    let below = at_below (held c) _ _ _ XDROP c.live_places-places.ensures (located c) c.if-found.true in
+    let below = at_below (held c) _ _ _ (omega arith) c.live_places-places.ensures (located c) c.if-found.true in
     (search rules, omega (arith, below, c.live_places-places.ensures))
 
 pub returns-then-found : goal.returns-then-found
 returns-then-found c =
     simp c.put_cell.ensures
-    (assign_supersedes (held c) _ _ _ XDROP c.live_places-places.ensures (located c) _ (fits c)
+    (assign_supersedes (held c) _ _ _ (omega arith) c.live_places-places.ensures (located c) _ (fits c)
     c.if-found.true _ _ c.increment-made.ensures c.increment-superseded.ensures)
 
 pub returns-then-places-ge512 : goal.returns-then-places-ge512
 returns-then-places-ge512 c =
-    assign_full (held c) _ _ _ XDROP c.live_places-places.ensures (located c) _ (fits c) c.if-found.false c.if-places-ge512.true
+    assign_full (held c) _ _ _ (omega arith) c.live_places-places.ensures (located c) _ (fits c) c.if-found.false c.if-places-ge512.true
 
 pub insert_cell-requires : goal.insert_cell-requires
 insert_cell-requires c =
-    (search rules, at_most (held c) _ _ _ XDROP c.live_places-places.ensures (located c), search rules)
+    (search rules, at_most (held c) _ _ _ (omega arith) c.live_places-places.ensures (located c), search rules)
 
 pub returns : goal.returns
 returns c =
-    assign_makes (held c) _ _ _ XDROP c.live_places-places.ensures (located c) _ (fits c)
+    assign_makes (held c) _ _ _ (omega arith) c.live_places-places.ensures (located c) _ (fits c)
     c.if-found.false c.if-places-ge512.false _ c.increment-made-2.ensures _ c.insert_cell.ensures

@@ -1,17 +1,12 @@
 -- `register_arrays::find_number` meets its contract: at i the first i numbers are lower. The measure is how many numbers are left.
 -- Assumes nothing.
-use mathlib.Core.Path.{◌≡◌, refl, ◌∙◌}
+use mathlib.Core.Path.{refl}
 use borrow.Author.Rules.{rules}
 use borrow.Author.Tests.{le-leb, lt-leb}
-use lib.ListN.{length}
 use Rattle.register.proofs.Places.{search_found, search_more, search_none}
-use Rattle.register_arrays.specs.Columns.{numbered}
-use Rattle.register_arrays.proofs.Searching.{no_cell, numbered_length, numbered_at}
+use Rattle.register_arrays.proofs.Searching.{no_cell, numbered_at}
+use native.Mathlib.Omega.{arith}
 use Rattle.register_arrays.proofs.find_number.Goals as goal
-
--- the column has its 512 places
-long : (c : tie.Start invariant-loop decreases-loop) → length (numbered c.args.cells.now) ≡ 512
-long c = numbered_length _ ∙ c.requires.0
 
 pub loop-i-init : goal.loop-i-init
 loop-i-init c = (search rules, (search rules, refl))
@@ -19,11 +14,11 @@ loop-i-init c = (search rules, (search rules, refl))
 pub returns-then-cells-i : goal.returns-then-cells-i
 returns-then-cells-i c =
     simp (← numbered_at)
-    (search_found _ _ _ _ no_cell c.loop-i-test.true c.requires.1 XDROP c.loop-i.invariant.1 (simp numbered_at (le-leb _ _ c.if-cells-i.true)))
+    (search_found _ _ _ _ no_cell c.loop-i-test.true c.requires.1 (omega arith) c.loop-i.invariant.1 (simp numbered_at (le-leb _ _ c.if-cells-i.true)))
 
 pub loop-i-preserved : goal.loop-i-preserved
 loop-i-preserved c =
-    (search rules, search_more _ _ _ _ no_cell c.loop-i-test.true c.requires.1 XDROP c.loop-i.invariant.1 (simp numbered_at (lt-leb _ _ c.if-cells-i.false)))
+    (search rules, search_more _ _ _ _ no_cell c.loop-i-test.true c.requires.1 (omega arith) c.loop-i.invariant.1 (simp numbered_at (lt-leb _ _ c.if-cells-i.false)))
 
 pub returns : goal.returns
 returns c = search_none _ _ _ _ c.loop-i.invariant.0 c.loop-i-test.false c.loop-i.invariant.1

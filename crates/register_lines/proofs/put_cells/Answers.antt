@@ -1,23 +1,19 @@
 -- `register_lines::put_cells` meets its contract: after i turns the first i live cells are put. The measure is the number of places left.
 -- Assumes nothing.
-use mathlib.Core.Path.{◌≡◌, refl, sym, ◌∙◌}
+use mathlib.Core.Path.{refl}
 use native.Mathlib.Omega.{arith}
-use lib.ListN.{length, length-take, length-map}
+use lib.ListN.{length-take}
 use Rattle.texts.proofs.Putting.{put_then, reached_none, reached_all}
 use Rattle.register_lines.specs.Answers.{cells_text}
 use Rattle.register_lines.proofs.CellsPut.{cell_put}
 use Rattle.register_lines.proofs.put_cells.Goals as goal
-
--- the register has its 512 places
-long : (c : tie.Start invariant-loop decreases-loop) → length c.args.t3.cells ≡ 512
-long c = sym (length-map c.args.t3.cells _) ∙ c.well-formed.1.1.0.1.1.1.1.1.0.1.0.1
 
 pub loop-i-init : goal.loop-i-init
 loop-i-init c = (omega arith, refl, reached_none)
 
 pub loop-i-preserved : goal.loop-i-preserved
 loop-i-preserved c =
-    let places = XDROP in
+    let places = (omega arith) in
     (omega arith, omega arith, cell_put _ _ _ c.loop-i.invariant.2 c.put_cell-next.ensures c.loop-i-test.true (omega arith))
 
 pub returns : goal.returns

@@ -1,14 +1,11 @@
 -- `stored_arrays::widen_numbers` meets its contract. The loop's invariant: the first i numbers are the stored ones, the others as they were.
 -- Assumes nothing.
-use mathlib.Core.Path.{◌≡◌, sym, ◌∙◌}
+use mathlib.Core.Path.{sym}
 use native.Mathlib.Omega.{arith}
-use lib.ListN.{length, length-set}
+use lib.ListN.{length-set}
 use Rattle.serving.proofs.Lists.{front_none}
 use Rattle.stored_arrays.proofs.Copies.{copy_more, copy_all}
 use Rattle.stored_arrays.proofs.widen_numbers.Goals as goal
-
-same : (c : tie.Start invariant-loop decreases-loop) → length c.args.stored.now ≡ length c.args.numbers.now
-same c = c.requires.0 ∙ sym c.requires.1
 
 pub loop-i-init : goal.loop-i-init
 loop-i-init c = (c.requires.1, omega arith, sym (front_none _))
@@ -39,11 +36,11 @@ loop-i-preserved c =
     (
       simp length-set c.loop-i.invariant.0,
       omega arith,
-      copy_more _ _ _ c.loop-i.i XDROP c.loop-i.invariant.2 (omega (arith, c.requires.0)),
+      copy_more _ _ _ c.loop-i.i (omega arith) c.loop-i.invariant.2 (omega (arith, c.requires.0)),
     )
 
 pub shape_of-numbers : goal.shape_of-numbers
 shape_of-numbers c = omega arith
 
 pub returns : goal.returns
-returns c = copy_all _ _ _ c.loop-i.i XDROP c.loop-i.invariant.2 (omega arith)
+returns c = copy_all _ _ _ c.loop-i.i (omega arith) c.loop-i.invariant.2 (omega arith)

@@ -3,9 +3,7 @@
 use borrow.Author.Tests.{lt-ltb, le-ltb}
 use mathlib.Core.Bool.{Bool, cond}
 use mathlib.Core.Path.{sym, ap, ◌∙◌}
-use Prim.Native.Nat.{◌<◌}
 use native.Mathlib.Omega.{arith}
-use lib.ListN.{length, length-map}
 use Rattle.message.specs.declared.Refusal.TheVariants.{NoSuchProcess}
 use Rattle.consensus.specs.Answers.{refused}
 use Rattle.consensus.specs.Call.{call_of}
@@ -15,15 +13,11 @@ use Rattle.group_by_value.specs.Group.{shard_at, replaced, called}
 use Rattle.basics.proofs.Places.{past}
 use Rattle.group_by_value.proofs.Group.call.Goals as goal
 
--- the member's place is within the array; stated where the function begins
-bound : (c : tie.Start) → c.args.member < 64 → c.args.member < length c.args.self.members
-bound c h = omega (arith, sym (length-map c.args.self.members _) ∙ c.well-formed.0.1.1.0.1.0.1, h)
-
 pub returns-then-member-lt64 : goal.returns-then-member-lt64
 unfolding called
 returns-then-member-lt64 c =
     ap (λ (x : Answer). replaced c.args.self c.args.member x)
-    (c.call-answer.ensures ∙ ap (λ (x : Shard). call_of x c.args.call) (past c.args.self.members c.args.member _ d (XDROP c.if-member-lt64.true)))
+    (c.call-answer.ensures ∙ ap (λ (x : Shard). call_of x c.args.call) (past c.args.self.members c.args.member _ d ((omega arith) c.if-member-lt64.true)))
     ∙ sym (ap (λ (t : Bool). cond t (replaced c.args.self c.args.member (call_of (shard_at d c.args.self c.args.member) c.args.call)) (record { group = c.args.self; reply = (refused NoSuchProcess d).reply })) (lt-ltb _ _ c.if-member-lt64.true))
 
 pub returns : goal.returns

@@ -1,14 +1,9 @@
 -- `windows::Windows::all_fit` meets its contract: after i turns the first i windows fit. The measure is the number of windows left.
 -- Assumes nothing.
-use mathlib.Core.Path.{◌≡◌, refl, sym, ◌∙◌}
+use mathlib.Core.Path.{refl, sym, ◌∙◌}
 use native.Mathlib.Omega.{arith}
-use lib.ListN.{length, length-map}
 use Rattle.windows.proofs.Turns.{turn, over, one_unfit, one_fit, all_tried}
 use Rattle.windows.proofs.Windows.all_fit.Goals as goal
-
--- the windows have their 128 places
-long : (c : tie.Start invariant-loop decreases-loop) → length c.args.t1.places ≡ 128
-long c = sym (length-map c.args.t1.places _) ∙ c.well-formed.0.1.1.0.1.0.1
 
 pub loop-i-init : goal.loop-i-init
 loop-i-init c = (omega arith, refl)
@@ -21,7 +16,7 @@ bounds-self-i c = omega (arith, c.requires)
 
 pub returns-then-not-is_window : goal.returns-then-not-is_window
 returns-then-not-is_window c =
-    one_unfit _ _ c.loop-i.invariant.1 _ _ (turn _ _ _ _ c.loop-i-test.true c.requires XDROP)
+    one_unfit _ _ c.loop-i.invariant.1 _ _ (turn _ _ _ _ c.loop-i-test.true c.requires (omega arith))
     (sym c.is_window.ensures ∙ c.if-not-is_window.true)
 
 pub overflow_add-i : goal.overflow_add-i
@@ -34,7 +29,7 @@ pub loop-i-preserved : goal.loop-i-preserved
 loop-i-preserved c =
     (
       omega arith,
-      one_fit _ _ c.loop-i.invariant.1 _ _ (turn _ _ _ _ c.loop-i-test.true c.requires XDROP)
+      one_fit _ _ c.loop-i.invariant.1 _ _ (turn _ _ _ _ c.loop-i-test.true c.requires (omega arith))
           (sym c.is_window.ensures ∙ c.if-not-is_window.false),
     )
 

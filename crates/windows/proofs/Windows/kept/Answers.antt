@@ -1,14 +1,10 @@
 -- `windows::Windows::kept` meets its contract.
 -- Assumes nothing.
-use mathlib.Core.Path.{◌≡◌, sym, ◌∙◌}
-use lib.ListN.{length, length-map}
+use mathlib.Core.Path.{sym, ◌∙◌}
 use Rattle.windows.specs.Windows.{kept_checked, kept_of}
 use Rattle.windows.proofs.Kept.{kept_made}
+use native.Mathlib.Omega.{arith}
 use Rattle.windows.proofs.Windows.kept.Goals as goal
-
--- the windows have their 128 places
-long : (c : tie.Start) → length c.args.self.places ≡ 128
-long c = sym (length-map c.args.self.places _) ∙ c.well-formed.0.1.1.0.1.0.1
 
 pub starts-requires : goal.starts-requires
 starts-requires c = sym c.check.ensures ∙ c.in-Made.is
@@ -18,7 +14,7 @@ ends-requires c = sym c.check.ensures ∙ c.in-Made.is
 
 pub returns-in-Made : goal.returns-in-Made
 returns-in-Made c =
-    kept_made _ _ _ XDROP (sym c.check.ensures ∙ c.in-Made.is) c.starts.ensures c.ends.ensures
+    kept_made _ _ _ (omega arith) (sym c.check.ensures ∙ c.in-Made.is) c.starts.ensures c.ends.ensures
 
 pub returns-in-Refused : goal.returns-in-Refused
 unfolding kept_of kept_checked

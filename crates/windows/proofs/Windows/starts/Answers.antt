@@ -4,16 +4,12 @@ use mathlib.Core.Path.{◌≡◌, refl, sym, ap, ◌∙◌}
 use mathlib.Core.List.{map}
 use Prim.Native.Nat.{ℕ}
 use native.Mathlib.Omega.{arith}
-use lib.ListN.{length, take, length-map, length-set}
+use lib.ListN.{take, length-set}
 use Rattle.serving.proofs.Lists.{front_none}
 use Rattle.windows.specs.Windows.{start_of, minute_places}
 use Rattle.windows.proofs.Turns.{fits_at, made, start_fits}
 use Rattle.windows.proofs.Kept.{kept_more}
 use Rattle.windows.proofs.Windows.starts.Goals as goal
-
--- the windows have their 128 places
-long : (c : tie.Start invariant-loop decreases-loop) → length c.args.t1.places ≡ 128
-long c = sym (length-map c.args.t1.places _) ∙ c.well-formed.0.1.1.0.1.0.1
 
 pub loop-i-init : goal.loop-i-init
 loop-i-init c = (omega arith, refl, sym (front_none _))
@@ -26,7 +22,7 @@ bounds-self-i c = omega (arith, made _ c.requires)
 
 pub minutes-requires : goal.minutes-requires
 minutes-requires c =
-    start_fits _ (fits_at _ c.loop-i.i _ (made _ c.requires) XDROP c.loop-i-test.true)
+    start_fits _ (fits_at _ c.loop-i.i _ (made _ c.requires) (omega arith) c.loop-i-test.true)
 
 pub offset_bounds-starts-i : goal.offset_bounds-starts-i
 offset_bounds-starts-i c = omega (arith, made _ c.requires)
@@ -46,7 +42,7 @@ loop-i-preserved c =
     (
       omega arith,
       simp length-set c.loop-i.invariant.1,
-      kept_more start_of _ c.loop-i.i XDROP (omega arith) _ _ _ c.loop-i.invariant.2 c.minutes.ensures,
+      kept_more start_of _ c.loop-i.i (omega arith) (omega arith) _ _ _ c.loop-i.invariant.2 c.minutes.ensures,
     )
 
 pub returns : goal.returns
