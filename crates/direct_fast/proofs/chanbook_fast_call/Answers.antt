@@ -12,12 +12,12 @@ use Rattle.direct_fast.proofs.chanbook_fast_call.Goals as goal
 
 pub returns-then-not-fast_half_acts : goal.returns-then-not-fast_half_acts
 returns-then-not-fast_half_acts c =
-    (read_in c.args.committers.now c.args.delegates.now c.args.core.now (fast_arrays c.args.answers.now c.args.values.now c.args.epaxos.now c.args.swift.now) (table_of c.args.reads.now c.args.served.now) (written c.args.first.now c.args.second.now c.args.third.now c.args.rest.now) c.setup_in-s.ensures c.call_in-f.ensures (not_fast c.setup_in-s.result c.args.committers.now c.args.delegates.now c.args.core.now (fast_arrays c.args.answers.now c.args.values.now c.args.epaxos.now c.args.swift.now) c.call_in-f.result (written c.args.first.now c.args.second.now c.args.third.now c.args.rest.now) (table_of c.args.reads.now c.args.served.now) (sym c.fast_half_acts.ensures ∙ c.if-not-fast_half_acts.true)), (λ h. refl, λ h. refl))
+    record { rest_value = read_in c.args.committers.now c.args.delegates.now c.args.core.now (fast_arrays c.args.answers.now c.args.values.now c.args.epaxos.now c.args.swift.now) (table_of c.args.reads.now c.args.served.now) (written c.args.first.now c.args.second.now c.args.third.now c.args.rest.now) c.setup_in-s.ensures c.call_in-f.ensures (not_fast c.setup_in-s.result c.args.committers.now c.args.delegates.now c.args.core.now (fast_arrays c.args.answers.now c.args.values.now c.args.epaxos.now c.args.swift.now) c.call_in-f.result (written c.args.first.now c.args.second.now c.args.third.now c.args.rest.now) (table_of c.args.reads.now c.args.served.now) (sym c.fast_half_acts.ensures ∙ c.if-not-fast_half_acts.true)); left_unless_taken = (λ h. refl, λ h. refl) }
 
 pub returns-then-number-ne0 : goal.returns-then-number-ne0
 returns-then-number-ne0 c =
-    (read_in c.args.committers.now c.args.delegates.now c.args.core.now (fast_arrays c.args.answers.now c.args.values.now c.args.epaxos.now c.args.swift.now) (table_of c.args.reads.now c.args.served.now) (written c.args.first.now c.args.second.now c.args.third.now c.args.rest.now) c.setup_in-s.ensures c.call_in-f.ensures (refused c.setup_in-s.result c.args.committers.now c.args.delegates.now c.args.core.now (fast_arrays c.args.answers.now c.args.values.now c.args.epaxos.now c.args.swift.now) c.call_in-f.result (written c.args.first.now c.args.second.now c.args.third.now c.args.rest.now) (table_of c.args.reads.now c.args.served.now) (sym c.fast_half_acts.ensures ∙ c.if-not-fast_half_acts.false) (read_back (core_of c.args.core.now) c.setup_in-s.ensures c.call_in-f.ensures c.refusal-number.ensures) (ne_eqb _ _ c.if-number-ne0.true)), (λ h. refl, λ h. refl))
+    record { rest_value = read_in c.args.committers.now c.args.delegates.now c.args.core.now (fast_arrays c.args.answers.now c.args.values.now c.args.epaxos.now c.args.swift.now) (table_of c.args.reads.now c.args.served.now) (written c.args.first.now c.args.second.now c.args.third.now c.args.rest.now) c.setup_in-s.ensures c.call_in-f.ensures (refused c.setup_in-s.result c.args.committers.now c.args.delegates.now c.args.core.now (fast_arrays c.args.answers.now c.args.values.now c.args.epaxos.now c.args.swift.now) c.call_in-f.result (written c.args.first.now c.args.second.now c.args.third.now c.args.rest.now) (table_of c.args.reads.now c.args.served.now) (sym c.fast_half_acts.ensures ∙ c.if-not-fast_half_acts.false) (read_back (core_of c.args.core.now) c.setup_in-s.ensures c.call_in-f.ensures c.refusal-number.ensures) (ne_eqb _ _ c.if-number-ne0.true)); left_unless_taken = (λ h. refl, λ h. refl) }
 
 pub returns : goal.returns
 returns c =
-    (read_in c.args.committers.now c.args.delegates.now c.args.core.now (fast_arrays c.args.answers.now c.args.values.now c.args.epaxos.now c.args.swift.now) (table_of c.args.reads.now c.args.served.now) (written c.args.first.now c.args.second.now c.args.third.now c.args.rest.now) c.setup_in-s.ensures c.call_in-f.ensures (call_taken c.setup_in-s.result c.args.committers.now c.args.delegates.now c.args.core.now (fast_arrays c.args.answers.now c.args.values.now c.args.epaxos.now c.args.swift.now) c.call_in-f.result (written c.args.first.now c.args.second.now c.args.third.now c.args.rest.now) (table_of c.args.reads.now c.args.served.now) (sym c.fast_half_acts.ensures ∙ c.if-not-fast_half_acts.false) (read_back (core_of c.args.core.now) c.setup_in-s.ensures c.call_in-f.ensures c.refusal-number.ensures) (eq-eqb _ _ c.if-number-ne0.false) c.fast_handled.ensures.rest_value), c.fast_handled.ensures.left_unless_taken)
+    record { rest_value = read_in c.args.committers.now c.args.delegates.now c.args.core.now (fast_arrays c.args.answers.now c.args.values.now c.args.epaxos.now c.args.swift.now) (table_of c.args.reads.now c.args.served.now) (written c.args.first.now c.args.second.now c.args.third.now c.args.rest.now) c.setup_in-s.ensures c.call_in-f.ensures (call_taken c.setup_in-s.result c.args.committers.now c.args.delegates.now c.args.core.now (fast_arrays c.args.answers.now c.args.values.now c.args.epaxos.now c.args.swift.now) c.call_in-f.result (written c.args.first.now c.args.second.now c.args.third.now c.args.rest.now) (table_of c.args.reads.now c.args.served.now) (sym c.fast_half_acts.ensures ∙ c.if-not-fast_half_acts.false) (read_back (core_of c.args.core.now) c.setup_in-s.ensures c.call_in-f.ensures c.refusal-number.ensures) (eq-eqb _ _ c.if-number-ne0.false) c.fast_handled.ensures.rest_value); left_unless_taken = c.fast_handled.ensures.left_unless_taken }

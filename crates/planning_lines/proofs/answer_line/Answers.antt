@@ -21,5 +21,5 @@ answered r line q a p s e f g =
 
 pub returns : goal.returns
 returns c =
-    answered _ _ _ _ _ _ c.question_of-question.ensures
-    c.after_line-applied.ensures c.put_answer-put.ensures
+    let both = answered _ _ _ _ _ _ c.question_of-question.ensures c.after_line-applied.ensures c.put_answer-put.ensures in
+    record { register_value = both.0; put_after = both.1 }

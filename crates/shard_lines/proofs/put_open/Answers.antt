@@ -14,7 +14,7 @@ returns-then-i-open_count c = reached_places _ _ c.loop-i.invariant.2 (omega ari
 
 pub loop-i-preserved : goal.loop-i-preserved
 loop-i-preserved c =
-    (omega arith, omega arith, reached_place c.args.reads c.args.open-count _ c.loop-i.invariant.2 c.put_open_read-next.ensures (omega arith) (omega arith) (search rules))
+    (omega arith, omega arith, reached_place c.args.reads c.args.open_count _ c.loop-i.invariant.2 c.put_open_read-next.ensures (omega arith) (omega arith) (search rules))
 
 pub returns : goal.returns
 returns c = reached_places _ _ c.loop-i.invariant.2 (omega arith)
