@@ -6,6 +6,7 @@ ghost use Rattle.io.specs.Counts.{IsPrefixLen};
 
 use register::Register;
 use register_lines::LinesTaken;
+use std::io::Read;
 
 // Between two blocks: the lines so far, how many bytes of one that has not ended stand at the start of the input buffer, and whether the input
 // may go on.
@@ -30,17 +31,20 @@ struct BytesRead {
     failed: bool,
 }
 
-// Reads more behind the bytes that are kept.
-fn read_more(input: &mut [u8], kept: usize) -> BytesRead
+// Reads more behind the bytes that are kept, by one read.
+fn read_more<R: Read>(reader: &mut R, input: &mut [u8], kept: usize) -> BytesRead
     ensures { IsPrefixLen result.end input.new }
 {
     if kept < input.len() {
-        let part = &mut input[kept..];
-        let got = libc::read(0, part);
-        let count = io::count(got, part);
-        return BytesRead {
-            end: kept + count,
-            failed: got < 0,
+        return match reader.read(&mut input[kept..]) {
+            Ok(count) => BytesRead {
+                end: kept + count,
+                failed: false,
+            },
+            Err(_) => BytesRead {
+                end: kept,
+                failed: true,
+            },
         };
     }
     BytesRead {
@@ -86,10 +90,10 @@ fn refused(taken: LinesTaken) -> BetweenBlocks {
 }
 
 // Reads one block and takes its lines.
-fn take_block(between: BetweenBlocks, input: &mut [u8]) -> BetweenBlocks {
+fn take_block<R: Read>(reader: &mut R, between: BetweenBlocks, input: &mut [u8]) -> BetweenBlocks {
     let kept = between.kept;
     let taken = between.taken;
-    let read = read_more(input, kept);
+    let read = read_more(reader, input, kept);
     let end = read.end;
     if read.failed {
         return refused(taken);
@@ -116,7 +120,7 @@ fn take_block(between: BetweenBlocks, input: &mut [u8]) -> BetweenBlocks {
 }
 
 // The input buffer has room for the longest line and its LF.
-fn take_input(input_bytes: &mut [u8; 1048577]) -> LinesTaken {
+fn take_input<R: Read>(reader: &mut R, input_bytes: &mut [u8; 1048577]) -> LinesTaken {
     let input: &mut [u8] = input_bytes;
     let mut between = BetweenBlocks {
         taken: LinesTaken {
@@ -131,7 +135,7 @@ fn take_input(input_bytes: &mut [u8; 1048577]) -> LinesTaken {
         if !between.goes_on {
             break;
         }
-        between = take_block(between, input);
+        between = take_block(reader, between, input);
         turns -= 1;
     }
     let taken = between.taken;
@@ -145,8 +149,9 @@ fn write_report(taken: LinesTaken) {
     io::write_all(1, &bytes[..len]);
 }
 
-fn main() {
+fn main(rt: HostRuntime) {
+    let mut stdin = rt.stdin();
     let mut input_bytes = [0u8; 1048577];
-    let taken = take_input(&mut input_bytes);
+    let taken = take_input(&mut stdin, &mut input_bytes);
     write_report(taken);
 }

@@ -1,6 +1,6 @@
 -- Where a line ends, and what is kept of a block of input.
 -- Assumes nothing.
-use Rattle.std.specs.Prelude.{◌≡◌, Bool, true, false, cond, List, ◌++◌, ℕ, suc, ◌-◌, ◌≤◌, ◌<◌, ltb, length, get_or, take, drop}
+use Rattle.std.specs.Prelude.{◌≡◌, Bool, true, false, cond, List, ◌++◌, ℕ, suc, ◌≤◌, ◌<◌, ltb, length, get_or, take, drop}
 use Rattle.line_blocks.specs.declared.Start.{Start}
 
 -- the place of the first LF (10) from a place on, or the length where there is none

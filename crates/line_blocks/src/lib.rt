@@ -6,6 +6,8 @@ ghost use Rattle.std.specs.Prelude.{◌≡◌, ◌-◌, ◌≤◌, min, length, 
 ghost use Rattle.io.specs.Counts.{IsPrefixLen};
 ghost use Rattle.line_blocks.specs.Lines.{FirstEnd, FirstLine, moved_to_start, with_room};
 
+use std::io::Read;
+
 // Where the answering of a block begins, and whether the line that is skipped goes on behind the block.
 #[derive(Clone, Copy)]
 pub struct Start {
@@ -51,13 +53,15 @@ pub fn first_line(input: &[u8], skipping: bool) -> Start
     }
 }
 
-// Reads more behind the bytes that are kept, and hands back how many there are then.
-pub fn read_behind(input: &mut [u8], kept: usize) -> usize
+// Reads more behind the bytes that are kept, by one read, and hands back how many there are then. A read that fails counts as one of no bytes.
+pub fn read_behind<R: Read>(reader: &mut R, input: &mut [u8], kept: usize) -> usize
     ensures { IsPrefixLen result input.new × (min kept (length input.old) ≤ result) × (take kept input.new ≡ take kept input.old) }
 {
     if kept < input.len() {
-        let part = &mut input[kept..];
-        let got = io::count(libc::read(0, part), part);
+        let got = match reader.read(&mut input[kept..]) {
+            Ok(count) => count,
+            Err(_) => 0,
+        };
         return kept + got;
     }
     input.len()

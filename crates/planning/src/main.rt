@@ -3,6 +3,7 @@
 #![tactic(auto)]
 
 use register::Register;
+use std::io::Read;
 
 // Between two blocks: the register, how many bytes of a line that has not ended stand at the start of the input buffer, whether the rest of a
 // line that is too long is being skipped, and whether the input may go on.
@@ -56,10 +57,15 @@ fn answer_too_long(out: &mut [u8]) {
 }
 
 // Reads one block and answers it.
-fn take_block(between: BetweenBlocks, input: &mut [u8], out: &mut [u8]) -> BetweenBlocks {
+fn take_block<R: Read>(
+    reader: &mut R,
+    between: BetweenBlocks,
+    input: &mut [u8],
+    out: &mut [u8],
+) -> BetweenBlocks {
     let kept = between.kept;
     let register = between.register;
-    let end = line_blocks::read_behind(input, kept);
+    let end = line_blocks::read_behind(reader, input, kept);
     if end <= kept {
         answer_last(register, &input[..end], out);
         return BetweenBlocks {
@@ -92,7 +98,11 @@ fn take_block(between: BetweenBlocks, input: &mut [u8], out: &mut [u8]) -> Betwe
 
 // The input buffer has room for the longest line and its LF. The output buffer has 65,536 bytes left where an answer begins (line_blocks), and the
 // longest answer, that to `cells` with 512 of them, needs 34,837 (`answer_whole`, crates/planning_lines/proofs/Laws.antt).
-fn answer_input(input_bytes: &mut [u8; 1048577], output_bytes: &mut [u8; 98304]) {
+fn answer_input<R: Read>(
+    reader: &mut R,
+    input_bytes: &mut [u8; 1048577],
+    output_bytes: &mut [u8; 98304],
+) {
     let input: &mut [u8] = input_bytes;
     let out: &mut [u8] = output_bytes;
     let mut between = BetweenBlocks {
@@ -106,13 +116,14 @@ fn answer_input(input_bytes: &mut [u8; 1048577], output_bytes: &mut [u8; 98304])
         if !between.goes_on {
             break;
         }
-        between = take_block(between, input, out);
+        between = take_block(reader, between, input, out);
         turns -= 1;
     }
 }
 
-fn main() {
+fn main(rt: HostRuntime) {
+    let mut stdin = rt.stdin();
     let mut input_bytes = [0u8; 1048577];
     let mut output_bytes = [0u8; 98304];
-    answer_input(&mut input_bytes, &mut output_bytes);
+    answer_input(&mut stdin, &mut input_bytes, &mut output_bytes);
 }

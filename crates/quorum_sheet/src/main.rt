@@ -4,20 +4,20 @@
 
 ghost use Rattle.io.specs.Counts.{IsPrefixLen};
 
+use std::io::Read;
+
 // Reads standard input, a byte at a time so that an answer waits for nothing after the line, until LF, the end of the
 // input, or a full buffer. Hands back how many bytes it read: none if a read fails, since the line may then go on.
-fn read_line(buffer: &mut [u8]) -> usize
+fn read_line<R: Read>(reader: &mut R, buffer: &mut [u8]) -> usize
     ensures { IsPrefixLen result buffer.new }
 {
     let mut byte = [0u8; 1];
     let mut n = 0;
     while n < buffer.len() {
-        let got = libc::read(0, &mut byte);
-        if got < 0 {
-            return 0;
-        }
-        if got == 0 {
-            return n;
+        match reader.read(&mut byte) {
+            Ok(0) => return n,
+            Ok(_) => {}
+            Err(_) => return 0,
         }
         buffer[n] = byte[0];
         n += 1;
@@ -37,8 +37,9 @@ fn write_answer(input: &[u8]) {
 }
 
 // Three bytes settle the answer: a line that is longer than two is refused.
-fn main() {
+fn main(rt: HostRuntime) {
+    let mut stdin = rt.stdin();
     let mut buffer = [0u8; 3];
-    let n = read_line(&mut buffer);
+    let n = read_line(&mut stdin, &mut buffer);
     write_answer(&buffer[..n]);
 }

@@ -12,6 +12,7 @@ use consensus::{Answer, Shard};
 use message::Outcome;
 use settings::Settings;
 use state_calls::State;
+use std::io::Read;
 
 // The shard between two blocks: the shard, how many bytes of a line that has not ended stand at the start of the input buffer, whether
 // the rest of a line that is too long is being skipped, and whether the input may go on.
@@ -199,14 +200,15 @@ fn answer_too_long(input: &[u8], out: &mut [u8]) {
 }
 
 // Reads one block and answers it.
-fn take_block(
+fn take_block<R: Read>(
+    reader: &mut R,
     between: BetweenBlocks,
     input: &mut [u8],
     numbers: &mut [u64],
     out: &mut [u8],
 ) -> BetweenBlocks {
     let kept = between.kept;
-    let end = line_blocks::read_behind(input, kept);
+    let end = line_blocks::read_behind(reader, input, kept);
     if end <= kept {
         return answer_last(between, &input[..end], numbers, out);
     }
@@ -238,7 +240,8 @@ fn unmade() -> Shard {
     Shard::new(line_states::settings_of(&none))
 }
 
-fn main() {
+fn main(rt: HostRuntime) {
+    let mut stdin = rt.stdin();
     let mut input_bytes = io::large_buffer();
     let mut output_bytes = io::large_buffer();
     let mut line_numbers = [0u64; 2048];
@@ -256,7 +259,7 @@ fn main() {
         if !between.goes_on {
             break;
         }
-        between = take_block(between, input, numbers, out);
+        between = take_block(&mut stdin, between, input, numbers, out);
         turns -= 1;
     }
 }
