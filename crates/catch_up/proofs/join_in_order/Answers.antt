@@ -1,43 +1,35 @@
 -- `catch_up::join_in_order` meets its contract.
 -- Assumes nothing.
-use mathlib.Core.Path.{◌≡◌}
+use mathlib.Core.Bool.{true, false}
 use Rattle.catch_up.specs.Causes.{CommitList}
-use Rattle.catch_up.specs.Joining.{list_of, apart, disagree}
-use mathlib.Core.Bool.{Bool, true, false}
+use Rattle.catch_up.specs.Joining.{list_of}
 use Rattle.catch_up.proofs.Answers.{refuses, order_gap, order_two, apart_is, disagree_is, order_writes}
 use Rattle.catch_up.proofs.join_in_order.Goals as goal
 
--- the two lists
-abbrev earlier : tie.After-first-slot2 → CommitList
-earlier c =
-    let args = c.before.before.before.before.before.before.before.before.args in
-    list_of args.earlier-slots.now args.earlier-values.now
-
-abbrev later : tie.After-first-slot2 → CommitList
-later c =
-    let args = c.before.before.before.before.before.before.before.before.args in
-    list_of args.later-slots.now args.later-values.now
-
--- what the two tests say
-is_apart : (c : tie.After-begins-past) (t : Bool) → c.begins-past.result ≡ t → apart (earlier c.before) (later c.before) ≡ t
-is_apart c t e =
-    let second = c.before in
-    apart_is (earlier second) (later second) _ _ second.before.first_slot.ensures second.first-slot2.ensures c.begins-past.result t c.begins-past.ensures e
-
-disagrees : (c : tie.After-values-differ) (t : Bool) → c.values-differ.result ≡ t → disagree (earlier c.before.before.before) (later c.before.before.before) ≡ t
-disagrees c t e =
-    let second = c.before.before.before in
-    disagree_is (earlier second) (later second) _ _ second.before.first_slot.ensures second.first-slot2.ensures c.values-differ.result t c.values-differ.ensures e
-
 pub returns-then-begins_past : goal.returns-then-begins_past
-returns-then-begins_past c = refuses _ _ _ (order_gap _ _ (is_apart c true c.if-begins_past.true))
+returns-then-begins_past c =
+    let earlier : CommitList = list_of c.args.earlier_slots.now c.args.earlier_values.now in
+    let later : CommitList = list_of c.args.later_slots.now c.args.later_values.now in
+    refuses _ _ _
+    (order_gap _ _
+    (apart_is earlier later _ _ c.first_slot.ensures c.first_slot-2.ensures c.begins_past.result true c.begins_past.ensures c.if-begins_past.true))
 
 pub returns-then-values_differ : goal.returns-then-values_differ
 returns-then-values_differ c =
-    refuses _ _ _ (order_two _ _ (is_apart c false c.if-begins_past.false) (disagrees c true c.if-values_differ.true))
+    let earlier : CommitList = list_of c.args.earlier_slots.now c.args.earlier_values.now in
+    let later : CommitList = list_of c.args.later_slots.now c.args.later_values.now in
+    refuses _ _ _
+    (order_two _ _
+    (apart_is earlier later _ _ c.first_slot.ensures c.first_slot-2.ensures c.begins_past.result false c.begins_past.ensures c.if-begins_past.false)
+    (disagree_is earlier later _ _ c.first_slot.ensures c.first_slot-2.ensures c.values_differ.result true c.values_differ.ensures
+    c.if-values_differ.true))
 
 pub returns : goal.returns
 returns c =
-    order_writes (earlier c) (later c) _ _ c.first_slot.ensures c.first_slot-2.ensures _ _ c.less-known.result _
-    (is_apart c false c.if-begins_past.false) (disagrees c false c.if-values_differ.false) c.less-known.ensures
-    c.IsStore-both.ensures.0 c.IsStore-both.ensures.1 c.store_both.ensures.0
+    let earlier : CommitList = list_of c.args.earlier_slots.now c.args.earlier_values.now in
+    let later : CommitList = list_of c.args.later_slots.now c.args.later_values.now in
+    order_writes earlier later _ _ c.first_slot.ensures c.first_slot-2.ensures _ _ c.less-known.result _
+    (apart_is earlier later _ _ c.first_slot.ensures c.first_slot-2.ensures c.begins_past.result false c.begins_past.ensures c.if-begins_past.false)
+    (disagree_is earlier later _ _ c.first_slot.ensures c.first_slot-2.ensures c.values_differ.result false c.values_differ.ensures
+    c.if-values_differ.false)
+    c.less-known.ensures c.store_both-count.ensures.0 c.store_both-count.ensures.1 c.store_both.ensures.0
