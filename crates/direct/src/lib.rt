@@ -325,8 +325,7 @@ fn taken(
 
 // A call on the parts of a shard. 0: it was taken, and core, reads and reply are written. 1 to 12: it is refused with this number. 255: it has to go to
 // the fast half.
-#[unsafe(no_mangle)]
-pub extern "C" fn chanbook_direct_call(
+pub fn chanbook_direct_call(
     setup: &[u64; 10],
     committers: &[u64; 64],
     delegates: &[u64; 64],

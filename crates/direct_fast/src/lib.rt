@@ -195,8 +195,7 @@ fn fast_handled(
 
 // A call on the parts of a shard. 0: it was taken, and core, fast half, reads and reply are written. 1 to 12: it is refused with this number. 255: it
 // goes to `chanbook_direct_call`, since the fast half has no part in it.
-#[unsafe(no_mangle)]
-pub extern "C" fn chanbook_fast_call(
+pub fn chanbook_fast_call(
     setup: &[u64; 10],
     committers: &[u64; 64],
     delegates: &[u64; 64],

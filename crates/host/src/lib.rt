@@ -96,8 +96,7 @@ fn flat_answer(f: FlatShard, a: Answer, outcome: Outcome) -> FlatAnswer
 }
 
 // A call, whole.
-#[unsafe(no_mangle)]
-pub extern "C" fn chanbook_shard_call(shard: FlatShard, call: FlatCall) -> FlatAnswer
+pub fn chanbook_shard_call(shard: FlatShard, call: FlatCall) -> FlatAnswer
     ensures { result ≡ flat_call shard call }
 {
     let settings = shard.settings;
@@ -118,8 +117,7 @@ fn flat_made(made: Outcome, mode: u64) -> u64
 }
 
 // A shard as it begins. Settings outside the limits give one that is not made.
-#[unsafe(no_mangle)]
-pub extern "C" fn chanbook_shard_new(settings: FlatSettings) -> FlatShard
+pub fn chanbook_shard_new(settings: FlatSettings) -> FlatShard
     ensures { result ≡ flat_new settings }
 {
     let shard = Shard::new(flat::decode_settings(settings));

@@ -14,14 +14,20 @@ returns-then-number-ne0 c =
 
 pub returns-then-f-eq-NEW_READ : goal.returns-then-f-eq-NEW_READ
 returns-then-f-eq-NEW_READ c =
-    record { rest_value = read_in c.args.committers.now c.args.delegates.now c.args.core.now (table_of c.args.reads.now c.args.served.now) (written c.args.first.now c.args.second.now c.args.third.now c.args.rest.now) c.setup_in-s.ensures c.call_in-f.ensures
+    record {
+      rest_value = read_in c.args.committers.now c.args.delegates.now c.args.core.now (table_of c.args.reads.now c.args.served.now) (written c.args.first.now c.args.second.now c.args.third.now c.args.rest.now) c.setup_in-s.ensures c.call_in-f.ensures
           (read_opened c.setup_in-s.result c.args.committers.now c.args.delegates.now c.args.core.now (table_of c.args.reads.now c.args.served.now) c.call_in-f.result (written c.args.first.now c.args.second.now c.args.third.now c.args.rest.now)
           (read_back (core_of c.args.core.now) c.setup_in-s.ensures c.call_in-f.ensures c.refusal-number.ensures)
-          (eq-eqb _ _ c.if-number-ne0.false) (eq-eqb _ _ c.if-f-eq-NEW_READ.true) c.open_read.ensures.rest_value); left_unless_taken = (c.open_read.ensures.left_unless_taken, λ h. refl) }
+          (eq-eqb _ _ c.if-number-ne0.false) (eq-eqb _ _ c.if-f-eq-NEW_READ.true) c.open_read.ensures.rest_value);
+      left_unless_taken = (c.open_read.ensures.left_unless_taken, λ h. refl);
+    }
 
 pub returns : goal.returns
 returns c =
-    record { rest_value = read_in c.args.committers.now c.args.delegates.now c.args.core.now (table_of c.args.reads.now c.args.served.now) (written c.args.first.now c.args.second.now c.args.third.now c.args.rest.now) c.setup_in-s.ensures c.call_in-f.ensures
+    record {
+      rest_value = read_in c.args.committers.now c.args.delegates.now c.args.core.now (table_of c.args.reads.now c.args.served.now) (written c.args.first.now c.args.second.now c.args.third.now c.args.rest.now) c.setup_in-s.ensures c.call_in-f.ensures
           (call_taken c.setup_in-s.result c.args.committers.now c.args.delegates.now c.args.core.now (table_of c.args.reads.now c.args.served.now) c.call_in-f.result (written c.args.first.now c.args.second.now c.args.third.now c.args.rest.now)
           (read_back (core_of c.args.core.now) c.setup_in-s.ensures c.call_in-f.ensures c.refusal-number.ensures)
-          (eq-eqb _ _ c.if-number-ne0.false) (ne_eqb _ _ c.if-f-eq-NEW_READ.false) c.taken.ensures.rest_value); left_unless_taken = c.taken.ensures.left_unless_taken }
+          (eq-eqb _ _ c.if-number-ne0.false) (ne_eqb _ _ c.if-f-eq-NEW_READ.false) c.taken.ensures.rest_value);
+      left_unless_taken = c.taken.ensures.left_unless_taken;
+    }

@@ -17,5 +17,8 @@ returns-then-c-gt-LAST_ID c =
 
 pub returns : goal.returns
 returns c =
-    record { rest_value = open_done c.args.setup (open_rows c.args.reads.now) c.args.f (written c.args.first.now c.args.second.now c.args.third.now c.args.rest.now) c.args.core.now c.core_in-c.ensures (lt-leb _ _ c.if-c-ge-MOST_OPEN.false) (le-ltb _ _ c.if-c-gt-LAST_ID.false)
-          (opened_is c.args.setup (open_rows c.args.reads.now) c.args.f (written c.args.first.now c.args.second.now c.args.third.now c.args.rest.now) c.core_in-c.result c.encode_bool.ensures c.insert.ensures c.put_core.ensures c.asked_of-asked.ensures c.decode_core.ensures c.to_all.ensures c.sends-message.ensures c.put_sent.ensures); left_unless_taken = λ h. absurd (h refl) }
+    record {
+      rest_value = open_done c.args.setup (open_rows c.args.reads.now) c.args.f (written c.args.first.now c.args.second.now c.args.third.now c.args.rest.now) c.args.core.now c.core_in-c.ensures (lt-leb _ _ c.if-c-ge-MOST_OPEN.false) (le-ltb _ _ c.if-c-gt-LAST_ID.false)
+          (opened_is c.args.setup (open_rows c.args.reads.now) c.args.f (written c.args.first.now c.args.second.now c.args.third.now c.args.rest.now) c.core_in-c.result c.encode_bool.ensures c.insert.ensures c.put_core.ensures c.asked_of-asked.ensures c.decode_core.ensures c.to_all.ensures c.sends-message.ensures c.put_sent.ensures);
+      left_unless_taken = λ h. absurd (h refl);
+    }

@@ -14,10 +14,16 @@ returns-then-has_fast_path c =
 
 pub returns-then-f-eq-PROPOSAL : goal.returns-then-f-eq-PROPOSAL
 returns-then-f-eq-PROPOSAL c =
-    record { rest_value = proposal_taken c.args.setup c.args.committers.now c.args.delegates.now c.args.core.now (table_of c.args.reads.now c.args.served.now) c.args.f (written c.args.first.now c.args.second.now c.args.third.now c.args.rest.now) (sym (c.has_fast_path.ensures ∙ ap has_fast_path c.decode_mode-mode.ensures) ∙ c.if-has_fast_path.false)
-          (eq-eqb _ _ c.if-f-eq-PROPOSAL.true) c.propose.ensures; left_unless_taken = (λ h. refl, λ h. refl) }
+    record {
+      rest_value = proposal_taken c.args.setup c.args.committers.now c.args.delegates.now c.args.core.now (table_of c.args.reads.now c.args.served.now) c.args.f (written c.args.first.now c.args.second.now c.args.third.now c.args.rest.now) (sym (c.has_fast_path.ensures ∙ ap has_fast_path c.decode_mode-mode.ensures) ∙ c.if-has_fast_path.false)
+          (eq-eqb _ _ c.if-f-eq-PROPOSAL.true) c.propose.ensures;
+      left_unless_taken = (λ h. refl, λ h. refl);
+    }
 
 pub returns : goal.returns
 returns c =
-    record { rest_value = in_classic c.args.setup c.args.committers.now c.args.delegates.now c.args.core.now (table_of c.args.reads.now c.args.served.now) c.args.f (written c.args.first.now c.args.second.now c.args.third.now c.args.rest.now) (sym (c.has_fast_path.ensures ∙ ap has_fast_path c.decode_mode-mode.ensures) ∙ c.if-has_fast_path.false)
-          (ne_eqb _ _ c.if-f-eq-PROPOSAL.false) c.handled.ensures.rest_value; left_unless_taken = c.handled.ensures.left_unless_taken }
+    record {
+      rest_value = in_classic c.args.setup c.args.committers.now c.args.delegates.now c.args.core.now (table_of c.args.reads.now c.args.served.now) c.args.f (written c.args.first.now c.args.second.now c.args.third.now c.args.rest.now) (sym (c.has_fast_path.ensures ∙ ap has_fast_path c.decode_mode-mode.ensures) ∙ c.if-has_fast_path.false)
+          (ne_eqb _ _ c.if-f-eq-PROPOSAL.false) c.handled.ensures.rest_value;
+      left_unless_taken = c.handled.ensures.left_unless_taken;
+    }

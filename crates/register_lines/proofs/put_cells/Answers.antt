@@ -13,7 +13,6 @@ loop-i-init c = (omega arith, refl, reached_none)
 
 pub loop-i-preserved : goal.loop-i-preserved
 loop-i-preserved c =
-    let places = (omega arith) in
     (omega arith, omega arith, cell_put _ _ _ c.loop-i.invariant.2 c.put_cell-next.ensures c.loop-i-test.true (omega arith))
 
 pub returns : goal.returns

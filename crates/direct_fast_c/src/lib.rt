@@ -1,0 +1,40 @@
+// The exported function of crates/direct_fast, as a static library for C.
+#![tactic(auto)]
+
+ghost use Rattle.std.specs.Prelude.{◌≡◌};
+ghost use Rattle.arrays.specs.Arrays.{setup_of, call_of};
+ghost use Rattle.direct_core.specs.Lent.{came, left};
+ghost use Rattle.direct_core.specs.Handled.{reply_came, reply_left};
+ghost use Rattle.direct.specs.Direct.{reads_came, reads_left, LeftUnlessTaken};
+ghost use Rattle.direct_fast.specs.DirectFast.{half_came, half_left, fast_direct, fast_call};
+
+// A call on the parts of a shard. 0: it was taken, and core, fast half, reads and reply are written. 1 to 12: it is refused with this number. 255: it
+// goes to `chanbook_direct_call`, since the fast half has no part in it.
+#[unsafe(no_mangle)]
+pub extern "C" fn chanbook_fast_call(
+    setup: &[u64; 10],
+    committers: &[u64; 64],
+    delegates: &[u64; 64],
+    core: &mut [u64; 18],
+    answers: &mut [u64; 5],
+    values: &mut [u64; 64],
+    epaxos: &mut [u64; 64],
+    swift: &mut [u64; 64],
+    reads: &mut [u64; 640],
+    served: &mut [u64; 512],
+    call: &[u64; 25],
+    first: &mut [u64; 20],
+    second: &mut [u64; 20],
+    third: &mut [u64; 20],
+    rest: &mut [u64; 5],
+) -> u64
+    ensures rest_value { fast_direct result (left core) (half_left answers values epaxos swift) (reads_left reads served) (reply_left first second third rest)
+        ≡ fast_call (setup_of (came setup)) (came committers) (came delegates) (came core) (half_came answers values epaxos swift)
+        (reads_came reads served) (call_of (came call)) (reply_came first second third rest) }
+    ensures left_unless_taken { LeftUnlessTaken result reads × LeftUnlessTaken result served }
+{
+    direct_fast::chanbook_fast_call(
+        setup, committers, delegates, core, answers, values, epaxos, swift, reads, served, call,
+        first, second, third, rest,
+    )
+}
