@@ -41,14 +41,13 @@ pub loop-i-smaller-then-has_quorum : goal.loop-i-smaller-then-has_quorum
 loop-i-smaller-then-has_quorum c = omega arith
 
 pub loop-i-preserved-then-has_quorum : goal.loop-i-preserved-then-has_quorum
-loop-i-preserved-then-has_quorum c =
-    (
-      search rules,
-      omega arith,
-      simp c.put_served.ensures
-          (commit_serves_lem c.loop-i.invariant.2 c.loop-i-test.true (places_fit_lem c) (omega arith) no_read _ (read_is c) (served_length _ (omega arith))
-          (sym c.has_quorum.ensures ∙ c.if-has_quorum.true) _ c.serve.ensures),
-    )
+loop-i-preserved-then-has_quorum c = (
+  search rules,
+  omega arith,
+  simp c.put_served.ensures
+      (commit_serves_lem c.loop-i.invariant.2 c.loop-i-test.true (places_fit_lem c) (omega arith) no_read _ (read_is c) (served_length _ (omega arith))
+      (sym c.has_quorum.ensures ∙ c.if-has_quorum.true) _ c.serve.ensures),
+)
 
 pub put_open-requires : goal.put_open-requires
 put_open-requires c = omega arith
@@ -60,14 +59,13 @@ pub loop-i-smaller : goal.loop-i-smaller
 loop-i-smaller c = omega arith
 
 pub loop-i-preserved : goal.loop-i-preserved
-loop-i-preserved c =
-    (
-      omega arith,
-      search rules,
-      simp c.put_open.ensures
-          (commit_keeps c.loop-i.invariant.2 c.loop-i-test.true (places_fit_lem c) (omega arith) no_read _ (read_is c)
-          (sym c.has_quorum.ensures ∙ c.if-has_quorum.false)),
-    )
+loop-i-preserved c = (
+  omega arith,
+  search rules,
+  simp c.put_open.ensures
+      (commit_keeps c.loop-i.invariant.2 c.loop-i-test.true (places_fit_lem c) (omega arith) no_read _ (read_is c)
+      (sym c.has_quorum.ensures ∙ c.if-has_quorum.false)),
+)
 
 pub returns : goal.returns
 returns c = commit_ends _ _ c.loop-i.invariant.2 c.loop-i-test.false c.open_places-open_places.ensures

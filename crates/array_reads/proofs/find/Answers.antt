@@ -25,12 +25,11 @@ pub loop-i-smaller : goal.loop-i-smaller
 loop-i-smaller c = omega arith
 
 pub loop-i-preserved : goal.loop-i-preserved
-loop-i-preserved c =
-    (
-      search rules,
-      search_more _ _ _ _ no_read c.loop-i-test.true c.requires.1 (open_length _ c.requires.0) c.loop-i.invariant.1
-          (simp (← c.open_at-read.ensures) (ne_eqb _ _ c.if-read-id.false)),
-    )
+loop-i-preserved c = (
+  search rules,
+  search_more _ _ _ _ no_read c.loop-i-test.true c.requires.1 (open_length _ c.requires.0) c.loop-i.invariant.1
+      (simp (← c.open_at-read.ensures) (ne_eqb _ _ c.if-read-id.false)),
+)
 
 pub returns : goal.returns
 returns c = search_none _ _ _ _ c.loop-i.invariant.0 c.loop-i-test.false c.loop-i.invariant.1

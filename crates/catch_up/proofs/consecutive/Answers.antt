@@ -14,12 +14,11 @@ returns-then-not-follows c =
     ∙ c.loop-i.invariant.1
 
 pub loop-i-preserved : goal.loop-i-preserved
-loop-i-preserved c =
-    (
-      omega arith,
-      counts_on c.args.slots.now c.loop-i.i _ c.loop-i-test.true (sym c.follows.ensures ∙ c.if-not-follows.false)
-          ∙ c.loop-i.invariant.1,
-    )
+loop-i-preserved c = (
+  omega arith,
+  counts_on c.args.slots.now c.loop-i.i _ c.loop-i-test.true (sym c.follows.ensures ∙ c.if-not-follows.false)
+      ∙ c.loop-i.invariant.1,
+)
 
 pub returns : goal.returns
 returns c = sym (counts_end c.args.slots.now c.loop-i.i _ c.loop-i-test.false) ∙ c.loop-i.invariant.1

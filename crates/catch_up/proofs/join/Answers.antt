@@ -35,14 +35,13 @@ returns-then-at_most-lt-LEAST_PLACES c =
     (ap (λ (n : ℕ). ltb n 8192) (sym c.at_most.ensures) ∙ lt-ltb _ _ c.if-at_most-lt-LEAST_PLACES.true))
 
 pub join_in_order-requires : goal.join_in_order-requires
-join_in_order-requires c =
-    (
-      omega (arith, c.first_slot.ensures, c.first_slot-2.ensures, c.if-first_slot.true),
-      within _ (found_outside _ _ _ c.check_list-a.ensures c.if-a-2.false),
-      within _ (found_outside _ _ _ c.check_list-b.ensures c.if-b-2.false),
-      omega (arith, c.at_most.ensures, c.if-at_most-lt-LEAST_PLACES.false),
-      omega (arith, c.at_most.ensures, c.if-at_most-lt-LEAST_PLACES.false),
-    )
+join_in_order-requires c = (
+  omega (arith, c.first_slot.ensures, c.first_slot-2.ensures, c.if-first_slot.true),
+  within _ (found_outside _ _ _ c.check_list-a.ensures c.if-a-2.false),
+  within _ (found_outside _ _ _ c.check_list-b.ensures c.if-b-2.false),
+  omega (arith, c.at_most.ensures, c.if-at_most-lt-LEAST_PLACES.false),
+  omega (arith, c.at_most.ensures, c.if-at_most-lt-LEAST_PLACES.false),
+)
 
 pub returns-then-first_slot : goal.returns-then-first_slot
 returns-then-first_slot c =
@@ -54,14 +53,13 @@ returns-then-first_slot c =
     c.join_in_order.ensures
 
 pub join_in_order-requires-2 : goal.join_in_order-requires-2
-join_in_order-requires-2 c =
-    (
-      omega (arith, c.first_slot.ensures, c.first_slot-2.ensures, c.if-first_slot.false),
-      within _ (found_outside _ _ _ c.check_list-b.ensures c.if-b-2.false),
-      within _ (found_outside _ _ _ c.check_list-a.ensures c.if-a-2.false),
-      omega (arith, c.at_most.ensures, c.if-at_most-lt-LEAST_PLACES.false),
-      omega (arith, c.at_most.ensures, c.if-at_most-lt-LEAST_PLACES.false),
-    )
+join_in_order-requires-2 c = (
+  omega (arith, c.first_slot.ensures, c.first_slot-2.ensures, c.if-first_slot.false),
+  within _ (found_outside _ _ _ c.check_list-b.ensures c.if-b-2.false),
+  within _ (found_outside _ _ _ c.check_list-a.ensures c.if-a-2.false),
+  omega (arith, c.at_most.ensures, c.if-at_most-lt-LEAST_PLACES.false),
+  omega (arith, c.at_most.ensures, c.if-at_most-lt-LEAST_PLACES.false),
+)
 
 pub returns : goal.returns
 returns c =

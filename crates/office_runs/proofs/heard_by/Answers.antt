@@ -1,4 +1,3 @@
-
 use Rattle.office_runs.proofs.heard_by.Goals as goal
 
 pub returns : goal.returns

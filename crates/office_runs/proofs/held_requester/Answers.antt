@@ -1,4 +1,3 @@
-
 use Rattle.enabled_runs.specs.Offices.{held_requester}
 use Rattle.office_runs.proofs.held_requester.Goals as goal
 

@@ -1,4 +1,3 @@
-
 use Rattle.enabled_runs.specs.Offices.{message_requester}
 use Rattle.office_runs.proofs.message_requester.Goals as goal
 

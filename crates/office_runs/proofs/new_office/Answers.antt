@@ -1,4 +1,3 @@
-
 use Rattle.office_runs.proofs.new_office.Goals as goal
 
 pub returns : goal.returns

@@ -1,4 +1,3 @@
-
 use borrow.Author.Tests.{lt-ltb, le-ltb}
 use Rattle.office_runs.specs.Runs.{value_proposed}
 use Rattle.office_runs.proofs.value_of.Goals as goal

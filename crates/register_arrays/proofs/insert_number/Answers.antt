@@ -30,13 +30,12 @@ pub loop-i-smaller : goal.loop-i-smaller
 loop-i-smaller c = omega arith
 
 pub loop-i-preserved : goal.loop-i-preserved
-loop-i-preserved c =
-    (
-      simp length-set c.loop-i.invariant.0,
-      omega arith,
-      omega arith,
-      move_more _ _ _ _ 0 (omega arith) c.loop-i.invariant.2 c.loop-i.invariant.3 (omega arith),
-    )
+loop-i-preserved c = (
+  simp length-set c.loop-i.invariant.0,
+  omega arith,
+  omega arith,
+  move_more _ _ _ _ 0 (omega arith) c.loop-i.invariant.2 c.loop-i.invariant.3 (omega arith),
+)
 
 pub offset_bounds-column-at : goal.offset_bounds-column-at
 offset_bounds-column-at c = omega arith

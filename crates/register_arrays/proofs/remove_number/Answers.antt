@@ -33,13 +33,12 @@ pub loop-i-smaller : goal.loop-i-smaller
 loop-i-smaller c = omega arith
 
 pub loop-i-preserved : goal.loop-i-preserved
-loop-i-preserved c =
-    (
-      simp length-set c.loop-i.invariant.0,
-      omega arith,
-      omega arith,
-      remove_more _ _ _ _ 0 c.loop-i.invariant.1 (omega arith) c.loop-i.invariant.3,
-    )
+loop-i-preserved c = (
+  simp length-set c.loop-i.invariant.0,
+  omega arith,
+  omega arith,
+  remove_more _ _ _ _ 0 c.loop-i.invariant.1 (omega arith) c.loop-i.invariant.3,
+)
 
 pub shape_of-column : goal.shape_of-column
 shape_of-column c = omega arith

@@ -1,4 +1,3 @@
-
 use borrow.Author.Tests.{eq-eqb, ne_eqb}
 use Rattle.run_lines.specs.Lines.{blank}
 use Rattle.texts.specs.Text.{put}

@@ -1,4 +1,3 @@
-
 use mathlib.Core.Path.{◌≡◌, refl, ap, ◌∙◌}
 use Prim.Native.Nat.{ℕ}
 use native.Mathlib.Omega.{arith}
@@ -13,12 +12,11 @@ pub loop-i-init : goal.loop-i-init
 loop-i-init c = (omega arith, refl, joined_none event_place_text c.args.events _)
 
 pub loop-i-preserved : goal.loop-i-preserved
-loop-i-preserved c =
-    (
-      omega arith,
-      omega arith,
-      joined_more event_place_text c.args.events c.loop-i.i _ _ (search rules) c.loop-i.invariant.2 c.put_blank-place.ensures c.put_event-next.ensures,
-    )
+loop-i-preserved c = (
+  omega arith,
+  omega arith,
+  joined_more event_place_text c.args.events c.loop-i.i _ _ (search rules) c.loop-i.invariant.2 c.put_blank-place.ensures c.put_event-next.ensures,
+)
 
 pub returns : goal.returns
 returns c =

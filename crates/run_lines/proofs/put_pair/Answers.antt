@@ -1,4 +1,3 @@
-
 use Rattle.run_lines.specs.Lines.{pair}
 use Rattle.texts.proofs.Putting.{put_then}
 use Rattle.run_lines.proofs.put_pair.Reads as reads

@@ -32,12 +32,11 @@ pub loop-i-smaller : goal.loop-i-smaller
 loop-i-smaller c = omega arith
 
 pub loop-i-preserved : goal.loop-i-preserved
-loop-i-preserved c =
-    (
-      simp length-set c.loop-i.invariant.0,
-      omega arith,
-      copy_more _ _ _ c.loop-i.i (omega arith) c.loop-i.invariant.2 (omega (arith, c.requires.0)),
-    )
+loop-i-preserved c = (
+  simp length-set c.loop-i.invariant.0,
+  omega arith,
+  copy_more _ _ _ c.loop-i.i (omega arith) c.loop-i.invariant.2 (omega (arith, c.requires.0)),
+)
 
 pub shape_of-numbers : goal.shape_of-numbers
 shape_of-numbers c = omega arith

@@ -13,11 +13,10 @@ unfolding are_cells
 loop-i-init c = (search rules, refl)
 
 pub loop-i-preserved : goal.loop-i-preserved
-loop-i-preserved c =
-    (
-      search rules,
-      cells_more _ c.loop-i.i c.loop-i.invariant.1 (sym c.is_cell_at.ensures ∙ c.if-is_cell_at.true),
-    )
+loop-i-preserved c = (
+  search rules,
+  cells_more _ c.loop-i.i c.loop-i.invariant.1 (sym c.is_cell_at.ensures ∙ c.if-is_cell_at.true),
+)
 
 pub returns-else-is_cell_at : goal.returns-else-is_cell_at
 returns-else-is_cell_at c =

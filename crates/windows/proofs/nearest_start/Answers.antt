@@ -21,11 +21,10 @@ pub loop-i-smaller : goal.loop-i-smaller
 loop-i-smaller c = omega arith
 
 pub loop-i-preserved : goal.loop-i-preserved
-loop-i-preserved c =
-    (
-      omega arith,
-      one_nearer _ _ _ _ _ c.loop-i.invariant.1 _ _ _ (turn _ _ c.loop-i.i 0 c.loop-i-test.true c.requires.1 c.requires.0) c.nearer-nearest.ensures,
-    )
+loop-i-preserved c = (
+  omega arith,
+  one_nearer _ _ _ _ _ c.loop-i.invariant.1 _ _ _ (turn _ _ c.loop-i.i 0 c.loop-i-test.true c.requires.1 c.requires.0) c.nearer-nearest.ensures,
+)
 
 pub returns : goal.returns
 returns c = nearest_of_all _ _ _ _ _ c.loop-i.invariant.1 (over _ _ _ c.loop-i-test.false)

@@ -32,12 +32,11 @@ pub loop-i-smaller : goal.loop-i-smaller
 loop-i-smaller c = omega arith
 
 pub loop-i-preserved : goal.loop-i-preserved
-loop-i-preserved c =
-    (
-      omega arith,
-      one_holds_not _ _ _ _ _ c.loop-i.invariant.1 _ _ _ _ (turn _ _ c.loop-i.i 0 c.loop-i-test.true c.requires.2 c.requires.0)
-          (turn _ _ c.loop-i.i 0 c.loop-i-test.true c.requires.2 c.requires.1) (sym c.holds.ensures ∙ c.if-holds.false),
-    )
+loop-i-preserved c = (
+  omega arith,
+  one_holds_not _ _ _ _ _ c.loop-i.invariant.1 _ _ _ _ (turn _ _ c.loop-i.i 0 c.loop-i-test.true c.requires.2 c.requires.0)
+      (turn _ _ c.loop-i.i 0 c.loop-i-test.true c.requires.2 c.requires.1) (sym c.holds.ensures ∙ c.if-holds.false),
+)
 
 pub returns : goal.returns
 returns c = none_holds _ _ _ _ _ c.loop-i.invariant.1 (over _ _ _ c.loop-i-test.false)

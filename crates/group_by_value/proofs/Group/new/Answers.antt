@@ -17,12 +17,11 @@ loop-i-init c = (search rules, ap (λ (x : Shard). replicate 64 x) (c.new-first.
 
 pub loop-i-preserved : goal.loop-i-preserved
 unfolding new_members
-loop-i-preserved c =
-    (
-      search rules,
-      ap₂ (λ (ms : List Shard) (x : Shard). set ms c.loop-i.i x) c.loop-i.invariant.1 (c.new.ensures ∙ ap new_shard c.member_settings-in-loop-i.ensures)
-          ∙ sym (ap (new_members c.args.settings) (add-one c.loop-i.i)),
-    )
+loop-i-preserved c = (
+  search rules,
+  ap₂ (λ (ms : List Shard) (x : Shard). set ms c.loop-i.i x) c.loop-i.invariant.1 (c.new.ensures ∙ ap new_shard c.member_settings-in-loop-i.ensures)
+      ∙ sym (ap (new_members c.args.settings) (add-one c.loop-i.i)),
+)
 
 pub returns : goal.returns
 returns c =

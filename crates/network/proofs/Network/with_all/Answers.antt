@@ -15,12 +15,11 @@ loop-member-init c = (omega arith, refl)
 
 pub loop-member-preserved : goal.loop-member-preserved
 unfolding posted_to_all
-loop-member-preserved c =
-    (
-      search rules,
-      c.with_other-network.ensures ∙ ap (λ (w : Network). posted_to_other w c.loop-member.member c.args.message) c.loop-member.invariant.1
-          ∙ sym (ap (λ p. posted_to_all c.args.self p c.args.message) (add-one c.loop-member.member)),
-    )
+loop-member-preserved c = (
+  search rules,
+  c.with_other-network.ensures ∙ ap (λ (w : Network). posted_to_other w c.loop-member.member c.args.message) c.loop-member.invariant.1
+      ∙ sym (ap (λ p. posted_to_all c.args.self p c.args.message) (add-one c.loop-member.member)),
+)
 
 pub returns : goal.returns
 returns c =

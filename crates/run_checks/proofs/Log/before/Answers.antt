@@ -19,12 +19,11 @@ after-so_far-requires c =
     omega (arith, commits, slot_bound c.args.e.member c.args.self.events c.loop-i.i, c.loop-i-test.true, c.loop-i.invariant.1)
 
 pub loop-i-preserved : goal.loop-i-preserved
-loop-i-preserved c =
-    (
-      search rules,
-      c.loop-i.invariant.1,
-      before_next _ _ _ _ _ _ c.loop-i.invariant.2 (past c.args.self.events c.loop-i.i _ _ (omega (arith, c.loop-i-test.true, c.loop-i.invariant.1))) c.after-so_far.ensures,
-    )
+loop-i-preserved c = (
+  search rules,
+  c.loop-i.invariant.1,
+  before_next _ _ _ _ _ _ c.loop-i.invariant.2 (past c.args.self.events c.loop-i.i _ _ (omega (arith, c.loop-i-test.true, c.loop-i.invariant.1))) c.after-so_far.ensures,
+)
 
 pub returns : goal.returns
 returns c =

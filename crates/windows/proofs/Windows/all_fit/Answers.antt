@@ -26,12 +26,11 @@ pub loop-i-smaller : goal.loop-i-smaller
 loop-i-smaller c = omega (arith, c.requires)
 
 pub loop-i-preserved : goal.loop-i-preserved
-loop-i-preserved c =
-    (
-      omega arith,
-      one_fit _ _ c.loop-i.invariant.1 _ _ (turn _ _ _ _ c.loop-i-test.true c.requires (omega arith))
-          (sym c.is_window.ensures ∙ c.if-not-is_window.false),
-    )
+loop-i-preserved c = (
+  omega arith,
+  one_fit _ _ c.loop-i.invariant.1 _ _ (turn _ _ _ _ c.loop-i-test.true c.requires (omega arith))
+      (sym c.is_window.ensures ∙ c.if-not-is_window.false),
+)
 
 pub returns : goal.returns
 returns c = all_tried _ _ c.loop-i.invariant.1 (over _ _ _ c.loop-i-test.false)

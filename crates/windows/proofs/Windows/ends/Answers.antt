@@ -38,8 +38,7 @@ loop-i-smaller c = omega (arith, made _ c.requires)
 
 pub loop-i-preserved : goal.loop-i-preserved
 loop-i-preserved c =
-    let m = made _ c.requires in
-    (
+    let m = made _ c.requires in (
       omega arith,
       simp length-set c.loop-i.invariant.1,
       kept_more end_of _ c.loop-i.i (omega arith) (omega arith) _ _ _ c.loop-i.invariant.2 c.minutes.ensures,
