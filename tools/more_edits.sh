@@ -1,14 +1,23 @@
 #!/usr/bin/env bash
-# Tries the edits in crates/*/must-fail/more. They must be refused as those of the gate must; the gate leaves them out, since each costs a check of its
-# whole crate. Run it after `rt check`, whose proofs it takes over.
+# more_edits.sh [NAME ..]: tries the edits in crates/*/more-edits, or those of the named crates. They must be refused as those of the gate must; the gate
+# leaves them out, since each costs a check of its whole crate. Fails where an edit is not refused, or cannot be applied or read. Run it after
+# `rt all check`, whose proofs it takes over.
 set -euo pipefail
 cd "$(dirname "$0")/.."
 work=$(mktemp -d)
 trap 'rm -rf "$work"' EXIT
-cp -R crates crates.txt target "$work"
+cp -R crates crates.txt "$work"
+if [ -f HANDLES ]; then cp HANDLES "$work"; fi
 cd "$work"
-for edits in crates/*/must-fail; do
-  rm -f "$edits"/*.edit
-  if [ -d "$edits/more" ]; then mv "$edits"/more/*.edit "$edits"; fi
+rm -f crates/*/must-fail/*.edit
+for edits in crates/*/more-edits; do
+  if compgen -G "$edits/*.edit" > /dev/null; then
+    mkdir -p "${edits%more-edits}must-fail"
+    mv "$edits"/*.edit "${edits%more-edits}must-fail"
+  fi
 done
-rt must-fail
+if ! compgen -G 'crates/*/must-fail/*.edit' > /dev/null; then
+  echo 'no edits in crates/*/more-edits' >&2
+  exit 1
+fi
+rt must-fail "$@"

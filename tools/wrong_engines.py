@@ -32,7 +32,7 @@ def crate_table():
         line = line.split('#')[0].strip()
         if line:
             name, needs = line.split(':')
-            table[name] = needs.split()
+            table[name.split()[0]] = needs.split()
     return table
 
 
@@ -46,11 +46,16 @@ def with_needs(table, names):
     return found
 
 
+def lowest_first(table, names):
+    """The crates of the repository that these stand on, and these, each behind those that it stands on."""
+    return sorted(with_needs(table, names), key=lambda name: (len(with_needs(table, [name])), name))
+
+
 def top_items(text):
-    """The items of a Rattle file, without the comments and empty lines between them."""
+    """The items of a Rattle file, without the comments, empty lines and attributes of the file between them."""
     found, item, depth = [], [], 0
     for line in text.split('\n'):
-        if not item and (not line.strip() or line.startswith('//')):
+        if not item and (not line.strip() or line.startswith(('//', '#!'))):
             continue
         item.append(line)
         code = re.sub(r'//.*', '', line)
@@ -70,7 +75,7 @@ def is_type(item):
 
 def copy_without_functions(name, target):
     """The crate with its types, definitions and laws. The proof of a function stands in a folder of proofs/."""
-    shutil.copytree(os.path.join(ROOT, 'crates', name), target, ignore=shutil.ignore_patterns('must-fail'))
+    shutil.copytree(os.path.join(ROOT, 'crates', name), target, ignore=shutil.ignore_patterns('must-fail', 'more-edits', 'out'))
     for source in os.listdir(os.path.join(target, 'src')):
         path = os.path.join(target, 'src', source)
         kept = [item for item in top_items(open(path).read()) if is_type(item)]
@@ -84,7 +89,7 @@ def copy_without_functions(name, target):
 def make_copy(folder, table, names):
     for name in names:
         copy_without_functions(name, os.path.join(folder, 'crates', name))
-    lines = [f'{name}: ' + ' '.join(need for need in table[name] if need in names) for name in table if name in names]
+    lines = [f'{name}: ' + ' '.join(table[name]) for name in table if name in names]
     open(os.path.join(folder, 'crates.txt'), 'w').write('\n'.join(lines) + '\n')
 
 
@@ -115,18 +120,21 @@ class Edit:
             open(path, 'w').write(text.replace(old, '\n'.join(new)))
 
 
-def check(folder, crate):
-    """Whether the crate and all that it stands on are proved, and what was printed."""
-    run = subprocess.run(['rt', 'check', crate], cwd=folder, stdout=subprocess.PIPE, stderr=subprocess.STDOUT, text=True)
-    return run.returncode, run.stdout
+def check(folder, crates):
+    """Checks crates in their order up to the first that is not proved: the status, that crate, and what was printed of it."""
+    for crate in crates:
+        run = subprocess.run(['rt', 'check'], cwd=os.path.join(folder, 'crates', crate), stdout=subprocess.PIPE, stderr=subprocess.STDOUT, text=True)
+        if run.returncode != 0:
+            return run.returncode, crate, run.stdout
+    return 0, None, ''
 
 
-def first_error(output):
-    """The file and the law of the first error. A name that is missing is no refusal."""
-    found = re.search(r'(crates/[\w/]+\.antt):\d+:\d+: error: `([^`]+)`: (.*)', output)
+def first_error(crate, output):
+    """The file and the law of the first error of a crate's check. A name that is missing is no refusal."""
+    found = re.search(r'(?m)^(?:\./)?([\w/+]+\.antt):\d+:\d+: error: `([^`]+)`: (.*)', output)
     if not found or 'not in scope' in found.group(3):
         return None, None
-    return found.group(1), found.group(2)
+    return f'crates/{crate}/{found.group(1)}', found.group(2)
 
 
 def main():
@@ -135,17 +143,16 @@ def main():
     with tempfile.TemporaryDirectory() as work:
         right = os.path.join(work, 'right')
         make_copy(right, table, with_needs(table, {edit.crate for edit in edits}))
-        for crate in sorted({edit.crate for edit in edits}):
-            status, output = check(right, crate)
-            if status != 0:
-                sys.exit(f'without a change {crate} is not proved:\n{output}')
+        status, crate, output = check(right, lowest_first(table, {edit.crate for edit in edits}))
+        if status != 0:
+            sys.exit(f'without a change {crate} is not proved:\n{output}')
         failed = 0
         for edit in edits:
             wrong = os.path.join(work, edit.label)
             shutil.copytree(right, wrong)
             edit.apply(wrong)
-            status, output = check(wrong, edit.crate)
-            file, law = first_error(output)
+            status, crate, output = check(wrong, lowest_first(table, {edit.crate}))
+            file, law = first_error(crate, output)
             good = status == 1 and file == edit.refused and law == edit.law
             failed += not good
             print(f'{edit.label}: ' + (f'refused by {law}, {file}' if status == 1 else f'status {status}')

@@ -1,11 +1,11 @@
-//! Links the engine's libraries, which `rt staticlib` proves and compiles at the root of the repository. One is made anew where it is missing or
+//! Links the engine's libraries, which tools/static_libraries.sh proves, compiles and puts into target/staticlib. One is made anew where it is missing or
 //! older than a source.
 use std::fs;
 use std::path::{Path, PathBuf};
 use std::process::Command;
 use std::time::SystemTime;
 
-/// The crates that export functions; each is a library of its name.
+/// The crates whose functions are exported; each is a library of its name.
 const LIBRARIES: [&str; 4] = ["host", "direct", "direct_fast", "planning_host"];
 
 /// The folders of a crate that `rt` reads.
@@ -20,23 +20,23 @@ fn newest_below(folder: &Path) -> Option<SystemTime> {
     entries.flatten().map(|entry| entry.path()).filter_map(|path| if path.is_dir() { newest_below(&path) } else { changed(&path) }).max()
 }
 
+/// All that a library is made from. A crate's folder `out`, which `rt` writes, is not in it.
+fn sources(root: &Path) -> Vec<PathBuf> {
+    let crates = fs::read_dir(root.join("crates")).expect("the folder crates could not be read");
+    let folders = crates.flatten().flat_map(|entry| READ.map(|name| entry.path().join(name)));
+    folders.filter(|folder| folder.is_dir()).chain([root.join("crates.txt")]).collect()
+}
+
 fn newest_source(root: &Path) -> Option<SystemTime> {
-    let crates = fs::read_dir(root.join("crates")).ok()?;
-    crates
-        .flatten()
-        .flat_map(|entry| READ.map(|name| entry.path().join(name)))
-        .filter_map(|folder| newest_below(&folder))
-        .chain(changed(&root.join("crates.txt")))
-        .max()
+    sources(root).iter().filter_map(|path| if path.is_dir() { newest_below(path) } else { changed(path) }).max()
 }
 
 fn prove_and_compile(root: &Path, name: &str) {
-    let status = Command::new("rt")
-        .args(["staticlib", name])
-        .current_dir(root)
+    let status = Command::new(root.join("tools/static_libraries.sh"))
+        .arg(name)
         .status()
-        .expect("`rt`, the command of the Rattle kit, could not be started");
-    assert!(status.success(), "`rt staticlib {name}` failed in {root:?}");
+        .expect("tools/static_libraries.sh, which calls `rt`, the command of the Rattle kit, could not be started");
+    assert!(status.success(), "`tools/static_libraries.sh {name}` failed in {root:?}");
 }
 
 fn main() {
@@ -54,6 +54,7 @@ fn main() {
         println!("cargo:rustc-link-lib=static={name}");
         println!("cargo:rerun-if-changed={}", library.display());
     }
-    println!("cargo:rerun-if-changed={}", root.join("crates").display());
-    println!("cargo:rerun-if-changed={}", root.join("crates.txt").display());
+    for path in sources(&root) {
+        println!("cargo:rerun-if-changed={}", path.display());
+    }
 }

@@ -1,5 +1,5 @@
-/* Chanbook's shard engine for a host in C, C++ or Rust. Link libhost.a, libdirect.a and libdirect_fast.a, which `rt staticlib host`,
-   `rt staticlib direct` and `rt staticlib direct_fast` write.
+/* Chanbook's shard engine for a host in C, C++ or Rust. Link libhost.a, libdirect.a and libdirect_fast.a, which
+   tools/static_libraries.sh writes to target/staticlib.
    A host begins a shard with chanbook_shard_new and makes its calls with chanbook_call.
 
    Every field is a number. 0 is no and any other number yes: a host tests such a field for 0, never for 1. A field that is not given is 0 where the

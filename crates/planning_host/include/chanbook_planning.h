@@ -1,5 +1,5 @@
 /* What a host in C, C++ or Rust calls of Chanbook's planning modules, beside the engine (chanbook_shard.h). Link libplanning_host.a, which
-   `rt staticlib planning_host` writes. Whatever numbers a function is given or lent, it ends and answers. It holds nothing between two calls. */
+   tools/static_libraries.sh writes to target/staticlib. Whatever numbers a function is given or lent, it ends and answers. It holds nothing between two calls. */
 #ifndef CHANBOOK_PLANNING_H
 #define CHANBOOK_PLANNING_H
 
