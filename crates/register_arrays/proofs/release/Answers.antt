@@ -11,28 +11,27 @@ use Rattle.register_arrays.specs.Columns.{register_of}
 use Rattle.register_arrays.proofs.Searching.{found_live}
 use Rattle.register_arrays.proofs.release.Goals as goal
 
--- the register that the arrays stand for
-abbrev held : tie.Start → Register
-held c = register_of c.args.cells.now c.args.carriers.now c.args.widths.now c.args.figures.now
-
-located : (s : tie.After-find-number) → s.find-number.result ≡ found s.before.before.before.before.before.before.before.args.number (live_cells (held s.before.before.before.before.before.before.before))
-located s =
-    let start : _ = s.before.before.before.before.before.before.before in
-    found_live start.args.cells.now start.args.carriers.now start.args.widths.now start.args.figures.now start.requires start.args.number _ _ s.before.before.live-places.ensures s.find-number.ensures
-
 pub overflow_sub-left : goal.overflow_sub-left
 overflow_sub-left c =
-    omega (arith, at_below (held c) _ _ _ (omega arith) c.live_places-places.ensures (located c) c.if-found.true)
+    let held : Register = register_of c.args.cells.now c.args.carriers.now c.args.widths.now c.args.figures.now in
+    let located : _ = found_live c.args.cells.now c.args.carriers.now c.args.widths.now c.args.figures.now c.requires c.args.number _ _ c.live_places-places.ensures c.find_number-found.ensures in
+    omega (arith, at_below held _ _ _ (omega arith) c.live_places-places.ensures located c.if-found.true)
 
 pub remove_cell-requires : goal.remove_cell-requires
 remove_cell-requires c =
-    (search rules, at_below (held c) _ _ _ (omega arith) c.live_places-places.ensures (located c) c.if-found.true, search rules)
+    let held : Register = register_of c.args.cells.now c.args.carriers.now c.args.widths.now c.args.figures.now in
+    let located : _ = found_live c.args.cells.now c.args.carriers.now c.args.widths.now c.args.figures.now c.requires c.args.number _ _ c.live_places-places.ensures c.find_number-found.ensures in
+    (search rules, at_below held _ _ _ (omega arith) c.live_places-places.ensures located c.if-found.true, search rules)
 
 pub returns-then-found : goal.returns-then-found
 returns-then-found c =
-    release_releases (held c) _ _ _ (omega arith) c.live_places-places.ensures (located c)
+    let held : Register = register_of c.args.cells.now c.args.carriers.now c.args.widths.now c.args.figures.now in
+    let located : _ = found_live c.args.cells.now c.args.carriers.now c.args.widths.now c.args.figures.now c.requires c.args.number _ _ c.live_places-places.ensures c.find_number-found.ensures in
+    release_releases held _ _ _ (omega arith) c.live_places-places.ensures located
     c.if-found.true _ c.increment-released.ensures _ c.remove_cell.ensures
 
 pub returns : goal.returns
 returns c =
-    release_unknown (held c) _ _ _ (omega arith) c.live_places-places.ensures (located c) c.if-found.false
+    let held : Register = register_of c.args.cells.now c.args.carriers.now c.args.widths.now c.args.figures.now in
+    let located : _ = found_live c.args.cells.now c.args.carriers.now c.args.widths.now c.args.figures.now c.requires c.args.number _ _ c.live_places-places.ensures c.find_number-found.ensures in
+    release_unknown held _ _ _ (omega arith) c.live_places-places.ensures located c.if-found.false
