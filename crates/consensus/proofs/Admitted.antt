@@ -130,10 +130,18 @@ message_small (Commit slot v) = simp (and_true)
 message_small (ReadRequest id) = simp (and_true)
 message_small (ReadResponse id next) = simp (and_true)
 
+-- the tests of a message in the order of the causes and in that of the code
+reordered : (a v n s h r p : Bool) → (a && (v && (n && (s && (h && (r && p)))))) ≡ (a && (h && (r && (v && (n && (p && s))))))
+reordered a v n s h r p = simp (and_assoc, and_comm, and_left)
+
 pub numbers_cause : (d : Delivery) → too_large (slots_of d.message.msg) (all_numbers d) ≡ not (numbers_fit d)
 unfolding numbers_fit every
 numbers_cause d =
     simp (any_large, any_large_slot, or_not, every_joined, message_small, process_small, value_small, and_assoc, and_comm, and_left)
+    (ap not
+    (reordered (small d.message.src) (every small (given_value d.message.last_v)) (every small (numbers_of d.message.msg))
+    (every small_slot (slots_of d.message.msg)) (every small (given_process d.held_requester)) (every small (given_process d.said.requester))
+    (every small (processes_of d.message.msg))))
 
 -- ---- 3
 

@@ -58,10 +58,12 @@ none_or_first (row ∷ rows) = go row.cause refl (none_or_first rows)
 
 -- not both, and the first has one number
 not_none : (rows : List Row) (n : ℕ) → FirstHolds rows n → NoneHolds rows → ⊥
+not_none [] n h _ = elim h [ ]
 not_none (row ∷ rows) n (inl (c, e)) (f, none) = not_both c f
 not_none (row ∷ rows) n (inr (c, first)) (f, none) = not_none rows n first none
 
 first_same : (rows : List Row) (m n : ℕ) → FirstHolds rows m → FirstHolds rows n → m ≡ n
+first_same [] m n h _ = elim h [ ]
 first_same (row ∷ rows) m n (inl (c, e)) (inl (d, f)) = sym e ∙ f
 first_same (row ∷ rows) m n (inl (c, e)) (inr (d, f)) = absurd (not_both c d)
 first_same (row ∷ rows) m n (inr (c, e)) (inl (d, f)) = absurd (not_both d c)
@@ -169,6 +171,7 @@ unmade_numbered (Refused why) = and_both (refusal_numbered why) refl
 -- a list of such numbers gives 0 only where none holds
 first_above : (rows : List Row) (n : ℕ) → Numbered rows → FirstHolds rows n → ltb 0 n ≡ true
 unfolding numbered
+first_above [] n p h = elim h [ ]
 first_above (row ∷ rows) n p (inl (c, e)) = ap (ltb 0) (sym e) ∙ and_left (ltb 0 row.number) (numbered rows) p
 first_above (row ∷ rows) n p (inr (c, r)) = first_above rows n (and_right (ltb 0 row.number) (numbered rows) p) r
 
