@@ -15,12 +15,12 @@ use Rattle.group_by_value.proofs.Group.call.Goals as goal
 
 pub returns-then-member-lt64 : goal.returns-then-member-lt64
 unfolding called
-returns-then-member-lt64 c =
+returns-then-member-lt64 c d =
     ap (λ (x : Answer). replaced c.args.self c.args.member x)
-    (c.call-answer.ensures ∙ ap (λ (x : Shard). call_of x c.args.call) (past c.args.self.members c.args.member _ d ((omega arith) c.if-member-lt64.true)))
+    (c.call-answer.ensures ∙ ap (λ (x : Shard). call_of x c.args.call) (past c.args.self.members c.args.member _ d (omega (arith, c.if-member-lt64.true))))
     ∙ sym (ap (λ (t : Bool). cond t (replaced c.args.self c.args.member (call_of (shard_at d c.args.self c.args.member) c.args.call)) (record { group = c.args.self; reply = (refused NoSuchProcess d).reply })) (lt-ltb _ _ c.if-member-lt64.true))
 
 pub returns : goal.returns
 unfolding called
-returns c =
+returns c d =
     sym (ap (λ (t : Bool). cond t (replaced c.args.self c.args.member (call_of (shard_at d c.args.self c.args.member) c.args.call)) (record { group = c.args.self; reply = (refused NoSuchProcess d).reply })) (le-ltb _ _ c.if-member-lt64.false))
