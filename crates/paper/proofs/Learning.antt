@@ -194,6 +194,7 @@ accepted_last me n r (y ∷ ys) x = accepted_last me n (accepts_with me y.src (r
 
 in_last : (xs : List Acceptance) (x y : Acceptance) → In y (one_more xs x) → In y xs ⊎ (y ≡ x)
 in_last [] x y (inl e) = inr e
+in_last [] x y (inr i) = elim i [ ]
 in_last (z ∷ zs) x y (inl e) = inl (inl e)
 in_last (z ∷ zs) x y (inr i) = go (in_last zs x y i)
   where

@@ -1,7 +1,7 @@
 -- Two members of one legal run, in any mode but SwiftPaxos, whose hosts give each committed value the same entry, hold equal registers at equal
 -- slots, each at its own moment.
 -- Assumes nothing.
-use mathlib.Core.Path.{◌≡◌, refl, sym, ap, ◌∙◌}
+use mathlib.Core.Path.{◌≡◌, refl, sym, ap, subst, ◌∙◌}
 use mathlib.Core.Bool.{Bool, true, false}
 use mathlib.Core.List.{List, [], ◌∷◌}
 use mathlib.Core.Logic.{inl, inr}
@@ -39,7 +39,7 @@ stands_at e past (x ∷ xs) (inr h) = inr (stands_at e past xs h)
 
 earlier : (e : Entry) (past run : List Entry) → UpTo (e ∷ past) run → UpTo past run
 earlier e past [] h = absurd (not_empty e past h)
-earlier e past (x ∷ xs) (inl h) = let rest : past ≡ xs = cc in inr (rw rest (whole xs))
+earlier e past (x ∷ xs) (inl h) = let rest : past ≡ xs = cc in inr (subst (λ (p : List Entry). UpTo p xs) (sym rest) (whole xs))
 earlier e past (x ∷ xs) (inr h) = inr (earlier e past xs h)
 
 module _ (says : ℕ → CellChange) (run : List Entry) (claim : Claim run) where
