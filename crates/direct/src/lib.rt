@@ -217,7 +217,7 @@ pub fn is_older(c: FlatCore, m: FlatMessage) -> bool
 
 // Takes the core out for this question alone, so that the compiler loads only the numbers that it asks for.
 fn is_older_in(core: &[u64; 18], m: FlatMessage) -> bool
-    ensures { result ≡ is_older (core_of (came core)) m }
+    ensures { result ≡ is_older (core_of core.now) m }
 {
     is_older(arrays::core_in(core), m)
 }
@@ -238,7 +238,7 @@ fn handled(
     rest: &mut [u64; 5],
 ) -> u64
     ensures rest_value { direct result (left core) (reads_left reads served) (reply_left first second third rest)
-        ≡ handled setup (came committers) (came delegates) (came core) (reads_came reads served) f (reply_came first second third rest) }
+        ≡ handled setup committers.now delegates.now (came core) (reads_came reads served) f (reply_came first second third rest) }
     ensures left_unless_taken { LeftUnlessTaken result reads × LeftUnlessTaken result served }
 {
     let message = f.message;
@@ -277,7 +277,7 @@ fn slot_call(
     rest: &mut [u64; 5],
 ) -> u64
     ensures rest_value { direct result (left core) (reads_left reads served) (reply_left first second third rest)
-        ≡ slot_call setup (came committers) (came delegates) (came core) (reads_came reads served) f (reply_came first second third rest) }
+        ≡ slot_call setup committers.now delegates.now (came core) (reads_came reads served) f (reply_came first second third rest) }
     ensures left_unless_taken { LeftUnlessTaken result reads × LeftUnlessTaken result served }
 {
     let mode = flat::decode_mode(setup.mode);
@@ -307,7 +307,7 @@ fn taken(
     rest: &mut [u64; 5],
 ) -> u64
     ensures rest_value { direct result (left core) (reads_left reads served) (reply_left first second third rest)
-        ≡ taken setup (came committers) (came delegates) (came core) (reads_came reads served) f (reply_came first second third rest) }
+        ≡ taken setup committers.now delegates.now (came core) (reads_came reads served) f (reply_came first second third rest) }
     ensures left_unless_taken { LeftUnlessTaken result reads × LeftUnlessTaken result served }
 {
     if is_response(f) {
@@ -339,7 +339,7 @@ pub fn chanbook_direct_call(
     rest: &mut [u64; 5],
 ) -> u64
     ensures rest_value { direct result (left core) (reads_left reads served) (reply_left first second third rest)
-        ≡ direct_call (setup_of (came setup)) (came committers) (came delegates) (came core) (reads_came reads served) (call_of (came call))
+        ≡ direct_call (setup_of setup.now) committers.now delegates.now (came core) (reads_came reads served) (call_of call.now)
         (reply_came first second third rest) }
     ensures left_unless_taken { LeftUnlessTaken result reads × LeftUnlessTaken result served }
 {

@@ -24,7 +24,7 @@ pub extern "C" fn chanbook_direct_call(
     rest: &mut [u64; 5],
 ) -> u64
     ensures rest_value { direct result (left core) (reads_left reads served) (reply_left first second third rest)
-        ≡ direct_call (setup_of (came setup)) (came committers) (came delegates) (came core) (reads_came reads served) (call_of (came call))
+        ≡ direct_call (setup_of setup.now) committers.now delegates.now (came core) (reads_came reads served) (call_of call.now)
         (reply_came first second third rest) }
     ensures left_unless_taken { LeftUnlessTaken result reads × LeftUnlessTaken result served }
 {

@@ -1,11 +1,11 @@
--- Arrays that are lent to a function, as its contract names them: what they hold when it is called, and when it returns.
+-- Arrays that are lent to a function to be written, as its contract names them: what they hold when it is called, and when it returns.
 -- Assumes nothing.
 use Rattle.std.specs.Prelude.{List, ℕ}
-use Rattle.std.specs.Borrow.{Bor}
+use Rattle.std.specs.Borrow.{MutBor}
 use denote.Triple.Both.{Both}
 
 abbrev pub Array : Type 0
-Array = Both (Bor (List ℕ)) (Bor (List ℕ))
+Array = Both (MutBor (List ℕ)) (MutBor (List ℕ))
 
 abbrev pub came : Array → List ℕ
 came x = x.entry.now

@@ -148,8 +148,8 @@ pub fn answer_request(
     third: &mut [u64; 20],
     rest: &mut [u64; 5],
 ) -> u64
-    ensures { leaves (with_number result) (came core) (reply_left first second third rest)
-        ≡ answer_request setup (came core) message (reply_came first second third rest) }
+    ensures { leaves (with_number result) core.now (reply_left first second third rest)
+        ≡ answer_request setup core.now message (reply_came first second third rest) }
 {
     let own = setup.my_pid;
     let src = flat::decode_source(setup.process_count, own, message);
@@ -288,7 +288,7 @@ pub fn handle(
     rest: &mut [u64; 5],
 ) -> Handled
     ensures { leaves result (left core) (reply_left first second third rest)
-        ≡ handled_by setup (came committers) (came delegates) (came core) f (reply_came first second third rest) }
+        ≡ handled_by setup committers.now delegates.now (came core) f (reply_came first second third rest) }
 {
     let asked = flat_calls::asked_of(setup);
     let decoded = flat::decode_core(arrays::core_in(core));

@@ -53,7 +53,7 @@ fn fast_step(
     swift: &[u64; 64],
     f: FlatCall,
 ) -> ChangeStep
-    ensures { result ≡ fast_step asked setup (came committers) (came delegates) core answers (came values) (came epaxos) (came swift) f }
+    ensures { result ≡ fast_step asked setup committers.now delegates.now core answers values.now epaxos.now swift.now f }
 {
     let message = f.message;
     if f.kind == PROPOSAL {
@@ -92,7 +92,7 @@ fn fast_answer(
     swift: &[u64; 64],
     f: FlatCall,
 ) -> FastAnswer
-    ensures { result ≡ fast_answer setup (came committers) (came delegates) core answers (came values) (came epaxos) (came swift) f }
+    ensures { result ≡ fast_answer setup committers.now delegates.now core answers values.now epaxos.now swift.now f }
 {
     let asked = flat_calls::asked_of(setup);
     let step = fast_step(
@@ -143,7 +143,7 @@ fn fast_written(
     rest: &mut [u64; 5],
 ) -> Handled
     ensures { fast_leaves result (left core) (half_left answers values epaxos swift) (reply_left first second third rest)
-        ≡ fast_written setup (came committers) (came delegates) (came core) (half_came answers values epaxos swift) f (reply_came first second third rest) }
+        ≡ fast_written setup committers.now delegates.now (came core) (half_came answers values epaxos swift) f (reply_came first second third rest) }
 {
     let decoded = flat::decode_core(arrays::core_in(core));
     let before = fast_arrays::answers_in(answers);
@@ -174,7 +174,7 @@ fn fast_handled(
     rest: &mut [u64; 5],
 ) -> u64
     ensures rest_value { fast_direct result (left core) (half_left answers values epaxos swift) (reads_left reads served) (reply_left first second third rest)
-        ≡ fast_handled setup (came committers) (came delegates) (came core) (half_came answers values epaxos swift)
+        ≡ fast_handled setup committers.now delegates.now (came core) (half_came answers values epaxos swift)
         (reads_came reads served) f (reply_came first second third rest) }
     ensures left_unless_taken { LeftUnlessTaken result reads × LeftUnlessTaken result served }
 {
@@ -213,8 +213,8 @@ pub fn chanbook_fast_call(
     rest: &mut [u64; 5],
 ) -> u64
     ensures rest_value { fast_direct result (left core) (half_left answers values epaxos swift) (reads_left reads served) (reply_left first second third rest)
-        ≡ fast_call (setup_of (came setup)) (came committers) (came delegates) (came core) (half_came answers values epaxos swift)
-        (reads_came reads served) (call_of (came call)) (reply_came first second third rest) }
+        ≡ fast_call (setup_of setup.now) committers.now delegates.now (came core) (half_came answers values epaxos swift)
+        (reads_came reads served) (call_of call.now) (reply_came first second third rest) }
     ensures left_unless_taken { LeftUnlessTaken result reads × LeftUnlessTaken result served }
 {
     let s = arrays::setup_in(setup);

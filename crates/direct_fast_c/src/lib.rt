@@ -29,8 +29,8 @@ pub extern "C" fn chanbook_fast_call(
     rest: &mut [u64; 5],
 ) -> u64
     ensures rest_value { fast_direct result (left core) (half_left answers values epaxos swift) (reads_left reads served) (reply_left first second third rest)
-        ≡ fast_call (setup_of (came setup)) (came committers) (came delegates) (came core) (half_came answers values epaxos swift)
-        (reads_came reads served) (call_of (came call)) (reply_came first second third rest) }
+        ≡ fast_call (setup_of setup.now) committers.now delegates.now (came core) (half_came answers values epaxos swift)
+        (reads_came reads served) (call_of call.now) (reply_came first second third rest) }
     ensures left_unless_taken { LeftUnlessTaken result reads × LeftUnlessTaken result served }
 {
     direct_fast::chanbook_fast_call(
