@@ -1,26 +1,14 @@
 -- `array_reads::commit_slot` meets its contract: at i what is kept and what is served of the reads before i stands in front. The measure is how
 -- many reads are left.
 -- Assumes nothing.
-use Prim.Native.Nat.{◌≤◌}
-use mathlib.Core.Path.{◌≡◌, refl, ap, sym, ◌∙◌}
+use mathlib.Core.Path.{refl, ap, sym, ◌∙◌}
 use native.Mathlib.Omega.{arith}
 use borrow.Author.Rules.{rules}
-use lib.ListN.{get_or}
 use Rattle.read_tracker.specs.Reads.{after_commit}
 use Rattle.serving.proofs.Commits.{commit_start, commit_serves_lem, commit_keeps, commit_ends}
-use Rattle.array_reads.specs.Rows.{open_rows, no_read}
-use Rattle.array_reads.proofs.Rows.{served_length}
+use Rattle.array_reads.specs.Rows.{no_read}
+use Rattle.array_reads.proofs.Rows.{open_length, served_length}
 use Rattle.array_reads.proofs.commit_slot.Goals as goal
-
--- no more reads are open than there are places
-places_fit_lem : (c : tie.After-open-places invariant-loop decreases-loop) → c.open-places.result ≤ 128
-places_fit_lem c = omega arith
-
--- the read of a turn
-read_is : (c : tie.After-after-commit invariant-loop decreases-loop)
-    → c.after-commit.result
-    ≡ after_commit (get_or (open_rows c.before.before.before.before.before.loop.«open») c.before.before.before.before.before.loop.i no_read)
-read_is c = c.after-commit.ensures ∙ ap after_commit c.before.open_at.ensures
 
 pub loop-i-init : goal.loop-i-init
 loop-i-init c = (refl, refl, commit_start)
@@ -45,7 +33,7 @@ loop-i-preserved-then-has_quorum c = (
   search rules,
   omega arith,
   simp c.put_served.ensures
-      (commit_serves_lem c.loop-i.invariant.2 c.loop-i-test.true (places_fit_lem c) (omega arith) no_read _ (read_is c) (served_length _ (omega arith))
+      (commit_serves_lem c.loop-i.invariant.2 c.loop-i-test.true (omega arith) (open_length _ (omega arith)) no_read _ (c.after_commit-read.ensures ∙ ap after_commit c.open_at.ensures) (served_length _ (omega arith))
       (sym c.has_quorum.ensures ∙ c.if-has_quorum.true) _ c.serve.ensures),
 )
 
@@ -63,7 +51,7 @@ loop-i-preserved c = (
   omega arith,
   search rules,
   simp c.put_open.ensures
-      (commit_keeps c.loop-i.invariant.2 c.loop-i-test.true (places_fit_lem c) (omega arith) no_read _ (read_is c)
+      (commit_keeps c.loop-i.invariant.2 c.loop-i-test.true (omega arith) (open_length _ (omega arith)) no_read _ (c.after_commit-read.ensures ∙ ap after_commit c.open_at.ensures)
       (sym c.has_quorum.ensures ∙ c.if-has_quorum.false)),
 )
 

@@ -3,13 +3,14 @@
 use native.Mathlib.Omega.{arith}
 use Rattle.serving.proofs.Lists.{remove_start, remove_more, remove_end}
 use Rattle.array_reads.specs.Rows.{no_read}
+use Rattle.array_reads.proofs.Rows.{open_length}
 use Rattle.array_reads.proofs.remove.Goals as goal
 
 pub overflow_add-i : goal.overflow_add-i
 overflow_add-i c = omega arith
 
 pub loop-i-init : goal.loop-i-init
-loop-i-init c = (c.requires.0, omega arith, omega arith, remove_start _ _ (omega (arith)))
+loop-i-init c = (c.requires.0, omega arith, omega arith, remove_start _ _ (omega (arith, open_length _ c.requires.0)))
 
 pub open_at-read-requires : goal.open_at-read-requires
 open_at-read-requires c = omega arith
@@ -28,7 +29,7 @@ loop-i-smaller c = omega arith
 
 pub loop-i-preserved : goal.loop-i-preserved
 loop-i-preserved c =
-    let moved : _ = remove_more _ _ _ _ no_read c.loop-i.invariant.1 (omega (arith)) c.loop-i.invariant.3 in
+    let moved : _ = remove_more _ _ _ _ no_read c.loop-i.invariant.1 (omega (arith, open_length _ c.requires.0)) c.loop-i.invariant.3 in
     (omega arith, omega arith, omega arith, simp (c.put_open.ensures, c.open_at-read.ensures) moved)
 
 pub shape_of-open : goal.shape_of-open
