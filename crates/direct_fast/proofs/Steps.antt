@@ -7,7 +7,7 @@ use Prim.Native.Nat.{ℕ}
 use lib.Dec.{eqb}
 use Rattle.arrays.specs.Arrays.{core_of}
 use Rattle.arrays.specs.declared.Setup.{Setup}
-use Rattle.direct.specs.Direct.{direct, Serving, with_serving, serve_ready, served}
+use Rattle.direct.specs.Direct.{Serving, with_serving, serve_ready, served}
 use Rattle.direct_core.specs.Handled.{Written, put_served, Left, passed_on, put_answer}
 use Rattle.fast_arrays.specs.FastArrays.{FastArrays, answers_in, put_after}
 use Rattle.fast_calls.specs.declared.FastAnswer.{FastAnswer}

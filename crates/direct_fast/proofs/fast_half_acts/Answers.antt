@@ -6,7 +6,7 @@ use Rattle.direct_fast.proofs.fast_half_acts.Goals as goal
 
 pub returns-then-f-eq-NEW_READ : goal.returns-then-f-eq-NEW_READ
 unfolding fast_half_acts
-returns-then-f-eq-NEW_READ c = simp (← c.decode_mode-mode.ensures, eq-eqb _ _ c.if-f-eq-NEW_READ.true)
+returns-then-f-eq-NEW_READ c = simp (eq-eqb _ _ c.if-f-eq-NEW_READ.true)
 
 pub returns-then-has_fast_path : goal.returns-then-has_fast_path
 unfolding fast_half_acts
