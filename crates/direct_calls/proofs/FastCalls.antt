@@ -237,12 +237,18 @@ module _ (s : Setup) (committers delegates core : List ℕ) (fast : FastArrays) 
     core_passes (Prepare slot round rv) t = simp (p)
     core_passes (Accept slot round v) t = simp (p)
     core_passes (ForwardRequest v) t = simp (p)
+    core_passes (Commit _ _) t = elim t [ ]
+    core_passes (ReadRequest _) t = elim t [ ]
+    core_passes (ReadResponse _ _) t = elim t [ ]
 
     reads_after : (m : ConsensusMsg) → ForRounds m → (x : RoundsAnswer) → reads_handle (majority_of s) table x (is_yes f.fast) m ≡ serve_ready (majority_of s) table x
     unfolding reads_handle
     reads_after (Prepare slot round rv) t x = refl
     reads_after (Accept slot round v) t x = refl
     reads_after (ForwardRequest v) t x = refl
+    reads_after (Commit _ _) t x = elim t [ ]
+    reads_after (ReadRequest _) t x = elim t [ ]
+    reads_after (ReadResponse _ _) t x = elim t [ ]
 
     abbrev step_of : ConsensusMsg → ChangeStep
     step_of m = process_change lowest_best (asked_of settings) heard m decoded (answers_in fast.answers) fast.values fast.epaxos fast.swift
@@ -261,6 +267,9 @@ module _ (s : Setup) (committers delegates core : List ℕ) (fast : FastArrays) 
     rounds_handle_lem (Prepare slot round rv) t = refl
     rounds_handle_lem (Accept slot round v) t = refl
     rounds_handle_lem (ForwardRequest v) t = refl
+    rounds_handle_lem (Commit _ _) t = elim t [ ]
+    rounds_handle_lem (ReadRequest _) t = elim t [ ]
+    rounds_handle_lem (ReadResponse _ _) t = elim t [ ]
 
     deeper_done : (m : ConsensusMsg) → (processed_as m).answer.deeper ≡ true → (processed_as m).answer.reply.outcome ≡ Done
     unfolding fast_finish
@@ -286,7 +295,7 @@ module _ (s : Setup) (committers delegates core : List ℕ) (fast : FastArrays) 
         stands receives (committed_as f.message.v) (simp (k, k4))
         (passes receives _ p (ap (core_handle (asked_of settings) heard delivered decoded) m ∙ simp (o, p))
         (ap (rounds_handle (asked_of settings) heard held rounds (needs_more decoded)) m ∙ committed_rounds (asked_of settings) p f.message.v)
-        (ap (reads_handle (majority_of s) table _ (is_yes f.fast)) m)) (λ h. commit_done f.message.v)
+        (ap (reads_handle (majority_of s) table (on_rounds_of (committed_as f.message.v)) (is_yes f.fast)) m)) (λ h. commit_done f.message.v)
 
     -- ---- messages of an older slot
 

@@ -37,12 +37,11 @@ pub list-list_event-next-requires : goal.list-list_event-next-requires
 list-list_event-next-requires t c = (event_below_list c.args.left t c.if-left-eq0.false c.requires.0, tt)
 
 pub list-loop-proposer-preserved : goal.list-loop-proposer-preserved
-list-loop-proposer-preserved t c =
-    (
-      omega (arith, c.loop-proposer-test.true),
-      c.list_event-next.auto.out ∙ c.loop-proposer.invariant.1,
-      one_more _ _ _ c.loop-proposer.invariant.2 c.list_event-next.ensures,
-    )
+list-loop-proposer-preserved t c = (
+  omega (arith, c.loop-proposer-test.true),
+  c.list_event-next.auto.out ∙ c.loop-proposer.invariant.1,
+  one_more _ _ _ c.loop-proposer.invariant.2 c.list_event-next.ensures,
+)
 
 pub list-loop-member-init : goal.list-loop-member-init
 list-loop-member-init t c = (omega arith, refl, begins _ _)
@@ -51,12 +50,11 @@ pub list-list_deliveries-next-requires : goal.list-list_deliveries-next-requires
 list-list_deliveries-next-requires t c = (deliveries_below_list c.args.left t c.if-left-eq0.false c.requires.0, tt)
 
 pub list-loop-member-preserved : goal.list-loop-member-preserved
-list-loop-member-preserved t c =
-    (
-      omega (arith, c.loop-member-test.true),
-      c.list_deliveries-next.auto.out ∙ c.loop-member.invariant.1,
-      one_more _ _ _ c.loop-member.invariant.2 c.list_deliveries-next.ensures,
-    )
+list-loop-member-preserved t c = (
+  omega (arith, c.loop-member-test.true),
+  c.list_deliveries-next.auto.out ∙ c.loop-member.invariant.1,
+  one_more _ _ _ c.loop-member.invariant.2 c.list_deliveries-next.ensures,
+)
 
 pub list-shape_of-out : goal.list-shape_of-out
 list-shape_of-out t c = c.loop-member.invariant.1 ∙ c.loop-proposer.invariant.1
@@ -80,12 +78,11 @@ pub list_deliveries-list_event-next-requires : goal.list_deliveries-list_event-n
 list_deliveries-list_event-next-requires t c = (event_below_deliveries c.args.left t c.requires.0, tt)
 
 pub list_deliveries-loop-place-preserved : goal.list_deliveries-loop-place-preserved
-list_deliveries-loop-place-preserved t c =
-    (
-      omega (arith, c.loop-place-test.true),
-      c.list_event-next.auto.out ∙ c.loop-place.invariant.1,
-      one_more _ _ _ c.loop-place.invariant.2 c.list_event-next.ensures,
-    )
+list_deliveries-loop-place-preserved t c = (
+  omega (arith, c.loop-place-test.true),
+  c.list_event-next.auto.out ∙ c.loop-place.invariant.1,
+  one_more _ _ _ c.loop-place.invariant.2 c.list_event-next.ensures,
+)
 
 pub list_deliveries-shape_of-out : goal.list_deliveries-shape_of-out
 list_deliveries-shape_of-out t c = c.loop-place.invariant.1
