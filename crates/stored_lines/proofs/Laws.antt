@@ -8,7 +8,7 @@ use Prim.Native.Nat.{ℕ, zero, suc, ◌+◌, ◌*◌, ◌≤◌, ◌<◌, min}
 use native.Mathlib.Nat.{mod-eq_of_lt}
 use native.Mathlib.Omega.{arith}
 use lib.Dec.{eqb, ltb, leb}
-use lib.ListN.{get_or, take}
+use lib.ListN.{get_or}
 use lib.Seq.{take_at}
 use borrow.Author.Tests.{ltb-true, ltb-false, leb-true}
 use Rattle.basics.specs.Lists.{In}
@@ -17,7 +17,6 @@ use Rattle.call_lines.specs.Reading.{scan_of}
 use Rattle.serving.specs.Serving.{at_front}
 use Rattle.register.specs.Cells.{cell_of}
 use Rattle.register.specs.Register.{new_register, live_cells}
-use Rattle.register.specs.declared.Register.{Register}
 use Rattle.stored_register.specs.Stored.{stored_cell, stored_live_cells, widened}
 use Rattle.stored_register.specs.declared.StoredCell.{StoredCell}
 use Rattle.stored_register.proofs.Laws.{cell_kept}
@@ -27,6 +26,7 @@ use Rattle.stored_lines.proofs.Turns.{each_cell, stored_count, few_cells}
 
 module _ (ns : List ℕ) where
   in_front_lem : {A : Type 0} (a : A) (l m : List A) → In a l → In a (l ++ m)
+  in_front_lem {A = A} a [] m x' = elim x' [ ]
   in_front_lem a (x ∷ l) m (inl h) = inl h
   in_front_lem a (x ∷ l) m (inr h) = inr (in_front_lem a l m h)
 

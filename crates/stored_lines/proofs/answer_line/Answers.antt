@@ -22,8 +22,10 @@ slice_bounds-answer_stored-start c = let h = long _ _ c.begins.ensures c.if-begi
 
 pub returns-then-begins : goal.returns-then-begins
 returns-then-begins c =
-    line_stored _ _ _ _ _ _ refl (sym c.begins.ensures ∙ c.if-begins.true) c.answer_stored.ensures.register_value c.answer_stored.ensures.put_after
+    let t = line_stored c.args.register _ _ (c.args.out.now, c.args.at) _ _ refl (sym c.begins.ensures ∙ c.if-begins.true) c.answer_stored.ensures.register_value c.answer_stored.ensures.put_after in
+    record { register_value = t.0; put_after = t.1 }
 
 pub returns : goal.returns
 returns c =
-    line_other _ _ _ _ _ (sym c.begins.ensures ∙ c.if-begins.false) c.answer_line.ensures.register_value c.answer_line.ensures.put_after
+    let t = line_other c.args.register _ _ (c.args.out.now, c.args.at) _ (sym c.begins.ensures ∙ c.if-begins.false) c.answer_line.ensures.register_value c.answer_line.ensures.put_after in
+    record { register_value = t.0; put_after = t.1 }

@@ -1,7 +1,6 @@
 -- `stored_lines::are_cells` meets its contract. The loop's invariant: the first i are cells.
 -- Assumes nothing.
 use mathlib.Core.Path.{◌≡◌, refl, sym, ap, ◌∙◌}
-use mathlib.Core.Bool.{true}
 use native.Mathlib.Omega.{arith}
 use borrow.Author.Rules.{rules}
 use Rattle.stored_lines.specs.Lines.{are_cells}
