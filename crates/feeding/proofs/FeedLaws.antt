@@ -1,6 +1,6 @@
 -- Feeding a list is applying its entries one by one (document 02, E10), and what it answers.
 -- Assumes nothing.
-use mathlib.Core.Path.{◌≡◌, refl, sym, ap, ◌∙◌}
+use mathlib.Core.Path.{◌≡◌, refl, ap, ◌∙◌}
 use mathlib.Core.Bool.{Bool, true, false, cond}
 use mathlib.Core.List.{List, [], ◌∷◌, ◌++◌}
 use Prim.Native.Nat.{ℕ, ◌≤◌, ◌<◌}
@@ -27,7 +27,8 @@ unfed r = record { register = r; first = NoneRefused }
 pub fed_one_by_one : (f : FedTo) (es : List CellEntry) → (feed_all f es).register ≡ apply_all f.register es
 unfolding feed_all apply_all
 fed_one_by_one f [] = refl
-fed_one_by_one f (e ∷ es) = fed_one_by_one _ es
+fed_one_by_one f (e ∷ es) =
+    fed_one_by_one (record { register = (apply f.register e).register; first = or_refused f.first e.slot (entry_number (apply f.register e).outcome) }) es
 
 -- ---- "from the slot after the last one seen"
 

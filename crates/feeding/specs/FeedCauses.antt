@@ -1,6 +1,6 @@
 -- When a list is not fed (document 02, E10). This page is the statement; proofs/FeedNumbers.antt says that the call gives each number exactly here.
 -- Assumes nothing.
-use Rattle.std.specs.Prelude.{◌≡◌, ◌⊎◌, ℕ, ◌<◌, length, get_or}
+use Rattle.std.specs.Prelude.{◌≡◌, ◌⊎◌, ◌<◌, length, get_or}
 use Rattle.register.specs.declared.Register.{Register}
 use Rattle.catch_up.specs.Causes.{Consecutive, TooLarge}
 use Rattle.catch_up.specs.declared.JoinRefusal.{JoinRefusal}

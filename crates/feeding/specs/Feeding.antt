@@ -2,7 +2,7 @@
 -- E6, from the slot after the last one seen (at first 0), or gives 19 and feeds nothing where it begins past that; it hands back the first refused
 -- slot, if any, with its number").
 -- Assumes nothing.
-use Rattle.std.specs.Prelude.{◌≡◌, Bool, true, false, cond, not, ◌&&◌, ◌||◌, List, [], ◌∷◌, ℕ, zero, suc, ◌+◌, ltb, eqb, length, get_or}
+use Rattle.std.specs.Prelude.{◌≡◌, Bool, cond, not, ◌&&◌, ◌||◌, List, [], ◌∷◌, ℕ, zero, suc, ◌+◌, ltb, eqb, length, get_or}
 use Rattle.register.specs.Register.{apply}
 use Rattle.register.specs.Refusals.{entry_number}
 use Rattle.register.specs.declared.CellEntry.{CellEntry}

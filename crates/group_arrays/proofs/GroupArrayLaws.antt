@@ -1,7 +1,7 @@
 -- What a host may rely on of the arrays of a register of group settings: one that is not made stays in every number and gives its
 -- own; and the report is that of the register in the arrays.
 -- Assumes nothing.
-use mathlib.Core.Path.{◌≡◌, refl, sym, ap, ◌∙◌}
+use mathlib.Core.Path.{◌≡◌, refl, ap, ◌∙◌}
 use mathlib.Core.Bool.{Bool, true, false, cond}
 use mathlib.Core.List.{List}
 use Prim.Native.Nat.{ℕ}

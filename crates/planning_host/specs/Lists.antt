@@ -2,7 +2,7 @@
 -- that is fed.
 -- Assumes nothing.
 use Rattle.std.specs.Prelude.{◌≡◌}
-use Rattle.catch_up.specs.Joining.{joining, join_answer, join_refusal, join_count, lent, Joins}
+use Rattle.catch_up.specs.Joining.{join_refusal, join_count, Joins}
 use Rattle.catch_up.specs.declared.Joined.{Joined}
 use Rattle.register.specs.declared.Register.{Register}
 use Rattle.catch_up.specs.Causes.{CommitList, join_number}

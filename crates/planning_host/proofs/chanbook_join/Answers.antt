@@ -4,4 +4,4 @@ use Rattle.planning_host.proofs.chanbook_join.Goals as goal
 
 pub returns : goal.returns
 returns c =
-    record { joined = c.join.result; numbers = c.flat_join.ensures; c = c.join.ensures }
+    record { joined = c.join.result; numbers = c.flat_join.ensures; call = c.join.ensures }

@@ -16,9 +16,6 @@ offset_bounds-stored-i c = omega arith
 pub bounds-stored-i : goal.bounds-stored-i
 bounds-stored-i c = omega arith
 
-pub overflow_cast-numbers : goal.overflow_cast-numbers
-overflow_cast-numbers c = omega (arith, c.shared_slice_known-1.given c.loop-i.i)
-
 pub offset_bounds-numbers-i : goal.offset_bounds-numbers-i
 offset_bounds-numbers-i c = omega arith
 
