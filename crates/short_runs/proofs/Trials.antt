@@ -10,7 +10,6 @@ use native.Mathlib.Omega.{arith}
 use lib.Dec.{eqb}
 use lib.ListN.{length, get_or, length-append}
 use borrow.Author.Tests.{lt-ltb}
-use Rattle.sets.specs.Sets.{contains}
 use Rattle.sets.proofs.Laws.{contains_empty}
 use Rattle.message.specs.declared.Outcome.{Outcome}
 use Rattle.message.specs.declared.Outcome.TheVariants.{Done, Refused}

@@ -1,6 +1,6 @@
 -- What the lister writes for a run that it keeps (crate office_runs).
 -- Assumes nothing.
-use Rattle.std.specs.Prelude.{cond, List, [], ◌∷◌, ◌++◌, ℕ, zero, suc}
+use Rattle.std.specs.Prelude.{cond, List, [], ◌++◌, ℕ, zero, suc}
 use Rattle.texts.specs.Text.{ascii}
 use Rattle.enabled_runs.specs.declared.RunEvent.TheVariants.{Proposes, Delivers}
 use Rattle.enabled_runs.specs.Listing.{each_below}

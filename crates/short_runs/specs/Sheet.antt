@@ -1,6 +1,6 @@
 -- The sheet of document 02's E12: the lines of the listing.
 -- Assumes nothing.
-use Rattle.std.specs.Prelude.{List, [], ◌∷◌, ◌++◌, ℕ}
+use Rattle.std.specs.Prelude.{List, ◌++◌, ℕ}
 use Rattle.texts.specs.Text.{ascii, each}
 use Rattle.enabled_runs.specs.declared.RunEvent.{RunEvent}
 use Rattle.enabled_runs.specs.declared.CommitBy.{CommitBy}

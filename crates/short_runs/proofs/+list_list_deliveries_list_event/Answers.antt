@@ -5,7 +5,6 @@ use mathlib.Core.Path.{◌≡◌, refl, ◌∙◌}
 use mathlib.Core.List.{[]}
 use native.Mathlib.Omega.{arith}
 use native.Mathlib.Nat.{pos_of_ne-zero}
-use borrow.Author.Rules.{rules}
 use Rattle.texts.proofs.Putting.{put_then}
 use Rattle.enabled_runs.specs.Listing.{each_below}
 use Rattle.short_runs.proofs.Turns.{proposal_lines, delivery_lines, no_events_left, begins, one_more, all_of, whole, skipped, entered}
@@ -34,7 +33,7 @@ pub list-loop-proposer-init : goal.list-loop-proposer-init
 list-loop-proposer-init t c = (omega arith, refl, begins _ _)
 
 pub list-list_event-next-requires : goal.list-list_event-next-requires
-list-list_event-next-requires t c = (event_below_list c.args.left t c.if-left-eq0.false c.requires.0, tt)
+list-list_event-next-requires t c = (event_below_list c.args.left t c.if-left-eq0.false c.decreases, tt)
 
 pub list-loop-proposer-preserved : goal.list-loop-proposer-preserved
 list-loop-proposer-preserved t c = (
@@ -47,7 +46,7 @@ pub list-loop-member-init : goal.list-loop-member-init
 list-loop-member-init t c = (omega arith, refl, begins _ _)
 
 pub list-list_deliveries-next-requires : goal.list-list_deliveries-next-requires
-list-list_deliveries-next-requires t c = (deliveries_below_list c.args.left t c.if-left-eq0.false c.requires.0, tt)
+list-list_deliveries-next-requires t c = (deliveries_below_list c.args.left t c.if-left-eq0.false c.decreases, tt)
 
 pub list-loop-member-preserved : goal.list-loop-member-preserved
 list-loop-member-preserved t c = (
@@ -75,7 +74,7 @@ pub list_deliveries-loop-place-init : goal.list_deliveries-loop-place-init
 list_deliveries-loop-place-init t c = (omega arith, refl, begins _ _)
 
 pub list_deliveries-list_event-next-requires : goal.list_deliveries-list_event-next-requires
-list_deliveries-list_event-next-requires t c = (event_below_deliveries c.args.left t c.requires.0, tt)
+list_deliveries-list_event-next-requires t c = (event_below_deliveries c.args.left t c.decreases, tt)
 
 pub list_deliveries-loop-place-preserved : goal.list_deliveries-loop-place-preserved
 list_deliveries-loop-place-preserved t c = (
@@ -95,7 +94,7 @@ list_deliveries-returns t c =
 -- ---- list_event
 
 pub list_event-list-requires : goal.list_event-list-requires
-list_event-list-requires t c = (list_below_event c.args.left t c.requires.0, tt)
+list_event-list-requires t c = (list_below_event c.args.left t c.decreases, tt)
 
 pub list_event-returns-then-next : goal.list_event-returns-then-next
 list_event-returns-then-next t c = entered _ _ _ _ c.trial-next.ensures c.if-next.true c.put_line-place.ensures c.list.ensures

@@ -18,26 +18,26 @@ decreases-list_deliveries l = 3 * l.left + 3
 abbrev pub decreases-list_event : goal.decreases-list_event
 decreases-list_event l = 3 * l.left + 2
 
-abbrev pub list-invariant-loop-proposer : goal.list-invariant-loop-proposer
-list-invariant-loop-proposer l =
+abbrev pub invariant-list-loop-proposer : goal.invariant-list-loop-proposer
+invariant-list-loop-proposer l =
     (l.proposer ≤ 3) × (length l.out ≡ length l.initial.out)
     × ((l.out, l.next) ≡ put (each_below l.proposer (proposal_lines l.fewer l.run)) (l.initial.out, l.at))
 
-abbrev pub list-decreases-loop-proposer : goal.list-decreases-loop-proposer
-list-decreases-loop-proposer l = 3 - l.proposer
+abbrev pub decreases-list-loop-proposer : goal.decreases-list-loop-proposer
+decreases-list-loop-proposer l = 3 - l.proposer
 
-abbrev pub list-invariant-loop-member : goal.list-invariant-loop-member
-list-invariant-loop-member l =
+abbrev pub invariant-list-loop-member : goal.invariant-list-loop-member
+invariant-list-loop-member l =
     (l.member ≤ 3) × (length l.out ≡ length l.initial.out)
     × ((l.out, l.next) ≡ put (each_below l.member (λ m. each_below l.run.sent.count (delivery_lines l.fewer l.run m))) (l.initial.out, l.initial.next))
 
-abbrev pub list-decreases-loop-member : goal.list-decreases-loop-member
-list-decreases-loop-member l = 3 - l.member
+abbrev pub decreases-list-loop-member : goal.decreases-list-loop-member
+decreases-list-loop-member l = 3 - l.member
 
-abbrev pub list_deliveries-invariant-loop-place : goal.list_deliveries-invariant-loop-place
-list_deliveries-invariant-loop-place l =
+abbrev pub invariant-list_deliveries-loop-place : goal.invariant-list_deliveries-loop-place
+invariant-list_deliveries-loop-place l =
     (l.place ≤ l.count) × (length l.out ≡ length l.initial.out)
     × ((l.out, l.next) ≡ put (each_below l.place (delivery_lines l.left l.run l.member)) (l.initial.out, l.at))
 
-abbrev pub list_deliveries-decreases-loop-place : goal.list_deliveries-decreases-loop-place
-list_deliveries-decreases-loop-place l = l.count - l.place
+abbrev pub decreases-list_deliveries-loop-place : goal.decreases-list_deliveries-loop-place
+decreases-list_deliveries-loop-place l = l.count - l.place
