@@ -68,9 +68,16 @@ def top_items(text):
 
 def is_type(item):
     head = '\n'.join(line for line in item.split('\n') if not line.startswith('#[')).lstrip()
-    if re.match(r'(pub )?use\b', head) and re.search(r'::[a-z_0-9]+;', head):
+    if re.match(r'(pub )?use\b', head) and re.search(r'::([a-z_0-9]+|\{\});', head):
         return False
     return re.match(r'(pub )?(struct|enum|use|mod|type)\b', head) is not None
+
+
+def without_function_names(item):
+    """An import of several names, without those of functions, which the copy does not have."""
+    if not re.match(r'(pub )?use\b', item):
+        return item
+    return re.sub(r'\{([^{}]*)\}', lambda m: '{' + ', '.join(n for n in re.split(r',\s*', m[1].strip(' \n,')) if not re.fullmatch('[a-z_0-9]+', n)) + '}', item)
 
 
 def copy_without_functions(name, target):
@@ -78,7 +85,7 @@ def copy_without_functions(name, target):
     shutil.copytree(os.path.join(ROOT, 'crates', name), target, ignore=shutil.ignore_patterns('must-fail', 'more-edits', 'out'))
     for source in os.listdir(os.path.join(target, 'src')):
         path = os.path.join(target, 'src', source)
-        kept = [item for item in top_items(open(path).read()) if is_type(item)]
+        kept = [item for item in map(without_function_names, top_items(open(path).read())) if is_type(item)]
         open(path, 'w').write('\n\n'.join(kept) + '\n' if kept else '// no type\n')
     proofs = os.path.join(target, 'proofs')
     for entry in os.listdir(proofs) if os.path.isdir(proofs) else []:

@@ -9,6 +9,8 @@ const FLAT: &str = include_str!("../../../crates/flat/src/lib.rt");
 const HOST: &str = include_str!("../../../crates/host/src/lib.rt");
 const DIRECT: &str = include_str!("../../../crates/direct/src/lib.rt");
 const DIRECT_FAST: &str = include_str!("../../../crates/direct_fast/src/lib.rt");
+const DIRECT_C: &str = include_str!("../../../crates/direct_c/src/lib.rt");
+const DIRECT_FAST_C: &str = include_str!("../../../crates/direct_fast_c/src/lib.rt");
 const HEADER: &str = include_str!("../../../crates/host/include/chanbook_shard.h");
 
 const PLANNING_MIRROR: &str = include_str!("../src/planning_sys.rs");
@@ -93,7 +95,9 @@ fn same_rows(function: &str, source: &str, count: usize) {
 #[test]
 fn the_rows_are_those_of_the_source_and_of_the_header() {
     same_rows("chanbook_direct_call", DIRECT, 11);
+    same_rows("chanbook_direct_call", DIRECT_C, 11);
     same_rows("chanbook_fast_call", DIRECT_FAST, 15);
+    same_rows("chanbook_fast_call", DIRECT_FAST_C, 15);
 }
 
 /// The fields of each struct, in their order: the structs stand in another order in the source.
