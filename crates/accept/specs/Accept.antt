@@ -1,13 +1,10 @@
 -- Handling an Accept at a replica (the Rust's process_message, `Accept`), up to the point where SwiftPaxos parts.
 -- Assumes nothing.
-use Rattle.std.specs.Prelude.{Bool, true, false, cond, not, ◌&&◌, ◌||◌, ℕ, eqb}
+use Rattle.std.specs.Prelude.{Bool, true, false, cond, not, ◌&&◌, ◌||◌, ℕ, eqb, Option, None, Some, Ok, Err, Result}
+use Rattle.message.specs.declared.Refusal.{Refusal}
 use Rattle.message.specs.Modes.{is_swift_paxos}
 use Rattle.message.specs.Promises.{is_process}
 use Rattle.message.specs.declared.ConsensusMsg.TheVariants.{Accept, Commit}
-use Rattle.message.specs.declared.OptionalProcess.{OptionalProcess}
-use Rattle.message.specs.declared.OptionalProcess.TheVariants.{NoProcess, Process}
-use Rattle.message.specs.declared.Outcome.{Outcome}
-use Rattle.message.specs.declared.Outcome.TheVariants.{Done, Refused}
 use Rattle.message.specs.declared.PFMode.{PFMode}
 use Rattle.message.specs.declared.PFMode.TheVariants.{Paxos, MultiPaxos, MultiPaxos3P, EPaxos, Pando, SwiftPaxos}
 use Rattle.message.specs.declared.PaxosRound.{PaxosRound}
@@ -47,16 +44,16 @@ unfoldable pub committer_hears : Asked → PaxosRound → ℕ → Bool
 committer_hears a round p = tells_committer a.mode && (not (eqb p round.leader) && not (eqb p a.member.my_pid))
 
 -- answer_accept: to the committer, then to the leader
-unfoldable pub answer_accept : Asked → PaxosRound → Core → OptionalProcess → Messages
-answer_accept a round core NoProcess = one_message (accept_to a core round round.leader)
-answer_accept a round core (Process p) =
+unfoldable pub answer_accept : Asked → PaxosRound → Core → Option ℕ → Messages
+answer_accept a round core None = one_message (accept_to a core round round.leader)
+answer_accept a round core (Some p) =
     cond (committer_hears a round p) (two_messages (accept_to a core round p) (accept_to a core round round.leader))
     (one_message (accept_to a core round round.leader))
 
 -- ---- the commit
 
 -- broadcast_commit: the held value, served to its requester first
-abbrev pub commit_message : Asked → Core → OptionalProcess → Outgoing
+abbrev pub commit_message : Asked → Core → Option ℕ → Outgoing
 commit_message a core requester = sends a core (All (first_served a requester)) (Commit core.slot (held_v core.paxos.max_rv))
 
 -- the leader tells of the commit; a committer tells where the requester is another process
@@ -111,12 +108,10 @@ unfoldable pub counts_accepts : Asked → Heard → PaxosRound → Bool
 counts_accepts a h round = eqb a.member.my_pid round.leader || is_committer a h
 
 -- receive_accept was taken: the accept phase is off the fast path, but for SwiftPaxos
-abbrev pub after_accepted : Asked → Heard → PaxosRound → ℕ → Core → PaxosState → Outcome → CoreStep
-after_accepted a h round v core p Done = accepted a h round v (off_fast_path a (with_paxos p core))
-after_accepted a h round v core p (Refused why) = refuses why core
+abbrev pub after_accepted : Asked → Heard → PaxosRound → ℕ → Core → Result PaxosState Refusal → CoreStep
+after_accepted a h round v core (Ok p) = accepted a h round v (off_fast_path a (with_paxos p core))
+after_accepted a h round v core (Err why) = refuses why core
 
 -- an Accept in the round of the state
 unfoldable pub accepting : Asked → Heard → PaxosRound → ℕ → Core → CoreStep
-accepting a h round v core =
-    after_accepted a h round v core (receive_accept a.member h.src round v core.paxos).state
-    (receive_accept a.member h.src round v core.paxos).outcome
+accepting a h round v core = after_accepted a h round v core (receive_accept a.member h.src round v core.paxos)

@@ -7,18 +7,15 @@ ghost use Rattle.texts.specs.Text.{put};
 ghost use Rattle.answer_lines.specs.Answer.{answer_text};
 
 use consensus::Answer;
+use texts::Output;
 
 // The line of an answer, with its LF.
-pub fn put_answer(out: &mut [u8], at: usize, answer: Answer) -> usize
-    ensures { (out.new, result) ≡ put (answer_text answer) (out.old, at) }
+#[tactic(auto, using(texts::proofs::Putting::put_then), unfolding(crate::specs::Answer::answer_text))]
+pub fn put_answer(out: &mut Output, answer: &Answer)
+    ensures { out.new ≡ put (answer_text answer.now) out.old }
 {
-    let shard = answer.shard;
-    let reply = answer.reply;
-    let served = shard.state.table.served;
-    let rounds = shard.state.rounds;
-    let reads = shard.state.table.reads;
-    let made = shard.made;
-    let second = reply_lines::put_reply(out, at, reply, served);
-    let third = shard_lines::put_shard(out, second, rounds, reads, made);
-    texts::put_byte(out, third, b'\n')
+    let state = &answer.shard.state;
+    reply_lines::put_reply(out, answer.reply, &state.table.served);
+    shard_lines::put_shard(out, &state.rounds, &state.table.reads, answer.shard.made);
+    out.put_byte(b'\n');
 }

@@ -1,20 +1,22 @@
 -- The rows of an array of open reads, and of one of served reads.
 -- Assumes nothing.
-use Prim.Native.Nat.{ℕ, suc, ◌+◌, ◌*◌, ◌≤◌, ◌<◌}
+use Prim.Native.Nat.{ℕ, suc, ◌+◌, ◌-◌, ◌*◌, ◌≤◌, ◌<◌}
 use mathlib.Core.Bool.{Bool, true, false}
-use mathlib.Core.Path.{◌≡◌, refl, sym, ◌∙◌}
-use mathlib.Core.List.{List, [], ◌∷◌}
+use mathlib.Core.Path.{◌≡◌, refl, sym, ap, ap₂, ◌∙◌}
+use mathlib.Core.List.{List, [], ◌∷◌, ◌++◌}
 use native.Mathlib.Nat.{add-zero}
 use native.Mathlib.Omega.{arith}
-use lib.ListN.{length, get_or, set, take, drop}
-use lib.Seq.{set_out}
+use lib.ListN.{length, get_or, set, take, drop, length-take, length-drop}
+use lib.Seq.{set_out, paste}
+use Rattle.places.specs.Places.{at_front, without}
+use Rattle.places.proofs.Lists.{moved_down}
 use mir.Val.{bool_byte}
 use Rattle.read_tracker.specs.Reads.{read_id}
 use Rattle.read_tracker.specs.declared.OpenRead.{OpenRead}
 use Rattle.read_tracker.specs.declared.ServedRead.{ServedRead}
 use Rattle.array_reads.specs.Rows.{open_rows, served_rows, no_read}
 use Rattle.flat.specs.Decode.{is_yes}
-use Rattle.array_reads.proofs.Strides.{of_row, rows_length, rows_at, rows_set}
+use Rattle.array_reads.proofs.Strides.{of_row, rows_length, rows_at, rows_set, rows_three, rows_take, rows_drop}
 
 -- a flag as it is stored
 yes_flag : (b : Bool) → is_yes (bool_byte b) ≡ b
@@ -82,6 +84,33 @@ open_set l i r e h =
 -- a place that there is not
 pub open_past : (l : List ℕ) (i : ℕ) (r : OpenRead) → length l ≡ 640 → 128 ≤ i → open_rows l ≡ set (open_rows l) i r
 open_past l i r e h = sym (set_out (open_rows l) i r (omega (arith, open_length l e)))
+
+-- the reads behind place `at` are moved one place down
+pub open_moved_down : (l : List ℕ) (at n : ℕ) → length l ≡ 640 → at < n → n ≤ 128
+    → open_rows (paste l (5 * at) (drop (5 * (at + 1)) l) (5 * n - 5 * (at + 1))) ≡ at_front (without at (take n (open_rows l))) (open_rows l)
+open_moved_down l at n e h f =
+    let m : ℕ = n - (at + 1) in
+    let rows : List OpenRead = open_rows l in
+    let reads : length rows ≡ 128 = open_length l e in
+    let count : 5 * n - 5 * (at + 1) ≡ 5 * m = omega arith in
+    let end : 5 * at + 5 * m ≡ 5 * (at + m) = omega arith in
+    let a : List ℕ = take (5 * at) l in
+    let b : List ℕ = take (5 * m) (drop (5 * (at + 1)) l) in
+    let c : List ℕ = drop (5 * (at + m)) l in
+    let long : length a ≡ 5 * at = length-take (5 * at) l ∙ omega arith in
+    let behind : 5 * m ≤ length (drop (5 * (at + 1)) l) = rw length-drop (omega arith) in
+    let moved : length b ≡ 5 * m = length-take (5 * m) (drop (5 * (at + 1)) l) ∙ omega arith in
+    let first : open_rows a ≡ take at rows = rows_take 5 open_row open_rows open_none open_next at l (omega arith) in
+    let next : open_rows b ≡ take m (drop (at + 1) rows) =
+    rows_take 5 open_row open_rows open_none open_next m (drop (5 * (at + 1)) l) behind
+    ∙ ap (take m) (rows_drop 5 open_row open_rows open_none open_next (at + 1) l (omega arith)) in
+    let last : open_rows c ≡ drop (at + m) rows = rows_drop 5 open_row open_rows open_none open_next (at + m) l (omega arith) in
+    let down : take at rows ++ take m (drop (at + 1) rows) ++ drop (at + m) rows ≡ at_front (without at (take n rows)) rows = moved_down rows at n h (omega arith) in
+    ap (λ (i : ℕ). open_rows (take (5 * at) l ++ take i (drop (5 * (at + 1)) l) ++ drop (5 * at + i) l)) count
+    ∙ ap (λ (i : ℕ). open_rows (a ++ b ++ drop i l)) end
+    ∙ rows_three 5 open_row open_rows open_none open_next at m a b c long moved
+    ∙ ap₂ (λ (x y : List OpenRead). x ++ y) (ap₂ (λ (x y : List OpenRead). x ++ y) first next) last
+    ∙ down
 
 -- ---- served reads
 

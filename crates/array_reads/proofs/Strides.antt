@@ -1,14 +1,21 @@
 -- A list of numbers as rows of k numbers each: how many rows there are, what stands in one, and what k stores in a row change.
 -- Assumes nothing.
 use Prim.Native.Nat.{ℕ, zero, suc, ◌+◌, ◌*◌, ◌≤◌, ◌<◌}
-use mathlib.Core.Path.{◌≡◌, refl, ap, ◌∙◌}
-use mathlib.Core.List.{List, [], ◌∷◌, ◌++◌}
+use mathlib.Core.Path.{◌≡◌, refl, sym, ap, ◌∙◌}
+use mathlib.Core.List.{List, [], ◌∷◌, ◌++◌, append_assoc}
 use native.Mathlib.Nat.{mul-zero, mul-suc, zero-add}
 use native.Mathlib.Omega.{arith}
-use lib.ListN.{length, get_or, set, take, drop, length-append, length-drop}
-use lib.Seq.{sets, sets-eq, length-sets, take-set-le, drop-set-add, drop-drop, get_or-take, get_or-drop, take_at, drop_at}
+use lib.ListN.{length, get_or, set, take, drop, length-append, length-take, length-drop}
+use Rattle.std.proofs.lemmas.List.{drop-take}
+use lib.Seq.{take-append-le, drop-append-le, take-take, sets, sets-eq, length-sets, take-set-le, drop-set-add, drop-drop, get_or-take, get_or-drop, take_at, drop_at}
 
 module _ {A : Type 0} where
+  -- what is read within a list is read whatever stands for its end
+  pub past : (l : List A) (i : ℕ) (d e : A) → i < length l → get_or l i d ≡ get_or l i e
+  past [] i d e h = absurd (omega arith)
+  past (x ∷ xs) zero d e h = refl
+  past (x ∷ xs) (suc i) d e h = past xs i d e (omega arith)
+
   -- stores behind the first k places
   take_sets : (vs l : List A) (k i : ℕ) → k ≤ i → take k (sets l i vs) ≡ take k l
   take_sets [] l k i h = refl
@@ -51,3 +58,31 @@ module _ {A B : Type 0} (k : ℕ) (row : List A → B) (rows : List A → List B
       let long : k ≤ length (sets l (k + k * i) vs) = rw length-sets (omega arith) in
       simp (s, next (sets l (k + k * i) vs) long, next l (omega arith), take_sets vs l k (k + k * i) (omega arith), drop_sets)
       (ap (λ (m : List B). row (take k l) ∷ m) (rows_set i (drop k l) vs e (rw length-drop (omega arith))))
+
+  -- whole rows in front, and the rest
+  rows_append : (m : ℕ) (a b : List A) → length a ≡ k * m → rows (a ++ b) ≡ rows a ++ rows b
+  rows_append zero [] b e = simp none
+  rows_append zero (x ∷ a) b e = let z : k * 0 ≡ 0 = mul-zero k in absurd (omega arith)
+  rows_append (suc m) a b e =
+      let s : k * suc m ≡ k * m + k = mul-suc k m in
+      let long : k ≤ length (a ++ b) = rw length-append (omega arith) in
+      simp (next (a ++ b) long, next a (omega arith), take-append-le k a b (omega arith), drop-append-le k a b (omega arith))
+      (ap (λ (l : List B). row (take k a) ∷ l) (rows_append m (drop k a) b (rw length-drop (omega arith))))
+
+  pub rows_three : (i j : ℕ) (a b c : List A) → length a ≡ k * i → length b ≡ k * j → rows (a ++ b ++ c) ≡ rows a ++ rows b ++ rows c
+  rows_three i j a b c e f =
+      ap rows (append_assoc a b c) ∙ rows_append i a (b ++ c) e ∙ ap (λ (x : List B). rows a ++ x) (rows_append j b c f) ∙ sym (append_assoc (rows a) (rows b) (rows c))
+
+  pub rows_take : (m : ℕ) (l : List A) → k * m ≤ length l → rows (take (k * m) l) ≡ take m (rows l)
+  rows_take zero l h = let z : k * 0 ≡ 0 = mul-zero k in simp (z, none)
+  rows_take (suc m) l h =
+      let s : k * suc m ≡ k + k * m = omega (arith, mul-suc k m) in
+      let long : k ≤ length (take (k + k * m) l) = rw length-take (omega arith) in
+      simp (s, next (take (k + k * m) l) long, next l (omega arith), take-take k (k + k * m) l (omega arith), drop-take k (k * m) l)
+      (ap (λ (x : List B). row (take k l) ∷ x) (rows_take m (drop k l) (rw length-drop (omega arith))))
+
+  pub rows_drop : (m : ℕ) (l : List A) → k * m ≤ length l → rows (drop (k * m) l) ≡ drop m (rows l)
+  rows_drop zero l h = let z : k * 0 ≡ 0 = mul-zero k in simp z
+  rows_drop (suc m) l h =
+      let s : k * suc m ≡ k + k * m = omega (arith, mul-suc k m) in
+      simp (s, next l (omega arith), ← drop-drop) (rows_drop m (drop k l) (rw length-drop (omega arith)))

@@ -7,7 +7,7 @@ use Rattle.read_tracker.specs.declared.ServedRead.{ServedRead}
 use Rattle.read_tracker.specs.declared.ReadTable.{ReadTable}
 use Rattle.flat.specs.Decode.{decoded_open, decoded_served}
 use Rattle.serving.specs.declared.Tracked.{Tracked}
-use Rattle.array_reads.specs.declared.Counted.{Counted}
+use Rattle.serving.specs.declared.Counted.{Counted}
 
 -- the open reads, five numbers each
 unfoldable pub open_rows : List ℕ → List OpenRead

@@ -5,17 +5,52 @@
 #![tactic(auto)]
 
 ghost use Rattle.std.specs.Prelude.{◌≡◌, ◌<◌, ◌≤◌, length, get_or, set, take};
-ghost use Rattle.serving.specs.Serving.{place, without, at_front, receive_ready, commit_slot};
+ghost use Rattle.places.specs.Places.{without, at_front};
+ghost use Rattle.serving.specs.Serving.{with_table, receive_ready, commit_slot};
 ghost use Rattle.array_reads.specs.Rows.{open_rows, served_rows, table_of, tracked_in, no_read};
 
 use message::ReadId;
 use read_tracker::{OpenRead, ReadTracker, ServedRead};
+use serving::{Counted, OpenReads, ServedReads};
 
-// The tracker after a response or a commit, with the number of reads that it served, which stand in the first places of the served ones.
-#[derive(Clone, Copy)]
-pub struct Counted {
-    pub tracker: ReadTracker,
-    pub served_count: u64,
+// The array of open reads, five numbers each, as a row of reads.
+#[derive(Drop)]
+struct OpenRows<'a> {
+    numbers: &'a mut [u64; 640],
+}
+
+impl OpenReads for OpenRows<'_> {
+    ghost reads = { λ rows. open_rows rows.numbers.now };
+
+    ghost lent = { λ rows. rows.numbers.ghost_name };
+
+    fn get(&self, at: usize) -> OpenRead {
+        open_at(self.numbers, at)
+    }
+
+    fn put(&mut self, at: usize, read: OpenRead) {
+        put_open(self.numbers, at, read);
+    }
+
+    fn remove(&mut self, at: usize, places: usize) {
+        remove(self.numbers, at, places);
+    }
+}
+
+// The array of served reads, four numbers each, as a row of reads.
+#[derive(Drop)]
+struct ServedRows<'a> {
+    numbers: &'a mut [u64; 512],
+}
+
+impl ServedReads for ServedRows<'_> {
+    ghost served = { λ rows. served_rows rows.numbers.now };
+
+    ghost lent = { λ rows. rows.numbers.ghost_name };
+
+    fn put_served(&mut self, at: usize, read: ServedRead) {
+        put_served(self.numbers, at, read);
+    }
 }
 
 // The open read at place i.
@@ -66,40 +101,20 @@ pub fn insert(open: &mut [u64; 640], at: u64, read: OpenRead)
     put_open(open, at as usize, read);
 }
 
-// The place of the first of the open reads that has this id, or their number where none has it.
-fn find(open: &[u64], open_places: usize, id: ReadId) -> usize
-    requires { (length «open».now ≡ 640) × (open_places ≤ 128) }
-    ensures { result ≡ place id (take open_places (open_rows «open».now)) }
-{
-    let mut i: usize = 0;
-    while i < open_places {
-        let read = open_at(open, i);
-        if read.id.0 == id.0 {
-            return i;
-        }
-        i += 1;
-    }
-    open_places
-}
-
-// The first `open_places` reads without the one at place `at`: the later ones move one place down.
+// The first `open_places` reads without the one at place `at`: the later ones move one place down. Not places::remove_at: a read is five numbers, moved by
+// one copy_within.
 fn remove(open: &mut [u64], at: usize, open_places: usize)
     requires { (length «open».old ≡ 640) × (at < open_places) × (open_places ≤ 128) }
     ensures { open_rows «open».new ≡ at_front (without at (take open_places (open_rows «open».old))) (open_rows «open».old) }
 {
-    let mut i = at + 1;
-    while i < open_places {
-        let read = open_at(open, i);
-        put_open(open, i - 1, read);
-        i += 1;
-    }
+    open.copy_within(5 * (at + 1)..5 * open_places, 5 * at);
 }
 
 // One response. `fast` says whether this one completed the quorum the moment it arrived.
 pub fn receive_ready(
     open: &mut [u64; 640],
     served: &mut [u64; 512],
-    mut tracker: ReadTracker,
+    tracker: ReadTracker,
     id: ReadId,
     read_quorum: u64,
     slot: u64,
@@ -107,31 +122,9 @@ pub fn receive_ready(
 ) -> Counted
     ensures { tracked_in result «open».new served.new ≡ receive_ready tracker (table_of «open».old served.old) id read_quorum slot fast }
 {
-    let open_places = tracker.open_places();
-    let at = find(open, open_places, id);
-    tracker.open_count = open_places as u64;
-    if at >= open_places {
-        return Counted {
-            tracker,
-            served_count: 0,
-        };
-    }
-    let read = open_at(open, at).after_response();
-    if read.has_quorum(read_quorum) {
-        remove(open, at, open_places);
-        put_served(served, 0, read.serve(slot, fast));
-        let left = open_places - 1;
-        tracker.open_count = left as u64;
-        return Counted {
-            tracker,
-            served_count: 1,
-        };
-    }
-    put_open(open, at, read);
-    Counted {
-        tracker,
-        served_count: 0,
-    }
+    let mut open = OpenRows { numbers: open };
+    let mut served = ServedRows { numbers: served };
+    serving::receive_ready_in(&mut open, &mut served, tracker, id, read_quorum, slot, fast)
 }
 
 // The reads that the newly committed slot has made ready are served in the order of their ids. No answer completed their quorum as it
@@ -145,26 +138,7 @@ pub fn commit_slot(
 ) -> Counted
     ensures { tracked_in result «open».new served.new ≡ commit_slot tracker (table_of «open».old served.old) read_quorum slot }
 {
-    let open_places = tracker.open_places();
-    let mut kept_count: usize = 0;
-    let mut served_count: usize = 0;
-    let mut i: usize = 0;
-    while i < open_places {
-        let read = open_at(open, i).after_commit();
-        i += 1;
-        if read.has_quorum(read_quorum) {
-            put_served(served, served_count, read.serve(slot, false));
-            served_count += 1;
-        } else {
-            put_open(open, kept_count, read);
-            kept_count += 1;
-        }
-    }
-    Counted {
-        tracker: ReadTracker {
-            next_id: tracker.next_id,
-            open_count: kept_count as u64,
-        },
-        served_count: served_count as u64,
-    }
+    let mut open = OpenRows { numbers: open };
+    let mut served = ServedRows { numbers: served };
+    serving::commit_slot_in(&mut open, &mut served, tracker, read_quorum, slot)
 }

@@ -1,9 +1,8 @@
 -- Which number of a lent array is which field of a flat form. The arrays are the memory of the flat forms: a struct of numbers lies as an array of them.
 -- Assumes nothing.
-use Rattle.std.specs.Prelude.{List, [], ◌∷◌, ℕ, get_or, set}
-use Rattle.calls.specs.declared.OptionalCommit.{OptionalCommit}
-use Rattle.steps.specs.declared.OptionalMessage.{OptionalMessage}
-use Rattle.steps.specs.declared.OptionalMessage.TheVariants.{NoMessage, Send}
+use Rattle.std.specs.Prelude.{List, [], ◌∷◌, ℕ, get_or, set, Option, None, Some}
+use Rattle.steps.specs.declared.Outgoing.{Outgoing}
+use Rattle.calls.specs.declared.CommittedSlot.{CommittedSlot}
 use Rattle.flat.specs.Encode.{encoded_commit, encoded_outgoing}
 use Rattle.flat.specs.declared.FlatCall.{FlatCall}
 use Rattle.flat.specs.declared.FlatCommit.{FlatCommit}
@@ -153,11 +152,11 @@ outgoing_numbers f =
     ∷ []
 
 -- of a message that is not sent the kind alone is written, 0
-unfoldable pub put_message : OptionalMessage → List ℕ → List ℕ
-put_message NoMessage l = set l 0 0
-put_message (Send o) l = outgoing_numbers (encoded_outgoing (Send o))
+unfoldable pub put_message : Option Outgoing → List ℕ → List ℕ
+put_message None l = set l 0 0
+put_message (Some o) l = outgoing_numbers (encoded_outgoing (Some o))
 
 -- the commit, and the number of the reads that are served
-abbrev pub rest_numbers : OptionalCommit → ℕ → List ℕ
+abbrev pub rest_numbers : Option CommittedSlot → ℕ → List ℕ
 rest_numbers commit served =
     (encoded_commit commit).given ∷ (encoded_commit commit).slot ∷ (encoded_commit commit).v ∷ (encoded_commit commit).fast ∷ served ∷ []

@@ -2,14 +2,13 @@
 // are the memory of the flat forms, so that a host keeps structs.
 #![tactic(auto)]
 
-ghost use Rattle.std.specs.Prelude.{◌≡◌};
+ghost use Rattle.std.specs.Prelude.{◌≡◌, Some};
 ghost use Rattle.arrays.specs.Arrays.{setup_of, core_of, core_numbers, message_of, call_of, outgoing_numbers, put_message, rest_numbers};
-ghost use Rattle.steps.specs.declared.OptionalMessage.TheVariants.{Send};
 ghost use Rattle.flat.specs.Encode.{encoded_outgoing};
 
-use calls::OptionalCommit;
+use calls::CommittedSlot;
 use flat::{FlatCall, FlatCore, FlatHeld, FlatMessage, FlatOption, FlatPromise, FlatRound};
-use steps::{OptionalMessage, Outgoing};
+use steps::Outgoing;
 
 // The settings without their tables, and whether the shard is made.
 #[derive(Clone, Copy)]
@@ -171,9 +170,9 @@ pub fn put_core(c: &mut [u64; 18], f: FlatCore)
 
 // The numbers of a message that is sent.
 pub fn put_sent(out: &mut [u64; 20], sent: Outgoing)
-    ensures { out.new ≡ outgoing_numbers (encoded_outgoing (Send sent)) }
+    ensures { out.new ≡ outgoing_numbers (encoded_outgoing (Some sent)) }
 {
-    let f = flat::encode_outgoing(OptionalMessage::Send(sent));
+    let f = flat::encode_outgoing(Some(sent));
     let first = f.first;
     let message = f.message;
     let rv = message.rv;
@@ -204,21 +203,21 @@ pub fn put_sent(out: &mut [u64; 20], sent: Outgoing)
 }
 
 // The message's numbers, or 0 as the kind of a message that is not sent.
-pub fn put_message(out: &mut [u64; 20], m: OptionalMessage)
+pub fn put_message(out: &mut [u64; 20], m: Option<Outgoing>)
     ensures { out.new ≡ put_message m out.old }
 {
     match m {
-        OptionalMessage::NoMessage => {
+        None => {
             out[0] = 0;
         }
-        OptionalMessage::Send(sent) => {
+        Some(sent) => {
             put_sent(out, sent);
         }
     }
 }
 
 // The commit and the number of the reads that are served.
-pub fn put_rest(rest: &mut [u64; 5], commit: OptionalCommit, served_count: u64)
+pub fn put_rest(rest: &mut [u64; 5], commit: Option<CommittedSlot>, served_count: u64)
     ensures { rest.new ≡ rest_numbers commit served_count }
 {
     let f = flat::encode_commit(commit);

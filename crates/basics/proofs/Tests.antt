@@ -11,6 +11,11 @@ pub either : (t : Bool) → (t ≡ true) ⊎ (t ≡ false)
 either true = inl refl
 either false = inr refl
 
+-- a choice by what a test says
+pub by_cases : {P : Type 0} (t : Bool) → (t ≡ true → P) → (t ≡ false → P) → P
+by_cases true p q = p refl
+by_cases false p q = q refl
+
 -- and not both
 pub not_both : {t : Bool} → t ≡ true → t ≡ false → ⊥
 not_both p q = let z : ◌≡◌ {A = ℕ} 0 1 = cc in omega arith

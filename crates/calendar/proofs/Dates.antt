@@ -1,6 +1,6 @@
 -- What the test of a date says of its numbers, and how many days and minutes lie before it.
 -- Assumes nothing.
-use mathlib.Core.Path.{◌≡◌, sym, ap, subst}
+use mathlib.Core.Path.{◌≡◌, ap, subst}
 use mathlib.Core.Bool.{Bool, true, ◌&&◌}
 use Prim.Native.Nat.{ℕ, suc, ◌+◌, ◌-◌, ◌≤◌, ◌<◌}
 use native.Mathlib.Nat.{le_trans}
@@ -62,10 +62,6 @@ is_date_lem d n =
     (le-leb d.month 12 n.last_month))
     (and_both (le-leb 1 d.day n.first_day) (le-leb d.day (month_days (is_leap d.year) d.month) n.last_day)))
     (and_both (lt-ltb d.hour 24 n.hours) (lt-ltb d.minute 60 n.minutes))
-
--- where the other tests pass, the last one decides
-pub tested : {others : Bool} (last : Bool) → others ≡ true → last ≡ (others && last)
-tested last e = sym (ap (λ (t : Bool). t && last) e)
 
 -- the days of the year before the date's day, both counted from 0
 abbrev pub day_of_year : Date → ℕ

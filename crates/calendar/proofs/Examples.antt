@@ -1,41 +1,40 @@
 -- Dates computed: what the laws assume of a date and of a minute holds of these.
 -- Assumes nothing.
+use Rattle.std.specs.Prelude.{Some}
 use mathlib.Core.Path.{◌≡◌, refl}
-use Rattle.calendar.specs.Calendar.{is_leap, year_days, days_of_years, month_days, days_of_months, is_month, is_day, is_time, is_date, days_before, minute_of, to_minute, to_date, minute_refusal, date_refusal}
-use Rattle.calendar.specs.declared.MinuteOfDate.TheVariants.{Minute}
-use Rattle.calendar.specs.declared.DateOfMinute.TheVariants.{OnDate}
+use Rattle.calendar.specs.Calendar.{is_leap, year_days, days_of_years, month_days, days_of_months, is_month, is_day, is_time, is_date, days_before, minute_of, to_minute, to_date, refusal}
 use Rattle.calendar.proofs.RoundTrip.{date, there_and_back}
 
-first_minute : to_minute (date 1970 1 1 0 0) ≡ Minute 0
+first_minute : to_minute (date 1970 1 1 0 0) ≡ Some 0
 unfolding to_minute is_date is_month is_day is_time minute_of days_before month_days is_leap days_of_years days_of_months
 first_minute = refl
 
 -- 2000 is a leap year
-leap_day : to_minute (date 2000 2 29 12 34) ≡ Minute 15863794
+leap_day : to_minute (date 2000 2 29 12 34) ≡ Some 15863794
 unfolding to_minute is_date is_month is_day is_time minute_of days_before month_days year_days is_leap days_of_years days_of_months
 leap_day = refl
 
-leap_day_back : to_date 15863794 ≡ OnDate (date 2000 2 29 12 34)
+leap_day_back : to_date 15863794 ≡ Some (date 2000 2 29 12 34)
 leap_day_back = there_and_back (date 2000 2 29 12 34) 15863794 leap_day
 
 -- the last minute that has a date
-last_minute : to_minute (date 9999 12 31 23 59) ≡ Minute 4223371679
+last_minute : to_minute (date 9999 12 31 23 59) ≡ Some 4223371679
 unfolding to_minute is_date is_month is_day is_time minute_of days_before month_days year_days is_leap days_of_years days_of_months
 last_minute = refl
 
 -- 2100 is no leap year, an hour has no minute 60, 10000 is past the years
-no_leap_day : minute_refusal (to_minute (date 2100 2 29 0 0)) ≡ 17
+no_leap_day : refusal (to_minute (date 2100 2 29 0 0)) ≡ 17
 unfolding to_minute is_date is_month is_day is_time month_days is_leap
 no_leap_day = refl
 
-no_minute_60 : minute_refusal (to_minute (date 2026 1 1 23 60)) ≡ 17
+no_minute_60 : refusal (to_minute (date 2026 1 1 23 60)) ≡ 17
 unfolding to_minute is_date is_month is_day is_time month_days is_leap
 no_minute_60 = refl
 
-no_year_10000 : minute_refusal (to_minute (date 10000 1 1 0 0)) ≡ 17
+no_year_10000 : refusal (to_minute (date 10000 1 1 0 0)) ≡ 17
 unfolding to_minute is_date is_month is_day is_time month_days is_leap
 no_year_10000 = refl
 
-past_all : date_refusal (to_date 4223371680) ≡ 17
+past_all : refusal (to_date 4223371680) ≡ 17
 unfolding to_date
 past_all = refl

@@ -1,5 +1,6 @@
 -- "Dates become minutes since 1970-01-01 and back without loss."
 -- Assumes nothing.
+use Rattle.std.specs.Prelude.{Some, None}
 use mathlib.Core.Path.{◌≡◌, refl, sym, ap, subst, ◌∙◌}
 use mathlib.Core.Bool.{true, false}
 use mathlib.Core.Logic.{◌⊎◌, inl, inr}
@@ -9,10 +10,8 @@ use native.Mathlib.Omega.{arith}
 use lib.Dec.{ltb}
 use borrow.Author.Tests.{ltb-true, lt-ltb, le-ltb}
 use Rattle.basics.proofs.Tests.{either}
-use Rattle.calendar.specs.Calendar.{is_leap, year_days, days_of_years, month_days, days_of_months, is_date, days_before, minute_of, to_minute, year_of, month_of, date_in_year, date_of, to_date, minute_refusal, date_refusal}
+use Rattle.calendar.specs.Calendar.{is_leap, year_days, days_of_years, month_days, days_of_months, is_date, days_before, minute_of, to_minute, year_of, month_of, date_in_year, date_of, to_date, refusal}
 use Rattle.calendar.specs.declared.Date.{Date}
-use Rattle.calendar.specs.declared.MinuteOfDate.TheVariants.{Minute, NoSuchDate}
-use Rattle.calendar.specs.declared.DateOfMinute.TheVariants.{OnDate, PastLastYear}
 use Rattle.calendar.proofs.Years.{years_rise}
 use Rattle.calendar.proofs.Months.{months_rise}
 use Rattle.calendar.proofs.LastPassing.{last_passing_is}
@@ -177,51 +176,45 @@ module _ (minute : ℕ) (before : minute < 4223371680) where
 -- ---- the answers
 
 -- each date of the calendar has its minute, and any other gives 17
-pub has_minute : (d : Date) → is_date d ≡ true → to_minute d ≡ Minute (minute_of d)
+pub has_minute : (d : Date) → is_date d ≡ true → to_minute d ≡ Some (minute_of d)
 unfolding to_minute
 has_minute d v = simp v
 
-pub has_no_minute : (d : Date) → is_date d ≡ false → minute_refusal (to_minute d) ≡ 17
+pub has_no_minute : (d : Date) → is_date d ≡ false → refusal (to_minute d) ≡ 17
 unfolding to_minute
 has_no_minute d v = simp v
 
 -- each minute before the year 10000 has its date, and any other, however large, gives 17
-pub has_date : (m : ℕ) → m < 4223371680 → to_date m ≡ OnDate (date_of m)
+pub has_date : (m : ℕ) → m < 4223371680 → to_date m ≡ Some (date_of m)
 unfolding to_date
 has_date m h = simp (lt-ltb m 4223371680 h)
 
-pub has_no_date : (m : ℕ) → 4223371680 ≤ m → date_refusal (to_date m) ≡ 17
+pub has_no_date : (m : ℕ) → 4223371680 ≤ m → refusal (to_date m) ≡ 17
 unfolding to_date
 has_no_date m h = simp (le-ltb m 4223371680 h)
 
 -- from a date to its minute and back
-pub there_and_back : (d : Date) (m : ℕ) → to_minute d ≡ Minute m → to_date m ≡ OnDate d
+pub there_and_back : (d : Date) (m : ℕ) → to_minute d ≡ Some m → to_date m ≡ Some d
 unfolding to_minute
 there_and_back d m h = go (either (is_date d))
   where
-    different : NoSuchDate ≡ Minute m → ⊥
-    different e = let z : ◌≡◌ {A = ℕ} 0 1 = cc in omega arith
-
-    go : (is_date d ≡ true) ⊎ (is_date d ≡ false) → to_date m ≡ OnDate d
+    go : (is_date d ≡ true) ⊎ (is_date d ≡ false) → to_date m ≡ Some d
     go (inl v) =
-        let e : Minute (minute_of d) ≡ Minute m = simp v at h in
+        let e : Some (minute_of d) ≡ Some m = simp v at h in
         let f : minute_of d ≡ m = cc in
-        has_date m (subst (λ (x : ℕ). x < 4223371680) f (minute_bound d (numbers d v))) ∙ ap OnDate (ap date_of (sym f) ∙ same_date d v)
-    go (inr v) = let e : NoSuchDate ≡ Minute m = simp v at h in absurd (different e)
+        has_date m (subst (λ (x : ℕ). x < 4223371680) f (minute_bound d (numbers d v))) ∙ ap Some (ap date_of (sym f) ∙ same_date d v)
+    go (inr v) = let e : None ≡ Some m = simp v at h in cc
 
 -- from a minute to its date and back
-pub back_and_there : (m : ℕ) (d : Date) → to_date m ≡ OnDate d → to_minute d ≡ Minute m
+pub back_and_there : (m : ℕ) (d : Date) → to_date m ≡ Some d → to_minute d ≡ Some m
 unfolding to_date
 back_and_there m d h = go (either (ltb m 4223371680))
   where
-    different : PastLastYear ≡ OnDate d → ⊥
-    different e = let z : ◌≡◌ {A = ℕ} 0 1 = cc in omega arith
-
-    go : (ltb m 4223371680 ≡ true) ⊎ (ltb m 4223371680 ≡ false) → to_minute d ≡ Minute m
+    go : (ltb m 4223371680 ≡ true) ⊎ (ltb m 4223371680 ≡ false) → to_minute d ≡ Some m
     go (inl v) =
         let before : m < 4223371680 = ltb-true m 4223371680 v in
-        let e : OnDate (date_of m) ≡ OnDate d = simp v at h in
+        let e : Some (date_of m) ≡ Some d = simp v at h in
         let f : date_of m ≡ d = cc in
-        subst (λ (x : Date). to_minute x ≡ Minute m) f
-        (has_minute (date_of m) (is_date_lem (date_of m) (date_of_numbers m before)) ∙ ap Minute (same_minute m before))
-    go (inr v) = let e : PastLastYear ≡ OnDate d = simp v at h in absurd (different e)
+        subst (λ (x : Date). to_minute x ≡ Some m) f
+        (has_minute (date_of m) (is_date_lem (date_of m) (date_of_numbers m before)) ∙ ap Some (same_minute m before))
+    go (inr v) = let e : None ≡ Some d = simp v at h in cc

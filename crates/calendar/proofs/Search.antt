@@ -2,39 +2,43 @@
 -- Assumes nothing.
 use mathlib.Core.Path.{◌≡◌, sym, ap, subst, ◌∙◌}
 use mathlib.Core.Bool.{Bool}
-use Prim.Native.Nat.{ℕ, suc, ◌+◌, ◌≤◌, ◌<◌}
+use mathlib.Core.Logic.{◌⊎◌, inl, inr}
+use Prim.Native.Nat.{ℕ, suc, ◌+◌, ◌-◌, ◌≤◌, ◌<◌}
+use native.Mathlib.Nat.{le_refl, eq-or-lt_of_le}
 use native.Mathlib.Numerals.{add-one}
 use native.Mathlib.Omega.{arith}
-use Rattle.calendar.specs.Calendar.{year_days, days_of_years, days_of_months, year_of, month_of}
-use Rattle.calendar.proofs.Years.{years_rise, all_years}
-use Rattle.calendar.proofs.Months.{months_rise, all_months}
+use lib.Dec.{leb}
+use Rattle.std.specs.Prelude.{Option, None, Some, MatchOption, unwrap_or}
+use Rattle.calendar.specs.Calendar.{year_days, days_of_years, days_of_months, last_passing, year_of, month_of}
+use Rattle.calendar.proofs.Years.{all_years}
+use Rattle.calendar.proofs.Months.{all_months}
 use Rattle.calendar.proofs.LastPassing.{last_passing_is, last_passing_within, last_passing_reached, last_passing_last}
 
--- the next one begins after the day
-pub year_found : (day k next : ℕ) → k ≤ 8029 → days_of_years k ≤ day → next ≡ days_of_years (k + 1) → day < next → k ≡ year_of day
-unfolding year_of
-year_found day k next within begun e past =
-    sym (last_passing_is days_of_years day years_rise 8029 k within begun (λ _. subst (λ (j : ℕ). day < days_of_years j) (add-one k) (subst (λ (x : ℕ). day < x) e past)))
+-- where each number before k passes on, the sum at k is reached
+reached_from : (sum : ℕ → ℕ) (day from : ℕ) → sum from ≤ day → (k : ℕ) → from ≤ k → ((j : ℕ) → from ≤ j → j < k → sum (j + 1) ≤ day) → sum k ≤ day
+reached_from sum day from begun k low before = go (eq-or-lt_of_le low)
+  where
+    go : (from ≡ k) ⊎ (from < k) → sum k ≤ day
+    go (inl e) = subst (λ (x : ℕ). sum x ≤ day) e begun
+    go (inr l) =
+        let last : k - 1 + 1 ≡ k = omega arith in
+        subst (λ (x : ℕ). sum x ≤ day) last (before (k - 1) (omega arith) (omega arith))
 
-pub month_found : (leap : Bool) (day k next : ℕ) → k ≤ 11 → days_of_months leap k ≤ day → next ≡ days_of_months leap (k + 1) → day < next → k ≡ month_of leap day
-unfolding month_of
-month_found leap day k next within begun e past =
-    sym (last_passing_is (days_of_months leap) day (months_rise leap) 11 k within begun (λ _. subst (λ (j : ℕ). day < days_of_months leap j) (add-one k) (subst (λ (x : ℕ). day < x) e past)))
-
--- there is no next one
-pub last_year : (day k : ℕ) → k ≤ 8029 → days_of_years k ≤ day → 8029 ≤ k → k ≡ year_of day
-unfolding year_of
-last_year day k within begun end = sym (last_passing_is days_of_years day years_rise 8029 k within begun (λ below. absurd (omega arith)))
-
-pub last_month : (leap : Bool) (day k : ℕ) → k ≤ 11 → days_of_months leap k ≤ day → 11 ≤ k → k ≡ month_of leap day
-unfolding month_of
-last_month leap day k within begun end = sym (last_passing_is (days_of_months leap) day (months_rise leap) 11 k within begun (λ below. absurd (omega arith)))
+-- the first number from `from` on whose successor's sum is past the day, or n where there is none: it is the last one whose sum is reached
+pub first_past : (sum : ℕ → ℕ) → ((k : ℕ) → sum k ≤ sum (suc k)) → (day n from : ℕ) (found : Option ℕ) → from ≤ n → sum from ≤ day
+    → MatchOption found ((k : ℕ) → from ≤ k → k < n → sum (k + 1) ≤ day)
+    (λ i. (from ≤ i) × (i < n) × (day < sum (i + 1)) × ((k : ℕ) → from ≤ k → k < i → sum (k + 1) ≤ day))
+    → unwrap_or found n ≡ last_passing (λ k. leb (sum k) day) n
+first_past sum rises day n from None within begun none =
+    sym (last_passing_is sum day rises n n (le_refl _) (reached_from sum day from begun n within none) (λ below. absurd (omega arith)))
+first_past sum rises day n from (Some i) within begun (low, high, past, before) =
+    sym (last_passing_is sum day rises n i (omega arith) (reached_from sum day from begun i low before) (λ _. rw add-one at past))
 
 no_years : (day : ℕ) → days_of_years 0 ≤ day
 unfolding days_of_years
 no_years day = omega arith
 
-no_months : (leap : Bool) (day : ℕ) → days_of_months leap 0 ≤ day
+pub no_months : (leap : Bool) (day : ℕ) → days_of_months leap 0 ≤ day
 unfolding days_of_months
 no_months leap day = omega arith
 

@@ -107,9 +107,11 @@ share k = sum_up (days_of_years k) _ _ _ (without_sum k) (quarters k) (hundreds 
     sum_up : (days a b c : ℕ) → days + b ≡ 365 * k + a + c → 4 * a ≤ k + 1 → k ≤ 100 * b + 30 → 400 * c ≤ k + 369 → 400 * days ≤ 146097 * k + 589
     sum_up days a b c h p q r = omega arith
 
--- the year before the guess begins on the day or before
-pub early : (day : ℕ) → day < 2932897 → 1 ≤ 400 * day / 146097 → EarlyYear day (400 * day / 146097 - 1)
-early day h g = from_guess (400 * day / 146097) (omega arith) (omega arith) g
+-- the year before the guess, or the first year, begins on the day or before
+pub early : (day : ℕ) → day < 2932897 → EarlyYear day (400 * day / 146097 - 1)
+unfolding days_of_years
+early day h = from_guess (400 * day / 146097) (omega arith) (omega arith)
   where
-    from_guess : (guess : ℕ) → 146097 * guess ≤ 400 * day → guess ≤ 8030 → 1 ≤ guess → EarlyYear day (guess - 1)
-    from_guess guess low high some = let s = share (guess - 1) in record { has_begun = omega arith; within = omega arith }
+    from_guess : (guess : ℕ) → 146097 * guess ≤ 400 * day → guess ≤ 8030 → EarlyYear day (guess - 1)
+    from_guess zero low high = record { has_begun = omega arith; within = omega arith }
+    from_guess (suc guess) low high = let s = share (suc guess - 1) in record { has_begun = omega arith; within = omega arith }

@@ -1,11 +1,7 @@
 -- The Gregorian calendar of the years 1970 to 9999, and minutes since 1970-01-01 00:00 UTC (document 02, E8).
 -- Assumes nothing.
-use Rattle.std.specs.Prelude.{◌≡◌, ◌⊎◌, Bool, cond, ◌&&◌, ◌||◌, not, ℕ, zero, suc, ◌+◌, ◌-◌, ◌*◌, ◌/◌, ◌%◌, ◌≤◌, ◌<◌, eqb, ltb, leb}
+use Rattle.std.specs.Prelude.{◌≡◌, Option, Some, None, ◌⊎◌, Bool, cond, ◌&&◌, ◌||◌, not, ℕ, zero, suc, ◌+◌, ◌-◌, ◌*◌, ◌/◌, ◌%◌, ◌≤◌, ◌<◌, eqb, ltb, leb}
 use Rattle.calendar.specs.declared.Date.{Date}
-use Rattle.calendar.specs.declared.MinuteOfDate.{MinuteOfDate}
-use Rattle.calendar.specs.declared.MinuteOfDate.TheVariants.{Minute, NoSuchDate}
-use Rattle.calendar.specs.declared.DateOfMinute.{DateOfMinute}
-use Rattle.calendar.specs.declared.DateOfMinute.TheVariants.{OnDate, PastLastYear}
 
 -- "Gregorian calendar": a leap year is divisible by 4, and not by 100 unless by 400
 unfoldable pub is_leap : ℕ → Bool
@@ -51,8 +47,8 @@ days_before d = days_of_years (d.year - 1970) + days_of_months (is_leap d.year) 
 unfoldable pub minute_of : Date → ℕ
 minute_of d = (days_before d * 24 + d.hour) * 60 + d.minute
 
-unfoldable pub to_minute : Date → MinuteOfDate
-to_minute d = cond (is_date d) (Minute (minute_of d)) NoSuchDate
+unfoldable pub to_minute : Date → Option ℕ
+to_minute d = cond (is_date d) (Some (minute_of d)) None
 
 -- the last of 0 to n that passes the test, 0 where none does
 unfoldable pub last_passing : (ℕ → Bool) → ℕ → ℕ
@@ -88,8 +84,8 @@ unfoldable pub date_of : ℕ → Date
 date_of minute = date_in_year minute (year_of (minute / 1440)) (minute / 1440 - days_of_years (year_of (minute / 1440)))
 
 -- "a minute past the year 9999, however large, has no date": the years have 2,932,897 days of 1,440 minutes
-unfoldable pub to_date : ℕ → DateOfMinute
-to_date minute = cond (ltb minute 4223371680) (OnDate (date_of minute)) PastLastYear
+unfoldable pub to_date : ℕ → Option Date
+to_date minute = cond (ltb minute 4223371680) (Some (date_of minute)) None
 
 -- a is the earlier date: by the year, then the month, the day, the hour, the minute
 abbrev pub Earlier : Date → Date → Type 0
@@ -101,19 +97,7 @@ Earlier a b =
     × ((a.day < b.day)
     ⊎ ((a.day ≡ b.day) × ((a.hour < b.hour) ⊎ ((a.hour ≡ b.hour) × (a.minute < b.minute))))))))
 
--- document 02's number of an answer, and 0 where it gives none; what the answer holds, and zeros where it holds nothing
-abbrev pub minute_refusal : MinuteOfDate → ℕ
-minute_refusal (Minute m) = 0
-minute_refusal NoSuchDate = 17
-
-abbrev pub minute_in : MinuteOfDate → ℕ
-minute_in (Minute m) = m
-minute_in NoSuchDate = 0
-
-abbrev pub date_refusal : DateOfMinute → ℕ
-date_refusal (OnDate d) = 0
-date_refusal PastLastYear = 17
-
-abbrev pub date_in : DateOfMinute → Date
-date_in (OnDate d) = d
-date_in PastLastYear = record { year = 0; month = 0; day = 0; hour = 0; minute = 0 }
+-- document 02's number of an answer, and 0 where it gives none
+abbrev pub refusal : {T : Type 0} → Option T → ℕ
+refusal (Some x) = 0
+refusal None = 17

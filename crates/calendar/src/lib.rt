@@ -1,13 +1,13 @@
 // The Gregorian calendar of the years 1970 to 9999: dates to minutes since 1970-01-01 00:00 UTC and back. Every number is answered: for a date
-// or a time that there is not, and for a minute past the year 9999, by a case that stands for document 02's 17.
+// or a time that there is not, and for a minute past the year 9999, by None, of which `refusal` makes document 02's 17.
 #![tactic(auto)]
 
 ghost use Rattle.std.specs.Prelude.{◌≡◌, true, ◌≤◌, ◌<◌};
-ghost use Rattle.calendar.specs.Calendar.{is_leap, days_of_years, month_days, days_of_months, is_month, is_day, is_time, is_date, days_before, minute_of, to_minute, year_of, month_of, date_of, to_date, EarlyYear, minute_refusal, minute_in, date_refusal, date_in};
+ghost use Rattle.calendar.specs.Calendar.{is_leap, days_of_years, month_days, days_of_months, is_month, is_day, is_time, is_date, days_before, minute_of, to_minute, year_of, month_of, date_of, to_date, EarlyYear, refusal};
 
 // A day of the calendar with the time of day, in UTC. Five numbers of 64 bits, so that any can be asked of.
 #[repr(C)]
-#[derive(Clone, Copy)]
+#[derive(Clone, Copy, PartialEq, Eq, PartialOrd, Ord, Debug, Default)]
 pub struct Date {
     pub year: u64,
     pub month: u64,
@@ -16,83 +16,25 @@ pub struct Date {
     pub minute: u64,
 }
 
-// What a date has: a minute, or none, where the calendar or the years 1970 to 9999 lack the day or the day lacks the time.
-#[derive(Clone, Copy)]
-pub enum MinuteOfDate {
-    Minute(u64),
-    NoSuchDate,
-}
-
-// What a minute has: a date, or none, where it is past the year 9999.
-#[derive(Clone, Copy)]
-pub enum DateOfMinute {
-    OnDate(Date),
-    PastLastYear,
-}
-
-impl MinuteOfDate {
-    // Document 02's number, and 0 where there is a minute.
-    pub fn refusal(self) -> u64
-        ensures { result ≡ minute_refusal self }
-    {
-        match self {
-            MinuteOfDate::Minute(_) => 0,
-            MinuteOfDate::NoSuchDate => 17,
-        }
-    }
-
-    // The minute, and 0 where there is none.
-    pub fn minute(self) -> u64
-        ensures { result ≡ minute_in self }
-    {
-        match self {
-            MinuteOfDate::Minute(m) => m,
-            MinuteOfDate::NoSuchDate => 0,
-        }
+// Document 02's number of an answer that has no minute, or no date, and 0 of one that has.
+pub fn refusal<T: Drop>(answer: Option<T>) -> u64
+    ensures { result ≡ refusal answer }
+{
+    match answer {
+        Some(_) => 0,
+        None => 17,
     }
 }
 
-impl DateOfMinute {
-    // Document 02's number, and 0 where there is a date.
-    pub fn refusal(self) -> u64
-        ensures { result ≡ date_refusal self }
-    {
-        match self {
-            DateOfMinute::OnDate(_) => 0,
-            DateOfMinute::PastLastYear => 17,
-        }
-    }
-
-    // The date, and zeros where there is none.
-    pub fn date(self) -> Date
-        ensures { result ≡ date_in self }
-    {
-        match self {
-            DateOfMinute::OnDate(d) => d,
-            DateOfMinute::PastLastYear => Date {
-                year: 0,
-                month: 0,
-                day: 0,
-                hour: 0,
-                minute: 0,
-            },
-        }
-    }
-}
-
+#[tactic(auto, unfolding(crate::specs::Calendar::is_leap))]
 fn is_leap(year: u64) -> bool
     ensures { result ≡ is_leap year }
 {
-    if year % 4 != 0 {
-        return false;
-    }
-    if year % 100 != 0 {
-        return true;
-    }
-    year % 400 == 0
+    year % 4 == 0 && (year % 100 != 0 || year % 400 == 0)
 }
 
 // The days of the first k years from 1970 on: the leap years among them are counted by divisions.
+#[tactic(auto, using(crate::proofs::Years::closed))]
 fn days_of_years(k: u64) -> u64
     requires { k ≤ 8030 }
     ensures { result ≡ days_of_years k }
@@ -100,90 +42,62 @@ fn days_of_years(k: u64) -> u64
     365 * k + (k + 1) / 4 + (k + 369) / 400 - (k + 69) / 100
 }
 
+#[tactic(auto, unfolding(crate::specs::Calendar::month_days))]
 fn month_days(leap: bool, month: u64) -> u64
     ensures { result ≡ month_days leap month }
 {
-    if month == 2 {
-        if leap {
-            return 29;
-        }
-        return 28;
+    match month {
+        2 if leap => 29,
+        2 => 28,
+        4 | 6 | 9 | 11 => 30,
+        _ => 31,
     }
-    if month == 4 {
-        return 30;
-    }
-    if month == 6 {
-        return 30;
-    }
-    if month == 9 {
-        return 30;
-    }
-    if month == 11 {
-        return 30;
-    }
-    31
 }
 
 // The days of the first k months. The division gives February 30 days.
+#[tactic(auto, using(crate::proofs::Months::short_months, crate::proofs::Months::leap_months, crate::proofs::Months::other_months))]
 fn days_of_months(leap: bool, k: u64) -> u64
     requires { k ≤ 12 }
     ensures { result ≡ days_of_months leap k }
 {
     let evenly = (367 * k + 5) / 12;
     if k < 2 {
-        return evenly;
+        evenly
+    } else if leap {
+        evenly - 1
+    } else {
+        evenly - 2
     }
-    if leap {
-        return evenly - 1;
-    }
-    evenly - 2
 }
 
 impl Date {
+    #[tactic(auto, unfolding(crate::specs::Calendar::is_month))]
     fn is_month(self) -> bool
         ensures { result ≡ is_month self }
     {
-        if self.year < 1970 {
-            return false;
-        }
-        if self.year > 9999 {
-            return false;
-        }
-        if self.month < 1 {
-            return false;
-        }
-        self.month <= 12
+        (1970..=9999).contains(&self.year) && (1..=12).contains(&self.month)
     }
 
+    #[tactic(auto, unfolding(crate::specs::Calendar::is_day))]
     fn is_day(self) -> bool
         ensures { result ≡ is_day self }
     {
-        if self.day < 1 {
-            return false;
-        }
-        let leap = is_leap(self.year);
-        self.day <= month_days(leap, self.month)
+        let last = month_days(is_leap(self.year), self.month);
+        (1..=last).contains(&self.day)
     }
 
+    #[tactic(auto, unfolding(crate::specs::Calendar::is_time))]
     fn is_time(self) -> bool
         ensures { result ≡ is_time self }
     {
-        if self.hour >= 24 {
-            return false;
-        }
-        self.minute < 60
+        self.hour < 24 && self.minute < 60
     }
 
+    #[tactic(auto, unfolding(crate::specs::Calendar::is_date))]
     pub fn is_date(self) -> bool
         ensures { result ≡ is_date self }
     {
-        if !self.is_month() {
-            return false;
-        }
-        if !self.is_day() {
-            return false;
-        }
-        self.is_time()
+        self.is_month() && self.is_day() && self.is_time()
     }
 
     // The days from 1970-01-01 to the date's day.
@@ -198,6 +112,7 @@ impl Date {
     }
 
     // The minutes from 1970-01-01 00:00 to the date.
+    #[tactic(auto, using(crate::proofs::Dates::numbers, crate::proofs::Dates::days_bound), unfolding(crate::specs::Calendar::minute_of))]
     pub fn minutes(self) -> u64
         requires { is_date self ≡ true }
         ensures { result ≡ minute_of self }
@@ -205,27 +120,27 @@ impl Date {
         (self.days_before() * 24 + self.hour) * 60 + self.minute
     }
 
-    // The date's minute. Any numbers may stand in the date.
-    pub fn to_minute(self) -> MinuteOfDate
+    // The date's minute, or none, where the calendar or the years 1970 to 9999 lack the day or the day lacks the time. Any numbers may stand in the
+    // date.
+    #[tactic(auto, unfolding(crate::specs::Calendar::to_minute))]
+    pub fn to_minute(self) -> Option<u64>
         ensures { result ≡ to_minute self }
     {
         if self.is_date() {
-            return MinuteOfDate::Minute(self.minutes());
+            Some(self.minutes())
+        } else {
+            None
         }
-        MinuteOfDate::NoSuchDate
     }
 }
 
 // A year, counted from 1970, that begins on the day or before, and at most two years before the day's: 400 years have 146,097 days.
+#[tactic(auto, using(crate::proofs::Years::early))]
 fn early_year(day: u64) -> u64
     requires { day < 2932897 }
     ensures { EarlyYear day result }
 {
-    let guess = 400 * day / 146097;
-    if guess < 1 {
-        return 0;
-    }
-    guess - 1
+    (400 * day / 146097).saturating_sub(1)
 }
 
 // The year of a day, counted from 1970: the search takes three turns at most.
@@ -233,31 +148,23 @@ fn year_of(day: u64) -> u64
     requires { day < 2932897 }
     ensures { result ≡ year_of day }
 {
-    let mut k = early_year(day);
-    while k < 8029 {
-        if days_of_years(k + 1) > day {
-            return k;
-        }
-        k += 1;
-    }
-    k
+    let early = early_year(day);
+    (early..8029)
+        .find(|k| days_of_years(*k + 1) > day)
+        .unwrap_or(8029)
 }
 
 // The month of a day of the year, both counted from 0.
 fn month_of(leap: bool, day: u64) -> u64
     ensures { result ≡ month_of leap day }
 {
-    let mut k: u64 = 0;
-    while k < 11 {
-        if days_of_months(leap, k + 1) > day {
-            return k;
-        }
-        k += 1;
-    }
-    k
+    (0..11)
+        .find(|k| days_of_months(leap, *k + 1) > day)
+        .unwrap_or(11)
 }
 
 // The date of a minute before the year 10000.
+#[tactic(auto, using(crate::proofs::Search::year_within, crate::proofs::Search::year_begun, crate::proofs::Search::month_within, crate::proofs::Search::month_begun), unfolding(crate::specs::Calendar::date_of, crate::specs::Calendar::date_in_year))]
 fn date_of(minute: u64) -> Date
     requires { minute < 4223371680 }
     ensures { result ≡ date_of minute }
@@ -276,12 +183,14 @@ fn date_of(minute: u64) -> Date
     }
 }
 
-// The date of a minute, however large the minute is.
-pub fn to_date(minute: u64) -> DateOfMinute
+// The date of a minute, or none, where it is past the year 9999, however large it is.
+#[tactic(auto, unfolding(crate::specs::Calendar::to_date))]
+pub fn to_date(minute: u64) -> Option<Date>
     ensures { result ≡ to_date minute }
 {
     if minute < 4223371680 {
-        return DateOfMinute::OnDate(date_of(minute));
+        Some(date_of(minute))
+    } else {
+        None
     }
-    DateOfMinute::PastLastYear
 }

@@ -1,9 +1,9 @@
 -- The numbers of a line, from its bytes (docs/ORACLE.md, "Call lines").
 -- Assumes nothing.
-use Rattle.std.specs.Prelude.{Bool, true, false, cond, ◌||◌, List, ℕ, zero, suc, ◌+◌, ◌-◌, ◌*◌, eqb, ltb, leb, length, get_or, set}
+use Rattle.std.specs.Prelude.{Bool, true, false, cond, ◌||◌, List, ℕ, zero, suc, ◌+◌, ◌-◌, ◌*◌, eqb, ltb, leb, length, get_or, set, Result, Ok, Err}
 use Rattle.call_lines.specs.declared.Scan.{Scan}
 use Rattle.call_lines.specs.declared.Fault.{Fault}
-use Rattle.call_lines.specs.declared.Fault.TheVariants.{NoFault, NotDecimal, NumberAboveLimit, TooLong}
+use Rattle.call_lines.specs.declared.Fault.TheVariants.{NotDecimal, NumberAboveLimit, TooLong}
 
 -- one more number, of which a line may have 2048
 unfoldable pub next_place : ℕ → ℕ
@@ -45,10 +45,12 @@ unfoldable pub after_byte : Scan → ℕ → Scan
 after_byte s b = cond (eqb b 32) (after_space s) (cond (ltb b 48) (not_decimal s) (cond (ltb 57 b) (not_decimal s) (after_digit s (b - 48))))
 
 -- what is wrong with the bytes of a line that is read to its end; no space stands there
-unfoldable pub scan_fault : Scan → Fault
+unfoldable pub scan_fault : Scan → Result (Unit {0}) Fault
 scan_fault s =
-    cond s.malformed NotDecimal
-    (cond s.has_digit (cond s.above_limit NumberAboveLimit (cond (leb 2048 s.before) TooLong NoFault)) NotDecimal)
+    cond s.malformed (Err NotDecimal)
+    (cond s.has_digit
+    (cond s.above_limit (Err NumberAboveLimit) (cond (leb 2048 s.before) (Err TooLong) (Ok tt)))
+    (Err NotDecimal))
 
 unfoldable pub stored : List ℕ → ℕ → ℕ → List ℕ
 stored numbers at n = cond (ltb at (length numbers)) (set numbers at n) numbers

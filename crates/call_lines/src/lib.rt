@@ -1,13 +1,12 @@
 // A call line, from its bytes to numbers (docs/ORACLE.md, "Call lines"), and the faults that a line can have.
 #![tactic(auto)]
 
-ghost use Rattle.std.specs.Prelude.{◌≡◌, ◌||◌, ◌-◌, ◌<◌};
-ghost use Rattle.call_lines.specs.Reading.{next_place, is_full, with_digit, start, not_decimal, after_digit, after_space, after_byte, scan_fault, stored, scan_of, numbers_of};
+ghost use Rattle.std.specs.Prelude.{◌≡◌, ◌<◌};
+ghost use Rattle.call_lines.specs.Reading.{next_place, not_decimal, after_digit, after_space, after_byte, scan_fault, stored, scan_of, numbers_of};
 
 // Why a line is no call, in the order of looking.
-#[derive(Clone, Copy)]
+#[derive(Clone, Copy, PartialEq, Eq, Debug)]
 pub enum Fault {
-    NoFault,
     NotDecimal,
     NumberAboveLimit,
     TooLong,
@@ -20,8 +19,9 @@ pub enum Fault {
 }
 
 // How far a line is read: the number under way, how many came before it, whether it has a digit, and what was wrong so far. The
-// count stops at 2048, the number that a line may have.
-#[derive(Clone, Copy)]
+// count stops at 2048, the number that a line may have. Flags beside the number and no Option: reading goes on behind a fault, and a number that has a digit
+// goes on to be read.
+#[derive(Clone, Copy, Default)]
 pub struct Scan {
     pub value: u64,
     pub before: usize,
@@ -30,141 +30,88 @@ pub struct Scan {
     pub above_limit: bool,
 }
 
+#[tactic(auto, unfolding(crate::specs::Reading::next_place))]
 fn next_place(n: usize) -> usize
     ensures { result ≡ next_place n }
 {
     if n < 2048 { n + 1 } else { n }
 }
 
-// Whether the number n with one more digit d is above the largest u64.
-fn is_full(n: u64, d: u64) -> bool
-    requires { d < 10 }
-    ensures { result ≡ is_full n d }
-{
-    if n < 1844674407370955161 {
-        return false;
-    }
-    if n > 1844674407370955161 {
-        return true;
-    }
-    if d > 5 {
-        return true;
-    }
-    false
-}
-
-// The number n with one more digit d, where it can take it.
-fn with_digit(n: u64, d: u64) -> u64
-    requires { d < 10 }
-    ensures { result ≡ with_digit n d }
-{
-    if n < 1844674407370955161 {
-        return n * 10 + d;
-    }
-    if n > 1844674407370955161 {
-        return n;
-    }
-    if d > 5 {
-        return n;
-    }
-    n * 10 + d
-}
-
 impl Scan {
-    fn start() -> Scan
-        ensures { result ≡ start }
+    #[tactic(auto, unfolding(crate::specs::Reading::not_decimal))]
+    fn malformed(self) -> Scan
+        ensures { result ≡ not_decimal self }
     {
         Scan {
-            value: 0,
-            before: 0,
-            has_digit: false,
-            malformed: false,
-            above_limit: false,
+            malformed: true,
+            ..self
         }
     }
 
-    fn malformed(mut self) -> Scan
-        ensures { result ≡ not_decimal self }
-    {
-        self.malformed = true;
-        self
-    }
-
+    // A number that can't take the digit stays as it is.
+    #[tactic(auto, unfolding(crate::specs::Reading::after_digit, crate::specs::Reading::with_digit, crate::specs::Reading::is_full))]
     fn after_digit(self, d: u64) -> Scan
         requires { d < 10 }
         ensures { result ≡ after_digit self d }
     {
+        let longer = self
+            .value
+            .checked_mul(10)
+            .and_then(|tens| tens.checked_add(d));
         Scan {
-            value: with_digit(self.value, d),
-            before: self.before,
+            value: longer.unwrap_or(self.value),
             has_digit: true,
-            malformed: self.malformed,
-            above_limit: either(self.above_limit, is_full(self.value, d)),
+            above_limit: self.above_limit || longer.is_none(),
+            ..self
         }
     }
 
+    #[tactic(auto, unfolding(crate::specs::Reading::after_space))]
     fn after_space(self) -> Scan
         ensures { result ≡ after_space self }
     {
-        if self.has_digit {
-            return Scan {
-                value: 0,
-                before: next_place(self.before),
-                has_digit: false,
-                malformed: self.malformed,
-                above_limit: self.above_limit,
-            };
+        if !self.has_digit {
+            return self.malformed();
         }
-        self.malformed()
+        Scan {
+            value: 0,
+            before: next_place(self.before),
+            has_digit: false,
+            ..self
+        }
     }
 
+    #[tactic(auto, unfolding(crate::specs::Reading::after_byte))]
     fn after_byte(self, b: u8) -> Scan
         ensures { result ≡ after_byte self b }
     {
-        if b == b' ' {
-            return self.after_space();
+        match b {
+            b' ' => self.after_space(),
+            b'0'..=b'9' => self.after_digit(u64::from(b - b'0')),
+            _ => self.malformed(),
         }
-        if b < b'0' {
-            return self.malformed();
-        }
-        if b > b'9' {
-            return self.malformed();
-        }
-        self.after_digit(digit(b))
     }
 
     // What is wrong with the bytes of a line that is read to its end.
-    pub fn fault(self) -> Fault
+    #[tactic(auto, unfolding(crate::specs::Reading::scan_fault))]
+    pub fn fault(self) -> Result<(), Fault>
         ensures { result ≡ scan_fault self }
     {
-        if self.malformed {
-            return Fault::NotDecimal;
+        if self.malformed || !self.has_digit {
+            return Err(Fault::NotDecimal);
         }
-        if self.has_digit {
-            if self.above_limit {
-                return Fault::NumberAboveLimit;
-            }
-            if self.before >= 2048 {
-                return Fault::TooLong;
-            }
-            return Fault::NoFault;
+        if self.above_limit {
+            return Err(Fault::NumberAboveLimit);
         }
-        Fault::NotDecimal
+        if self.before >= 2048 {
+            return Err(Fault::TooLong);
+        }
+        Ok(())
     }
 }
 
-fn either(a: bool, b: bool) -> bool
-    ensures { result ≡ (a || b) }
-{
-    if a { true } else { b }
-}
-
-fn digit(b: u8) -> u64
-    ensures { result ≡ b - 48 }
-{
-    if b < 48 { 0 } else { b as u64 - 48 }
-}
-
+// A number for which there is no place is left out.
+#[tactic(auto, unfolding(crate::specs::Reading::stored))]
 fn store(numbers: &mut [u64], at: usize, n: u64)
     ensures { numbers.new ≡ stored numbers.old at n }
 {
@@ -174,16 +121,15 @@ fn store(numbers: &mut [u64], at: usize, n: u64)
 }
 
 // Reads the bytes of a line, without its LF, into numbers. The number under way stands behind those before it.
+#[tactic(auto, unfolding(crate::specs::Reading::scan_to, crate::specs::Reading::numbers_to, crate::specs::Reading::start))]
 pub fn read_numbers(line: &[u8], numbers: &mut [u64]) -> Scan
     ensures value { result ≡ scan_of line.now }
     ensures numbers_after { numbers.new ≡ numbers_of line.now numbers.old }
 {
-    let mut scan = Scan::start();
-    let mut i = 0;
-    while i < line.len() {
-        scan = scan.after_byte(line[i]);
+    let mut scan = Scan::default();
+    for b in line {
+        scan = scan.after_byte(*b);
         store(numbers, scan.before, scan.value);
-        i += 1;
     }
     scan
 }

@@ -1,10 +1,9 @@
 -- What the handlers ask of the settings and of a message.
 -- Assumes nothing.
-use Rattle.std.specs.Prelude.{Bool, false, cond, not, ◌&&◌, List, ℕ, eqb}
+use Rattle.std.specs.Prelude.{Bool, false, cond, not, ◌&&◌, List, ℕ, eqb, None}
 use Rattle.message.specs.Modes.{is_swift_paxos}
 use Rattle.message.specs.declared.ConsensusMsg.{ConsensusMsg}
 use Rattle.message.specs.declared.ConsensusMsg.TheVariants.{Prepare, Accept, ForwardRequest, Commit, ReadRequest, ReadResponse}
-use Rattle.message.specs.declared.OptionalProcess.TheVariants.{NoProcess}
 use Rattle.message.specs.declared.PFMode.{PFMode}
 use Rattle.message.specs.declared.PaxosRound.{PaxosRound}
 use Rattle.message.specs.declared.RoundV.TheVariants.{FastV, PaxosV}
@@ -58,7 +57,7 @@ heard_of s d =
 -- what a proposal and a new read hear
 abbrev pub nothing_heard : Heard
 nothing_heard =
-    record { src = 0; source_live = false; delegate = 0; requester = NoProcess; committer = NoProcess; held_requester = NoProcess }
+    record { src = 0; source_live = false; delegate = 0; requester = None; committer = None; held_requester = None }
 
 abbrev pub heard_in : Settings → Call → Heard
 heard_in s (Propose v) = nothing_heard

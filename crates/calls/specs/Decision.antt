@@ -1,8 +1,9 @@
 -- What is decided of a call before it is handled (document 01, the table of "Message and answer"): 1, then 2 of a spent shard, then 2 to 6.
 -- Assumes nothing.
-use Rattle.std.specs.Prelude.{Bool, cond, ◌&&◌, ℕ, leb}
-use Rattle.message.specs.declared.Outcome.{Outcome}
-use Rattle.message.specs.declared.Outcome.TheVariants.{Done, Refused}
+use Rattle.std.specs.Prelude.{Bool, cond, ◌&&◌, ℕ, leb, Result, Ok, Err}
+use Rattle.message.specs.Outcomes.{Outcome}
+use Rattle.calls.specs.declared.Taken.{Taken}
+use Rattle.message.specs.declared.Refusal.{Refusal}
 use Rattle.message.specs.declared.Refusal.TheVariants.{NumberTooLarge}
 use Rattle.settings.specs.declared.Settings.{Settings}
 use Rattle.steps.specs.declared.Core.{Core}
@@ -11,11 +12,9 @@ use Rattle.delivery.specs.Limits.{is_number, is_slot}
 use Rattle.calls.specs.Asked.{asked_of, heard_in}
 use Rattle.calls.specs.declared.Call.{Call}
 use Rattle.calls.specs.declared.Call.TheVariants.{Propose, StartRead, Receive}
-use Rattle.calls.specs.declared.Decision.{Decision}
-use Rattle.calls.specs.declared.Decision.TheVariants.{Refuse, Handle}
 
 abbrev pub if_fit : Bool → Outcome
-if_fit fit = cond fit Done (Refused NumberTooLarge)
+if_fit fit = cond fit (Ok tt) (Err NumberTooLarge)
 
 abbrev pub read_fits : ℕ → ℕ → Bool
 read_fits tag arrival = is_number tag && is_slot arrival
@@ -28,16 +27,16 @@ admission_of count own core (Receive d) = admit count own core d
 
 -- "own slot 2^63−1, which is spent (then every call)"
 unfoldable pub unless_spent : ℕ → ℕ → Core → Call → Outcome
-unless_spent count own core c = cond (leb 9223372036854775807 core.slot) (Refused NumberTooLarge) (admission_of count own core c)
+unless_spent count own core c = cond (leb 9223372036854775807 core.slot) (Err NumberTooLarge) (admission_of count own core c)
 
 -- an unmade shard gives its number, before anything else
 abbrev pub if_made : Outcome → ℕ → ℕ → Core → Call → Outcome
-if_made Done count own core c = unless_spent count own core c
-if_made (Refused why) count own core c = Refused why
+if_made (Ok tt) count own core c = unless_spent count own core c
+if_made (Err why) count own core c = Err why
 
-abbrev pub decision_for : Settings → Call → Outcome → Decision
-decision_for s c Done = Handle (record { asked = asked_of s; heard = heard_in s c; call = c })
-decision_for s c (Refused why) = Refuse why
+abbrev pub decision_for : Settings → Call → Outcome → Result Taken Refusal
+decision_for s c (Ok tt) = Ok (record { asked = asked_of s; heard = heard_in s c; call = c })
+decision_for s c (Err why) = Err why
 
-unfoldable pub decision_of : Outcome → Settings → Core → Call → Decision
+unfoldable pub decision_of : Outcome → Settings → Core → Call → Result Taken Refusal
 decision_of made s core c = decision_for s c (if_made made s.process_count s.my_pid core c)

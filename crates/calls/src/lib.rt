@@ -4,58 +4,51 @@
 
 ghost use Rattle.std.specs.Prelude.{◌≡◌};
 ghost use Rattle.calls.specs.Asked.{asked_of, proposer_gathers, gatherer_in, heard_of, nothing_heard, heard_in};
-ghost use Rattle.calls.specs.Decision.{if_fit, read_fits, admission_of, unless_spent, if_made, decision_for, decision_of};
+ghost use Rattle.calls.specs.Decision.{if_fit, read_fits, admission_of, unless_spent, if_made, decision_of};
 
 use delivery::Delivery;
-use message::{ConsensusMsg, OptionalProcess, Outcome, PFMode, PaxosRound, Refusal, RoundV};
+use message::{ConsensusMsg, Outcome, PFMode, PaxosRound, Refusal, RoundV};
 use round_state::Member;
 use settings::Settings;
 use steps::{Asked, Core, Heard, Messages};
 
-#[derive(Clone, Copy)]
+#[derive(Clone, Copy, PartialEq, Eq, Debug)]
 pub enum Call {
     Propose(u64),
     StartRead { tag: u64, arrival_slot: u64 },
     Receive(Delivery),
 }
 
-#[derive(Clone, Copy)]
-pub enum OptionalCommit {
-    NoCommit,
-    Committed { slot: u64, v: u64, fast: bool },
+// A commit: the slot, the value and the fast mark.
+#[derive(Clone, Copy, PartialEq, Eq, Debug)]
+pub struct CommittedSlot {
+    pub slot: u64,
+    pub v: u64,
+    pub fast: bool,
 }
 
 // What a call hands back besides the shard: its outcome, the messages to send, the commit, and the number of reads served, which
 // stand in the first places of the shard's table of served reads.
-#[derive(Clone, Copy)]
+#[derive(Clone, Copy, PartialEq, Eq, Debug)]
 pub struct Reply {
     pub outcome: Outcome,
     pub messages: Messages,
-    pub commit: OptionalCommit,
+    pub commit: Option<CommittedSlot>,
     pub served_count: u64,
 }
 
 // A call that is handled, with what the handlers ask of the settings and of its message.
-#[derive(Clone, Copy)]
+#[derive(Clone, Copy, PartialEq, Eq, Debug)]
 pub struct Taken {
     pub asked: Asked,
     pub heard: Heard,
     pub call: Call,
 }
 
-// What is decided of a call before it is handled.
-#[derive(Clone, Copy)]
-pub enum Decision {
-    Refuse(Refusal),
-    Handle(Taken),
-}
-
 // What the handlers ask of the settings.
 pub fn asked_of(settings: Settings) -> Asked
     ensures { result ≡ asked_of settings }
 {
-    let mode = settings.mode;
-    let quorum = settings.quorum;
     let member = Member {
         my_pid: settings.my_pid,
         replica: settings.is_replica(),
@@ -63,10 +56,10 @@ pub fn asked_of(settings: Settings) -> Asked
     };
     Asked {
         member,
-        mode,
+        mode: settings.mode,
         starting_round: settings.starting_round(),
         first_leader: settings.first_leader,
-        quorum,
+        quorum: settings.quorum,
     }
 }
 
@@ -74,44 +67,24 @@ pub fn asked_of(settings: Settings) -> Asked
 fn proposer_gathers(own: u64, mode: PFMode, round: PaxosRound) -> bool
     ensures { result ≡ proposer_gathers own mode round }
 {
-    if mode.is_swift_paxos() {
-        if round.leader == own {
-            return false;
-        }
-        return true;
-    }
-    false
+    mode.is_swift_paxos() && round.leader != own
 }
 
 // Who gathers the answers to the message.
+#[tactic(auto, unfolding(crate::specs::Asked::gatherer_in))]
 pub fn gatherer_in(own: u64, mode: PFMode, delegates: &[u64; 64], msg: ConsensusMsg) -> u64
     ensures { result ≡ gatherer_in own mode delegates.now msg }
 {
     match msg {
-        ConsensusMsg::Prepare { slot: _, round, rv } => match rv {
-            RoundV::FastV { proposer, v: _ } => {
-                if proposer_gathers(own, mode, round) {
-                    return proposer;
-                }
-                settings::delegate_in(delegates, mode, round.leader)
-            }
-            RoundV::PaxosV {
-                accept_round: _,
-                v: _,
-            } => settings::delegate_in(delegates, mode, round.leader),
-        },
-        ConsensusMsg::Accept {
-            slot: _,
+        ConsensusMsg::Prepare {
             round,
-            v: _,
-        } => settings::delegate_in(delegates, mode, round.leader),
-        ConsensusMsg::ForwardRequest { v: _ } => 0,
-        ConsensusMsg::Commit { slot: _, v: _ } => 0,
-        ConsensusMsg::ReadRequest { id: _ } => 0,
-        ConsensusMsg::ReadResponse {
-            id: _,
-            next_readable_slot: _,
-        } => 0,
+            rv: RoundV::FastV { proposer, .. },
+            ..
+        } if proposer_gathers(own, mode, round) => proposer,
+        ConsensusMsg::Prepare { round, .. } | ConsensusMsg::Accept { round, .. } => {
+            settings::delegate_in(delegates, mode, round.leader)
+        }
+        _ => 0,
     }
 }
 
@@ -119,23 +92,23 @@ pub fn gatherer_in(own: u64, mode: PFMode, delegates: &[u64; 64], msg: Consensus
 pub fn heard_of(settings: Settings, d: Delivery) -> Heard
     ensures { result ≡ heard_of settings d }
 {
-    let message = d.message;
-    let said = d.said;
-    let msg = message.msg;
-    let requester = said.requester;
-    let held_requester = d.held_requester;
+    let Delivery {
+        message,
+        said,
+        held_requester,
+    } = d;
     let mode = settings.mode;
-    let delegates = settings.delegates;
-    let committers = settings.committers;
-    let source_live = settings.is_live_replica(message.src);
-    let delegate = gatherer_in(settings.my_pid, mode, &delegates, msg);
-    let committer = settings::committer_in(settings.has_committers, &committers, mode, requester);
     Heard {
         src: message.src,
-        source_live,
-        delegate,
-        requester,
-        committer,
+        source_live: settings.is_live_replica(message.src),
+        delegate: gatherer_in(settings.my_pid, mode, &settings.delegates, message.msg),
+        requester: said.requester,
+        committer: settings::committer_in(
+            settings.has_committers,
+            &settings.committers,
+            mode,
+            said.requester,
+        ),
         held_requester,
     }
 }
@@ -148,9 +121,9 @@ fn nothing_heard() -> Heard
         src: 0,
         source_live: false,
         delegate: 0,
-        requester: OptionalProcess::NoProcess,
-        committer: OptionalProcess::NoProcess,
-        held_requester: OptionalProcess::NoProcess,
+        requester: None,
+        committer: None,
+        held_requester: None,
     }
 }
 
@@ -158,11 +131,7 @@ fn heard_in(settings: Settings, call: Call) -> Heard
     ensures { result ≡ heard_in settings call }
 {
     match call {
-        Call::Propose(_) => nothing_heard(),
-        Call::StartRead {
-            tag: _,
-            arrival_slot: _,
-        } => nothing_heard(),
+        Call::Propose(_) | Call::StartRead { .. } => nothing_heard(),
         Call::Receive(d) => heard_of(settings, d),
     }
 }
@@ -172,21 +141,19 @@ fn if_fit(fit: bool) -> Outcome
     ensures { result ≡ if_fit fit }
 {
     if fit {
-        return Outcome::Done;
+        return Ok(());
     }
-    Outcome::Refused(Refusal::NumberTooLarge)
+    Err(Refusal::NumberTooLarge)
 }
 
 fn read_fits(tag: u64, arrival_slot: u64) -> bool
     ensures { result ≡ read_fits tag arrival_slot }
 {
-    if delivery::is_number(tag) {
-        return delivery::is_slot(arrival_slot);
-    }
-    false
+    delivery::is_number(tag) && delivery::is_slot(arrival_slot)
 }
 
 // A proposal and a new read are refused for their numbers, a message for all that is asked before it is handled.
+#[tactic(auto, unfolding(crate::specs::Decision::admission_of))]
 fn admission(process_count: u64, own: u64, core: Core, call: Call) -> Outcome
     ensures { result ≡ admission_of process_count own core call }
 {
@@ -198,11 +165,12 @@ fn admission(process_count: u64, own: u64, core: Core, call: Call) -> Outcome
 }
 
 // A shard whose slots are spent refuses every call.
+#[tactic(auto, unfolding(crate::specs::Decision::unless_spent))]
 fn unless_spent(process_count: u64, own: u64, core: Core, call: Call) -> Outcome
     ensures { result ≡ unless_spent process_count own core call }
 {
     if core.slot >= 9223372036854775807 {
-        return Outcome::Refused(Refusal::NumberTooLarge);
+        return Err(Refusal::NumberTooLarge);
     }
     admission(process_count, own, core, call)
 }
@@ -211,29 +179,24 @@ fn unless_spent(process_count: u64, own: u64, core: Core, call: Call) -> Outcome
 fn if_made(made: Outcome, process_count: u64, own: u64, core: Core, call: Call) -> Outcome
     ensures { result ≡ if_made made process_count own core call }
 {
-    match made {
-        Outcome::Done => unless_spent(process_count, own, core, call),
-        Outcome::Refused(why) => Outcome::Refused(why),
-    }
+    made?;
+    unless_spent(process_count, own, core, call)
 }
 
-fn decision_for(settings: Settings, call: Call, outcome: Outcome) -> Decision
-    ensures { result ≡ decision_for settings call outcome }
-{
-    match outcome {
-        Outcome::Done => {
-            let asked = asked_of(settings);
-            let heard = heard_in(settings, call);
-            Decision::Handle(Taken { asked, heard, call })
-        }
-        Outcome::Refused(why) => Decision::Refuse(why),
-    }
-}
-
-// What is decided of a call, of a shard with these settings and this core.
-pub fn decision_of(made: Outcome, settings: Settings, core: Core, call: Call) -> Decision
+// What is decided of a call before it is handled, of a shard with these settings and this core: that it is refused, or what it is handled with.
+#[tactic(auto, unfolding(crate::specs::Decision::decision_of))]
+pub fn decision_of(
+    made: Outcome,
+    settings: Settings,
+    core: Core,
+    call: Call,
+) -> Result<Taken, Refusal>
     ensures { result ≡ decision_of made settings core call }
 {
-    let outcome = if_made(made, settings.process_count, settings.my_pid, core, call);
-    decision_for(settings, call, outcome)
+    if_made(made, settings.process_count, settings.my_pid, core, call)?;
+    Ok(Taken {
+        asked: asked_of(settings),
+        heard: heard_in(settings, call),
+        call,
+    })
 }

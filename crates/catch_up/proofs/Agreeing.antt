@@ -2,10 +2,10 @@
 -- commits of a group run.
 -- Assumes nothing.
 use mathlib.Core.Path.{◌≡◌}
-use mathlib.Core.Logic.{◌⊎◌, ⊎_elim}
+use mathlib.Core.Logic.{⊎_elim}
 use Prim.Native.Nat.{ℕ}
 use Rattle.basics.specs.Lists.{In}
-use Rattle.catch_up.specs.Causes.{CommitList, Commit, commits, JoinCause}
+use Rattle.catch_up.specs.Causes.{CommitList, commits, JoinCause}
 use Rattle.catch_up.specs.Joining.{refused, joined_to, joining}
 use Rattle.catch_up.specs.declared.JoinRefusal.TheVariants.{NumberTooLarge, OutsideLimits, Gap, TwoValues}
 use Rattle.catch_up.proofs.Exact.{numbered, joined_otherwise, is_join, no_more}

@@ -1,5 +1,6 @@
 -- What a call answers and leaves: the laws of the join for whoever calls `join`.
 -- Assumes nothing.
+use Rattle.std.specs.Prelude.{Result, Ok, Err}
 use mathlib.Core.Path.{◌≡◌, refl, sym, ap, ap₂, subst, ◌∙◌}
 use mathlib.Core.Logic.{◌↔◌}
 use mathlib.Core.List.{List}
@@ -7,21 +8,19 @@ use Prim.Native.Nat.{ℕ, ◌≤◌}
 use native.Mathlib.Omega.{arith}
 use lib.ListN.{length, get_or, take, drop}
 use lib.Seq.{take-append_seam}
-use Rattle.serving.specs.Serving.{at_front}
-use Rattle.serving.proofs.Lists.{front_later}
+use Rattle.places.specs.Places.{at_front}
+use Rattle.places.proofs.Lists.{front_later}
 use Rattle.catch_up.specs.Causes.{CommitList, JoinCause, NoneBefore, NoCause, join_number}
-use Rattle.catch_up.specs.Joining.{list_of, Joining, refused, joined_to, joining, join_answer, join_refusal, join_count, result_of, lent, Gives, Joins}
+use Rattle.catch_up.specs.Joining.{list_of, Joining, refused, joined_to, joining, join_answer, join_refusal, join_count, lent, Gives, Joins}
 use Rattle.catch_up.specs.declared.JoinRefusal.{JoinRefusal}
 use Rattle.catch_up.specs.declared.JoinRefusal.TheVariants.{NumberTooLarge, OutsideLimits, Gap, TwoValues}
-use Rattle.catch_up.specs.declared.Joined.{Joined}
-use Rattle.catch_up.specs.declared.Joined.TheVariants.{Entries, Refused}
 use Rattle.catch_up.proofs.Exact.{numbered, joined_otherwise, is_join, JoinOf}
 
 -- ---- numbers
 
-refused_answer : (r : Joining) (why : JoinRefusal) → join_answer r ≡ Refused why → r ≡ refused why
+refused_answer : (r : Joining) (why : JoinRefusal) → join_answer r ≡ Err why → r ≡ refused why
 refused_answer (refused x) why e = cc
-refused_answer (joined_to l) why e = absurd (let z : ◌≡◌ {A = ℕ} 0 1 = cc in omega arith)
+refused_answer (joined_to l) why e = cc
 
 same_number : (x y : JoinRefusal) → join_number x ≡ join_number y → x ≡ y
 same_number NumberTooLarge NumberTooLarge e = refl
@@ -47,9 +46,9 @@ not_zero OutsideLimits e = omega arith
 not_zero Gap e = omega arith
 not_zero TwoValues e = omega arith
 
-by_number : (j : Joined) (why : JoinRefusal) → join_refusal j ≡ join_number why → j ≡ Refused why
-by_number (Entries n) why e = absurd (not_zero why e)
-by_number (Refused x) why e = ap Refused (same_number x why e)
+by_number : (j : Result ℕ JoinRefusal) (why : JoinRefusal) → join_refusal j ≡ join_number why → j ≡ Err why
+by_number (Ok n) why e = absurd (not_zero why e)
+by_number (Err x) why e = ap Err (same_number x why e)
 
 -- ---- the places
 
@@ -65,7 +64,7 @@ kept_front l places after i e h = ap (λ (r : List ℕ). get_or r i 0) e ∙ fro
 
 module _ (a b places after : CommitList) where
   -- whatever the result is
-  kept : (r : Joining) → r ≡ joining a b (lent places) → (answer : Joined) → Gives r places after answer → (i : ℕ) → join_count answer ≤ i
+  kept : (r : Joining) → r ≡ joining a b (lent places) → (answer : Result ℕ JoinRefusal) → Gives r places after answer → (i : ℕ) → join_count answer ≤ i
       → Kept after.slots places.slots i × Kept after.values places.values i
   unfolding at_front
   kept (refused why) e answer g i h = (ap (λ (r : List ℕ). get_or r i 0) g.slots, ap (λ (r : List ℕ). get_or r i 0) g.values)
@@ -74,9 +73,9 @@ module _ (a b places after : CommitList) where
       let same = (is_join a b (lent places) l (sym e)).same in
       (kept_front l.slots _ _ i g.slots (omega arith), kept_front l.values _ _ i g.values (omega arith))
 
-module _ (a b places after : CommitList) (answer : Joined) (call : Joins a b places after answer) where
+module _ (a b places after : CommitList) (answer : Result ℕ JoinRefusal) (call : Joins a b places after answer) where
   -- a call refuses exactly where the cause holds and no earlier one does
-  pub call_numbered : (why : JoinRefusal) → (answer ≡ Refused why) ↔ (JoinCause why a b (lent places) × NoneBefore why a b (lent places))
+  pub call_numbered : (why : JoinRefusal) → (answer ≡ Err why) ↔ (JoinCause why a b (lent places) × NoneBefore why a b (lent places))
   call_numbered why = (
     λ e. (numbered a b (lent places) why).0 (refused_answer _ why (sym call.answered ∙ e)),
     λ c. call.answered ∙ ap join_answer ((numbered a b (lent places) why).1 c),

@@ -5,7 +5,7 @@ use mathlib.Core.Path.{◌≡◌, refl, sym, ap, subst, ◌∙◌}
 use mathlib.Core.Logic.{◌⊎◌, inl, inr, ⊎_elim, ◌↔◌}
 use mathlib.Core.Bool.{true, false, ◌||◌}
 use mathlib.Core.List.{List, []}
-use Prim.Native.Nat.{ℕ, zero, suc, ◌-◌, ◌≤◌, ◌<◌}
+use Prim.Native.Nat.{ℕ, ◌≤◌, ◌<◌}
 use native.Mathlib.Nat.{not-suc-le-zero}
 use native.Mathlib.Omega.{arith}
 use lib.Dec.{ltb, leb}
@@ -13,8 +13,8 @@ use lib.ListN.{length, get_or}
 use borrow.Author.Tests.{leb-true, leb-false}
 use Rattle.basics.specs.Lists.{In}
 use Rattle.basics.proofs.Tests.{either}
-use Rattle.catch_up.specs.Causes.{CommitList, Commit, Consecutive, commits, beside, Disagree, TooLarge, Outside, EndsBefore, JoinCause, NoneBefore, NoCause}
-use Rattle.catch_up.specs.Joining.{Joining, refused, joined_to, first_slot, too_large, outside, joined, in_order, joining, apart, disagree}
+use Rattle.catch_up.specs.Causes.{CommitList, Commit, Consecutive, commits, beside, Disagree, EndsBefore, JoinCause, NoneBefore, NoCause}
+use Rattle.catch_up.specs.Joining.{Joining, refused, joined_to, first_slot, too_large, outside, joined, in_order, joining, apart}
 use Rattle.catch_up.specs.declared.JoinRefusal.{JoinRefusal}
 use Rattle.catch_up.specs.declared.JoinRefusal.TheVariants.{NumberTooLarge, OutsideLimits, Gap, TwoValues}
 use Rattle.catch_up.proofs.Answers.{order_gap, order_two, order_join}
@@ -170,7 +170,7 @@ same_list : (l m : CommitList) → joined_to l ≡ joined_to m → l ≡ m
 same_list l m e = cc
 
 not_joined : (r : Joining) (x : JoinRefusal) (l : CommitList) → r ≡ refused x → r ≡ joined_to l → ⊥
-not_joined r x l p q = let z : ◌≡◌ {A = ℕ} 0 1 = cc in omega arith
+not_joined r x l p q = cc
 
 module _ (a b : CommitList) (places : ℕ) where
   -- a number is given exactly where its cause holds and no earlier one does

@@ -1,10 +1,10 @@
 -- Entries by their places.
 -- Assumes nothing.
 use mathlib.Core.Path.{◌≡◌, refl, sym, ap, subst}
-use mathlib.Core.Logic.{◌⊎◌, inl, inr, ⊎_elim}
+use mathlib.Core.Logic.{inl, inr, ⊎_elim}
 use mathlib.Core.Bool.{true, false, not}
 use mathlib.Core.List.{List, [], ◌∷◌}
-use Prim.Native.Nat.{ℕ, zero, suc, ◌-◌, ◌<◌}
+use Prim.Native.Nat.{ℕ, zero, suc, ◌<◌}
 use native.Mathlib.Nat.{not-suc-le-zero, le_of_suc-le-suc}
 use native.Mathlib.Omega.{arith}
 use lib.Dec.{eqb}
@@ -14,7 +14,7 @@ use Rattle.basics.specs.Lists.{In}
 use Rattle.basics.proofs.Tests.{not_both, or_cases}
 use Rattle.catch_up.specs.Causes.{Commit, beside}
 use Rattle.catch_up.specs.Joining.{differ}
-use Rattle.catch_up.proofs.Answers.{or_false}
+use Rattle.std.proofs.lemmas.Bool.{or_parts}
 
 -- the commit stands at a place of both slices
 abbrev pub Stands : List ℕ → List ℕ → Commit → Type 0
@@ -56,5 +56,5 @@ pub same_at : (xs ys : List ℕ) → differ xs ys ≡ false → (i : ℕ) → i 
 unfolding differ
 same_at [] ys e i h k = absurd (not-suc-le-zero h)
 same_at (x ∷ xs) [] e i h k = absurd (not-suc-le-zero k)
-same_at (x ∷ xs) (y ∷ ys) e zero h k = eqb-true x y (not-false _ (or_false (not (eqb x y)) (differ xs ys) e).0)
-same_at (x ∷ xs) (y ∷ ys) e (suc i) h k = same_at xs ys (or_false (not (eqb x y)) (differ xs ys) e).1 i (le_of_suc-le-suc h) (le_of_suc-le-suc k)
+same_at (x ∷ xs) (y ∷ ys) e zero h k = eqb-true x y (not-false _ (or_parts (not (eqb x y)) (differ xs ys) e).0)
+same_at (x ∷ xs) (y ∷ ys) e (suc i) h k = same_at xs ys (or_parts (not (eqb x y)) (differ xs ys) e).1 i (le_of_suc-le-suc h) (le_of_suc-le-suc k)

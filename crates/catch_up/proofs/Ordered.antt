@@ -12,8 +12,8 @@ use lib.Seq.{get_or-drop, get_or-append-add}
 use borrow.Author.Tests.{ltb-true, lt-ltb}
 use Rattle.basics.specs.Lists.{In}
 use Rattle.basics.proofs.Tests.{either, not_both, and_left, and_right, and_both}
-use Rattle.catch_up.specs.Causes.{CommitList, Commit, Consecutive, commits, beside, EndsBefore, Disagree}
-use Rattle.catch_up.specs.Joining.{first_slot, differ, ahead, apart, disagree, together, joined}
+use Rattle.catch_up.specs.Causes.{CommitList, Commit, Consecutive, commits, EndsBefore, Disagree}
+use Rattle.catch_up.specs.Joining.{first_slot, ahead, apart, disagree, together, joined}
 use Rattle.catch_up.proofs.Deciding.{below, Decides, Listed}
 use Rattle.catch_up.proofs.Indices.{Stands, in_stands, stands_in, differ_at, same_at}
 

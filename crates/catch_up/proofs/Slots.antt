@@ -1,7 +1,7 @@
 -- A join has as many entries as there are slots in the two lists.
 -- Assumes nothing.
 use mathlib.Core.Path.{◌≡◌, refl, sym, ◌∙◌}
-use mathlib.Core.Logic.{◌⊎◌, inl, inr, ⊎_elim}
+use mathlib.Core.Logic.{inl, inr, ⊎_elim}
 use mathlib.Core.Bool.{Bool, true, false, ◌&&◌, ◌||◌}
 use mathlib.Core.List.{List, [], ◌∷◌}
 use Prim.Native.Nat.{ℕ, zero, suc, ◌+◌, ◌-◌, ◌≤◌, ◌<◌, min}
@@ -13,7 +13,7 @@ use Rattle.basics.specs.Lists.{In}
 use Rattle.basics.proofs.Tests.{not_both, same_test, or_cases, or_left, or_right, and_left, and_right, and_both}
 use Rattle.sets.specs.Sets.{one, count}
 use Rattle.sets.proofs.Counting.{count_ext}
-use Rattle.catch_up.specs.Causes.{CommitList, Commit, Consecutive, commits, JoinCause}
+use Rattle.catch_up.specs.Causes.{CommitList, Consecutive, commits, JoinCause}
 use Rattle.catch_up.specs.Joining.{first_slot, joined_to, joining}
 use Rattle.catch_up.specs.declared.JoinRefusal.TheVariants.{OutsideLimits}
 use Rattle.catch_up.proofs.Deciding.{listed, from_first}

@@ -1,23 +1,34 @@
 -- What joining two lists of commits computes (document 02, E10), and what it leaves in the lent places.
 -- Assumes nothing.
-use Rattle.std.specs.Prelude.{◌≡◌, Bool, true, false, cond, not, ◌&&◌, ◌||◌, List, [], ◌∷◌, ◌++◌, ℕ, ◌+◌, ◌-◌, ◌≤◌, min, ltb, leb, eqb, length, get_or, drop}
-use Rattle.serving.specs.Serving.{at_front}
+use Rattle.std.specs.Prelude.{◌≡◌, Result, Ok, Err, Bool, true, false, cond, not, ◌&&◌, ◌||◌, List, [], ◌∷◌, ◌++◌, ℕ, ◌+◌, ◌-◌, ◌≤◌, min, ltb, leb, eqb, length, get_or, drop}
+use Rattle.std.specs.List.{list_any, zip}
+use Rattle.places.specs.Places.{at_front}
 use Rattle.catch_up.specs.Causes.{CommitList, join_number}
 use Rattle.catch_up.specs.declared.JoinRefusal.{JoinRefusal}
 use Rattle.catch_up.specs.declared.JoinRefusal.TheVariants.{NumberTooLarge, OutsideLimits, Gap, TwoValues}
 use Rattle.catch_up.specs.declared.Checked.{Checked}
-use Rattle.catch_up.specs.declared.Joined.{Joined}
-use Rattle.catch_up.specs.declared.Joined.TheVariants.{Entries, Refused}
+use Rattle.catch_up.specs.declared.LentList.{LentList}
+use Rattle.catch_up.specs.declared.LentPlaces.{LentPlaces}
 
 abbrev pub list_of : List ℕ → List ℕ → CommitList
 list_of slots values = record { slots = slots; values = values }
+
+-- what a host lends
+abbrev pub lent_list : LentList → CommitList
+lent_list l = list_of l.slots.now l.values.now
+
+abbrev pub lent_places : LentPlaces → CommitList
+lent_places p = list_of p.slots.now p.values.now
+
+-- they are the places that were lent
+abbrev pub SamePlaces : LentPlaces → LentPlaces → Type 0
+SamePlaces p q = (q.slots.ghost_name ≡ p.slots.ghost_name) × (q.values.ghost_name ≡ p.values.ghost_name)
 
 -- ---- tests
 
 -- some number is above the limit
 unfoldable pub some_above : ℕ → List ℕ → Bool
-some_above limit [] = false
-some_above limit (n ∷ ns) = ltb limit n || some_above limit ns
+some_above limit numbers = list_any (λ n. ltb limit n) numbers
 
 -- 2
 unfoldable pub too_large : CommitList → Bool
@@ -52,9 +63,7 @@ pub record InLimits (l : CommitList) : Type 0 where
 
 -- two lists differ at a place that both have
 unfoldable pub differ : List ℕ → List ℕ → Bool
-differ [] ys = false
-differ (x ∷ xs) [] = false
-differ (x ∷ xs) (y ∷ ys) = not (eqb x y) || differ xs ys
+differ xs ys = list_any (λ p. not (eqb p.0 p.1)) (zip xs ys)
 
 -- ---- the join
 
@@ -88,6 +97,12 @@ unfoldable pub in_order : CommitList → CommitList → Joining
 in_order earlier later =
     cond (apart earlier later) (refused Gap) (cond (disagree earlier later) (refused TwoValues) (joined_to (joined earlier later)))
 
+-- 2 or 18, of two lists and that many lent places
+unfoldable pub one_refused : CommitList → CommitList → ℕ → Result (Unit {0}) JoinRefusal
+one_refused a b places =
+    cond (too_large a || too_large b) (Err NumberTooLarge)
+    (cond (outside a || (outside b || ltb places 8192)) (Err OutsideLimits) (Ok tt))
+
 -- two lists, with that many places lent for the result
 unfoldable pub joining : CommitList → CommitList → ℕ → Joining
 joining a b places =
@@ -98,19 +113,19 @@ joining a b places =
 -- ---- what a call answers, and what it leaves
 
 -- how many entries the result has, or the refusal
-abbrev pub join_answer : Joining → Joined
-join_answer (refused why) = Refused why
-join_answer (joined_to l) = Entries (length l.slots)
+abbrev pub join_answer : Joining → Result ℕ JoinRefusal
+join_answer (refused why) = Err why
+join_answer (joined_to l) = Ok (length l.slots)
 
--- the number of document 02, and 0 for a join
-abbrev pub join_refusal : Joined → ℕ
-join_refusal (Entries count) = 0
-join_refusal (Refused why) = join_number why
+-- the number of document 02, and 0 where there is none
+abbrev pub join_refusal : {T : Type 0} → Result T JoinRefusal → ℕ
+join_refusal (Ok given) = 0
+join_refusal (Err why) = join_number why
 
 -- how many entries there are, and 0 for a refusal
-abbrev pub join_count : Joined → ℕ
-join_count (Entries count) = count
-join_count (Refused why) = 0
+abbrev pub join_count : Result ℕ JoinRefusal → ℕ
+join_count (Ok count) = count
+join_count (Err why) = 0
 
 -- what is written
 abbrev pub result_of : Joining → CommitList
@@ -118,7 +133,7 @@ result_of (refused why) = record { slots = []; values = [] }
 result_of (joined_to l) = l
 
 -- a call answers the result, and leaves it in the first of the lent places: "places past the result, and all after a refusal, are unchanged"
-pub record Gives (result : Joining) (places after : CommitList) (answer : Joined) : Type 0 where
+pub record Gives (result : Joining) (places after : CommitList) (answer : Result ℕ JoinRefusal) : Type 0 where
   pub answered : answer ≡ join_answer result
   pub slots : after.slots ≡ at_front (result_of result).slots places.slots
   pub values : after.values ≡ at_front (result_of result).values places.values
@@ -128,5 +143,5 @@ abbrev pub lent : CommitList → ℕ
 lent places = min (length places.slots) (length places.values)
 
 -- the lists a and b are joined into the lent places
-abbrev pub Joins : CommitList → CommitList → CommitList → CommitList → Joined → Type 0
+abbrev pub Joins : CommitList → CommitList → CommitList → CommitList → Result ℕ JoinRefusal → Type 0
 Joins a b places after answer = Gives (joining a b (lent places)) places after answer

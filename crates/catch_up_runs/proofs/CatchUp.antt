@@ -1,5 +1,6 @@
 -- An office that was away, and feeds a list of its group's commits to its register, holds the register that the others hold: document 02, E10, whole.
 -- Assumes nothing.
+use Rattle.std.specs.Prelude.{Option, Ok}
 use mathlib.Core.Path.{◌≡◌, refl, sym, ap, ap₂, subst, ◌∙◌}
 use mathlib.Core.Bool.{true, false, not}
 use mathlib.Core.List.{List, [], ◌∷◌}
@@ -23,7 +24,6 @@ use Rattle.group.specs.Claim.{MemberCall, Entry, entries, Legal, slot_at, Commit
 use Rattle.group.proofs.Agreement.{agreement}
 use Rattle.feeding.specs.Feeding.{FedList, entries_from, entries_in, Feeding, feeding}
 use Rattle.feeding.specs.declared.FirstRefused.{FirstRefused}
-use Rattle.feeding.specs.declared.FeedAnswer.TheVariants.{Fed}
 use Rattle.feeding.proofs.FeedLaws.{unfed, fed_one_by_one, fed_as_said}
 use Rattle.register_runs.specs.Members.{CellChange, entry_for_commit, entries_for, register_of_member, UpTo}
 use Rattle.catch_up_runs.specs.Runs.{FedFromRun}
@@ -134,7 +134,7 @@ module _ (s : Settings) (mode : NotSwift s.mode) (cs : List MemberCall) (legal :
   -- Office i, which was away since moment p, feeds a list that begins no later than its next slot; another office j is at the slot where the list ends.
   pub holds_what_others_hold : (l : FedList) (b : ℕ) → ((k : ℕ) → k < length l.slots → FedFromRun says (entries s cs) l b k)
       → b ≤ slot_at i p → slot_at i p ≤ slot_at j q → b + length l.slots ≡ slot_at j q → slot_at j q ≤ 9223372036854775807
-      → (first : FirstRefused) → (feeding (register_of_member says i p) l).answer ≡ Fed first
+      → (first : Option FirstRefused) → (feeding (register_of_member says i p) l).answer ≡ Ok first
       → (feeding (register_of_member says i p) l).register ≡ register_of_member says j q
   holds_what_others_hold l b rows h more ends lim first said =
       let claim = agreement s mode cs legal in

@@ -2,17 +2,17 @@
 // entry line settles the answer, `refused,1`; so does one of more than 1,048,576 bytes, and a read that fails, since entries may then be missing.
 #![tactic(auto)]
 
+ghost use Rattle.std.specs.Prelude.{IfSome};
 ghost use Rattle.io.specs.Counts.{IsPrefixLen};
 
 use register::Register;
-use register_lines::LinesTaken;
 use std::io::Read;
 
-// Between two blocks: the lines so far, how many bytes of one that has not ended stand at the start of the input buffer, and whether the input
-// may go on.
+// Between two blocks: the register after the lines so far, where each was an entry line; how many bytes of a line that has not ended stand at the start
+// of the input buffer; and whether the input may go on.
 #[derive(Clone, Copy)]
 struct BetweenBlocks {
-    taken: LinesTaken,
+    taken: Option<Register>,
     kept: usize,
     goes_on: bool,
 }
@@ -20,41 +20,26 @@ struct BetweenBlocks {
 // The lines of a block, and how many bytes of the input are used.
 #[derive(Clone, Copy)]
 struct AfterLines {
-    taken: LinesTaken,
+    taken: Option<Register>,
     used: usize,
 }
 
-// How many bytes there are, and whether the read failed.
-#[derive(Clone, Copy)]
-struct BytesRead {
-    end: usize,
-    failed: bool,
-}
-
-// Reads more behind the bytes that are kept, by one read.
-fn read_more<R: Read>(reader: &mut R, input: &mut [u8], kept: usize) -> BytesRead
-    ensures { IsPrefixLen result.end input.new }
+// Reads more behind the bytes that are kept, by one read: how many bytes there are then, where the read did not fail.
+fn read_more<R: Read>(reader: &mut R, input: &mut [u8], kept: usize) -> Option<usize>
+    ensures { IfSome result (λ end. IsPrefixLen end input.new) }
 {
     if kept < input.len() {
         return match reader.read(&mut input[kept..]) {
-            Ok(count) => BytesRead {
-                end: kept + count,
-                failed: false,
-            },
-            Err(_) => BytesRead {
-                end: kept,
-                failed: true,
-            },
+            Ok(count) => Some(kept + count),
+            Err(_) => None,
         };
     }
-    BytesRead {
-        end: input.len(),
-        failed: false,
-    }
+    Some(input.len())
 }
 
-// Takes the lines that end in the input.
-fn take_lines(old: LinesTaken, input: &[u8]) -> AfterLines {
+// Takes the lines that end in the input. A `for` over lines is no plainer than the `while`: what a line that has not ended holds is not used, and how many
+// bytes are must be handed back.
+fn take_lines(old: Option<Register>, input: &[u8]) -> AfterLines {
     let mut taken = old;
     let mut used = 0;
     while used < input.len() {
@@ -69,21 +54,17 @@ fn take_lines(old: LinesTaken, input: &[u8]) -> AfterLines {
 }
 
 // Takes the last line, which no LF ends, where there is one.
-fn take_last(taken: LinesTaken, input: &[u8]) -> LinesTaken {
+fn take_last(taken: Option<Register>, input: &[u8]) -> Option<Register> {
     if input.len() > 0 {
         return register_lines::take_line(taken, input);
     }
     taken
 }
 
-// The answer is settled.
-fn refused(taken: LinesTaken) -> BetweenBlocks {
-    let register = taken.register;
+// Where the answer is settled, or the input has ended.
+fn ended(taken: Option<Register>) -> BetweenBlocks {
     BetweenBlocks {
-        taken: LinesTaken {
-            register,
-            refused: true,
-        },
+        taken,
         kept: 0,
         goes_on: false,
     }
@@ -91,58 +72,42 @@ fn refused(taken: LinesTaken) -> BetweenBlocks {
 
 // Reads one block and takes its lines.
 fn take_block<R: Read>(reader: &mut R, between: BetweenBlocks, input: &mut [u8]) -> BetweenBlocks {
-    let kept = between.kept;
-    let taken = between.taken;
-    let read = read_more(reader, input, kept);
-    let end = read.end;
-    if read.failed {
-        return refused(taken);
+    let Some(end) = read_more(reader, input, between.kept) else {
+        return ended(None);
+    };
+    if end <= between.kept {
+        return ended(take_last(between.taken, &input[..end]));
     }
-    if end <= kept {
-        let all = take_last(taken, &input[..end]);
-        return BetweenBlocks {
-            taken: all,
-            kept: 0,
-            goes_on: false,
-        };
-    }
-    let lines = take_lines(taken, &input[..end]);
-    let after = lines.taken;
+    let lines = take_lines(between.taken, &input[..end]);
     let left = line_blocks::move_to_start(input, lines.used, end);
     if left >= input.len() {
-        return refused(after);
+        return ended(None);
     }
     BetweenBlocks {
-        taken: after,
+        taken: lines.taken,
         kept: left,
-        goes_on: !after.refused,
+        goes_on: lines.taken.is_some(),
     }
 }
 
 // The input buffer has room for the longest line and its LF.
-fn take_input<R: Read>(reader: &mut R, input_bytes: &mut [u8; 1048577]) -> LinesTaken {
+fn take_input<R: Read>(reader: &mut R, input_bytes: &mut [u8; 1048577]) -> Option<Register> {
     let input: &mut [u8] = input_bytes;
     let mut between = BetweenBlocks {
-        taken: LinesTaken {
-            register: Register::new(),
-            refused: false,
-        },
+        taken: Some(Register::new()),
         kept: 0,
         goes_on: true,
     };
-    let mut turns: u64 = 18446744073709551615;
-    while turns > 0 {
+    for _ in 0..u64::MAX {
         if !between.goes_on {
             break;
         }
         between = take_block(reader, between, input);
-        turns -= 1;
     }
-    let taken = between.taken;
-    taken
+    between.taken
 }
 
-fn write_report(taken: LinesTaken) {
+fn write_report(taken: Option<Register>) {
     let page = register_lines::page_after(taken);
     let bytes = page.bytes;
     let len = page.len;

@@ -1,5 +1,6 @@
 -- Admission by the causes of document 01: 2, 3, 5, 4 and the first form of 6 are the definitions' tests.
 -- Assumes nothing.
+use Rattle.std.specs.Prelude.{Option, None, Some}
 use mathlib.Core.Path.{◌≡◌, refl, sym, ap, ◌∙◌}
 use mathlib.Core.Bool.{Bool, true, false, not, ◌&&◌, ◌||◌}
 use mathlib.Core.List.{List, [], ◌∷◌}
@@ -9,28 +10,16 @@ use borrow.Author.Tests.{ltb-true, ltb-false, lt-ltb, le-ltb, leb-true, leb-fals
 use Rattle.message.specs.Messages.{msg_slot}
 use Rattle.message.specs.declared.ConsensusMsg.{ConsensusMsg}
 use Rattle.message.specs.declared.ConsensusMsg.TheVariants.{Prepare, Accept, ForwardRequest, Commit, ReadRequest, ReadResponse}
-use Rattle.message.specs.declared.OptionalProcess.{OptionalProcess}
-use Rattle.message.specs.declared.OptionalProcess.TheVariants.{NoProcess, Process}
-use Rattle.message.specs.declared.OptionalRound.TheVariants.{NoRound, Round}
-use Rattle.message.specs.declared.OptionalValue.{OptionalValue}
-use Rattle.message.specs.declared.OptionalValue.TheVariants.{NoValue, Value}
 use Rattle.message.specs.declared.RoundV.{RoundV}
 use Rattle.message.specs.declared.RoundV.TheVariants.{FastV, PaxosV}
 use Rattle.steps.specs.declared.Core.{Core}
+use Rattle.basics.proofs.Tests.{by_cases}
 use Rattle.delivery.specs.Admit.{is_ahead, is_own_slot, is_other_last, needs_value}
-use Rattle.delivery.specs.Limits.{round_numbers, rv_numbers, msg_numbers, value_numbers, process_numbers, rv_processes, msg_processes, requester_below, numbers_fit, processes_fit}
+use Rattle.delivery.specs.Limits.{round_numbers, rv_numbers, msg_numbers, number_given, rv_processes, msg_processes, requester_below, numbers_fit, processes_fit}
 use Rattle.delivery.specs.declared.Delivery.{Delivery}
-use Rattle.consensus.specs.FirstCause.{any_above, any_from, too_large, given_process, given_value, slots_of, promise_processes, processes_of, promise_numbers, numbers_of, joined, all_processes, all_numbers, ahead_of, of_slot, given_and_different, waits_for_value}
-
-pub by_cases : {P : Type 0} (t : Bool) → (t ≡ true → P) → (t ≡ false → P) → P
-by_cases true p q = p refl
-by_cases false p q = q refl
+use Rattle.consensus.specs.FirstCause.{any_above, any_from, too_large, given_number, slots_of, promise_processes, processes_of, promise_numbers, numbers_of, joined, all_processes, all_numbers, ahead_of, of_slot, given_and_different, waits_for_value}
 
 -- ---- tests
-
-pub and-false : (a : Bool) → (a && false) ≡ false
-and-false true = refl
-and-false false = refl
 
 pub and_true : (a : Bool) → (a && true) ≡ a
 and_true true = refl
@@ -105,21 +94,16 @@ any_large ns = any_above_lem 9223372036854775807 ns
 any_large_slot : (ns : List ℕ) → any_above 9223372036854775806 ns ≡ not (every small_slot ns)
 any_large_slot ns = any_above_lem 9223372036854775806 ns
 
-process_small : (o : OptionalProcess) → process_numbers o ≡ every small (given_process o)
-unfolding every process_numbers
-process_small NoProcess = refl
-process_small (Process p) = sym (and_true (small p))
-
-value_small : (o : OptionalValue) → value_numbers o ≡ every small (given_value o)
-unfolding every value_numbers
-value_small NoValue = refl
-value_small (Value v) = sym (and_true (small v))
+given_small : (o : Option ℕ) → number_given o ≡ every small (given_number o)
+unfolding every number_given
+given_small None = refl
+given_small (Some n) = sym (and_true (small n))
 
 promise_small : (rv : RoundV) → rv_numbers rv ≡ (every small (promise_processes rv) && every small (promise_numbers rv))
 unfolding every rv_numbers round_numbers
 promise_small (FastV proposer v) = simp (and_true)
-promise_small (PaxosV NoRound v) = simp (and_true)
-promise_small (PaxosV (Round round) v) = simp (and_true, and_assoc, and_comm, and_left)
+promise_small (PaxosV None v) = simp (and_true)
+promise_small (PaxosV (Some round) v) = simp (and_true, and_assoc, and_comm, and_left)
 
 message_small : (m : ConsensusMsg) → msg_numbers m ≡ (every small_slot (slots_of m) && every small (processes_of m) && every small (numbers_of m))
 unfolding every msg_numbers round_numbers
@@ -131,30 +115,30 @@ message_small (ReadRequest id) = simp (and_true)
 message_small (ReadResponse id next) = simp (and_true)
 
 -- the tests of a message in the order of the causes and in that of the code
-reordered : (a v n s h r p : Bool) → (a && (v && (n && (s && (h && (r && p)))))) ≡ (a && (h && (r && (v && (n && (p && s))))))
-reordered a v n s h r p = simp (and_assoc, and_comm, and_left)
+reordered : (a v n s h r p : Bool) → (a && (v && (n && (s && (h && (r && p)))))) ≡ (a && (h && (v && (r && (n && (p && s))))))
+reordered a v n s h r p = simp (and_comm, and_left)
 
 pub numbers_cause : (d : Delivery) → too_large (slots_of d.message.msg) (all_numbers d) ≡ not (numbers_fit d)
 unfolding numbers_fit every
 numbers_cause d =
-    simp (any_large, any_large_slot, or_not, every_joined, message_small, process_small, value_small, and_assoc, and_comm, and_left)
+    simp (any_large, any_large_slot, or_not, every_joined, message_small, given_small, and_assoc, and_comm, and_left)
     (ap not
-    (reordered (small d.message.src) (every small (given_value d.message.last_v)) (every small (numbers_of d.message.msg))
-    (every small_slot (slots_of d.message.msg)) (every small (given_process d.held_requester)) (every small (given_process d.said.requester))
+    (reordered (small d.message.src) (every small (given_number d.message.last_v)) (every small (numbers_of d.message.msg))
+    (every small_slot (slots_of d.message.msg)) (every small (given_number d.held_requester)) (every small (given_number d.said.requester))
     (every small (processes_of d.message.msg))))
 
 -- ---- 3
 
-requester_below_lem : (n : ℕ) (o : OptionalProcess) → requester_below n o ≡ every (λ p. ltb p n) (given_process o)
+requester_below_lem : (n : ℕ) (o : Option ℕ) → requester_below n o ≡ every (λ p. ltb p n) (given_number o)
 unfolding every requester_below
-requester_below_lem n NoProcess = refl
-requester_below_lem n (Process p) = sym (and_true (ltb p n))
+requester_below_lem n None = refl
+requester_below_lem n (Some p) = sym (and_true (ltb p n))
 
 promise_below : (n : ℕ) (rv : RoundV) → rv_processes n rv ≡ every (λ p. ltb p n) (promise_processes rv)
 unfolding every rv_processes
 promise_below n (FastV proposer v) = sym (and_true (ltb proposer n))
-promise_below n (PaxosV NoRound v) = refl
-promise_below n (PaxosV (Round round) v) = sym (and_true (ltb round.leader n))
+promise_below n (PaxosV None v) = refl
+promise_below n (PaxosV (Some round) v) = sym (and_true (ltb round.leader n))
 
 message_below : (n : ℕ) (m : ConsensusMsg) → msg_processes n m ≡ every (λ p. ltb p n) (processes_of m)
 unfolding every msg_processes
@@ -187,12 +171,12 @@ slot_cause core (Commit slot v) = refl
 slot_cause core (ReadRequest id) = refl
 slot_cause core (ReadResponse id next) = refl
 
-different : (o own : OptionalValue) (core : Core) → core.last_v ≡ own → given_and_different o own ≡ is_other_last core o
-different NoValue own core e = refl
-different (Value v) NoValue core e = simp e
-different (Value v) (Value w) core e = simp e
+different : (o own : Option ℕ) (core : Core) → core.last_v ≡ own → given_and_different o own ≡ is_other_last core o
+different None own core e = refl
+different (Some v) None core e = simp e
+different (Some v) (Some w) core e = simp e
 
-pub last_cause : (core : Core) (o : OptionalValue) → given_and_different o core.last_v ≡ is_other_last core o
+pub last_cause : (core : Core) (o : Option ℕ) → given_and_different o core.last_v ≡ is_other_last core o
 last_cause core o = different o core.last_v core refl
 
 pub waits_cause : (own : ℕ) (m : ConsensusMsg) → waits_for_value own m ≡ needs_value own m

@@ -1,5 +1,7 @@
 -- A call by the parts of the state is the call: the core's answer, then the rounds' where the core has passed the call on, then the reads'.
 -- Assumes nothing.
+use Rattle.std.specs.Prelude.{None, Result, Ok, Err}
+use Rattle.message.specs.Outcomes.{Outcome}
 use mathlib.Core.Path.{◌≡◌, refl, sym, ap, ◌∙◌}
 use mathlib.Core.Bool.{Bool, true, false, cond, ◌&&◌}
 use Prim.Native.Nat.{ℕ}
@@ -10,16 +12,11 @@ use Rattle.basics.proofs.Tests.{not_both}
 use Rattle.message.specs.Modes.{has_fast_path}
 use Rattle.message.specs.declared.ConsensusMsg.{ConsensusMsg}
 use Rattle.message.specs.declared.ConsensusMsg.TheVariants.{Prepare, Accept, ForwardRequest, Commit, ReadRequest, ReadResponse}
-use Rattle.message.specs.declared.OptionalValue.TheVariants.{NoValue}
-use Rattle.message.specs.declared.Outcome.{Outcome}
-use Rattle.message.specs.declared.Outcome.TheVariants.{Done, Refused}
 use Rattle.message.specs.declared.ReadId.{ReadId}
 use Rattle.message.specs.declared.Refusal.{Refusal}
 use Rattle.message.specs.declared.Refusal.TheVariants.{NumberTooLarge, ValueNotHeld, Panic}
 use Rattle.fast_state.specs.Adopt.{lowest_best}
 use Rattle.fast_state.specs.Fast.{no_answers}
-use Rattle.read_tracker.specs.declared.Opened.{Opened}
-use Rattle.read_tracker.specs.declared.Opened.TheVariants.{Refused as NotOpened, Id}
 use Rattle.paxos_family.specs.Commit.{commit_slot, commit_core}
 use Rattle.paxos_family.specs.Process.{process_classic, process_fast}
 use Rattle.propose.specs.Propose.{propose_classic, propose_fast}
@@ -41,8 +38,6 @@ use Rattle.calls.specs.Asked.{asked_of, heard_of, heard_in}
 use Rattle.calls.specs.Decision.{admission_of, unless_spent as admission_unless_spent, if_made as admission_if_made, decision_for, decision_of}
 use Rattle.calls.specs.declared.Call.{Call}
 use Rattle.calls.specs.declared.Call.TheVariants.{Propose, StartRead, Receive}
-use Rattle.calls.specs.declared.Decision.{Decision}
-use Rattle.calls.specs.declared.Decision.TheVariants.{Refuse, Handle}
 use Rattle.calls.specs.declared.Taken.{Taken}
 use Rattle.core_calls.specs.CoreCall.{next_readable, needs_more, sends_from, refuses_in, on_fast_path, core_committed, core_finish_at, core_finish, core_proposed, core_processed, core_on_commit, core_on_read_request, core_on_read_response, core_handle, core_taken, core_call}
 use Rattle.core_calls.specs.Replies.{committed_reply}
@@ -79,7 +74,7 @@ module _ (shard : Shard) (c : Call) where
 
   -- what an answer on the core, and one on the rounds, leads to
   abbrev after : CoreAnswer → Answer
-  after a = from_state shard (state_after shard.state (Handle taken) a)
+  after a = from_state shard (state_after shard.state (Ok taken) a)
 
   abbrev after_rounds : RoundsAnswer → Answer
   after_rounds r = from_state shard (with_reads asked shard.state.table c r)
@@ -221,10 +216,10 @@ unfolding rounds_taken with_reads reads_taken open_read start_read
 read_fits shard tag arrival =
     left_to_reads shard (StartRead tag arrival) refl ∙ opens (inserted shard.state.table shard.state.rounds tag arrival).opened
   where
-    opens : (o : Opened) → from_state shard (after_insert (asked_of shard.settings) shard.state.rounds shard.state.table (inserted shard.state.table shard.state.rounds tag arrival) o)
+    opens : (o : Result ReadId Refusal) → from_state shard (after_insert (asked_of shard.settings) shard.state.rounds shard.state.table (inserted shard.state.table shard.state.rounds tag arrival) o)
         ≡ shard_after_insert shard (inserted shard.state.table shard.state.rounds tag arrival) o
-    opens (NotOpened why) = refl
-    opens (Id id) = refl
+    opens (Err why) = refl
+    opens (Ok id) = refl
 
 -- ---- messages
 
@@ -274,7 +269,7 @@ module _ (shard : Shard) (d : Delivery) where
       (record {
         destination = One d.message.src;
         message =
-            record { msg = ReadResponse id (next_readable shard.state.rounds.core); src = shard.settings.my_pid; last_v = NoValue };
+            record { msg = ReadResponse id (next_readable shard.state.rounds.core); src = shard.settings.my_pid; last_v = None };
       })
 
   request_fits : (id : ReadId) → after shard (Receive d) (core_on_read_request shard.settings.my_pid d.message.src id shard.state.rounds.core)
@@ -316,16 +311,16 @@ module _ (shard : Shard) (d : Delivery) where
 abbrev decided : Shard → Call → Outcome → Answer
 decided shard c o = from_state shard (state_call shard.state (decision_for shard.settings c o))
 
-decided_refused : (shard : Shard) (c : Call) (why : Refusal) → decided shard c (Refused why) ≡ refused why shard
+decided_refused : (shard : Shard) (c : Call) (why : Refusal) → decided shard c (Err why) ≡ refused why shard
 unfolding state_after core_call
 decided_refused shard c why = refl
 
-decided_done : (shard : Shard) (c : Call) → decided shard c Done ≡ after shard c (core_taken (asked_of shard.settings) (heard_in shard.settings c) shard.state.rounds.core c)
+decided_done : (shard : Shard) (c : Call) → decided shard c (Ok tt) ≡ after shard c (core_taken (asked_of shard.settings) (heard_in shard.settings c) shard.state.rounds.core c)
 unfolding core_call
 decided_done shard c = refl
 
 -- a call whose numbers fit, and one whose numbers do not
-if_fit_lem : (shard : Shard) (c : Call) (x : Answer) (t : Bool) → decided shard c Done ≡ x → decided shard c (cond t Done (Refused NumberTooLarge)) ≡ cond t x (refused NumberTooLarge shard)
+if_fit_lem : (shard : Shard) (c : Call) (x : Answer) (t : Bool) → decided shard c (Ok tt) ≡ x → decided shard c (cond t (Ok tt) (Err NumberTooLarge)) ≡ cond t x (refused NumberTooLarge shard)
 if_fit_lem shard c x true p = p
 if_fit_lem shard c x false p = decided_refused shard c NumberTooLarge
 
@@ -337,19 +332,19 @@ dispatch_fits shard (StartRead tag arrival) =
 dispatch_fits shard (Receive d) = at (admit shard.settings.process_count shard.settings.my_pid shard.state.rounds.core d)
   where
     at : (o : Outcome) → decided shard (Receive d) o ≡ admitted lowest_best shard d o
-    at Done = decided_done shard (Receive d) ∙ handle_fits shard d d.message.msg refl
-    at (Refused why) = decided_refused shard (Receive d) why
+    at (Ok tt) = decided_done shard (Receive d) ∙ handle_fits shard d d.message.msg refl
+    at (Err why) = decided_refused shard (Receive d) why
 
 made_fits : (shard : Shard) (c : Call) (made : Outcome)
     → decided shard c (admission_if_made made shard.settings.process_count shard.settings.my_pid shard.state.rounds.core c) ≡ if_made lowest_best shard c made
 unfolding admission_unless_spent unless_spent
-made_fits shard c Done = go (leb 9223372036854775807 shard.state.rounds.core.slot)
+made_fits shard c (Ok tt) = go (leb 9223372036854775807 shard.state.rounds.core.slot)
   where
-    go : (t : Bool) → decided shard c (cond t (Refused NumberTooLarge) (admission_of shard.settings.process_count shard.settings.my_pid shard.state.rounds.core c))
+    go : (t : Bool) → decided shard c (cond t (Err NumberTooLarge) (admission_of shard.settings.process_count shard.settings.my_pid shard.state.rounds.core c))
         ≡ cond t (refused NumberTooLarge shard) (dispatch lowest_best shard c)
     go true = decided_refused shard c NumberTooLarge
     go false = dispatch_fits shard c
-made_fits shard c (Refused why) = decided_refused shard c why
+made_fits shard c (Err why) = decided_refused shard c why
 
 pub by_parts : (shard : Shard) (c : Call) → by_state shard (decision_of shard.made shard.settings shard.state.rounds.core c) ≡ call_of shard c
 unfolding decision_of call_with
@@ -359,11 +354,11 @@ by_parts shard c = made_fits shard c shard.made
 
 module _ (shard : Shard) where
   -- what the core has passed on, where the rounds are enough
-  on_rounds_alone : (d : Decision) → (core_call shard.state.rounds.core d).deeper ≡ true → (rounds_call shard.state.rounds d).deeper ≡ false
+  on_rounds_alone : (d : Result Taken Refusal) → (core_call shard.state.rounds.core d).deeper ≡ true → (rounds_call shard.state.rounds d).deeper ≡ false
       → from_rounds shard (rounds_call shard.state.rounds d) ≡ by_state shard d
   unfolding core_call rounds_call state_after state_passed with_reads
-  on_rounds_alone (Refuse why) e f = absurd (not_both e refl)
-  on_rounds_alone (Handle t) e f =
+  on_rounds_alone (Err why) e f = absurd (not_both e refl)
+  on_rounds_alone (Ok t) e f =
       sym
       (ap
       (λ (u : Bool). from_state shard (cond u (with_reads t.asked shard.state.table t.call (rounds_passed shard.state.rounds t core_answer_lem)) (with_table shard.state.table (with_fast shard.state.rounds.fast core_answer_lem))))
@@ -377,7 +372,7 @@ module _ (shard : Shard) where
       rounds_answer : RoundsAnswer
       rounds_answer = rounds_passed shard.state.rounds t (needs_more shard.state.rounds.core)
 
-  by_rounds_lem : (d : Decision) → (core_call shard.state.rounds.core d).deeper ≡ true → by_rounds shard d ≡ by_state shard d
+  by_rounds_lem : (d : Result Taken Refusal) → (core_call shard.state.rounds.core d).deeper ≡ true → by_rounds shard d ≡ by_state shard d
   unfolding by_rounds
   by_rounds_lem d e = go (rounds_call shard.state.rounds d).deeper refl
     where
@@ -385,7 +380,7 @@ module _ (shard : Shard) where
       go true f = refl
       go false f = on_rounds_alone d e f
 
-  pub by_core_lem : (d : Decision) → by_core shard d ≡ by_state shard d
+  pub by_core_lem : (d : Result Taken Refusal) → by_core shard d ≡ by_state shard d
   unfolding by_core state_after
   by_core_lem d = go (core_call shard.state.rounds.core d).deeper refl
     where

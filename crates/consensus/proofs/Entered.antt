@@ -1,5 +1,7 @@
 -- A Prepare or an Accept, from the moment that it comes to the table of panics: who ignores it, 7, and what is known in its round.
 -- Assumes nothing.
+use Rattle.basics.proofs.Tests.{by_cases}
+use Rattle.std.specs.Prelude.{Option, None, Some}
 use mathlib.Core.Path.{◌≡◌, refl, sym, ap, ◌∙◌}
 use mathlib.Core.Bool.{Bool, true, false, cond, not, ◌&&◌, ◌||◌}
 use mathlib.Core.List.{List, [], ◌∷◌}
@@ -11,9 +13,6 @@ use Rattle.message.specs.Modes.{is_swift_paxos}
 use Rattle.message.specs.Rounds.{before}
 use Rattle.message.specs.declared.ConsensusMsg.{ConsensusMsg}
 use Rattle.message.specs.declared.ConsensusMsg.TheVariants.{Prepare, Accept, ForwardRequest}
-use Rattle.message.specs.declared.OptionalProcess.{OptionalProcess}
-use Rattle.message.specs.declared.OptionalProcess.TheVariants.{NoProcess, Process}
-use Rattle.message.specs.declared.OptionalRound.TheVariants.{Round}
 use Rattle.message.specs.declared.PFMode.{PFMode}
 use Rattle.message.specs.declared.PFMode.TheVariants.{Paxos, MultiPaxos, MultiPaxos3P, EPaxos, Pando, SwiftPaxos}
 use Rattle.message.specs.declared.PaxosRound.{PaxosRound}
@@ -43,7 +42,7 @@ use Rattle.consensus.specs.Handle.{processed}
 use Rattle.consensus.specs.FirstCause.{value_committer, leader_delegate, promise_delegate, facts_of, ignored, source_not_live, handling_causes}
 use Rattle.consensus.specs.Panics.{Facts, classic_prepare, epaxos_prepare, swift_prepare, classic_accept, swift_replica_accept_rows, swift_client_accept_rows}
 use Rattle.consensus.specs.Rows.{Row, gives, first_of}
-use Rattle.consensus.proofs.Admitted.{by_cases}
+use Rattle.consensus.proofs.Admitted.{}
 use Rattle.consensus.proofs.Handled.{next_number, facts_in, step_number, after_step, and_then_number, and_then_change_number, classic_prepare_lem}
 use Rattle.consensus.proofs.HandledAccept.{classic_accept_lem, accept_ends}
 use Rattle.consensus.proofs.HandledEPaxos.{epaxos_prepare_lem}
@@ -64,29 +63,29 @@ enter_table true false false false false x rows e = refl
 enter_number : (a : Asked) (h : Heard) (value_held : Bool) (slot : ℕ) (round : PaxosRound) (core : Core) (rest : Core → ℕ) (rows : List Row)
     → ((a.member.replica || is_swift_paxos a.mode) ≡ true → rest (in_round round core) ≡ first_of rows)
     → after_step value_held rest (enter a h slot round core)
-    ≡ first_of (cond (not (a.member.replica || is_swift_paxos a.mode) || ltb slot core.slot || before (Round round) core.paxos.round) []
+    ≡ first_of (cond (not (a.member.replica || is_swift_paxos a.mode) || ltb slot core.slot || before (Some round) core.paxos.round) []
     (gives 7 (not h.source_live && not (is_swift_paxos a.mode)) ∷ rows))
 unfolding enter is_older from_live
 enter_number a h value_held slot round core rest rows e =
     shape
-    ∙ enter_table (a.member.replica || is_swift_paxos a.mode) (ltb slot core.slot) (before (Round round) core.paxos.round) h.source_live (is_swift_paxos a.mode)
+    ∙ enter_table (a.member.replica || is_swift_paxos a.mode) (ltb slot core.slot) (before (Some round) core.paxos.round) h.source_live (is_swift_paxos a.mode)
     (rest (in_round round core)) rows e
   where
     shape : after_step value_held rest (enter a h slot round core)
         ≡ cond (a.member.replica || is_swift_paxos a.mode)
-        (cond (ltb slot core.slot || before (Round round) core.paxos.round) 0 (cond (h.source_live || is_swift_paxos a.mode) (rest (in_round round core)) 7)) 0
+        (cond (ltb slot core.slot || before (Some round) core.paxos.round) 0 (cond (h.source_live || is_swift_paxos a.mode) (rest (in_round round core)) 7)) 0
     shape =
         by_cases (a.member.replica || is_swift_paxos a.mode)
-        (λ p. by_cases (ltb slot core.slot || before (Round round) core.paxos.round) (λ o. simp (p, o))
+        (λ p. by_cases (ltb slot core.slot || before (Some round) core.paxos.round) (λ o. simp (p, o))
         (λ o. by_cases (h.source_live || is_swift_paxos a.mode) (λ l. simp (p, o, l)) (λ l. simp (p, o, l))))
         (λ p. simp p)
 
 -- ---- what is known
 
-pub committer_same : (s : Settings) (requester : OptionalProcess) → get_committer s requester ≡ value_committer s requester
+pub committer_same : (s : Settings) (requester : Option ℕ) → get_committer s requester ≡ value_committer s requester
 unfolding committer_in committer_for
-committer_same s NoProcess = refl
-committer_same s (Process p) = refl
+committer_same s None = refl
+committer_same s (Some p) = refl
 
 delegate_same : (s : Settings) (m : PFMode) (leader : ℕ) → delegate_in s.delegates m leader ≡ leader_delegate s m leader
 unfolding delegate_in
@@ -112,10 +111,10 @@ entered_facts : (s : Settings) (rounds : Rounds) (d : Delivery) (round : PaxosRo
     ≡ facts_of s rounds d round (gatherer_of s d.message.msg)
 unfolding in_round
 entered_facts s rounds d round =
-    go (before rounds.core.paxos.round (Round round)) (get_committer s d.said.requester)
-    ∙ ap (counted (before rounds.core.paxos.round (Round round))) (committer_same s d.said.requester)
+    go (before rounds.core.paxos.round (Some round)) (get_committer s d.said.requester)
+    ∙ ap (counted (before rounds.core.paxos.round (Some round))) (committer_same s d.said.requester)
   where
-    known : PaxosState → OptionalProcess → Facts
+    known : PaxosState → Option ℕ → Facts
     known p committer =
         record {
           own = s.my_pid;
@@ -134,7 +133,7 @@ entered_facts s rounds d round =
           scores = λ p. look_up rounds.fast.epaxos_proposer_scores p;
         }
 
-    counted : Bool → OptionalProcess → Facts
+    counted : Bool → Option ℕ → Facts
     counted later committer =
         known
         (record {
@@ -145,8 +144,8 @@ entered_facts s rounds d round =
         })
         committer
 
-    go : (later : Bool) (committer : OptionalProcess)
-        → known (cond later (with_paxos (goto_round (Round round) rounds.core.paxos) rounds.core) rounds.core).paxos committer ≡ counted later committer
+    go : (later : Bool) (committer : Option ℕ)
+        → known (cond later (with_paxos (goto_round (Some round) rounds.core.paxos) rounds.core) rounds.core).paxos committer ≡ counted later committer
     go true committer = refl
     go false committer = refl
 
@@ -307,7 +306,7 @@ module _ (choose : Choice) (s : Settings) (rounds : Rounds) (d : Delivery) where
   accept_handled MultiPaxos slot round v e = on_accept_lem choose (with_mode MultiPaxos s) rounds d slot round v e refl
   accept_handled MultiPaxos3P slot round v e =
       on_accept_lem choose (with_mode MultiPaxos3P s) rounds d slot round v e refl
-      ∙ ap (λ (c : OptionalProcess). unless_ignored choose (with_mode MultiPaxos3P s) rounds d slot round
+      ∙ ap (λ (c : Option ℕ). unless_ignored choose (with_mode MultiPaxos3P s) rounds d slot round
       (classic_accept (facts_of (with_mode MultiPaxos3P s) rounds d round round.leader) (is_process c s.my_pid) v)) (committer_same (with_mode MultiPaxos3P s) d.said.requester)
   accept_handled EPaxos slot round v e = on_epaxos_accept choose (with_mode EPaxos s) rounds d slot round v e refl
   accept_handled Pando slot round v e = on_accept_lem choose (with_mode Pando s) rounds d slot round v e refl

@@ -1,5 +1,10 @@
 -- Demand 1: the number that a call gives is that of the first cause of document 01 that holds, and a call is taken exactly where none holds.
 -- Assumes nothing.
+use Rattle.std.specs.Prelude.{Option, None, Some, Result, Ok, Err, is_some, is_ok}
+use Rattle.message.specs.Outcomes.{Outcome, outcome_of}
+use Rattle.message.specs.declared.RoundV.{RoundV}
+use Rattle.message.specs.declared.RoundV.TheVariants.{FastV}
+use Rattle.message.specs.declared.PaxosRound.{PaxosRound}
 use mathlib.Core.Path.{◌≡◌, refl, sym, ap, subst, ◌∙◌}
 use mathlib.Core.Logic.{◌⊎◌, inl, inr}
 use mathlib.Core.Bool.{Bool, true, false, cond, not, ◌&&◌, ◌||◌}
@@ -8,15 +13,10 @@ use Prim.Native.Nat.{ℕ, ◌<◌}
 use native.Mathlib.Omega.{arith}
 use lib.Dec.{eqb, ltb, leb}
 use borrow.Author.Tests.{eq-eqb, ne_eqb, leb-false, le-leb}
-use Rattle.basics.proofs.Tests.{of-both}
+use Rattle.basics.proofs.Tests.{by_cases, of-both, not_both}
 use Rattle.sets.specs.Sets.{contains, is_empty}
-use Rattle.message.specs.Promises.{has_value}
 use Rattle.message.specs.Refusals.{refusal_number}
 use Rattle.message.specs.Rounds.{round_of, next_leader_round, equal, round_equal, unwrap_or_default, increment}
-use Rattle.message.specs.declared.OptionalRound.{OptionalRound}
-use Rattle.message.specs.declared.OptionalRound.TheVariants.{NoRound, Round}
-use Rattle.message.specs.declared.Outcome.{Outcome}
-use Rattle.message.specs.declared.Outcome.TheVariants.{Done, Refused}
 use Rattle.message.specs.declared.PFMode.{PFMode}
 use Rattle.message.specs.declared.PFMode.TheVariants.{Paxos, MultiPaxos, MultiPaxos3P, EPaxos, Pando, SwiftPaxos}
 use Rattle.message.specs.declared.Refusal.{Refusal}
@@ -33,18 +33,17 @@ use Rattle.steps.specs.Steps.{one_message}
 use Rattle.message.specs.Messages.{msg_slot}
 use Rattle.fast_state.specs.Fast.{answers_of, in_quorum, is_unanswered, second_answer, epaxos_answered, epaxos_propose_v, swift_uncounted, swift_first, swift_answered, swift_own, swift_unanswered, swift_propose_v}
 use Rattle.fast_state.specs.declared.FastAnswers.{FastAnswers}
+use Rattle.fast_state.specs.declared.FastChange.{FastChange}
 use Rattle.settings.specs.declared.Settings.{Settings}
-use Rattle.round_state.specs.Paxos.{is_held, paxos_propose_v, self_accept, accept_own, receive_accept, accept_fits, receive_promise, held_after_promise}
+use Rattle.round_state.specs.Paxos.{paxos_propose_v, self_accept, accept_own, receive_accept, accept_fits, receive_promise, held_after_promise}
 use Rattle.read_tracker.specs.Reads.{insert, inserted, refused as not_inserted}
 use Rattle.read_tracker.specs.declared.Inserted.{Inserted}
-use Rattle.round_state.specs.declared.HeldPromise.{HeldPromise}
 use Rattle.round_state.specs.declared.Member.{Member}
-use Rattle.sets.specs.declared.OptionalSet.{OptionalSet}
 use Rattle.tables.specs.Tables.{look_up}
-use Rattle.round_state.specs.declared.HeldPromise.TheVariants.{NothingHeld, Held}
-use Rattle.proposal.specs.Proposal.{electing, may_propose, proposal_round}
-use Rattle.propose.specs.Propose.{propose_prepare, propose_accept, propose_classic, own_answer, leads_from_start, propose_change, propose_fast}
+use Rattle.proposal.specs.Proposal.{not_allowed, electing, may_propose, proposal_round}
+use Rattle.propose.specs.Propose.{propose_prepare, propose_accept, propose_classic, after_own_answer, own_answer, leads_from_start, propose_change, propose_fast}
 use Rattle.steps.specs.declared.Asked.{Asked}
+use Rattle.steps.specs.declared.Core.{Core}
 use Rattle.steps.specs.declared.Messages.{Messages}
 use Rattle.steps.specs.declared.Next.{Next}
 use Rattle.steps.specs.declared.Next.TheVariants.{Stays, Continues, Commits, Refuses}
@@ -60,13 +59,13 @@ use Rattle.consensus.specs.Handle.{on_commit, on_read_request, on_read_response,
 use Rattle.consensus.specs.Rows.{gives, first_of, then}
 use Rattle.consensus.specs.declared.Answer.{Answer}
 use Rattle.consensus.specs.declared.Shard.{Shard}
-use Rattle.consensus.proofs.Admitted.{by_cases, above_test, numbers_cause, processes_cause, ahead_cause, slot_cause, last_cause, waits_cause}
+use Rattle.consensus.proofs.Admitted.{above_test, numbers_cause, processes_cause, ahead_cause, slot_cause, last_cause, waits_cause}
 use Rattle.consensus.proofs.Entered.{with_mode, prepare_number, accept_number_lem, forward_number}
 use Rattle.consensus.proofs.Handled.{next_number}
 
 -- the call is taken and the number is 0, or it is refused, the shard is left, nothing is handed back but the number, and it is that number
 abbrev pub Gives : Shard → Answer → ℕ → Type 0
-Gives shard r n = ((r.reply.outcome ≡ Done) × (n ≡ 0)) ⊎ ((why : Refusal) × (r ≡ refused why shard) × (n ≡ refusal_number why))
+Gives shard r n = ((r.reply.outcome ≡ Ok tt) × (n ≡ 0)) ⊎ ((why : Refusal) × (r ≡ refused why shard) × (n ≡ refusal_number why))
 
 or_true : (t : Bool) → (t || true) ≡ true
 or_true true = refl
@@ -85,10 +84,10 @@ finish_gives shard a held s ms (Refuses why) = inr (why, refl, refl)
 -- ---- proposals
 
 -- in MultiPaxos the next round of a member, from the starting round, is the starting round where the member is the first leader
-own_start : (first own : ℕ) (r : OptionalRound) → equal r (Round (round_of 0 first)) ≡ true
-    → equal (Round (next_leader_round (unwrap_or_default r) own)) (Round (round_of 0 first)) ≡ eqb own first
+own_start : (first own : ℕ) (r : Option PaxosRound) → equal r (Some (round_of 0 first)) ≡ true
+    → equal (Some (next_leader_round (unwrap_or_default r) own)) (Some (round_of 0 first)) ≡ eqb own first
 unfolding next_leader_round round_equal increment
-own_start first own r e = rw (equal_rounds r (Round (round_of 0 first)) e) go
+own_start first own r e = rw (equal_rounds r (Some (round_of 0 first)) e) go
   where
     go : round_equal (next_leader_round (round_of 0 first) own) (round_of 0 first) ≡ eqb own first
     go = by_cases (leb first own) (λ (l : leb first own ≡ true). simp l)
@@ -100,15 +99,15 @@ first_start first = simp (le-leb 0 first (omega arith))
 
 -- the own answer is taken where nothing is counted or recorded yet
 epaxos_own : (me : Member) (v : ℕ) (f : FastAnswers) (scores : List ℕ)
-    → (epaxos_propose_v me v f scores).outcome ≡ cond (is_unanswered f && eqb (look_up scores me.my_pid) 2) Done (Refused Panic)
+    → outcome_of (epaxos_propose_v me v f scores) ≡ cond (is_unanswered f && eqb (look_up scores me.my_pid) 2) (Ok tt) (Err Panic)
 unfolding epaxos_propose_v epaxos_answered second_answer
 epaxos_own me v f scores =
     by_cases (is_unanswered f && eqb (look_up scores me.my_pid) 2)
     (λ e. by_cases (contains f.fast_answer_set me.my_pid) (λ c. simp (e, c, eq-eqb me.my_pid me.my_pid refl)) (λ c. simp (e, c)))
     (λ e. simp e)
 
-swift_own_lem : (me : Member) (v : ℕ) (quorum : OptionalSet) (f : FastAnswers) (scores : List ℕ)
-    → (swift_propose_v me v quorum false f scores).outcome ≡ cond (swift_unanswered me f scores) Done (Refused Panic)
+swift_own_lem : (me : Member) (v : ℕ) (quorum : Option ℕ) (f : FastAnswers) (scores : List ℕ)
+    → outcome_of (swift_propose_v me v quorum false f scores) ≡ cond (swift_unanswered me f scores) (Ok tt) (Err Panic)
 unfolding swift_propose_v swift_own swift_answered swift_first swift_uncounted second_answer
 swift_own_lem me v quorum f scores =
     by_cases (swift_unanswered me f scores)
@@ -117,6 +116,32 @@ swift_own_lem me v quorum f scores =
     (λ c. by_cases (in_quorum quorum me.my_pid) (λ q. simp (e, r, c, q)) (λ q. simp (e, r, c, q))))
     (λ r. simp (e, r)))
     (λ e. simp e)
+
+-- the number that a proposal gives after an own answer that is taken where the test holds
+after_own_number : (a : Asked) (round : PaxosRound) (v : ℕ) (core : Core) (answers : FastAnswers) (r : Result FastChange Refusal) (t : Bool)
+    → outcome_of r ≡ cond t (Ok tt) (Err Panic)
+    → next_number true (after_own_answer a round v core answers r).next
+    ≡ cond t (next_number true (propose_prepare a round (FastV a.member.my_pid v) core).next) (next_number true (not_allowed core).next)
+after_own_number a round v core answers (Ok change) true e = refl
+after_own_number a round v core answers (Ok change) false e = absurd (not_both refl (ap is_ok e))
+after_own_number a round v core answers (Err why) true e = absurd (not_both (ap is_ok e) refl)
+after_own_number a round v core answers (Err why) false e = refl
+
+after_epaxos_own : (a : Asked) (round : PaxosRound) (v : ℕ) (core : Core) (answers : FastAnswers) (me : Member) (scores : List ℕ)
+    → next_number true (after_own_answer a round v core answers (epaxos_propose_v me v answers scores)).next
+    ≡ cond (is_unanswered answers && eqb (look_up scores me.my_pid) 2)
+    (next_number true (propose_prepare a round (FastV a.member.my_pid v) core).next) (next_number true (not_allowed core).next)
+after_epaxos_own a round v core answers me scores =
+    after_own_number a round v core answers (epaxos_propose_v me v answers scores) (is_unanswered answers && eqb (look_up scores me.my_pid) 2)
+    (epaxos_own me v answers scores)
+
+after_swift_own : (a : Asked) (round : PaxosRound) (v : ℕ) (core : Core) (answers : FastAnswers) (me : Member) (quorum : Option ℕ) (scores : List ℕ)
+    → next_number true (after_own_answer a round v core answers (swift_propose_v me v quorum false answers scores)).next
+    ≡ cond (swift_unanswered me answers scores)
+    (next_number true (propose_prepare a round (FastV a.member.my_pid v) core).next) (next_number true (not_allowed core).next)
+after_swift_own a round v core answers me quorum scores =
+    after_own_number a round v core answers (swift_propose_v me v quorum false answers scores) (swift_unanswered me answers scores)
+    (swift_own_lem me v quorum answers scores)
 
 module _ (s : Settings) (v : ℕ) (rounds : Rounds) where
   abbrev Proposed : PFMode → Type 0
@@ -133,23 +158,23 @@ module _ (s : Settings) (v : ℕ) (rounds : Rounds) where
   unfolding proposing propose_classic may_propose first_of propose_prepare paxos_propose_v
   paxos_proposed = go rounds.core.paxos.max_rv refl
     where
-      go : (held : HeldPromise) → rounds.core.paxos.max_rv ≡ held → Proposed Paxos
-      go (Held rv) e = by_cases live (λ r. by_cases (equal rounds.core.paxos.round NoRound) (λ q. simp (e, r, q)) (λ q. simp (e, r, q))) (λ r. simp (e, r))
-      go NothingHeld e = by_cases live (λ r. by_cases (equal rounds.core.paxos.round NoRound) (λ q. simp (e, r, q)) (λ q. simp (e, r, q))) (λ r. simp (e, r))
+      go : (held : Option RoundV) → rounds.core.paxos.max_rv ≡ held → Proposed Paxos
+      go (Some rv) e = by_cases live (λ r. by_cases (equal rounds.core.paxos.round None) (λ q. simp (e, r, q)) (λ q. simp (e, r, q))) (λ r. simp (e, r))
+      go None e = by_cases live (λ r. by_cases (equal rounds.core.paxos.round None) (λ q. simp (e, r, q)) (λ q. simp (e, r, q))) (λ r. simp (e, r))
 
   pando_proposed : Proposed Pando
   unfolding proposing propose_classic may_propose first_of propose_prepare paxos_propose_v
   pando_proposed = go rounds.core.paxos.max_rv refl
     where
-      go : (held : HeldPromise) → rounds.core.paxos.max_rv ≡ held → Proposed Pando
-      go (Held rv) e = by_cases live (λ r. by_cases (equal rounds.core.paxos.round NoRound) (λ q. simp (e, r, q)) (λ q. simp (e, r, q))) (λ r. simp (e, r))
-      go NothingHeld e = by_cases live (λ r. by_cases (equal rounds.core.paxos.round NoRound) (λ q. simp (e, r, q)) (λ q. simp (e, r, q))) (λ r. simp (e, r))
+      go : (held : Option RoundV) → rounds.core.paxos.max_rv ≡ held → Proposed Pando
+      go (Some rv) e = by_cases live (λ r. by_cases (equal rounds.core.paxos.round None) (λ q. simp (e, r, q)) (λ q. simp (e, r, q))) (λ r. simp (e, r))
+      go None e = by_cases live (λ r. by_cases (equal rounds.core.paxos.round None) (λ q. simp (e, r, q)) (λ q. simp (e, r, q))) (λ r. simp (e, r))
 
   -- in MultiPaxos and MultiPaxos3P
   abbrev from_start : Bool
-  from_start = equal rounds.core.paxos.round (Round (round_of 0 s.first_leader))
+  from_start = equal rounds.core.paxos.round (Some (round_of 0 s.first_leader))
 
-  own_leads : from_start ≡ true → equal (Round (proposal_round (asked_of (with_mode MultiPaxos s)) rounds.core)) (Round (round_of 0 s.first_leader)) ≡ eqb s.my_pid s.first_leader
+  own_leads : from_start ≡ true → equal (Some (proposal_round (asked_of (with_mode MultiPaxos s)) rounds.core)) (Some (round_of 0 s.first_leader)) ≡ eqb s.my_pid s.first_leader
   unfolding electing
   own_leads q = own_start s.first_leader s.my_pid rounds.core.paxos.round q
 
@@ -157,10 +182,10 @@ module _ (s : Settings) (v : ℕ) (rounds : Rounds) where
   unfolding proposing propose_classic may_propose first_of electing propose_accept paxos_propose_v self_accept accept_own receive_accept accept_fits receive_promise held_after_promise
   multi_proposed = go rounds.core.paxos.max_rv refl
     where
-      go : (held : HeldPromise) → rounds.core.paxos.max_rv ≡ held → Proposed MultiPaxos
-      go (Held rv) e =
+      go : (held : Option RoundV) → rounds.core.paxos.max_rv ≡ held → Proposed MultiPaxos
+      go (Some rv) e =
           by_cases live (λ r. by_cases from_start (λ q. simp (e, r, first_start s.first_leader, q)) (λ q. simp (e, r, first_start s.first_leader, q))) (λ r. simp (e, r))
-      go NothingHeld e =
+      go None e =
           by_cases live
           (λ r. by_cases from_start
           (λ q. by_cases (eqb s.my_pid s.first_leader) (λ l. simp (e, r, first_start s.first_leader, q, own_leads q, l)) (λ l. simp (e, r, first_start s.first_leader, q, own_leads q, l)))
@@ -171,10 +196,10 @@ module _ (s : Settings) (v : ℕ) (rounds : Rounds) where
   unfolding proposing propose_classic may_propose first_of electing propose_accept paxos_propose_v self_accept accept_own receive_accept accept_fits receive_promise held_after_promise
   multi3p_proposed = go rounds.core.paxos.max_rv refl
     where
-      go : (held : HeldPromise) → rounds.core.paxos.max_rv ≡ held → Proposed MultiPaxos3P
-      go (Held rv) e =
+      go : (held : Option RoundV) → rounds.core.paxos.max_rv ≡ held → Proposed MultiPaxos3P
+      go (Some rv) e =
           by_cases live (λ r. by_cases from_start (λ q. simp (e, r, first_start s.first_leader, q)) (λ q. simp (e, r, first_start s.first_leader, q))) (λ r. simp (e, r))
-      go NothingHeld e =
+      go None e =
           by_cases live
           (λ r. by_cases from_start
           (λ q. by_cases (eqb s.my_pid s.first_leader) (λ l. simp (e, r, first_start s.first_leader, q, own_leads q, l)) (λ l. simp (e, r, first_start s.first_leader, q, own_leads q, l)))
@@ -182,7 +207,7 @@ module _ (s : Settings) (v : ℕ) (rounds : Rounds) where
           (λ r. simp (e, r))
 
   -- the fast modes: each assertion of the own answer
-  module _ (e : rounds.core.paxos.max_rv ≡ NothingHeld) (q : equal rounds.core.paxos.round NoRound ≡ true) where
+  module _ (e : rounds.core.paxos.max_rv ≡ None) (q : equal rounds.core.paxos.round None ≡ true) where
     epaxos_answers : live ≡ true → Proposed EPaxos
     unfolding proposing propose_fast propose_change may_propose first_of leads_from_start own_answer is_unanswered propose_prepare paxos_propose_v
     epaxos_answers r =
@@ -190,10 +215,10 @@ module _ (s : Settings) (v : ℕ) (rounds : Rounds) where
         (λ t. by_cases (eqb f.fast_preaccepted 0)
         (λ u. by_cases (is_empty f.fast_proposers)
         (λ w. by_cases (eqb (look_up rounds.fast.epaxos_proposer_scores s.my_pid) 2)
-        (λ x. simp (e, q, r, epaxos_own, t, u, w, x)) (λ x. simp (e, q, r, epaxos_own, t, u, w, x)))
-        (λ w. simp (e, q, r, epaxos_own, t, u, w)))
-        (λ u. simp (e, q, r, epaxos_own, t, u)))
-        (λ t. simp (e, q, r, epaxos_own, t))
+        (λ x. simp (e, q, r, after_epaxos_own, t, u, w, x)) (λ x. simp (e, q, r, after_epaxos_own, t, u, w, x)))
+        (λ w. simp (e, q, r, after_epaxos_own, t, u, w)))
+        (λ u. simp (e, q, r, after_epaxos_own, t, u)))
+        (λ t. simp (e, q, r, after_epaxos_own, t))
 
     swift_answers : eqb s.first_leader s.my_pid ≡ false → Proposed SwiftPaxos
     unfolding proposing propose_fast propose_change may_propose first_of electing leads_from_start own_answer swift_unanswered is_unanswered propose_prepare paxos_propose_v
@@ -201,13 +226,13 @@ module _ (s : Settings) (v : ℕ) (rounds : Rounds) where
         by_cases (is_empty f.fast_answer_set)
         (λ t. by_cases (eqb f.fast_preaccepted 0)
         (λ u. by_cases (is_empty f.fast_proposers)
-        (λ w. by_cases (has_value f.swift_leader_answer)
-        (λ y. simp (e, q, l, or_true, swift_own_lem, t, u, w, y))
+        (λ w. by_cases (is_some f.swift_leader_answer)
+        (λ y. simp (e, q, l, or_true, after_swift_own, t, u, w, y))
         (λ y. by_cases (eqb (look_up rounds.fast.swift_proposer_scores s.my_pid) 0)
-        (λ x. simp (e, q, l, or_true, swift_own_lem, t, u, w, x, y)) (λ x. simp (e, q, l, or_true, swift_own_lem, t, u, w, x, y))))
-        (λ w. by_cases (has_value f.swift_leader_answer) (λ y. simp (e, q, l, or_true, swift_own_lem, t, u, w, y)) (λ y. simp (e, q, l, or_true, swift_own_lem, t, u, w, y))))
-        (λ u. by_cases (has_value f.swift_leader_answer) (λ y. simp (e, q, l, or_true, swift_own_lem, t, u, y)) (λ y. simp (e, q, l, or_true, swift_own_lem, t, u, y))))
-        (λ t. by_cases (has_value f.swift_leader_answer) (λ y. simp (e, q, l, or_true, swift_own_lem, t, y)) (λ y. simp (e, q, l, or_true, swift_own_lem, t, y)))
+        (λ x. simp (e, q, l, or_true, after_swift_own, t, u, w, x, y)) (λ x. simp (e, q, l, or_true, after_swift_own, t, u, w, x, y))))
+        (λ w. by_cases (is_some f.swift_leader_answer) (λ y. simp (e, q, l, or_true, after_swift_own, t, u, w, y)) (λ y. simp (e, q, l, or_true, after_swift_own, t, u, w, y))))
+        (λ u. by_cases (is_some f.swift_leader_answer) (λ y. simp (e, q, l, or_true, after_swift_own, t, u, y)) (λ y. simp (e, q, l, or_true, after_swift_own, t, u, y))))
+        (λ t. by_cases (is_some f.swift_leader_answer) (λ y. simp (e, q, l, or_true, after_swift_own, t, y)) (λ y. simp (e, q, l, or_true, after_swift_own, t, y)))
 
     swift_leads : eqb s.first_leader s.my_pid ≡ true → Proposed SwiftPaxos
     unfolding proposing propose_fast propose_change may_propose first_of electing leads_from_start propose_accept paxos_propose_v self_accept accept_own receive_accept accept_fits receive_promise held_after_promise
@@ -217,19 +242,19 @@ module _ (s : Settings) (v : ℕ) (rounds : Rounds) where
   unfolding proposing propose_fast propose_change may_propose first_of
   epaxos_proposed = go rounds.core.paxos.max_rv refl
     where
-      go : (held : HeldPromise) → rounds.core.paxos.max_rv ≡ held → Proposed EPaxos
-      go (Held rv) e = by_cases live (λ r. by_cases (equal rounds.core.paxos.round NoRound) (λ q. simp (e, r, q)) (λ q. simp (e, r, q))) (λ r. simp (e, r))
-      go NothingHeld e =
-          by_cases live (λ r. by_cases (equal rounds.core.paxos.round NoRound) (λ q. epaxos_answers e q r) (λ q. simp (e, r, q))) (λ r. simp (e, r))
+      go : (held : Option RoundV) → rounds.core.paxos.max_rv ≡ held → Proposed EPaxos
+      go (Some rv) e = by_cases live (λ r. by_cases (equal rounds.core.paxos.round None) (λ q. simp (e, r, q)) (λ q. simp (e, r, q))) (λ r. simp (e, r))
+      go None e =
+          by_cases live (λ r. by_cases (equal rounds.core.paxos.round None) (λ q. epaxos_answers e q r) (λ q. simp (e, r, q))) (λ r. simp (e, r))
 
   swift_proposed : Proposed SwiftPaxos
   unfolding proposing propose_fast propose_change may_propose first_of
   swift_proposed = go rounds.core.paxos.max_rv refl
     where
-      go : (held : HeldPromise) → rounds.core.paxos.max_rv ≡ held → Proposed SwiftPaxos
-      go (Held rv) e = by_cases (equal rounds.core.paxos.round NoRound) (λ q. simp (e, or_true, q)) (λ q. simp (e, or_true, q))
-      go NothingHeld e =
-          by_cases (equal rounds.core.paxos.round NoRound)
+      go : (held : Option RoundV) → rounds.core.paxos.max_rv ≡ held → Proposed SwiftPaxos
+      go (Some rv) e = by_cases (equal rounds.core.paxos.round None) (λ q. simp (e, or_true, q)) (λ q. simp (e, or_true, q))
+      go None e =
+          by_cases (equal rounds.core.paxos.round None)
           (λ q. by_cases (eqb s.first_leader s.my_pid) (swift_leads e q) (swift_answers e q)) (λ q. simp (e, or_true, q))
 
   proposed_number : (m : PFMode) → Proposed m
@@ -281,7 +306,7 @@ module _ (choose : Choice) (shard : Shard) where
       none = not_inserted rounds.core.tracker shard.state.table
 
       some : Inserted
-      some = inserted rounds.core.tracker shard.state.table tag arrival (not (is_held rounds.core.paxos.max_rv))
+      some = inserted rounds.core.tracker shard.state.table tag arrival (not (is_some rounds.core.paxos.max_rv))
 
       go : (fit full spent : Bool)
           → Gives shard (cond fit (after_insert shard (cond full none (cond spent none some)) (cond full none (cond spent none some)).opened) (refused NumberTooLarge shard))
@@ -339,8 +364,8 @@ module _ (choose : Choice) (shard : Shard) where
             → Gives shard
             (admitted choose shard d
             (cond numbers
-            (cond processes (cond ahead (Refused SlotAhead) (cond other (Refused OtherLastValue) (cond wait (Refused ValueNotHeld) Done))) (Refused NoSuchProcess))
-            (Refused NumberTooLarge)))
+            (cond processes (cond ahead (Err SlotAhead) (cond other (Err OtherLastValue) (cond wait (Err ValueNotHeld) (Ok tt)))) (Err NoSuchProcess))
+            (Err NumberTooLarge)))
             (cond (not numbers) 2 (cond (not processes) 3 (cond ahead 5 (cond other 4 (cond wait 6 rest)))))
         go false p a o w = inr (NumberTooLarge, refl, refl)
         go true false a o w = inr (NoSuchProcess, refl, refl)
@@ -359,12 +384,12 @@ module _ (choose : Choice) (shard : Shard) where
 
   marked_gives : (c : Call) (o : Outcome) → Gives shard (if_made choose shard c o) (first_of (then (unmade o) (gives 2 (is_spent shard) ∷ causes choose shard c)))
   unfolding unless_spent first_of then
-  marked_gives c Done = spent (is_spent shard)
+  marked_gives c (Ok tt) = spent (is_spent shard)
     where
       spent : (t : Bool) → Gives shard (cond t (refused NumberTooLarge shard) (dispatch choose shard c)) (cond t 2 (first_of (causes choose shard c)))
       spent true = inr (NumberTooLarge, refl, refl)
       spent false = dispatch_gives c
-  marked_gives c (Refused why) = inr (why, refl, refl)
+  marked_gives c (Err why) = inr (why, refl, refl)
 
   -- Every call on every shard, whatever stands in it: taken where the number is 0, and else refused with that number, the shard as it was. It is said of each
   -- kind of call by itself, so that an engine which treats one kind otherwise is refused there.

@@ -1,5 +1,6 @@
 -- The handlers of a Prepare and an Accept give the numbers of the table of panics (specs/Panics.antt), row by row.
 -- Assumes nothing.
+use Rattle.std.specs.Prelude.{Option, None, Some, Ok, Err}
 use mathlib.Core.Path.{◌≡◌, refl, sym, ap, ◌∙◌}
 use mathlib.Core.Bool.{Bool, true, false, cond, not, ◌&&◌, ◌||◌}
 use mathlib.Core.List.{List}
@@ -14,16 +15,11 @@ use Rattle.message.specs.Modes.{is_swift_paxos}
 use Rattle.message.specs.Promises.{value_of, accept_round_of, is_process}
 use Rattle.message.specs.Refusals.{refusal_number}
 use Rattle.message.specs.Rounds.{before, equal}
-use Rattle.message.specs.declared.OptionalRound.{OptionalRound}
-use Rattle.message.specs.declared.OptionalRound.TheVariants.{NoRound, Round}
-use Rattle.message.specs.declared.Outcome.TheVariants.{Done, Refused}
 use Rattle.message.specs.declared.PaxosRound.{PaxosRound}
 use Rattle.message.specs.declared.Refusal.TheVariants.{Panic, AcceptUnlikeHeld}
 use Rattle.message.specs.declared.RoundV.{RoundV}
 use Rattle.message.specs.declared.RoundV.TheVariants.{FastV, PaxosV}
-use Rattle.round_state.specs.Paxos.{with_sender, with_own, counted, is_prepared, held_after_promise, receive_promise, paxos_propose_v, accept_fits, receive_accept, accept_own, self_accept}
-use Rattle.round_state.specs.declared.HeldPromise.{HeldPromise}
-use Rattle.round_state.specs.declared.HeldPromise.TheVariants.{NothingHeld, Held}
+use Rattle.round_state.specs.Paxos.{with_sender, with_own, counted, is_prepared, held_after_promise, receive_promise, paxos_propose_v, accept_fits, receive_accept, accept_own, self_accept, after_accept}
 use Rattle.round_state.specs.declared.Member.{Member}
 use Rattle.round_state.specs.declared.PaxosState.{PaxosState}
 use Rattle.fast_state.specs.declared.FastAnswers.{FastAnswers}
@@ -37,10 +33,10 @@ use Rattle.steps.specs.declared.Core.{Core}
 use Rattle.steps.specs.declared.Heard.{Heard}
 use Rattle.steps.specs.declared.Next.{Next}
 use Rattle.steps.specs.declared.Next.TheVariants.{Stays, Continues, Commits, Refuses}
-use Rattle.basics.proofs.Tests.{same_test}
+use Rattle.basics.proofs.Tests.{by_cases, same_test}
 use Rattle.consensus.specs.Panics.{Facts, gathers, nothing_held, majority, promises_first, promises_then, completes, own_fits, accepted_in_round, fits_held, with_both, held_first, held_then, classic_prepare, prepare_rows, own_accept_rows}
 use Rattle.consensus.specs.Rows.{Row, first_of, then}
-use Rattle.consensus.proofs.Admitted.{by_cases}
+use Rattle.consensus.proofs.Admitted.{}
 
 -- the number of a step, with whether the value is held
 abbrev pub next_number : Bool → Next → ℕ
@@ -94,28 +90,31 @@ pub counted_size : (a : Asked) (h : Heard) (held : Bool) (round : PaxosRound) (p
 unfolding with_both
 counted_size a h held round p answers scores set = both_size a.member h.src set
 
-pub fits_same : (held : HeldPromise) (round : PaxosRound) (v : ℕ) → accept_fits held round v ≡ fits_held held round v
+pub fits_same : (held : Option RoundV) (round : PaxosRound) (v : ℕ) → accept_fits held round v ≡ fits_held held round v
 unfolding accept_fits
-fits_same NothingHeld round v = refl
-fits_same (Held (FastV proposer w)) round v = refl
-fits_same (Held (PaxosV NoRound w)) round v = refl
-fits_same (Held (PaxosV (Round r) w)) round v = refl
+fits_same None round v = refl
+fits_same (Some (FastV proposer w)) round v = refl
+fits_same (Some (PaxosV None w)) round v = refl
+fits_same (Some (PaxosV (Some r) w)) round v = refl
 
 pub choice_same : {A : Type 0} (t : Bool) (x : A) → cond t x x ≡ x
 choice_same true x = refl
 choice_same false x = refl
 
-pub promise_holds : (held : HeldPromise) (rv : RoundV) → held_after_promise held rv ≡ Held (held_then held rv)
+pub promise_holds : (held : Option RoundV) (rv : RoundV) → held_after_promise held rv ≡ Some (held_then held rv)
 unfolding held_after_promise
-promise_holds NothingHeld rv = refl
-promise_holds (Held old) rv = by_cases (before (accept_round_of old) (accept_round_of rv)) (λ e. simp e) (λ e. simp e)
+promise_holds None rv = refl
+promise_holds (Some old) rv = by_cases (before (accept_round_of old) (accept_round_of rv)) (λ e. simp e) (λ e. simp e)
 
 -- self_accept of what is held
-pub self_accept_number : (me : Member) (round : PaxosRound) (p : PaxosState) (rv : RoundV) → p.max_rv ≡ Held rv
-    → (self_accept me round p).outcome ≡ cond (is_empty p.accepted_set) (cond (fits_held (Held rv) round (value_of rv)) Done (Refused AcceptUnlikeHeld)) (Refused AcceptUnlikeHeld)
+pub self_accept_number : (me : Member) (round : PaxosRound) (p : PaxosState) (rv : RoundV) → p.max_rv ≡ Some rv
+    → self_accept me round p
+    ≡ cond (is_empty p.accepted_set)
+    (cond (fits_held (Some rv) round (value_of rv)) (Ok (after_accept me me.my_pid round (value_of rv) p)) (Err AcceptUnlikeHeld))
+    (Err AcceptUnlikeHeld)
 unfolding self_accept accept_own receive_accept
 self_accept_number me round p rv e =
-    by_cases (is_empty p.accepted_set) (λ t. by_cases (fits_held (Held rv) round (value_of rv)) (λ u. simp (e, t, fits_same, u)) (λ u. simp (e, t, fits_same, u))) (λ t. simp t)
+    by_cases (is_empty p.accepted_set) (λ t. by_cases (fits_held (Some rv) round (value_of rv)) (λ u. simp (e, t, fits_same, u)) (λ u. simp (e, t, fits_same, u))) (λ t. simp t)
 
 -- ---- steps one after another
 
@@ -194,7 +193,7 @@ abbrev pub first_state : Member → RoundV → PaxosState → PaxosState
 first_state me rv p =
     record {
       round = p.round;
-      max_rv = Held (held_first p.max_rv rv);
+      max_rv = Some (held_first p.max_rv rv);
       prepared_set = cond (nothing_held p.max_rv) (insert p.prepared_set me.my_pid) p.prepared_set;
       accepted_set = p.accepted_set;
     }
@@ -203,12 +202,12 @@ pub own_counted : (me : Member) (set : ℕ) → me.replica ≡ true → counted 
 unfolding with_sender with_own
 own_counted me set r = simp (r, eq-eqb me.my_pid me.my_pid refl)
 
-pub hold_first_lem : (a : Asked) (rv : RoundV) → a.member.replica ≡ true → (r : OptionalRound) (x : HeldPromise) (promises accepts : ℕ)
+pub hold_first_lem : (a : Asked) (rv : RoundV) → a.member.replica ≡ true → (r : Option PaxosRound) (x : Option RoundV) (promises accepts : ℕ)
     → let p : PaxosState = record { round = r; max_rv = x; prepared_set = promises; accepted_set = accepts } in
-    hold_first a rv p ≡ cond (nothing_held x && not (is_empty promises)) (record { state = p; outcome = Refused Panic }) (record { state = first_state a.member rv p; outcome = Done })
+    hold_first a rv p ≡ cond (nothing_held x && not (is_empty promises)) (Err Panic) (Ok (first_state a.member rv p))
 unfolding hold_first paxos_propose_v receive_promise
-hold_first_lem a rv l r (Held old) promises accepts = refl
-hold_first_lem a rv l r NothingHeld promises accepts =
+hold_first_lem a rv l r (Some old) promises accepts = refl
+hold_first_lem a rv l r None promises accepts =
     by_cases (is_empty promises) (λ e. simp (e, promise_holds, own_counted a.member promises l)) (λ e. simp e)
 
 module _ (a : Asked) (h : Heard) (value_held : Bool) (round : PaxosRound) where
@@ -238,22 +237,22 @@ module _ (a : Asked) (h : Heard) (value_held : Bool) (round : PaxosRound) where
   -- what another than the delegate has accepted is what it holds first
   answers_nothing_lem : (rv : RoundV) (core : Core)
       → answers_nothing a h round (with_paxos (first_state me rv core.paxos) core)
-      ≡ ((is_swift_paxos a.mode && eqb h.delegate round.leader) || equal (accept_round_of (held_first core.paxos.max_rv rv)) (Round round))
+      ≡ ((is_swift_paxos a.mode && eqb h.delegate round.leader) || equal (accept_round_of (held_first core.paxos.max_rv rv)) (Some round))
   unfolding answers_nothing
   answers_nothing_lem rv core = refl
 
   -- what is held once the promise is counted
-  holds_then : (x : HeldPromise) (rv : RoundV) → held_after_promise (Held (held_first x rv)) rv ≡ Held (held_then x rv)
+  holds_then : (x : Option RoundV) (rv : RoundV) → held_after_promise (Some (held_first x rv)) rv ≡ Some (held_then x rv)
   unfolding held_after_promise
-  holds_then NothingHeld rv = choice_same (before (accept_round_of rv) (accept_round_of rv)) (Held rv)
-  holds_then (Held old) rv = promise_holds (Held old) rv
+  holds_then None rv = choice_same (before (accept_round_of rv) (accept_round_of rv)) (Some rv)
+  holds_then (Some old) rv = promise_holds (Some old) rv
 
-  accept_phase_number : (core : Core) (x : RoundV) → core.paxos.max_rv ≡ Held x
-      → step_number value_held (accept_phase a round core) ≡ cond (is_empty core.paxos.accepted_set) (cond (fits_held (Held x) round (value_of x)) 0 9) 9
+  accept_phase_number : (core : Core) (x : RoundV) → core.paxos.max_rv ≡ Some x
+      → step_number value_held (accept_phase a round core) ≡ cond (is_empty core.paxos.accepted_set) (cond (fits_held (Some x) round (value_of x)) 0 9) 9
   unfolding accept_phase broadcast_accept
   accept_phase_number core x e =
       by_cases (is_empty core.paxos.accepted_set)
-      (λ t. by_cases (fits_held (Held x) round (value_of x)) (λ u. simp (self_accept_number me round core.paxos x e, t, u)) (λ u. simp (self_accept_number me round core.paxos x e, t, u)))
+      (λ t. by_cases (fits_held (Some x) round (value_of x)) (λ u. simp (self_accept_number me round core.paxos x e, t, u)) (λ u. simp (self_accept_number me round core.paxos x e, t, u)))
       (λ t. simp (self_accept_number me round core.paxos x e, t))
 
   module _ (answers : FastAnswers) (scores : List ℕ) (rv : RoundV) (core : Core) where
@@ -264,7 +263,7 @@ module _ (a : Asked) (h : Heard) (value_held : Bool) (round : PaxosRound) where
     abbrev pub first : Core
     first = with_paxos (first_state me rv core.paxos) core
 
-    pub promised_held : (with_promise a h rv first).paxos.max_rv ≡ Held (held_then core.paxos.max_rv rv)
+    pub promised_held : (with_promise a h rv first).paxos.max_rv ≡ Some (held_then core.paxos.max_rv rv)
     unfolding receive_promise
     promised_held = holds_then core.paxos.max_rv rv
 

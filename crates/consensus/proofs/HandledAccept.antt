@@ -5,6 +5,7 @@ use mathlib.Core.Bool.{Bool, false, cond}
 use mathlib.Core.List.{List}
 use Prim.Native.Nat.{ℕ}
 use lib.Dec.{eqb, leb}
+use Rattle.basics.proofs.Tests.{by_cases}
 use Rattle.message.specs.Modes.{is_swift_paxos}
 use Rattle.message.specs.declared.PaxosRound.{PaxosRound}
 use Rattle.round_state.specs.Paxos.{paxos_can_commit, receive_accept, after_accept}
@@ -19,7 +20,7 @@ use Rattle.prepare.specs.Prepare.{off_fast_path}
 use Rattle.steps.specs.declared.Messages.{Messages}
 use Rattle.consensus.specs.Panics.{Facts, leads, from_delegate, accepts_enough, classic_accept, majority, fits_held}
 use Rattle.consensus.specs.Rows.{first_of}
-use Rattle.consensus.proofs.Admitted.{by_cases}
+use Rattle.consensus.proofs.Admitted.{}
 use Rattle.consensus.proofs.Handled.{facts_in, step_number, after_step, stop_number, eqb_sym, if_enough, accept_table, fits_same, counted_size}
 
 module _ (a : Asked) (h : Heard) (value_held : Bool) (round : PaxosRound) (v : ℕ) where

@@ -1,5 +1,7 @@
 -- A Prepare in EPaxos gives the numbers of the table of panics (specs/Panics.antt), row by row.
 -- Assumes nothing.
+use Rattle.basics.proofs.Tests.{by_cases}
+use Rattle.std.specs.Prelude.{Option, None, Some, is_some}
 use mathlib.Core.Path.{◌≡◌, refl, sym, ap, ap₂, subst, ◌∙◌}
 use mathlib.Core.Bool.{Bool, true, false, cond, not, ◌&&◌}
 use mathlib.Core.List.{List}
@@ -7,12 +9,10 @@ use Prim.Native.Nat.{ℕ}
 use lib.Dec.{eqb, leb}
 use Rattle.sets.specs.Sets.{contains, size, is_empty}
 use Rattle.message.specs.Modes.{is_swift_paxos}
-use Rattle.message.specs.Rounds.{is_round}
 use Rattle.message.specs.declared.PaxosRound.{PaxosRound}
 use Rattle.message.specs.declared.RoundV.{RoundV}
 use Rattle.message.specs.declared.RoundV.TheVariants.{FastV, PaxosV}
 use Rattle.round_state.specs.Paxos.{is_prepared, receive_promise, accept_fits, receive_accept, accept_own, self_accept, get_last_accepted_round}
-use Rattle.round_state.specs.declared.HeldPromise.{HeldPromise}
 use Rattle.round_state.specs.declared.Member.{Member}
 use Rattle.round_state.specs.declared.PaxosState.{PaxosState}
 use Rattle.fast_state.specs.declared.FastAnswers.{FastAnswers}
@@ -23,9 +23,7 @@ use Rattle.steps.specs.declared.Heard.{Heard}
 use Rattle.accept.specs.Accept.{accepted}
 use Rattle.consensus.specs.Panics.{Facts, gathers, majority, promises_then, completes, own_fits, own_accept_rows, unopposed, is_one, answers_again, epaxos_answers_then, epaxos_scores_then, epaxos_commits, adopts, accepted_then, epaxos_answer_rows, epaxos_prepare}
 use Rattle.consensus.specs.Rows.{Row, first_of, then}
-use Rattle.consensus.proofs.Admitted.{by_cases, above_test}
-use Rattle.message.specs.declared.OptionalProcess.{OptionalProcess}
-use Rattle.message.specs.declared.OptionalProcess.TheVariants.{NoProcess, Process}
+use Rattle.consensus.proofs.Admitted.{above_test}
 use Rattle.fast_state.specs.Adopt.{Choice, value_in, score_in, adopted, epaxos_try_adopt}
 use Rattle.fast_state.specs.Fast.{unchanged, preaccepted_after, second_answer, score_after, epaxos_counted, epaxos_answered, epaxos_can_commit}
 use Rattle.fast_state.specs.declared.FastChange.{FastChange}
@@ -49,10 +47,10 @@ module _ (a : Asked) (h : Heard) (value_held : Bool) (round : PaxosRound) (choos
   abbrev adopt_number : Bool → Core → ℕ
   adopt_number adopts core = cond adopts (cond (is_prepared me core.paxos) (cond (is_empty core.paxos.accepted_set) 0 9) 8) 0
 
-  chosen_number : (core : Core) (value : ℕ → ℕ) (o : OptionalProcess) → step_number value_held (epaxos_adopt a round core (adopted value o)) ≡ adopt_number (is_one o) core
+  chosen_number : (core : Core) (value : ℕ → ℕ) (o : Option ℕ) → step_number value_held (epaxos_adopt a round core (adopted value o)) ≡ adopt_number (is_one o) core
   unfolding adopted
-  chosen_number core value NoProcess = refl
-  chosen_number core value (Process p) = adopting_number (value p) core
+  chosen_number core value None = refl
+  chosen_number core value (Some p) = adopting_number (value p) core
 
   try_adopt_number : (core : Core) (f : FastAnswers) (value score : ℕ → ℕ)
       → step_number value_held (epaxos_adopt a round core (epaxos_try_adopt choose me f value score))
@@ -139,7 +137,7 @@ module _ (a : Asked) (h : Heard) (value_held : Bool) (round : PaxosRound) (choos
     promised = with_promise a h rv start
 
     pub has_accepted_lem : has_accepted promised ≡ accepted_then facts rv
-    has_accepted_lem = ap (λ (x : HeldPromise). is_round (get_last_accepted_round x)) (promised_held a h value_held round answers scores rv core)
+    has_accepted_lem = ap (λ (x : Option RoundV). is_some (get_last_accepted_round x)) (promised_held a h value_held round answers scores rv core)
 
     -- an answer where nothing is accepted
     fast_answer_lem : (x : RoundV) → next_number value_held (epaxos_answer choose a h round x promised answers values scores).next ≡ first_of (epaxos_answer_rows choose facts true x)

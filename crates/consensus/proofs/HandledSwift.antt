@@ -1,5 +1,6 @@
 -- A Prepare or an Accept in SwiftPaxos gives the numbers of the table of panics (specs/Panics.antt), row by row.
 -- Assumes nothing.
+use Rattle.std.specs.Prelude.{Option, None, Some, Result, Ok, Err, is_some}
 use mathlib.Core.Path.{◌≡◌, refl, sym, ap, subst, ◌∙◌}
 use mathlib.Core.Bool.{Bool, true, false, cond, not, ◌&&◌, ◌||◌}
 use mathlib.Core.List.{List, ◌∷◌}
@@ -7,12 +8,8 @@ use Prim.Native.Nat.{ℕ}
 use lib.Dec.{eqb, leb}
 use Rattle.sets.specs.Sets.{contains, is_empty}
 use Rattle.message.specs.Modes.{is_swift_paxos}
-use Rattle.message.specs.Promises.{value_of, accept_round_of, is_process, has_value}
-use Rattle.message.specs.Refusals.{refusal_number}
-use Rattle.message.specs.Rounds.{before, is_round}
-use Rattle.message.specs.declared.OptionalRound.TheVariants.{NoRound, Round}
-use Rattle.message.specs.declared.Outcome.{Outcome}
-use Rattle.message.specs.declared.Outcome.TheVariants.{Done, Refused}
+use Rattle.message.specs.Promises.{value_of, accept_round_of, is_process}
+use Rattle.message.specs.Rounds.{before}
 use Rattle.message.specs.declared.PFMode.{PFMode}
 use Rattle.message.specs.declared.PFMode.TheVariants.{Paxos, MultiPaxos, MultiPaxos3P, EPaxos, Pando, SwiftPaxos}
 use Rattle.message.specs.declared.PaxosRound.{PaxosRound}
@@ -21,14 +18,13 @@ use Rattle.message.specs.declared.Refusal.TheVariants.{Panic, SecondFastAnswer}
 use Rattle.message.specs.declared.RoundV.{RoundV}
 use Rattle.message.specs.declared.RoundV.TheVariants.{FastV, PaxosV}
 use Rattle.round_state.specs.Paxos.{paxos_can_commit, receive_accept, after_accept, get_last_accepted_round}
-use Rattle.round_state.specs.declared.HeldPromise.{HeldPromise}
-use Rattle.round_state.specs.declared.HeldPromise.TheVariants.{Held}
 use Rattle.round_state.specs.declared.Member.{Member}
 use Rattle.round_state.specs.declared.PaxosState.{PaxosState}
 use Rattle.fast_state.specs.declared.FastAnswers.{FastAnswers}
 use Rattle.prepare.specs.Prepare.{prepared, with_promise, has_accepted}
 use Rattle.steps.specs.declared.Asked.{Asked}
 use Rattle.steps.specs.declared.Core.{Core}
+use Rattle.steps.specs.declared.CoreStep.{CoreStep}
 use Rattle.steps.specs.declared.Heard.{Heard}
 use Rattle.accept.specs.Accept.{tells_committer, is_committer, try_commit, accepted, accepting}
 use Rattle.steps.specs.Steps.{no_messages, continues}
@@ -36,26 +32,23 @@ use Rattle.consensus.proofs.HandledEPaxos.{gather_shape}
 use Rattle.steps.specs.declared.Messages.{Messages}
 use Rattle.consensus.specs.Panics.{Facts, gathers, majority, own_fits, fits_held, held_then, prepare_rows, unopposed, may_count, answered_before, answers_again, swift_needs, answer_commits, leader_answer_commits, accepted_then, swift_answer_rows, swift_prepare, leads, from_leader, from_delegate, accepts_enough, swift_replica_accept_rows, swift_client_accept_rows}
 use Rattle.consensus.specs.Rows.{Row, asserts, first_of, then}
-use Rattle.consensus.proofs.Admitted.{by_cases}
 use Rattle.paxos_family.specs.Process.{fast_prepared, fast_promised, leads_round, starts_accept, waits, fast_answered, fast_gather, in_fast_prepare, replica_accept, in_fast_accept}
 use Rattle.consensus.proofs.Handled.{next_number, facts_in, step_number, after_step, and_then_change_number, prepare_begins, promised_held, own_accept_number, first, counted_size, fits_same, if_enough, stop_number}
-use Rattle.basics.proofs.Tests.{not_both}
-use Rattle.sets.specs.declared.OptionalSet.{OptionalSet}
-use Rattle.sets.specs.declared.OptionalSet.TheVariants.{NoSet, Set}
+use Rattle.basics.proofs.Tests.{by_cases, not_both}
 use Rattle.fast_state.specs.Adopt.{Choice}
-use Rattle.fast_state.specs.Fast.{taken, refused, swift_counted, swift_recorded, unchanged, preaccepted_after, leader_answer_after, second_answer, swift_uncounted, swift_first, swift_answered, swift_quorum, swift_can_commit, in_quorum}
-use Rattle.fast_state.specs.declared.FastStep.{FastStep}
-use Rattle.swift_path.specs.Swift.{after_swift_answer, after_client_accept, after_accept_answer, after_replica_answer, is_fixed, swift_commits, swift_answer, swift_client_prepare, leader_answered, accept_answered, client_accept, swift_accept, swift_client_accept, swift_answered_accept}
+use Rattle.fast_state.specs.Fast.{swift_counted, swift_recorded, unchanged, preaccepted_after, leader_answer_after, second_answer, swift_uncounted, swift_first, swift_answered, swift_quorum, swift_can_commit, in_quorum}
+use Rattle.fast_state.specs.declared.FastChange.{FastChange}
+use Rattle.swift_path.specs.Swift.{after_step as after_fast_step, after_swift_answer, after_client_accept, after_accept_answer, after_replica_answer, swift_commits, swift_answer, swift_client_prepare, leader_answered, accept_answered, client_accept, swift_accept, swift_client_accept, swift_answered_accept}
 use Rattle.consensus.proofs.HandledAccept.{accepted_core, accepts_enough_lem, try_commit_number, accepting_number}
 
-in_quorum_lem : (q : OptionalSet) (p : ℕ) → in_quorum q p ≡ may_count q p
-in_quorum_lem NoSet p = refl
-in_quorum_lem (Set quorum) p = refl
+in_quorum_lem : (q : Option ℕ) (p : ℕ) → in_quorum q p ≡ may_count q p
+in_quorum_lem None p = refl
+in_quorum_lem (Some quorum) p = refl
 
-fresh_fits : (x : RoundV) (round : PaxosRound) → is_round (accept_round_of x) ≡ false → fits_held (Held x) round (value_of x) ≡ true
+fresh_fits : (x : RoundV) (round : PaxosRound) → is_some (accept_round_of x) ≡ false → fits_held (Some x) round (value_of x) ≡ true
 fresh_fits (FastV proposer v) round e = refl
-fresh_fits (PaxosV NoRound v) round e = refl
-fresh_fits (PaxosV (Round r) v) round e = absurd (not_both refl e)
+fresh_fits (PaxosV None v) round e = refl
+fresh_fits (PaxosV (Some r) v) round e = absurd (not_both refl e)
 
 -- ---- rows of tests
 
@@ -164,35 +157,35 @@ module _ (a : Asked) (h : Heard) (value_held : Bool) (round : PaxosRound) (answe
   abbrev known : Facts
   known = facts_in a h value_held round p answers scores
 
-  needs : (q : OptionalSet) → swift_quorum me (is_fixed q) ≡ swift_needs me.quorums q
+  needs : (q : Option ℕ) → swift_quorum me (is_some q) ≡ swift_needs me.quorums q
   unfolding swift_quorum
-  needs NoSet = refl
-  needs (Set quorum) = refl
+  needs None = refl
+  needs (Some quorum) = refl
 
-  commits_by_lem : (f : FastAnswers) → swift_commits a f ≡ (has_value f.swift_leader_answer && unopposed (swift_needs me.quorums a.quorum) f)
+  commits_by_lem : (f : FastAnswers) → swift_commits a f ≡ (is_some f.swift_leader_answer && unopposed (swift_needs me.quorums a.quorum) f)
   unfolding swift_can_commit
   commits_by_lem f = simp (needs a.quorum)
 
   -- swift_answered, by whether the source has answered before and is in the quorum
   module _ (proposer v : ℕ) (leader : Bool) where
-    abbrev step : FastStep
+    abbrev step : Result FastChange Refusal
     step = swift_answered me h.src proposer v a.quorum leader answers swift_scores
 
-    own_again : contains answers.fast_answer_set h.src ≡ true → eqb h.src me.my_pid ≡ true → step ≡ taken (unchanged answers)
+    own_again : contains answers.fast_answer_set h.src ≡ true → eqb h.src me.my_pid ≡ true → step ≡ Ok (unchanged answers)
     unfolding swift_answered second_answer
     own_again c s = simp (c, s)
 
-    other_again : contains answers.fast_answer_set h.src ≡ true → eqb h.src me.my_pid ≡ false → step ≡ refused SecondFastAnswer answers
+    other_again : contains answers.fast_answer_set h.src ≡ true → eqb h.src me.my_pid ≡ false → step ≡ Err SecondFastAnswer
     unfolding swift_answered second_answer
     other_again c s = simp (c, s)
 
     counted_first : contains answers.fast_answer_set h.src ≡ false → may_count a.quorum h.src ≡ true
-        → step ≡ taken (swift_counted me h.src proposer v leader answers swift_scores)
+        → step ≡ Ok (swift_counted me h.src proposer v leader answers swift_scores)
     unfolding swift_answered swift_first
     counted_first c q = simp (c, in_quorum_lem, q)
 
     outside_first : contains answers.fast_answer_set h.src ≡ false → may_count a.quorum h.src ≡ false
-        → step ≡ cond leader (refused Panic answers) (taken (swift_recorded h.src proposer v answers))
+        → step ≡ cond leader (Err Panic) (Ok (swift_recorded h.src proposer v answers))
     unfolding swift_answered swift_first swift_uncounted
     outside_first c q = simp (c, in_quorum_lem, q)
 
@@ -200,10 +193,10 @@ module _ (a : Asked) (h : Heard) (value_held : Bool) (round : PaxosRound) (answe
   abbrev answer_number : ℕ → ℕ
   answer_number proposer = cond (answers_again known) 10 (if_enough value_held (answer_commits known proposer))
 
-  abbrev after_answer : ℕ → Core → FastStep → ℕ
-  after_answer v core s = step_number value_held (after_swift_answer a v core s.change.answers s.outcome)
+  abbrev after_answer : ℕ → Core → Result FastChange Refusal → ℕ
+  after_answer v core s = next_number value_held (after_fast_step core answers (after_swift_answer a v core) s).next
 
-  commit_number : (v : ℕ) (core : Core) (f : FastAnswers) → step_number value_held (after_swift_answer a v core f Done) ≡ if_enough value_held (swift_commits a f)
+  commit_number : (v : ℕ) (core : Core) (f : FastAnswers) → step_number value_held (after_swift_answer a v core f) ≡ if_enough value_held (swift_commits a f)
   commit_number v core f = by_cases (swift_commits a f) (λ e. simp e) (λ e. simp e)
 
   swift_answer_number : (proposer v : ℕ) (core : Core) → after_answer v core (step proposer v false) ≡ answer_number proposer
@@ -240,22 +233,22 @@ module _ (a : Asked) (h : Heard) (value_held : Bool) (round : PaxosRound) (answe
   abbrev pub leader_number : ℕ → ℕ
   leader_number x = cond (answers_again known) 10 (cond (not (answered_before known) && not (may_count a.quorum h.src)) 8 (cond (leader_answer_commits known) (cond value_held 0 6) x))
 
-  -- for what comes behind the answer: a number by the answers, or the refusal
-  pub leader_number_lem : (v : ℕ) (rest : FastAnswers → Outcome → ℕ) (x : ℕ)
-      → ((f : FastAnswers) → rest f Done ≡ cond (swift_commits a f) (cond value_held 0 6) x) → ((f : FastAnswers) (why : Refusal) → rest f (Refused why) ≡ refusal_number why)
-      → rest (leader_answered a h v answers swift_scores).change.answers (leader_answered a h v answers swift_scores).outcome ≡ leader_number x
+  -- for what comes behind the answer, by its number
+  pub leader_number_lem : (v : ℕ) (core : Core) (rest : FastAnswers → CoreStep) (x : ℕ)
+      → ((f : FastAnswers) → step_number value_held (rest f) ≡ cond (swift_commits a f) (cond value_held 0 6) x)
+      → next_number value_held (after_fast_step core answers rest (leader_answered a h v answers swift_scores)).next ≡ leader_number x
   unfolding leader_answered preaccepted_after leader_answer_after
-  leader_number_lem v rest x done refuses =
+  leader_number_lem v core rest x done =
       by_cases (contains answers.fast_answer_set h.src)
       (λ c. by_cases (eqb h.src me.my_pid)
       (λ s. ap after (own_again me.my_pid v true c s) ∙ done answers ∙ ap (λ (t : Bool). cond t (cond value_held 0 6) x) (commits_by_lem answers) ∙ simp (c, s))
-      (λ s. ap after (other_again me.my_pid v true c s) ∙ refuses answers SecondFastAnswer ∙ simp (c, s)))
+      (λ s. ap after (other_again me.my_pid v true c s) ∙ simp (c, s)))
       (λ c. by_cases (may_count a.quorum h.src)
       (λ q. ap after (counted_first me.my_pid v true c q) ∙ done counted_answers ∙ ap (λ (t : Bool). cond t (cond value_held 0 6) x) (commits_by_lem counted_answers) ∙ simp (c, q))
-      (λ q. ap after (outside_first me.my_pid v true c q) ∙ refuses answers Panic ∙ simp (c, q)))
+      (λ q. ap after (outside_first me.my_pid v true c q) ∙ simp (c, q)))
     where
-      after : FastStep → ℕ
-      after s = rest s.change.answers s.outcome
+      after : Result FastChange Refusal → ℕ
+      after s = next_number value_held (after_fast_step core answers rest s).next
 
       counted_answers : FastAnswers
       counted_answers = (swift_counted me h.src me.my_pid v true answers swift_scores).answers
@@ -296,7 +289,7 @@ module _ (a : Asked) (h : Heard) (value_held : Bool) (round : PaxosRound) (choos
     counts = simp l
 
     has_accepted_lem : has_accepted promised ≡ accepted_then facts rv
-    has_accepted_lem = ap (λ (x : HeldPromise). is_round (get_last_accepted_round x)) (promised_held a h value_held round answers scores rv core)
+    has_accepted_lem = ap (λ (x : Option RoundV). is_some (get_last_accepted_round x)) (promised_held a h value_held round answers scores rv core)
 
     starts : starts_accept a round start promised ≡ (leads facts && not (accepted_then facts rv))
     unfolding starts_accept leads_round
@@ -382,7 +375,7 @@ module _ (a : Asked) (h : Heard) (value_held : Bool) (round : PaxosRound) (v : �
 
   -- at a replica: the leader's Accept at a committer
   module _ (ms : Messages) (x : Core) where
-    replica_done : (f : FastAnswers) → step_number value_held (after_replica_answer a h round v x ms f Done) ≡ cond (swift_commits a f) (cond value_held 0 6) (if_enough value_held (paxos_can_commit a.member x.paxos))
+    replica_done : (f : FastAnswers) → step_number value_held (after_replica_answer a h round v x ms f) ≡ cond (swift_commits a f) (cond value_held 0 6) (if_enough value_held (paxos_can_commit a.member x.paxos))
     replica_done f = by_cases (swift_commits a f) (λ e. simp e)
         (λ e. simp e (stop_number value_held (try_commit a h round v x ms) ∙ try_commit_number a h value_held round v (λ y. 0) x ms))
 
@@ -390,8 +383,8 @@ module _ (a : Asked) (h : Heard) (value_held : Bool) (round : PaxosRound) (v : �
         ≡ leader_number a h value_held round answers core.paxos scores swift_scores (if_enough value_held (paxos_can_commit a.member x.paxos))
     unfolding swift_answered_accept
     replica_answered =
-        leader_number_lem a h value_held round answers core.paxos scores swift_scores v (λ f o. step_number value_held (after_replica_answer a h round v x ms f o))
-        (if_enough value_held (paxos_can_commit a.member x.paxos)) replica_done (λ f why. refl)
+        leader_number_lem a h value_held round answers core.paxos scores swift_scores v x (after_replica_answer a h round v x ms)
+        (if_enough value_held (paxos_can_commit a.member x.paxos)) replica_done
 
   replica_accept_lem : next_number value_held (replica_accept a h round v core answers swift_scores).next ≡ first_of (swift_replica_accept_rows now v)
   unfolding replica_accept first_of then
@@ -432,7 +425,7 @@ module _ (a : Asked) (h : Heard) (value_held : Bool) (round : PaxosRound) (v : �
       p : PaxosState
       p = after_accept a.member h.src round v core.paxos
 
-      enough_number : step_number value_held (after_client_accept a v core p Done) ≡ if_enough value_held (paxos_can_commit a.member p)
+      enough_number : step_number value_held (after_client_accept a v core (Ok p)) ≡ if_enough value_held (paxos_can_commit a.member p)
       enough_number = by_cases (paxos_can_commit a.member p) (λ e. simp e) (λ e. simp e)
 
   abbrev accept_number : ℕ
@@ -442,8 +435,8 @@ module _ (a : Asked) (h : Heard) (value_held : Bool) (round : PaxosRound) (v : �
   unfolding swift_accept accept_answered
   from_leader_lem l =
       simp l
-      (leader_number_lem a h value_held round answers core.paxos scores swift_scores v (λ f o. step_number value_held (after_accept_answer a h round v core f o)) accept_number
-      (λ f. by_cases (swift_commits a f) (λ e. simp (l, e)) (λ e. simp (l, e) client_accepts)) (λ f why. refl))
+      (leader_number_lem a h value_held round answers core.paxos scores swift_scores v core (after_accept_answer a h round v core) accept_number
+      (λ f. by_cases (swift_commits a f) (λ e. simp (l, e)) (λ e. simp (l, e) client_accepts)))
 
   from_other : from_leader now ≡ false → next_number value_held (swift_accept a h round v core answers swift_scores).next ≡ accept_number
   unfolding swift_accept accept_answered

@@ -1,5 +1,7 @@
 -- A message whose value the host does not hold commits nothing, in every mode and on every shard.
 -- Assumes nothing.
+use Rattle.std.specs.Prelude.{None, Ok, Err}
+use Rattle.message.specs.Outcomes.{Outcome}
 use mathlib.Core.Path.{◌≡◌, refl}
 use mathlib.Core.Bool.{Bool, true, false, cond, not, ◌&&◌}
 use Prim.Native.Nat.{ℕ, ◌≤◌}
@@ -10,8 +12,6 @@ use Rattle.basics.proofs.Tests.{of-both, not_both}
 use Rattle.message.specs.Messages.{msg_slot}
 use Rattle.message.specs.declared.ConsensusMsg.{ConsensusMsg}
 use Rattle.message.specs.declared.ConsensusMsg.TheVariants.{Prepare, Accept, ForwardRequest, Commit, ReadRequest, ReadResponse}
-use Rattle.message.specs.declared.Outcome.{Outcome}
-use Rattle.message.specs.declared.Outcome.TheVariants.{Done, Refused}
 use Rattle.message.specs.declared.Refusal.TheVariants.{NumberTooLarge, NoSuchProcess, SlotAhead, OtherLastValue, ValueNotHeld}
 use Rattle.fast_state.specs.Adopt.{Choice}
 use Rattle.steps.specs.declared.Core.{Core}
@@ -23,15 +23,14 @@ use Rattle.delivery.specs.Limits.{numbers_fit, processes_fit}
 use Rattle.delivery.specs.declared.Delivery.{Delivery}
 use Rattle.calls.specs.Asked.{asked_of, heard_of}
 use Rattle.calls.specs.declared.Call.TheVariants.{Receive}
-use Rattle.calls.specs.declared.OptionalCommit.TheVariants.{NoCommit}
 use Rattle.consensus.specs.Answers.{finish_at}
 use Rattle.consensus.specs.Call.{admitted, receive, dispatch, unless_spent, if_made, call_with}
 use Rattle.consensus.specs.Handle.{on_commit, on_read_request, on_read_response, processed, process_message, handle}
 use Rattle.consensus.specs.declared.Answer.{Answer}
 use Rattle.consensus.specs.declared.Shard.{Shard}
 
-abbrev None : Answer → Type 0
-None r = r.reply.commit ≡ NoCommit
+abbrev NoCommit : Answer → Type 0
+NoCommit r = r.reply.commit ≡ None
 
 -- a Commit that is not ahead and does not wait is of an older slot
 older : (own slot : ℕ) → ltb own slot ≡ false → eqb slot own ≡ false → ltb slot own ≡ true
@@ -41,14 +40,14 @@ module _ (choose : Choice) (shard : Shard) (d : Delivery) (lacks : d.said.value_
   abbrev core : Core
   core = shard.state.rounds.core
 
-  processed_none : None (process_message choose shard d)
+  processed_none : NoCommit (process_message choose shard d)
   unfolding process_message
   processed_none = go step.next d.said.value_held lacks
     where
       step : RoundsStep
       step = processed choose (asked_of shard.settings) (heard_of shard.settings d) d.message.msg shard.state.rounds
 
-      go : (n : Next) (held : Bool) → held ≡ false → None (finish_at shard (asked_of shard.settings) held step.rounds step.messages n)
+      go : (n : Next) (held : Bool) → held ≡ false → NoCommit (finish_at shard (asked_of shard.settings) held step.rounds step.messages n)
       go Stays held e = refl
       go Continues held e = refl
       go (Commits v) true e = absurd (not_both refl e)
@@ -56,7 +55,7 @@ module _ (choose : Choice) (shard : Shard) (d : Delivery) (lacks : d.said.value_
       go (Refuses why) held e = refl
 
   handled_none : (m : ConsensusMsg) → is_ahead core (msg_slot m) ≡ false
-      → (is_own_slot core (msg_slot m) && needs_value shard.settings.my_pid m && not d.said.value_held) ≡ false → None (handle choose shard d m)
+      → (is_own_slot core (msg_slot m) && needs_value shard.settings.my_pid m && not d.said.value_held) ≡ false → NoCommit (handle choose shard d m)
   unfolding handle on_commit on_read_request on_read_response
   handled_none (Prepare slot round rv) a w = processed_none
   handled_none (Accept slot round v) a w = processed_none
@@ -67,10 +66,10 @@ module _ (choose : Choice) (shard : Shard) (d : Delivery) (lacks : d.said.value_
       go false held e f = refl
       go true true e f = absurd (not_both refl e)
       go true false e f = f
-  handled_none (ReadRequest id) a w = of-both None (eqb d.message.src shard.settings.my_pid) refl refl
+  handled_none (ReadRequest id) a w = of-both NoCommit (eqb d.message.src shard.settings.my_pid) refl refl
   handled_none (ReadResponse id next) a w = refl
 
-  receive_none : None (receive choose shard d)
+  receive_none : NoCommit (receive choose shard d)
   unfolding receive admit ready value_awaited
   receive_none =
       go (numbers_fit d) (processes_fit shard.settings.process_count d) (is_ahead core (msg_slot d.message.msg)) (other_last_value core d)
@@ -78,11 +77,11 @@ module _ (choose : Choice) (shard : Shard) (d : Delivery) (lacks : d.said.value_
     where
       go : (numbers processes ahead other awaited : Bool) → is_ahead core (msg_slot d.message.msg) ≡ ahead
           → (is_own_slot core (msg_slot d.message.msg) && needs_value shard.settings.my_pid d.message.msg && not d.said.value_held) ≡ awaited
-          → None
+          → NoCommit
           (admitted choose shard d
           (cond numbers
-          (cond processes (cond ahead (Refused SlotAhead) (cond other (Refused OtherLastValue) (cond awaited (Refused ValueNotHeld) Done))) (Refused NoSuchProcess))
-          (Refused NumberTooLarge)))
+          (cond processes (cond ahead (Err SlotAhead) (cond other (Err OtherLastValue) (cond awaited (Err ValueNotHeld) (Ok tt)))) (Err NoSuchProcess))
+          (Err NumberTooLarge)))
       go false processes ahead other awaited a w = refl
       go true false ahead other awaited a w = refl
       go true true true other awaited a w = refl
@@ -90,10 +89,10 @@ module _ (choose : Choice) (shard : Shard) (d : Delivery) (lacks : d.said.value_
       go true true false false true a w = refl
       go true true false false false a w = handled_none d.message.msg a w
 
-  pub not_held_not_committed : None (call_with choose shard (Receive d))
+  pub not_held_not_committed : NoCommit (call_with choose shard (Receive d))
   unfolding call_with unless_spent dispatch
   not_held_not_committed = go shard.made
     where
-      go : (o : Outcome) → None (if_made choose shard (Receive d) o)
-      go Done = of-both None (leb 9223372036854775807 core.slot) refl receive_none
-      go (Refused why) = refl
+      go : (o : Outcome) → NoCommit (if_made choose shard (Receive d) o)
+      go (Ok tt) = of-both NoCommit (leb 9223372036854775807 core.slot) refl receive_none
+      go (Err why) = refl

@@ -1,6 +1,7 @@
 -- What the tests of specs/FirstCause.antt mean: some number of a list is above a limit, or not below a count; a slot is ahead; a last value is given and different;
 -- and that a list of causes gives a number exactly where one of them holds is `by_first_cause` (Refusals.antt).
 -- Assumes nothing.
+use Rattle.std.specs.Prelude.{Option, None, Some}
 use mathlib.Core.Path.{◌≡◌, refl, sym, ap, subst}
 use mathlib.Core.Logic.{inl, inr}
 use mathlib.Core.Bool.{Bool, true, false, ◌||◌}
@@ -14,11 +15,6 @@ use Rattle.basics.proofs.Tests.{not_both}
 use Rattle.message.specs.Messages.{msg_slot}
 use Rattle.message.specs.declared.ConsensusMsg.{ConsensusMsg}
 use Rattle.message.specs.declared.ConsensusMsg.TheVariants.{Prepare, Accept, ForwardRequest, Commit, ReadRequest, ReadResponse}
-use Rattle.message.specs.declared.OptionalSlot.TheVariants.{Slot}
-use Rattle.message.specs.declared.OptionalValue.{OptionalValue}
-use Rattle.message.specs.declared.OptionalValue.TheVariants.{NoValue, Value}
-use Rattle.message.specs.declared.OptionalProcess.{OptionalProcess}
-use Rattle.message.specs.declared.OptionalProcess.TheVariants.{NoProcess, Process}
 use Rattle.sets.specs.Sets.{contains}
 use Rattle.fast_state.specs.Adopt.{best_below, lowest_best}
 use Rattle.fast_state.specs.declared.FastAnswers.{FastAnswers}
@@ -70,7 +66,7 @@ none_from count (m ∷ ns) e n i = go (leb count m) refl e i (none_from count ns
 
 -- ---- 5 and 4
 
-pub ahead_slot : (own : ℕ) (m : ConsensusMsg) → ahead_of own m ≡ true → (slot : ℕ) × (msg_slot m ≡ Slot slot) × (own < slot)
+pub ahead_slot : (own : ℕ) (m : ConsensusMsg) → ahead_of own m ≡ true → (slot : ℕ) × (msg_slot m ≡ Some slot) × (own < slot)
 ahead_slot own (Prepare slot round rv) e = (slot, refl, ltb-true own slot e)
 ahead_slot own (Accept slot round v) e = (slot, refl, ltb-true own slot e)
 ahead_slot own (ForwardRequest v) e = absurd (not_both e refl)
@@ -78,18 +74,18 @@ ahead_slot own (Commit slot v) e = (slot, refl, ltb-true own slot e)
 ahead_slot own (ReadRequest id) e = absurd (not_both e refl)
 ahead_slot own (ReadResponse id next) e = (next, refl, ltb-true own next e)
 
-pub different_value : (o own : OptionalValue) → given_and_different o own ≡ true → (v : ℕ) × (o ≡ Value v) × (own ≡ Value v → ⊥)
-different_value NoValue own e = absurd (not_both e refl)
-different_value (Value v) NoValue e = (v, refl, λ q. not_both (ap is_given q) refl)
+pub different_value : (o own : Option ℕ) → given_and_different o own ≡ true → (v : ℕ) × (o ≡ Some v) × (own ≡ Some v → ⊥)
+different_value None own e = absurd (not_both e refl)
+different_value (Some v) None e = (v, refl, λ q. not_both (ap is_given q) refl)
   where
-    is_given : OptionalValue → Bool
-    is_given NoValue = false
-    is_given (Value w) = true
-different_value (Value v) (Value w) e = (v, refl, λ q. eqb-false v w (not-true (eqb v w) e) (sym (ap given q)))
+    is_given : Option ℕ → Bool
+    is_given None = false
+    is_given (Some w) = true
+different_value (Some v) (Some w) e = (v, refl, λ q. eqb-false v w (not-true (eqb v w) e) (sym (ap given q)))
   where
-    given : OptionalValue → ℕ
-    given NoValue = 0
-    given (Value x) = x
+    given : Option ℕ → ℕ
+    given None = 0
+    given (Some x) = x
 
 -- ---- EPaxos: the engine's choice takes one where some proposer has a score above 0
 
@@ -103,15 +99,15 @@ module _ (answers : FastAnswers) (scores : ℕ → ℕ) where
   pub one_scored : is_one (lowest_best answers scores) ≡ true → (p : ℕ) × scored answers scores p
   one_scored e = go (lowest_best answers scores) refl e
     where
-      go : (o : OptionalProcess) → lowest_best answers scores ≡ o → is_one o ≡ true → (p : ℕ) × scored answers scores p
-      go NoProcess d e = absurd (not_both e refl)
-      go (Process p) d e = let k = best.chosen p d in (p, (k.1, k.0.0, subst (λ (n : ℕ). 0 < n) (sym k.0.1) k.2))
+      go : (o : Option ℕ) → lowest_best answers scores ≡ o → is_one o ≡ true → (p : ℕ) × scored answers scores p
+      go None d e = absurd (not_both e refl)
+      go (Some p) d e = let k = best.chosen p d in (p, (k.1, k.0.0, subst (λ (n : ℕ). 0 < n) (sym k.0.1) k.2))
 
   pub none_scored : is_one (lowest_best answers scores) ≡ false → (p : ℕ) → scored answers scores p → ⊥
   none_scored e p (below, there, above) = go (lowest_best answers scores) refl e
     where
-      go : (o : OptionalProcess) → lowest_best answers scores ≡ o → is_one o ≡ false → ⊥
-      go NoProcess d e =
+      go : (o : Option ℕ) → lowest_best answers scores ≡ o → is_one o ≡ false → ⊥
+      go None d e =
           let most : scores p ≤ (best_below answers.fast_proposers scores 64).score = best.none_higher p (scores p) below (there, refl) in
           let none : (best_below answers.fast_proposers scores 64).score ≡ 0 = best.nobody d in omega arith
-      go (Process q) d e = not_both refl e
+      go (Some q) d e = not_both refl e

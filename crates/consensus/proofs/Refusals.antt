@@ -1,6 +1,8 @@
 -- Demand 1, of the definitions: a call is taken exactly where no cause of document 01 holds (specs/FirstCause.antt), and else hands back the number of the
 -- first cause alone and leaves the shard. A shard that is unmade or whose slot is spent refuses every call.
 -- Assumes nothing.
+use Rattle.std.specs.Prelude.{Option, None, Some, Ok, Err}
+use Rattle.message.specs.Outcomes.{Outcome}
 use mathlib.Core.Path.{◌≡◌, refl, sym, ap, subst, ◌∙◌}
 use mathlib.Core.Logic.{◌⊎◌, inl, inr}
 use mathlib.Core.Bool.{Bool, true, false, cond, not, ◌&&◌, ◌||◌}
@@ -12,8 +14,6 @@ use Rattle.basics.proofs.Tests.{not_both, of-both, and_left, and_right, and_both
 use Rattle.message.specs.Refusals.{refusal_number}
 use Rattle.message.specs.declared.ConsensusMsg.{ConsensusMsg}
 use Rattle.message.specs.declared.ConsensusMsg.TheVariants.{Prepare, Accept, ForwardRequest, Commit, ReadRequest, ReadResponse}
-use Rattle.message.specs.declared.Outcome.{Outcome}
-use Rattle.message.specs.declared.Outcome.TheVariants.{Done, Refused}
 use Rattle.message.specs.declared.PFMode.{PFMode}
 use Rattle.message.specs.declared.PFMode.TheVariants.{Paxos, MultiPaxos, MultiPaxos3P, EPaxos, Pando, SwiftPaxos}
 use Rattle.message.specs.declared.Refusal.{Refusal}
@@ -37,8 +37,6 @@ use Rattle.consensus.proofs.ByParts.{by_parts}
 use Rattle.consensus.proofs.FirstCause.{Gives, first_cause_lem}
 use Rattle.settings.specs.Settings.{counts_fit, members_fit, committers_fit, quorum_fits, mode_fits, within_limits}
 use Rattle.sets.specs.Sets.{size, fits}
-use Rattle.sets.specs.declared.OptionalSet.{OptionalSet}
-use Rattle.sets.specs.declared.OptionalSet.TheVariants.{NoSet, Set}
 use Rattle.tables.specs.Tables.{every}
 use Rattle.consensus.proofs.Admitted.{above_test, from_test, not_not}
 
@@ -165,8 +163,8 @@ refusal_numbered NoRoomForRead = refl
 
 unmade_numbered : (o : Outcome) → Numbered (unmade o)
 unfolding numbered
-unmade_numbered Done = refl
-unmade_numbered (Refused why) = and_both (refusal_numbered why) refl
+unmade_numbered (Ok tt) = refl
+unmade_numbered (Err why) = and_both (refusal_numbered why) refl
 
 -- a list of such numbers gives 0 only where none holds
 first_above : (rows : List Row) (n : ℕ) → Numbered rows → FirstHolds rows n → ltb 0 n ≡ true
@@ -196,10 +194,10 @@ module _ (choose : Choice) (shard : Shard) where
       go (inr (why, e, n)) (inr first) = inr (why, e, subst (FirstHolds (all_causes choose shard c)) n first)
 
   -- So it is taken where no cause holds,
-  pub taken_where_none : (c : Call) → NoneHolds (all_causes choose shard c) → (call_with choose shard c).reply.outcome ≡ Done
+  pub taken_where_none : (c : Call) → NoneHolds (all_causes choose shard c) → (call_with choose shard c).reply.outcome ≡ Ok tt
   taken_where_none c none = go (by_first_cause c)
     where
-      go : ByFirstCause choose shard c (call_with choose shard c) → (call_with choose shard c).reply.outcome ≡ Done
+      go : ByFirstCause choose shard c (call_with choose shard c) → (call_with choose shard c).reply.outcome ≡ Ok tt
       go (inl (e, _)) = e
       go (inr (why, e, first)) = absurd (not_none (all_causes choose shard c) (refusal_number why) first none)
 
@@ -212,21 +210,21 @@ module _ (choose : Choice) (shard : Shard) where
       go (inr (w, e, other)) = e ∙ ap (λ (x : Refusal). refused x shard) (same_refusal w why (first_same (all_causes choose shard c) (refusal_number w) (refusal_number why) other first))
 
   -- An unmade shard refuses every call with the number that it was marked with.
-  pub unmade_refuses : (c : Call) (why : Refusal) → shard.made ≡ Refused why → call_with choose shard c ≡ refused why shard
+  pub unmade_refuses : (c : Call) (why : Refusal) → shard.made ≡ Err why → call_with choose shard c ≡ refused why shard
   unfolding call_with
   unmade_refuses c why e = ap (if_made choose shard c) e
 
   -- A spent slot refuses every call with 2.
-  pub spent_refuses : (c : Call) → shard.made ≡ Done → is_spent shard ≡ true → call_with choose shard c ≡ refused NumberTooLarge shard
+  pub spent_refuses : (c : Call) → shard.made ≡ Ok tt → is_spent shard ≡ true → call_with choose shard c ≡ refused NumberTooLarge shard
   unfolding call_with unless_spent
   spent_refuses c e f = ap (if_made choose shard c) e ∙ ap (λ (t : Bool). cond t (refused NumberTooLarge shard) (dispatch choose shard c)) f
 
 -- ---- settings
 
-quorum_limits : (o : OptionalSet) (count : ℕ) → quorum_fits o count ≡ not (quorum_outside o count)
+quorum_limits : (o : Option ℕ) (count : ℕ) → quorum_fits o count ≡ not (quorum_outside o count)
 unfolding quorum_fits
-quorum_limits NoSet count = refl
-quorum_limits (Set s) count = sym (not_not (fits s count))
+quorum_limits None count = refl
+quorum_limits (Some s) count = sym (not_not (fits s count))
 
 neither : (a b : Bool) → (not a && b) ≡ not (a || not b)
 neither true b = refl
@@ -250,7 +248,7 @@ mode_limits s Pando = table_limits s.delegates s.process_count (min s.process_co
 mode_limits s SwiftPaxos = quorum_limits s.quorum s.process_count
 
 limits_table : (a b c d e f g h given entry outside : Bool)
-    → number_of (cond (a && b && c && d && (e && f && g && h) && cond given (not entry) true && not outside) Done (Refused SettingsOutsideLimits))
+    → number_of (cond (a && b && c && d && (e && f && g && h) && cond given (not entry) true && not outside) (Ok tt) (Err SettingsOutsideLimits))
     ≡ cond (not a) 1
     (cond (not b) 1
     (cond (not c) 1
@@ -293,9 +291,9 @@ pub new_by_settings : (s : Settings) → MadeBySettings s (new_shard s).made
 unfolding new_shard numbered
 new_by_settings s = go (within_limits s) (settings_number_lem s) (none_or_first (settings_causes s))
   where
-    go : (t : Bool) → number_of (cond t Done (Refused SettingsOutsideLimits)) ≡ first_of (settings_causes s)
+    go : (t : Bool) → number_of (cond t (Ok tt) (Err SettingsOutsideLimits)) ≡ first_of (settings_causes s)
         → (NoneHolds (settings_causes s) × (first_of (settings_causes s) ≡ 0)) ⊎ FirstHolds (settings_causes s) (first_of (settings_causes s))
-        → MadeBySettings s (cond t Done (Refused SettingsOutsideLimits))
+        → MadeBySettings s (cond t (Ok tt) (Err SettingsOutsideLimits))
     go true e (inl (none, _)) = inl (refl, none)
     go true e (inr first) = absurd (not_both (first_above (settings_causes s) _ refl first) (ap (ltb 0) (sym e)))
     go false e (inl (none, z)) = absurd (not_both refl (ap (ltb 0) (e ∙ z)))

@@ -1,7 +1,8 @@
 -- Answers, and the commit of a value with the reads that it serves (the Rust's commit_slot and commit_commands).
 -- Assumes nothing.
-use Rattle.std.specs.Prelude.{Bool, cond, ℕ}
-use Rattle.message.specs.declared.Outcome.TheVariants.{Done}
+use Rattle.std.specs.Prelude.{Bool, cond, ℕ, Option, Ok}
+use Rattle.calls.specs.Commits.{committed_slot}
+use Rattle.calls.specs.declared.CommittedSlot.{CommittedSlot}
 use Rattle.message.specs.declared.Refusal.{Refusal}
 use Rattle.message.specs.declared.Refusal.TheVariants.{ValueNotHeld}
 use Rattle.serving.specs.Serving.{commit_slot as serve_reads}
@@ -18,8 +19,6 @@ use Rattle.core_calls.specs.Replies.{refused_reply, sent_reply, is_fast}
 use Rattle.rounds_calls.specs.RoundsCall.{next_slot}
 use Rattle.state_calls.specs.StateCall.{with_tracker}
 use Rattle.consensus.specs.declared.Answer.{Answer}
-use Rattle.calls.specs.declared.OptionalCommit.{OptionalCommit}
-use Rattle.calls.specs.declared.OptionalCommit.TheVariants.{Committed}
 use Rattle.consensus.specs.declared.Shard.{Shard}
 use Rattle.state_calls.specs.declared.State.{State}
 
@@ -43,13 +42,13 @@ sent shard messages = record { shard = shard; reply = sent_reply messages }
 abbrev pub nothing : Shard → Answer
 nothing shard = sent shard no_messages
 
-abbrev pub served : Shard → Rounds → Tracked → Messages → OptionalCommit → Answer
+abbrev pub served : Shard → Rounds → Tracked → Messages → Option CommittedSlot → Answer
 served shard rounds reads messages commit =
     record {
       shard =
           with_state shard
           (record { rounds = record { core = with_tracker reads.tracker rounds.core; fast = rounds.fast }; table = reads.table });
-      reply = record { outcome = Done; messages = messages; commit = commit; served_count = reads.served_count };
+      reply = record { outcome = Ok tt; messages = messages; commit = commit; served_count = reads.served_count };
     }
 
 -- ---- the commit of a value
@@ -61,7 +60,7 @@ committed shard a v s messages =
     served shard (next_slot a v s)
     (serve_reads s.core.tracker shard.state.table a.member.quorums.majority (commit_slot a v s).core.slot)
     messages
-    (Committed s.core.slot v (is_fast a s.core))
+    (committed_slot s.core.slot v (is_fast a s.core))
 
 -- ---- the end of a call
 

@@ -1,8 +1,9 @@
 -- A call that is decided on, by the parts of a shard: the core where that is enough, else the rounds, else the whole state.
 -- Assumes nothing.
-use Rattle.std.specs.Prelude.{cond}
+use Rattle.std.specs.Prelude.{cond, Result}
+use Rattle.calls.specs.declared.Taken.{Taken}
+use Rattle.message.specs.declared.Refusal.{Refusal}
 use Rattle.steps.specs.declared.Core.{Core}
-use Rattle.calls.specs.declared.Decision.{Decision}
 use Rattle.core_calls.specs.CoreCall.{core_call}
 use Rattle.core_calls.specs.declared.CoreAnswer.{CoreAnswer}
 use Rattle.rounds_calls.specs.RoundsCall.{rounds_call}
@@ -29,13 +30,13 @@ from_core shard a = record { shard = with_core shard a.core; reply = a.reply }
 
 -- ---- the call by its parts
 
-abbrev pub by_state : Shard → Decision → Answer
+abbrev pub by_state : Shard → Result Taken Refusal → Answer
 by_state shard d = from_state shard (state_call shard.state d)
 
-unfoldable pub by_rounds : Shard → Decision → Answer
+unfoldable pub by_rounds : Shard → Result Taken Refusal → Answer
 by_rounds shard d =
     cond (rounds_call shard.state.rounds d).deeper (by_state shard d) (from_rounds shard (rounds_call shard.state.rounds d))
 
-unfoldable pub by_core : Shard → Decision → Answer
+unfoldable pub by_core : Shard → Result Taken Refusal → Answer
 by_core shard d =
     cond (core_call shard.state.rounds.core d).deeper (by_rounds shard d) (from_core shard (core_call shard.state.rounds.core d))

@@ -1,10 +1,9 @@
 -- What a call does, whole: `call_of shard call` is the new shard and the reply (document 01, "Message and answer"). The contracts of the entry
 -- points cite these definitions, and the theorem on group runs is about them.
 -- Assumes nothing.
-use Rattle.std.specs.Prelude.{true, false, cond, ◌&&◌, List, [], ◌∷◌, ℕ, leb}
+use Rattle.std.specs.Prelude.{true, false, cond, ◌&&◌, List, [], ◌∷◌, ℕ, leb, None, Ok, Err}
+use Rattle.message.specs.Outcomes.{Outcome}
 use Rattle.message.specs.Modes.{has_fast_path}
-use Rattle.message.specs.declared.Outcome.{Outcome}
-use Rattle.message.specs.declared.Outcome.TheVariants.{Done, Refused}
 use Rattle.message.specs.declared.Refusal.TheVariants.{SettingsOutsideLimits, NumberTooLarge}
 use Rattle.fast_state.specs.Adopt.{Choice, lowest_best}
 use Rattle.fast_state.specs.RoundState.{new_round_state}
@@ -12,7 +11,6 @@ use Rattle.read_tracker.specs.Reads.{new_tracker, new_table}
 use Rattle.settings.specs.Questions.{starting_round_of}
 use Rattle.settings.specs.Settings.{within_limits}
 use Rattle.settings.specs.declared.Settings.{Settings}
-use Rattle.message.specs.declared.OptionalValue.TheVariants.{NoValue}
 use Rattle.propose.specs.Propose.{propose_classic, propose_fast}
 use Rattle.steps.specs.Steps.{on_rounds}
 use Rattle.steps.specs.declared.Asked.{Asked}
@@ -37,7 +35,7 @@ abbrev pub new_core : Settings → Core
 new_core s =
     record {
       slot = 0;
-      last_v = NoValue;
+      last_v = None;
       slot_left_fast_path = false;
       paxos = (new_round_state (starting_round_of s)).paxos;
       tracker = new_tracker;
@@ -48,7 +46,7 @@ new_state s = record { rounds = record { core = new_core s; fast = (new_round_st
 
 -- settings outside the limits give a shard marked unmade
 unfoldable pub new_shard : Settings → Shard
-new_shard s = record { made = cond (within_limits s) Done (Refused SettingsOutsideLimits); settings = s; state = new_state s }
+new_shard s = record { made = cond (within_limits s) (Ok tt) (Err SettingsOutsideLimits); settings = s; state = new_state s }
 
 -- ---- proposals: 2, then 11
 
@@ -70,8 +68,8 @@ read shard tag arrival = cond (is_number tag && is_slot arrival) (start_read sha
 -- the choice among the best proposers of EPaxos is a parameter
 module _ (choose : Choice) where
   abbrev pub admitted : Shard → Delivery → Outcome → Answer
-  admitted shard d Done = handle choose shard d d.message.msg
-  admitted shard d (Refused why) = refused why shard
+  admitted shard d (Ok tt) = handle choose shard d d.message.msg
+  admitted shard d (Err why) = refused why shard
 
   unfoldable pub receive : Shard → Delivery → Answer
   receive shard d = admitted shard d (admit shard.settings.process_count shard.settings.my_pid shard.state.rounds.core d)
@@ -87,8 +85,8 @@ module _ (choose : Choice) where
 
   -- an unmade shard gives its number, before anything else
   abbrev pub if_made : Shard → Call → Outcome → Answer
-  if_made shard c Done = unless_spent shard c
-  if_made shard c (Refused why) = refused why shard
+  if_made shard c (Ok tt) = unless_spent shard c
+  if_made shard c (Err why) = refused why shard
 
   unfoldable pub call_with : Shard → Call → Answer
   call_with shard c = if_made shard c shard.made

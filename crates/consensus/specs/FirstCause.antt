@@ -4,24 +4,14 @@
 -- quorums (`row_of`), a table's entry for a process (`look_up`), `fits` (all members of a set are below a count), `round_of`, the numbers of refusals
 -- (`refusal_number`), `answers_of` (the fast half without its tables), and for what is claimed `new_shard`, `call_of` and `call_with`.
 -- Assumes nothing.
-use Rattle.std.specs.Prelude.{◌≡◌, ◌⊎◌, Bool, true, false, cond, not, ◌&&◌, ◌||◌, List, [], ◌∷◌, ℕ, zero, suc, min, eqb, leb, ltb, get_or}
+use Rattle.std.specs.Prelude.{◌≡◌, ◌⊎◌, Bool, true, false, cond, not, ◌&&◌, ◌||◌, List, [], ◌∷◌, ℕ, zero, suc, min, eqb, leb, ltb, get_or, Option, None, Some, Ok, Err, is_some}
+use Rattle.message.specs.Outcomes.{Outcome}
 use Rattle.sets.specs.Sets.{contains, size, is_empty, fits}
-use Rattle.sets.specs.declared.OptionalSet.{OptionalSet}
-use Rattle.sets.specs.declared.OptionalSet.TheVariants.{NoSet, Set}
 use Rattle.tables.specs.Tables.{look_up}
-use Rattle.message.specs.Promises.{has_value}
 use Rattle.message.specs.Refusals.{refusal_number}
 use Rattle.message.specs.Rounds.{before, equal, round_of}
 use Rattle.message.specs.declared.ConsensusMsg.{ConsensusMsg}
 use Rattle.message.specs.declared.ConsensusMsg.TheVariants.{Prepare, Accept, ForwardRequest, Commit, ReadRequest, ReadResponse}
-use Rattle.message.specs.declared.OptionalProcess.{OptionalProcess}
-use Rattle.message.specs.declared.OptionalProcess.TheVariants.{NoProcess, Process}
-use Rattle.message.specs.declared.OptionalRound.{OptionalRound}
-use Rattle.message.specs.declared.OptionalRound.TheVariants.{NoRound, Round}
-use Rattle.message.specs.declared.OptionalValue.{OptionalValue}
-use Rattle.message.specs.declared.OptionalValue.TheVariants.{NoValue, Value}
-use Rattle.message.specs.declared.Outcome.{Outcome}
-use Rattle.message.specs.declared.Outcome.TheVariants.{Done, Refused}
 use Rattle.message.specs.declared.PFMode.{PFMode}
 use Rattle.message.specs.declared.PFMode.TheVariants.{Paxos, MultiPaxos, MultiPaxos3P, EPaxos, Pando, SwiftPaxos}
 use Rattle.message.specs.declared.PaxosRound.{PaxosRound}
@@ -34,12 +24,10 @@ use Rattle.fast_state.specs.Adopt.{Choice}
 use Rattle.fast_state.specs.Fast.{answers_of}
 use Rattle.fast_state.specs.declared.FastState.{FastState}
 use Rattle.settings.specs.declared.Settings.{Settings}
-use Rattle.steps.specs.declared.OptionalMessage.TheVariants.{NoMessage}
 use Rattle.steps.specs.declared.Rounds.{Rounds}
 use Rattle.delivery.specs.declared.Delivery.{Delivery}
 use Rattle.calls.specs.declared.Call.{Call}
 use Rattle.calls.specs.declared.Call.TheVariants.{Propose, StartRead, Receive}
-use Rattle.calls.specs.declared.OptionalCommit.TheVariants.{NoCommit}
 use Rattle.consensus.specs.Call.{new_shard, call_of}
 use Rattle.consensus.specs.Panics.{Facts, nothing_held, prepare_panics, accept_panics}
 use Rattle.consensus.specs.Rows.{Row, gives, then, NoneHolds, FirstHolds, first_of}
@@ -53,17 +41,17 @@ number_alone why shard =
       shard = shard;
       reply =
           record {
-            outcome = Refused why;
-            messages = record { first = NoMessage; second = NoMessage; third = NoMessage };
-            commit = NoCommit;
+            outcome = Err why;
+            messages = record { first = None; second = None; third = None };
+            commit = None;
             served_count = 0;
           };
     }
 
 -- the number of what became of a call: 0 where it is done
 abbrev pub number_of : Outcome → ℕ
-number_of Done = 0
-number_of (Refused why) = refusal_number why
+number_of (Ok tt) = 0
+number_of (Err why) = refusal_number why
 
 -- ---- 2 and 3: the numbers that a call names
 
@@ -81,13 +69,9 @@ abbrev pub too_large : List ℕ → List ℕ → Bool
 too_large slots others = any_above 9223372036854775806 slots || any_above 9223372036854775807 others
 
 -- what is optional, as a list
-abbrev pub given_process : OptionalProcess → List ℕ
-given_process NoProcess = []
-given_process (Process p) = p ∷ []
-
-abbrev pub given_value : OptionalValue → List ℕ
-given_value NoValue = []
-given_value (Value v) = v ∷ []
+abbrev pub given_number : Option ℕ → List ℕ
+given_number None = []
+given_number (Some n) = n ∷ []
 
 -- the slots of a message. "A ReadResponse's slot field may be 2^63−1": it stands among the other numbers
 abbrev pub slots_of : ConsensusMsg → List ℕ
@@ -101,8 +85,8 @@ slots_of (ReadResponse id next) = []
 -- its process numbers: the leader of its round, the leader of the accept round, the proposer
 abbrev pub promise_processes : RoundV → List ℕ
 promise_processes (FastV proposer v) = proposer ∷ []
-promise_processes (PaxosV NoRound v) = []
-promise_processes (PaxosV (Round round) v) = round.leader ∷ []
+promise_processes (PaxosV None v) = []
+promise_processes (PaxosV (Some round) v) = round.leader ∷ []
 
 abbrev pub processes_of : ConsensusMsg → List ℕ
 processes_of (Prepare slot round rv) = round.leader ∷ promise_processes rv
@@ -115,8 +99,8 @@ processes_of (ReadResponse id next) = []
 -- its other numbers: groups of rounds, values, ids
 abbrev pub promise_numbers : RoundV → List ℕ
 promise_numbers (FastV proposer v) = v ∷ []
-promise_numbers (PaxosV NoRound v) = v ∷ []
-promise_numbers (PaxosV (Round round) v) = round.round_group ∷ v ∷ []
+promise_numbers (PaxosV None v) = v ∷ []
+promise_numbers (PaxosV (Some round) v) = round.round_group ∷ v ∷ []
 
 abbrev pub numbers_of : ConsensusMsg → List ℕ
 numbers_of (Prepare slot round rv) = round.round_group ∷ promise_numbers rv
@@ -132,11 +116,11 @@ joined (m ∷ ms) ns = m ∷ joined ms ns
 
 -- the process numbers of a message with what the host adds: its source and both requesters as well
 abbrev pub all_processes : Delivery → List ℕ
-all_processes d = d.message.src ∷ joined (processes_of d.message.msg) (joined (given_process d.said.requester) (given_process d.held_requester))
+all_processes d = d.message.src ∷ joined (processes_of d.message.msg) (joined (given_number d.said.requester) (given_number d.held_requester))
 
 -- all its numbers but for the slot: with its last value
 abbrev pub all_numbers : Delivery → List ℕ
-all_numbers d = joined (all_processes d) (joined (numbers_of d.message.msg) (given_value d.message.last_v))
+all_numbers d = joined (all_processes d) (joined (numbers_of d.message.msg) (given_number d.message.last_v))
 
 -- ---- 5, 4 and the first 6: the slot that a message names
 
@@ -158,10 +142,10 @@ of_slot own (ReadRequest id) = false
 of_slot own (ReadResponse id next) = eqb next own
 
 -- "last value given and different"
-abbrev pub given_and_different : OptionalValue → OptionalValue → Bool
-given_and_different NoValue own = false
-given_and_different (Value v) NoValue = true
-given_and_different (Value v) (Value w) = not (eqb v w)
+abbrev pub given_and_different : Option ℕ → Option ℕ → Bool
+given_and_different None own = false
+given_and_different (Some v) None = true
+given_and_different (Some v) (Some w) = not (eqb v w)
 
 -- "`ready_to_process` waits": for the value of a Commit, and of a Prepare or an Accept of a round that oneself leads
 abbrev pub waits_for_value : ℕ → ConsensusMsg → Bool
@@ -192,7 +176,7 @@ takes_part s = is_live s s.my_pid || in_swift_paxos s.mode
 
 -- "a non-replica (not SwiftPaxos) does nothing; older ones do nothing": of an older slot or round
 abbrev pub ignored : Settings → Rounds → ℕ → PaxosRound → Bool
-ignored s rounds slot round = not (takes_part s) || ltb slot rounds.core.slot || before (Round round) rounds.core.paxos.round
+ignored s rounds slot round = not (takes_part s) || ltb slot rounds.core.slot || before (Some round) rounds.core.paxos.round
 
 -- "The delegate is the Rust's `delegate_or_leader`: in Pando the leader's delegate, for a FastV Prepare in SwiftPaxos its proposer unless oneself is the
 -- leader, and else the leader."
@@ -209,21 +193,21 @@ promise_delegate s leader (FastV proposer v) = cond (in_swift_paxos s.mode && no
 promise_delegate s leader (PaxosV at v) = leader_delegate s s.mode leader
 
 -- get_committer: "optional committer per process", by the value's requester; in SwiftPaxos without committers the requester itself
-abbrev pub table_committer : Settings → OptionalProcess → OptionalProcess
-table_committer s NoProcess = NoProcess
-table_committer s (Process p) = Process (look_up s.committers p)
+abbrev pub table_committer : Settings → Option ℕ → Option ℕ
+table_committer s None = None
+table_committer s (Some p) = Some (look_up s.committers p)
 
-abbrev pub value_committer : Settings → OptionalProcess → OptionalProcess
-value_committer s requester = cond s.has_committers (table_committer s requester) (cond (in_swift_paxos s.mode) requester NoProcess)
+abbrev pub value_committer : Settings → Option ℕ → Option ℕ
+value_committer s requester = cond s.has_committers (table_committer s requester) (cond (in_swift_paxos s.mode) requester None)
 
 -- it is oneself; where there is none it is nobody
-abbrev pub is_oneself : OptionalProcess → ℕ → Bool
-is_oneself NoProcess own = false
-is_oneself (Process p) own = eqb p own
+abbrev pub is_oneself : Option ℕ → ℕ → Bool
+is_oneself None own = false
+is_oneself (Some p) own = eqb p own
 
 -- who is counted in the round of a message: "A new round clears both sets"
 abbrev pub counted_in : Rounds → PaxosRound → ℕ → ℕ
-counted_in rounds round set = cond (before rounds.core.paxos.round (Round round)) 0 set
+counted_in rounds round set = cond (before rounds.core.paxos.round (Some round)) 0 set
 
 abbrev pub facts_of : Settings → Rounds → Delivery → PaxosRound → ℕ → Facts
 facts_of s rounds d round delegate =
@@ -260,9 +244,9 @@ some_outside table count (suc p) = some_outside table count p || leb count (get_
 abbrev pub table_outside : List ℕ → ℕ → Bool
 table_outside table count = some_outside table count (min count 64)
 
-abbrev pub quorum_outside : OptionalSet → ℕ → Bool
-quorum_outside NoSet count = false
-quorum_outside (Set quorum) count = not (fits quorum count)
+abbrev pub quorum_outside : Option ℕ → ℕ → Bool
+quorum_outside None count = false
+quorum_outside (Some quorum) count = not (fits quorum count)
 
 abbrev pub mode_outside : Settings → PFMode → Bool
 mode_outside s Paxos = false
@@ -300,7 +284,7 @@ fast_begun s fast EPaxos = answered_already fast || not (eqb (look_up fast.epaxo
 -- "and in SwiftPaxos at another than the leader", nor the leader's, nor is the own score changed from 0
 fast_begun s fast SwiftPaxos =
     not (eqb s.first_leader s.my_pid)
-    && (answered_already fast || has_value fast.swift_leader_answer || not (eqb (look_up fast.swift_proposer_scores s.my_pid) 0))
+    && (answered_already fast || is_some fast.swift_leader_answer || not (eqb (look_up fast.swift_proposer_scores s.my_pid) 0))
 
 -- in MultiPaxos and MultiPaxos3P the first leader leads from the start
 abbrev pub led_from_start : PFMode → Bool
@@ -312,8 +296,8 @@ led_from_start Pando = false
 led_from_start SwiftPaxos = false
 
 -- the starting round: there the first leader's, and else none
-abbrev pub starts_in : Settings → OptionalRound
-starts_in s = cond (led_from_start s.mode) (Round (round_of 0 s.first_leader)) NoRound
+abbrev pub starts_in : Settings → Option PaxosRound
+starts_in s = cond (led_from_start s.mode) (Some (round_of 0 s.first_leader)) None
 
 -- "proposal: not `can_propose`, round not starting, a promise held already, MultiPaxos by another than the leader, or another assertion of `propose`"
 abbrev pub not_allowed_causes : Settings → Rounds → List Row
@@ -356,8 +340,8 @@ is_spent shard = leb 9223372036854775807 shard.state.rounds.core.slot
 
 -- "a shard marked unmade; all its calls give 1"
 abbrev pub unmade : Outcome → List Row
-unmade Done = []
-unmade (Refused why) = gives (refusal_number why) true ∷ []
+unmade (Ok tt) = []
+unmade (Err why) = gives (refusal_number why) true ∷ []
 
 module _ (choose : Choice) where
   -- "then Commit and reads are handled; a non-replica (not SwiftPaxos) does nothing; older ones do nothing; 7; of 8, 9, 10 the panic that the Rust meets
@@ -393,7 +377,7 @@ module _ (choose : Choice) where
   -- that is the number of the first cause that holds.
   abbrev pub ByFirstCause : Shard → Call → Answer → Type 0
   ByFirstCause shard c r =
-      ((r.reply.outcome ≡ Done) × NoneHolds (all_causes shard c))
+      ((r.reply.outcome ≡ Ok tt) × NoneHolds (all_causes shard c))
       ⊎ ((why : Refusal) × (r ≡ number_alone why shard) × FirstHolds (all_causes shard c) (refusal_number why))
 
 -- ---- a shard by its settings
@@ -401,10 +385,10 @@ module _ (choose : Choice) where
 -- the mark of a new shard: it is made, and no cause holds in its settings; or one does, and it is marked unmade with 1
 abbrev pub MadeBySettings : Settings → Outcome → Type 0
 MadeBySettings s made =
-    ((made ≡ Done) × NoneHolds (settings_causes s)) ⊎ ((made ≡ Refused SettingsOutsideLimits) × FirstHolds (settings_causes s) 1)
+    ((made ≡ Ok tt) × NoneHolds (settings_causes s)) ⊎ ((made ≡ Err SettingsOutsideLimits) × FirstHolds (settings_causes s) 1)
 
 -- A shard of these settings at any later time: made, and where its slot is spent every call gives 2; or as it was made, and "all its calls give 1".
 abbrev pub OfSettings : Settings → Shard → Type 0
 OfSettings s shard =
-    (NoneHolds (settings_causes s) × (shard.made ≡ Done) × (is_spent shard ≡ true → (c : Call) → call_of shard c ≡ number_alone NumberTooLarge shard))
+    (NoneHolds (settings_causes s) × (shard.made ≡ Ok tt) × (is_spent shard ≡ true → (c : Call) → call_of shard c ≡ number_alone NumberTooLarge shard))
     ⊎ (FirstHolds (settings_causes s) 1 × (shard ≡ new_shard s) × ((c : Call) → call_of shard c ≡ number_alone SettingsOutsideLimits shard))

@@ -1,6 +1,7 @@
 -- Handling an admitted message (the Rust's full_process_message), and start_read.
 -- Assumes nothing.
-use Rattle.std.specs.Prelude.{Bool, cond, not, ℕ, eqb, ltb}
+use Rattle.std.specs.Prelude.{Bool, cond, not, ℕ, eqb, ltb, None, Result, Ok, Err, is_some}
+use Rattle.message.specs.declared.Refusal.{Refusal}
 use Rattle.message.specs.Modes.{has_fast_path}
 use Rattle.message.specs.declared.ConsensusMsg.{ConsensusMsg}
 use Rattle.message.specs.declared.ConsensusMsg.TheVariants.{Prepare, Accept, ForwardRequest, Commit, ReadRequest, ReadResponse}
@@ -10,9 +11,6 @@ use Rattle.fast_state.specs.Adopt.{Choice}
 use Rattle.read_tracker.specs.Reads.{insert}
 use Rattle.serving.specs.Serving.{receive_ready}
 use Rattle.read_tracker.specs.declared.Inserted.{Inserted}
-use Rattle.read_tracker.specs.declared.Opened.{Opened}
-use Rattle.read_tracker.specs.declared.Opened.TheVariants.{Refused, Id}
-use Rattle.round_state.specs.Paxos.{is_held}
 use Rattle.settings.specs.Questions.{quorums_of}
 use Rattle.paxos_family.specs.Process.{process_classic, process_fast}
 use Rattle.steps.specs.Steps.{no_messages, one_message, sends, to_all, on_rounds}
@@ -27,7 +25,6 @@ use Rattle.core_calls.specs.CoreCall.{read_answer}
 use Rattle.core_calls.specs.Replies.{sent_reply}
 use Rattle.consensus.specs.declared.Answer.{Answer}
 use Rattle.delivery.specs.declared.Delivery.{Delivery}
-use Rattle.calls.specs.declared.OptionalCommit.TheVariants.{NoCommit}
 use Rattle.consensus.specs.declared.Shard.{Shard}
 
 -- ---- Commit
@@ -51,12 +48,12 @@ on_read_response shard id fast =
     served shard shard.state.rounds
     (receive_ready shard.state.rounds.core.tracker shard.state.table id (quorums_of shard.settings).majority shard.state.rounds.core.slot fast)
     no_messages
-    NoCommit
+    None
 
 -- start_read: a place and an id, or refusal 12
-abbrev pub after_insert : Shard → Inserted → Opened → Answer
-after_insert shard ins (Refused why) = refused why shard
-after_insert shard ins (Id id) =
+abbrev pub after_insert : Shard → Inserted → Result ReadId Refusal → Answer
+after_insert shard ins (Err why) = refused why shard
+after_insert shard ins (Ok id) =
     record {
       shard =
           with_state shard
@@ -69,7 +66,7 @@ after_insert shard ins (Id id) =
 
 abbrev pub read_inserted : Shard → ℕ → ℕ → Inserted
 read_inserted shard tag arrival =
-    insert shard.state.rounds.core.tracker shard.state.table tag arrival (not (is_held shard.state.rounds.core.paxos.max_rv))
+    insert shard.state.rounds.core.tracker shard.state.table tag arrival (not (is_some shard.state.rounds.core.paxos.max_rv))
 
 unfoldable pub start_read : Shard → ℕ → ℕ → Answer
 start_read shard tag arrival = after_insert shard (read_inserted shard tag arrival) (read_inserted shard tag arrival).opened

@@ -1,26 +1,19 @@
 -- The panics of the Rust while it handles a Prepare or an Accept that is not ignored, path by path in the order in which it meets them
 -- (docs/DIFFERENCES.md, "Panics of the Rust while it handles a message"), and last the 6 of a commit. What is said here is said of what is held and
 -- who is in which set when the message comes. Cited from below: sets (`contains`, `insert`, `size`, `is_empty`), the order of rounds (`before`, `equal`,
--- `round_before`, `round_equal`), one more (`increment`, which leaves the largest number), the parts of a promise (`value_of`, `accept_round_of`), `has_value` (a value
+-- `round_before`, `round_equal`), one more (`increment`, which leaves the largest number), the parts of a promise (`value_of`, `accept_round_of`), `is_some` (a value
 -- is given), and the choice among the best proposers of EPaxos (`Choice`).
 -- Assumes nothing.
-use Rattle.std.specs.Prelude.{Bool, true, false, cond, not, ◌&&◌, ◌||◌, List, [], ◌∷◌, ℕ, ◌-◌, eqb, leb}
+use Rattle.std.specs.Prelude.{Bool, true, false, cond, not, ◌&&◌, ◌||◌, List, [], ◌∷◌, ℕ, ◌-◌, eqb, leb, Option, None, Some, is_some}
 use Rattle.sets.specs.Sets.{contains, insert, size, is_empty}
-use Rattle.sets.specs.declared.OptionalSet.{OptionalSet}
-use Rattle.sets.specs.declared.OptionalSet.TheVariants.{NoSet, Set}
 use Rattle.quorum.specs.declared.QuorumRow.{QuorumRow}
-use Rattle.message.specs.Promises.{value_of, accept_round_of, has_value}
-use Rattle.message.specs.Rounds.{increment, before, equal, is_round, round_before, round_equal}
-use Rattle.message.specs.declared.OptionalProcess.{OptionalProcess}
-use Rattle.message.specs.declared.OptionalProcess.TheVariants.{NoProcess, Process}
-use Rattle.message.specs.declared.OptionalRound.TheVariants.{NoRound, Round}
+use Rattle.message.specs.Promises.{value_of, accept_round_of}
+use Rattle.message.specs.Rounds.{increment, before, equal, round_before, round_equal}
 use Rattle.message.specs.declared.PFMode.{PFMode}
 use Rattle.message.specs.declared.PFMode.TheVariants.{Paxos, MultiPaxos, MultiPaxos3P, EPaxos, Pando, SwiftPaxos}
 use Rattle.message.specs.declared.PaxosRound.{PaxosRound}
 use Rattle.message.specs.declared.RoundV.{RoundV}
 use Rattle.message.specs.declared.RoundV.TheVariants.{FastV, PaxosV}
-use Rattle.round_state.specs.declared.HeldPromise.{HeldPromise}
-use Rattle.round_state.specs.declared.HeldPromise.TheVariants.{NothingHeld, Held}
 use Rattle.fast_state.specs.Adopt.{Choice}
 use Rattle.fast_state.specs.declared.FastAnswers.{FastAnswers}
 use Rattle.consensus.specs.Rows.{Row, gives, asserts, then}
@@ -36,8 +29,8 @@ pub record Facts : Type 0 where
   pub committer : Bool  -- oneself is the committer of the message's value
   pub value_held : Bool  -- the host holds the message's value
   pub quorums : QuorumRow  -- for the replica count
-  pub fixed : OptionalSet  -- the fixed quorum of SwiftPaxos, if there is one
-  pub held : HeldPromise  -- the promise that is held
+  pub fixed : Option ℕ  -- the fixed quorum of SwiftPaxos, if there is one
+  pub held : Option RoundV  -- the promise that is held
   pub promises : ℕ  -- the set of those whose promises are counted in the message's round
   pub accepts : ℕ  -- the set of those whose accepts are counted in the message's round
   pub answers : FastAnswers  -- who has answered on the fast path, for how many proposers, how often for oneself, and the leader's answer
@@ -64,18 +57,18 @@ from_leader f = eqb f.source (leader f)
 abbrev pub majority : Facts → ℕ → Bool
 majority f set = leb f.quorums.majority (size set)
 
-abbrev pub nothing_held : HeldPromise → Bool
-nothing_held NothingHeld = true
-nothing_held (Held rv) = false
+abbrev pub nothing_held : Option RoundV → Bool
+nothing_held None = true
+nothing_held (Some rv) = false
 
 -- ---- accepts
 
 -- "the accept fits³": "Nothing is accepted yet, or the round is later than the accepted one, or round and value are both equal to the accepted ones."
-abbrev pub fits_held : HeldPromise → PaxosRound → ℕ → Bool
-fits_held NothingHeld round v = true
-fits_held (Held (FastV proposer w)) round v = true
-fits_held (Held (PaxosV NoRound w)) round v = true
-fits_held (Held (PaxosV (Round r) w)) round v = round_before r round || (round_equal r round && eqb w v)
+abbrev pub fits_held : Option RoundV → PaxosRound → ℕ → Bool
+fits_held None round v = true
+fits_held (Some (FastV proposer w)) round v = true
+fits_held (Some (PaxosV None w)) round v = true
+fits_held (Some (PaxosV (Some r) w)) round v = round_before r round || (round_equal r round && eqb w v)
 
 -- "Both then count the sender, and the own process if it is a replica, once each."
 unfoldable pub with_both : Facts → ℕ → ℕ
@@ -88,18 +81,18 @@ accepts_enough f = majority f (with_both f f.accepts)
 -- ---- promises
 
 -- what is held before the promise is counted: the promise itself, where nothing was held
-abbrev pub held_first : HeldPromise → RoundV → RoundV
-held_first NothingHeld rv = rv
-held_first (Held old) rv = old
+abbrev pub held_first : Option RoundV → RoundV → RoundV
+held_first None rv = rv
+held_first (Some old) rv = old
 
 -- what is held once it is counted: "`receive_promise` replaces what is held if nothing is held or the new accept round is later"
-abbrev pub held_then : HeldPromise → RoundV → RoundV
-held_then NothingHeld rv = rv
-held_then (Held old) rv = cond (before (accept_round_of old) (accept_round_of rv)) rv old
+abbrev pub held_then : Option RoundV → RoundV → RoundV
+held_then None rv = rv
+held_then (Some old) rv = cond (before (accept_round_of old) (accept_round_of rv)) rv old
 
 -- it was accepted in some round
 abbrev pub accepted_then : Facts → RoundV → Bool
-accepted_then f rv = is_round (accept_round_of (held_then f.held rv))
+accepted_then f rv = is_some (accept_round_of (held_then f.held rv))
 
 -- where nothing was held, oneself has promised first
 abbrev pub promises_first : Facts → ℕ
@@ -115,11 +108,11 @@ completes f = not (majority f (promises_first f)) && majority f (promises_then f
 
 -- what is held fits an accept of oneself in the round
 abbrev pub own_fits : Facts → RoundV → Bool
-own_fits f rv = fits_held (Held (held_then f.held rv)) f.round (value_of (held_then f.held rv))
+own_fits f rv = fits_held (Some (held_then f.held rv)) f.round (value_of (held_then f.held rv))
 
 -- oneself, another than the delegate, holds a value as accepted in the round already
 abbrev pub accepted_in_round : Facts → RoundV → Bool
-accepted_in_round f rv = equal (accept_round_of (held_first f.held rv)) (Round f.round)
+accepted_in_round f rv = equal (accept_round_of (held_first f.held rv)) (Some f.round)
 
 -- ---- answers on the fast path
 
@@ -166,9 +159,9 @@ epaxos_scores_then f proposer = cond (answered_before f) f.scores (scored_answer
 abbrev pub epaxos_commits : Facts → ℕ → Bool
 epaxos_commits f proposer = unopposed f.quorums.epaxos (epaxos_answers_then f proposer)
 
-abbrev pub is_one : OptionalProcess → Bool
-is_one NoProcess = false
-is_one (Process p) = true
+abbrev pub is_one : Option ℕ → Bool
+is_one None = false
+is_one (Some p) = true
 
 -- "`epaxos_try_adopt` needs a majority of answers and two proposers; best score wins": one of them is chosen. The engine chooses one exactly where some proposer
 -- that is present has a score above 0 (`one_scored` and `none_scored`, proofs/Reading.antt).
@@ -180,14 +173,14 @@ adopts choose f proposer =
 -- ---- SwiftPaxos
 
 -- an answer counts from every process, or from those of the fixed quorum
-abbrev pub may_count : OptionalSet → ℕ → Bool
-may_count NoSet p = true
-may_count (Set quorum) p = contains quorum p
+abbrev pub may_count : Option ℕ → ℕ → Bool
+may_count None p = true
+may_count (Some quorum) p = contains quorum p
 
 -- "with a fixed quorum a majority is enough, and without one the fast quorum is needed"
-abbrev pub swift_needs : QuorumRow → OptionalSet → ℕ
-swift_needs quorums NoSet = quorums.fast
-swift_needs quorums (Set fixed) = quorums.majority
+abbrev pub swift_needs : QuorumRow → Option ℕ → ℕ
+swift_needs quorums None = quorums.fast
+swift_needs quorums (Some fixed) = quorums.majority
 
 -- "A SwiftPaxos answer from outside the fixed quorum is uncounted, yet its proposer is recorded"
 abbrev pub recorded_answer : Facts → ℕ → FastAnswers
@@ -205,12 +198,12 @@ swift_answers_then f proposer =
 
 -- an answer of another than the leader commits where the leader has answered before
 abbrev pub answer_commits : Facts → ℕ → Bool
-answer_commits f proposer = has_value f.answers.swift_leader_answer && unopposed (swift_needs f.quorums f.fixed) (swift_answers_then f proposer)
+answer_commits f proposer = is_some f.answers.swift_leader_answer && unopposed (swift_needs f.quorums f.fixed) (swift_answers_then f proposer)
 
 -- the leader's Accept is its answer, for oneself; a second one of a leader that is oneself says nothing new
 abbrev pub leader_answer_commits : Facts → Bool
 leader_answer_commits f =
-    (not (answered_before f) || has_value f.answers.swift_leader_answer) && unopposed (swift_needs f.quorums f.fixed) (swift_answers_then f f.own)
+    (not (answered_before f) || is_some f.answers.swift_leader_answer) && unopposed (swift_needs f.quorums f.fixed) (swift_answers_then f f.own)
 
 -- ---- a Prepare
 

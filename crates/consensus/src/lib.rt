@@ -8,7 +8,7 @@ ghost use Rattle.consensus.specs.Call.{new_core, new_state, new_shard, call_of};
 use calls::{Call, Reply};
 use delivery::Delivery;
 use fast_state::{FastState, PaxosFamilyRoundState};
-use message::{OptionalValue, Outcome, Refusal};
+use message::{Outcome, Refusal};
 use read_tracker::{ReadTable, ReadTracker};
 use settings::Settings;
 use state_calls::State;
@@ -32,44 +32,43 @@ fn new_core(settings: Settings) -> Core
     ensures { result ≡ new_core settings }
 {
     let round_state = PaxosFamilyRoundState::new(settings.starting_round());
-    let paxos = round_state.paxos;
-    let tracker = ReadTracker::new();
     Core {
         slot: 0,
-        last_v: OptionalValue::NoValue,
+        last_v: None,
         slot_left_fast_path: false,
-        paxos,
-        tracker,
+        paxos: round_state.paxos,
+        tracker: ReadTracker::new(),
     }
 }
 
 fn new_state(settings: Settings) -> State
     ensures { result ≡ new_state settings }
 {
-    let core = new_core(settings);
-    let fast = FastState::no_answers();
-    let table = ReadTable::new();
     State {
-        rounds: Rounds { core, fast },
-        table,
+        rounds: Rounds {
+            core: new_core(settings),
+            fast: FastState::no_answers(),
+        },
+        table: ReadTable::new(),
     }
 }
 
 impl Shard {
     // A shard as it begins. Settings outside the limits give one that is not made.
+    #[tactic(auto, unfolding(crate::specs::Call::new_shard))]
     pub fn new(settings: Settings) -> Shard
         ensures { result ≡ new_shard settings }
     {
         let state = new_state(settings);
         if settings.within_limits() {
             return Shard {
-                made: Outcome::Done,
+                made: Ok(()),
                 settings,
                 state,
             };
         }
         Shard {
-            made: Outcome::Refused(Refusal::SettingsOutsideLimits),
+            made: Err(Refusal::SettingsOutsideLimits),
             settings,
             state,
         }
@@ -79,17 +78,13 @@ impl Shard {
     pub fn call(mut self, call: Call) -> Answer
         ensures { result ≡ call_of self call }
     {
-        let made = self.made;
-        let settings = self.settings;
-        let state = self.state;
-        let rounds = state.rounds;
-        let core = rounds.core;
-        let decision = calls::decision_of(made, settings, core, call);
-        let answer = state_calls::state_call(state, decision);
-        let next = answer.state;
-        let reply = answer.reply;
-        self.state = next;
-        Answer { shard: self, reply }
+        let decision = calls::decision_of(self.made, self.settings, self.state.rounds.core, call);
+        let answer = state_calls::state_call(self.state, decision);
+        self.state = answer.state;
+        Answer {
+            shard: self,
+            reply: answer.reply,
+        }
     }
 
     // The three kinds of call by their names. An unmade or spent shard refuses them as it refuses `call`.

@@ -1,15 +1,14 @@
 -- What a call makes of the core, and whether it goes on with the rounds or the reads.
 -- Assumes nothing.
-use Rattle.std.specs.Prelude.{Bool, true, false, cond, ℕ, eqb, ltb}
+use Rattle.std.specs.Prelude.{Bool, true, false, cond, ℕ, eqb, ltb, None, Result, Ok, Err, is_some}
+use Rattle.calls.specs.declared.Taken.{Taken}
 use Rattle.message.specs.Modes.{has_fast_path}
 use Rattle.message.specs.Rounds.{increment}
 use Rattle.message.specs.declared.ConsensusMsg.{ConsensusMsg}
 use Rattle.message.specs.declared.ConsensusMsg.TheVariants.{Prepare, Accept, ForwardRequest, Commit, ReadRequest, ReadResponse}
-use Rattle.message.specs.declared.OptionalValue.TheVariants.{NoValue}
 use Rattle.message.specs.declared.ReadId.{ReadId}
 use Rattle.message.specs.declared.Refusal.{Refusal}
 use Rattle.message.specs.declared.Refusal.TheVariants.{ValueNotHeld, Panic}
-use Rattle.round_state.specs.Paxos.{is_held}
 use Rattle.paxos_family.specs.Commit.{commit_core}
 use Rattle.paxos_family.specs.Process.{process_classic}
 use Rattle.propose.specs.Propose.{propose_classic}
@@ -26,8 +25,6 @@ use Rattle.steps.specs.declared.Outgoing.{Outgoing}
 use Rattle.delivery.specs.declared.Delivery.{Delivery}
 use Rattle.calls.specs.declared.Call.{Call}
 use Rattle.calls.specs.declared.Call.TheVariants.{Propose, StartRead, Receive}
-use Rattle.calls.specs.declared.Decision.{Decision}
-use Rattle.calls.specs.declared.Decision.TheVariants.{Refuse, Handle}
 use Rattle.core_calls.specs.Replies.{refused_reply, sent_reply, committed_reply}
 use Rattle.core_calls.specs.declared.CoreAnswer.{CoreAnswer}
 
@@ -79,12 +76,12 @@ core_on_commit a slot v core =
 
 -- the first slot that is not decided here yet: the own one, or the next while a value is held
 abbrev pub next_readable : Core → ℕ
-next_readable core = cond (is_held core.paxos.max_rv) (increment core.slot) core.slot
+next_readable core = cond (is_some core.paxos.max_rv) (increment core.slot) core.slot
 
 -- a ReadResponse carries no last value
 abbrev pub read_answer : ℕ → ℕ → ReadId → Core → Outgoing
 read_answer own src id core =
-    record { destination = One src; message = record { msg = ReadResponse id (next_readable core); src = own; last_v = NoValue } }
+    record { destination = One src; message = record { msg = ReadResponse id (next_readable core); src = own; last_v = None } }
 
 -- answered at any member; the Rust's sink asserts that nothing is sent to oneself
 unfoldable pub core_on_read_request : ℕ → ℕ → ReadId → Core → CoreAnswer
@@ -109,6 +106,6 @@ core_taken a h core (Propose v) = core_proposed a v core
 core_taken a h core (StartRead tag arrival) = needs_more core
 core_taken a h core (Receive d) = core_handle a h d core d.message.msg
 
-unfoldable pub core_call : Core → Decision → CoreAnswer
-core_call core (Refuse why) = refuses_in core why
-core_call core (Handle t) = core_taken t.asked t.heard core t.call
+unfoldable pub core_call : Core → Result Taken Refusal → CoreAnswer
+core_call core (Err why) = refuses_in core why
+core_call core (Ok t) = core_taken t.asked t.heard core t.call

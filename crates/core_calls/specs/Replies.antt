@@ -1,22 +1,21 @@
 -- The replies of calls, before reads are served.
 -- Assumes nothing.
-use Rattle.std.specs.Prelude.{Bool, false, not, ◌&&◌, ℕ}
+use Rattle.std.specs.Prelude.{Bool, false, not, ◌&&◌, ℕ, None, Ok, Err}
 use Rattle.message.specs.Modes.{has_fast_path}
-use Rattle.message.specs.declared.Outcome.TheVariants.{Done, Refused}
 use Rattle.message.specs.declared.Refusal.{Refusal}
 use Rattle.steps.specs.Steps.{no_messages}
 use Rattle.steps.specs.declared.Asked.{Asked}
 use Rattle.steps.specs.declared.Core.{Core}
 use Rattle.steps.specs.declared.Messages.{Messages}
-use Rattle.calls.specs.declared.OptionalCommit.TheVariants.{NoCommit, Committed}
+use Rattle.calls.specs.Commits.{committed_slot}
 use Rattle.calls.specs.declared.Reply.{Reply}
 
 -- a refusal hands back its number alone
 abbrev pub refused_reply : Refusal → Reply
-refused_reply why = record { outcome = Refused why; messages = no_messages; commit = NoCommit; served_count = 0 }
+refused_reply why = record { outcome = Err why; messages = no_messages; commit = None; served_count = 0 }
 
 abbrev pub sent_reply : Messages → Reply
-sent_reply messages = record { outcome = Done; messages = messages; commit = NoCommit; served_count = 0 }
+sent_reply messages = record { outcome = Ok tt; messages = messages; commit = None; served_count = 0 }
 
 -- "fast mark from `has_fast_path` and `slot_left_fast_path`, whoever the requester"
 abbrev pub is_fast : Asked → Core → Bool
@@ -24,4 +23,4 @@ is_fast a core = has_fast_path a.mode && not core.slot_left_fast_path
 
 abbrev pub committed_reply : Asked → ℕ → Core → Messages → Reply
 committed_reply a v core messages =
-    record { outcome = Done; messages = messages; commit = Committed core.slot v (is_fast a core); served_count = 0 }
+    record { outcome = Ok tt; messages = messages; commit = committed_slot core.slot v (is_fast a core); served_count = 0 }

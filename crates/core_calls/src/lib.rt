@@ -4,11 +4,11 @@
 
 ghost use Rattle.std.specs.Prelude.{◌≡◌};
 ghost use Rattle.core_calls.specs.Replies.{refused_reply, sent_reply, is_fast, committed_reply};
-ghost use Rattle.core_calls.specs.CoreCall.{sends_from, refuses_in, needs_more, core_committed, core_finish_at, core_finish, core_proposed, core_processed, core_on_commit, next_readable, read_answer, core_on_read_request, core_on_read_response, core_handle, core_taken, core_call};
+ghost use Rattle.core_calls.specs.CoreCall.{sends_from, refuses_in, needs_more, core_committed, core_finish, core_proposed, core_processed, core_on_commit, next_readable, read_answer, core_on_read_request, core_on_read_response, core_handle, core_taken, core_call};
 
-use calls::{Call, Decision, OptionalCommit, Reply};
+use calls::{Call, CommittedSlot, Reply, Taken};
 use delivery::Delivery;
-use message::{ConsensusMessage, ConsensusMsg, OptionalValue, Outcome, ReadId, Refusal};
+use message::{ConsensusMessage, ConsensusMsg, ReadId, Refusal};
 use steps::{
     Asked, Core, CoreStep, Destination, Heard, Messages, Next, Outgoing, no_messages, one_message,
 };
@@ -25,9 +25,9 @@ pub fn refused_reply(why: Refusal) -> Reply
     ensures { result ≡ refused_reply why }
 {
     Reply {
-        outcome: Outcome::Refused(why),
+        outcome: Err(why),
         messages: no_messages(),
-        commit: OptionalCommit::NoCommit,
+        commit: None,
         served_count: 0,
     }
 }
@@ -36,9 +36,9 @@ pub fn sent_reply(messages: Messages) -> Reply
     ensures { result ≡ sent_reply messages }
 {
     Reply {
-        outcome: Outcome::Done,
+        outcome: Ok(()),
         messages,
-        commit: OptionalCommit::NoCommit,
+        commit: None,
         served_count: 0,
     }
 }
@@ -47,14 +47,7 @@ pub fn sent_reply(messages: Messages) -> Reply
 fn is_fast(a: Asked, core: Core) -> bool
     ensures { result ≡ is_fast a core }
 {
-    let mode = a.mode;
-    if mode.has_fast_path() {
-        if core.slot_left_fast_path {
-            return false;
-        }
-        return true;
-    }
-    false
+    a.mode.has_fast_path() && !core.slot_left_fast_path
 }
 
 // The reply of a commit before reads are served.
@@ -62,13 +55,13 @@ pub fn committed_reply(a: Asked, v: u64, core: Core, messages: Messages) -> Repl
     ensures { result ≡ committed_reply a v core messages }
 {
     Reply {
-        outcome: Outcome::Done,
+        outcome: Ok(()),
         messages,
-        commit: OptionalCommit::Committed {
+        commit: Some(CommittedSlot {
             slot: core.slot,
             v,
             fast: is_fast(a, core),
-        },
+        }),
         served_count: 0,
     }
 }
@@ -105,6 +98,7 @@ pub fn needs_more(core: Core) -> CoreAnswer
 }
 
 // The commit of a value in a classic mode. Open reads may have become ready by it.
+#[tactic(auto, unfolding(crate::specs::CoreCall::core_committed))]
 pub fn core_committed(a: Asked, v: u64, core: Core, messages: Messages) -> CoreAnswer
     ensures { result ≡ core_committed a v core messages }
 {
@@ -118,49 +112,29 @@ pub fn core_committed(a: Asked, v: u64, core: Core, messages: Messages) -> CoreA
 }
 
 // A step becomes an answer. What is refused leaves the old core, and a commit needs its value.
-fn core_finish_at(
-    a: Asked,
-    held: bool,
-    old: Core,
-    s: Core,
-    messages: Messages,
-    next: Next,
-) -> CoreAnswer
-    ensures { result ≡ core_finish_at a held old s messages next }
+pub fn core_finish(a: Asked, held: bool, old: Core, step: CoreStep) -> CoreAnswer
+    ensures { result ≡ core_finish a held old step }
 {
-    match next {
-        Next::Stays => sends_from(s, messages),
-        Next::Continues => sends_from(s, messages),
-        Next::Commits(v) => {
-            if held {
-                return core_committed(a, v, s, messages);
-            }
-            refuses_in(old, Refusal::ValueNotHeld)
-        }
+    match step.next {
+        Next::Stays | Next::Continues => sends_from(step.core, step.messages),
+        Next::Commits(v) if held => core_committed(a, v, step.core, step.messages),
+        Next::Commits(_) => refuses_in(old, Refusal::ValueNotHeld),
         Next::Refuses(why) => refuses_in(old, why),
     }
 }
 
-pub fn core_finish(a: Asked, held: bool, old: Core, step: CoreStep) -> CoreAnswer
-    ensures { result ≡ core_finish a held old step }
-{
-    let core = step.core;
-    let messages = step.messages;
-    let next = step.next;
-    core_finish_at(a, held, old, core, messages, next)
-}
-
 // The host holds the value that it proposes.
+#[tactic(auto, unfolding(crate::specs::CoreCall::core_proposed))]
 pub fn core_proposed(a: Asked, v: u64, core: Core) -> CoreAnswer
     ensures { result ≡ core_proposed a v core }
 {
-    let mode = a.mode;
-    if mode.has_fast_path() {
+    if a.mode.has_fast_path() {
         return needs_more(core);
     }
     core_finish(a, true, core, propose::propose_classic(a, v, core))
 }
 
+#[tactic(auto, unfolding(crate::specs::CoreCall::core_processed))]
 pub fn core_processed(
     a: Asked,
     heard: Heard,
@@ -170,8 +144,7 @@ pub fn core_processed(
 ) -> CoreAnswer
     ensures { result ≡ core_processed a heard held msg core }
 {
-    let mode = a.mode;
-    if mode.has_fast_path() {
+    if a.mode.has_fast_path() {
         return needs_more(core);
     }
     let step = paxos_family::process_classic(a, heard, msg, core);
@@ -179,14 +152,14 @@ pub fn core_processed(
 }
 
 // A Commit of an older slot does nothing. The own slot's commits, from any source and at any member.
+#[tactic(auto, unfolding(crate::specs::CoreCall::core_on_commit))]
 pub fn core_on_commit(a: Asked, slot: u64, v: u64, core: Core) -> CoreAnswer
     ensures { result ≡ core_on_commit a slot v core }
 {
-    let mode = a.mode;
     if slot < core.slot {
         return sends_from(core, no_messages());
     }
-    if mode.has_fast_path() {
+    if a.mode.has_fast_path() {
         return needs_more(core);
     }
     core_committed(a, v, core, no_messages())
@@ -196,9 +169,7 @@ pub fn core_on_commit(a: Asked, slot: u64, v: u64, core: Core) -> CoreAnswer
 fn next_readable(core: Core) -> u64
     ensures { result ≡ next_readable core }
 {
-    let paxos = core.paxos;
-    let held = paxos.max_rv;
-    if held.is_held() {
+    if core.paxos.max_rv.is_some() {
         return message::increment(core.slot);
     }
     core.slot
@@ -216,12 +187,13 @@ pub fn read_answer(own: u64, src: u64, id: ReadId, core: Core) -> Outgoing
         message: ConsensusMessage {
             msg: response,
             src: own,
-            last_v: OptionalValue::NoValue,
+            last_v: None,
         },
     }
 }
 
 // Answered at any member. The Rust's sink asserts that nothing is sent to oneself.
+#[tactic(auto, unfolding(crate::specs::CoreCall::core_on_read_request))]
 pub fn core_on_read_request(own: u64, src: u64, id: ReadId, core: Core) -> CoreAnswer
     ensures { result ≡ core_on_read_request own src id core }
 {
@@ -232,6 +204,7 @@ pub fn core_on_read_request(own: u64, src: u64, id: ReadId, core: Core) -> CoreA
 }
 
 // Where no read is open their table is left alone.
+#[tactic(auto, unfolding(crate::specs::CoreCall::core_on_read_response))]
 fn core_on_read_response(core: Core) -> CoreAnswer
     ensures { result ≡ core_on_read_response core }
 {
@@ -242,71 +215,42 @@ fn core_on_read_response(core: Core) -> CoreAnswer
 }
 
 // The Rust's full_process_message, on the core.
+#[tactic(auto, unfolding(crate::specs::CoreCall::core_handle))]
 fn core_handle(a: Asked, heard: Heard, d: Delivery, core: Core, msg: ConsensusMsg) -> CoreAnswer
     ensures { result ≡ core_handle a heard d core msg }
 {
-    let held = d.said.value_held;
     match msg {
-        ConsensusMsg::Prepare { slot, round, rv } => {
-            core_processed(
-                a,
-                heard,
-                held,
-                ConsensusMsg::Prepare { slot, round, rv },
-                core,
-            )
-        },
-        ConsensusMsg::Accept { slot, round, v } => {
-            core_processed(
-                a,
-                heard,
-                held,
-                ConsensusMsg::Accept { slot, round, v },
-                core,
-            )
-        },
-        ConsensusMsg::ForwardRequest { v } => {
-            core_processed(a, heard, held, ConsensusMsg::ForwardRequest { v }, core)
-        },
+        ConsensusMsg::Prepare { .. }
+        | ConsensusMsg::Accept { .. }
+        | ConsensusMsg::ForwardRequest { .. } => {
+            core_processed(a, heard, d.said.value_held, msg, core)
+        }
         ConsensusMsg::Commit { slot, v } => core_on_commit(a, slot, v, core),
         ConsensusMsg::ReadRequest { id } => {
             core_on_read_request(a.member.my_pid, d.message.src, id, core)
-        },
-        ConsensusMsg::ReadResponse {
-            id: _,
-            next_readable_slot: _,
-        } => core_on_read_response(core),
+        }
+        ConsensusMsg::ReadResponse { .. } => core_on_read_response(core),
     }
 }
 
+#[tactic(auto, unfolding(crate::specs::CoreCall::core_taken))]
 fn core_taken(asked: Asked, heard: Heard, core: Core, call: Call) -> CoreAnswer
     ensures { result ≡ core_taken asked heard core call }
 {
     match call {
         Call::Propose(v) => core_proposed(asked, v, core),
-        Call::StartRead {
-            tag: _,
-            arrival_slot: _,
-        } => needs_more(core),
-        Call::Receive(d) => {
-            let message = d.message;
-            let msg = message.msg;
-            core_handle(asked, heard, d, core, msg)
-        }
+        Call::StartRead { .. } => needs_more(core),
+        Call::Receive(d) => core_handle(asked, heard, d, core, d.message.msg),
     }
 }
 
 // A call on the core.
-pub fn core_call(core: Core, decision: Decision) -> CoreAnswer
+#[tactic(auto, unfolding(crate::specs::CoreCall::core_call))]
+pub fn core_call(core: Core, decision: Result<Taken, Refusal>) -> CoreAnswer
     ensures { result ≡ core_call core decision }
 {
     match decision {
-        Decision::Refuse(why) => refuses_in(core, why),
-        Decision::Handle(taken) => {
-            let asked = taken.asked;
-            let heard = taken.heard;
-            let call = taken.call;
-            core_taken(asked, heard, core, call)
-        }
+        Err(why) => refuses_in(core, why),
+        Ok(taken) => core_taken(taken.asked, taken.heard, core, taken.call),
     }
 }

@@ -1,15 +1,14 @@
 -- Answers that are only counted, accepts by the leader and promises by whoever gathers them: one set of the core grows by the sender, and nothing is
 -- sent. They are found by the numbers of the call and of the core.
 -- Assumes nothing.
-use Rattle.std.specs.Prelude.{Bool, cond, not, ◌&&◌, List, [], ℕ, eqb, leb}
+use Rattle.std.specs.Prelude.{Bool, cond, not, ◌&&◌, List, [], ℕ, eqb, leb, Some, is_some}
 use Rattle.arrays.specs.Arrays.{settings_of}
 use Rattle.arrays.specs.declared.Setup.{Setup}
 use Rattle.calls.specs.Asked.{asked_of}
 use Rattle.message.specs.Promises.{accept_round_of}
 use Rattle.message.specs.Rounds.{before}
-use Rattle.message.specs.declared.OptionalRound.TheVariants.{Round}
 use Rattle.message.specs.declared.PaxosRound.{PaxosRound}
-use Rattle.round_state.specs.Paxos.{get_last_accepted_round, is_held, counted, accept_fits}
+use Rattle.round_state.specs.Paxos.{get_last_accepted_round, counted, accept_fits}
 use Rattle.round_state.specs.declared.Member.{Member}
 use Rattle.sets.specs.Sets.{contains, size}
 use Rattle.settings.specs.Questions.{delegate_in}
@@ -30,14 +29,14 @@ majority_of s = (member_of s).quorums.majority
 unfoldable pub in_own_round : Setup → FlatCore → FlatMessage → Bool
 in_own_round s c m =
     contains s.alive_replicas s.my_pid
-    && (contains s.alive_replicas m.src && not (before (decoded_round c.round) (Round (round_in m))))
+    && (contains s.alive_replicas m.src && not (before (decoded_round c.round) (Some (round_in m))))
 
 -- ---- accepts
 
 -- what is held is the accept's value, accepted in its round
 unfoldable pub repeats_held : FlatCore → FlatMessage → Bool
 repeats_held c m =
-    not (before (get_last_accepted_round (decoded_held c.max_rv)) (Round (round_in m)))
+    not (before (get_last_accepted_round (decoded_held c.max_rv)) (Some (round_in m)))
     && accept_fits (decoded_held c.max_rv) (round_in m) m.v
 
 unfoldable pub accepts_with : Setup → FlatCore → FlatMessage → ℕ
@@ -54,7 +53,7 @@ counts_accept s c m =
 -- what is held stays, since the promise's value was not accepted later
 unfoldable pub keeps_held : FlatCore → FlatMessage → Bool
 keeps_held c m =
-    is_held (decoded_held c.max_rv)
+    is_some (decoded_held c.max_rv)
     && not (before (get_last_accepted_round (decoded_held c.max_rv)) (accept_round_of (decoded_promise m.rv)))
 
 unfoldable pub promises_with : Setup → FlatCore → FlatMessage → ℕ

@@ -7,8 +7,8 @@ ghost use Rattle.counting.specs.Counting.{round_in, member_of, majority_of, in_o
 
 use arrays::Setup;
 use flat::{FlatCore, FlatMessage};
-use message::{OptionalRound, PaxosRound};
-use round_state::Member;
+use message::PaxosRound;
+use round_state::{Member, accept_fits, get_last_accepted_round};
 
 pub fn round_in(m: FlatMessage) -> PaxosRound
     ensures { result ≡ round_in m }
@@ -35,36 +35,30 @@ fn majority_of(setup: Setup) -> u64
 }
 
 // Whether member and source are live replicas, and the message is of no later round than the core's. Older ones are ignored before.
+#[tactic(auto, using(message::proofs::Comparisons::rounds_before), unfolding(crate::specs::Counting::in_own_round))]
 fn in_own_round(setup: Setup, c: FlatCore, m: FlatMessage) -> bool
     ensures { result ≡ in_own_round setup c m }
 {
-    let at = c.round;
-    if sets::contains(setup.alive_replicas, setup.my_pid) {
-        if sets::contains(setup.alive_replicas, m.src) {
-            if flat::decode_round(at).before(OptionalRound::Round(round_in(m))) {
-                return false;
-            }
-            return true;
-        }
+    if !sets::contains(setup.alive_replicas, setup.my_pid) {
         return false;
     }
-    false
+    if !sets::contains(setup.alive_replicas, m.src) {
+        return false;
+    }
+    flat::decode_round(c.round) >= Some(round_in(m))
 }
 
 // Whether what is held is the accept's value, accepted in its round: then the accept changes it in nothing.
+#[tactic(auto, using(message::proofs::Comparisons::rounds_before), unfolding(crate::specs::Counting::repeats_held))]
 fn repeats_held(c: FlatCore, m: FlatMessage) -> bool
     ensures { result ≡ repeats_held c m }
 {
-    let max_rv = c.max_rv;
-    let held = flat::decode_held(max_rv);
+    let held = flat::decode_held(c.max_rv);
     let round = round_in(m);
-    if held
-        .get_last_accepted_round()
-        .before(OptionalRound::Round(round))
-    {
+    if get_last_accepted_round(held) < Some(round) {
         return false;
     }
-    held.accept_fits(round, m.v)
+    accept_fits(held, round, m.v)
 }
 
 fn accepts_with(setup: Setup, c: FlatCore, m: FlatMessage) -> u64
@@ -74,42 +68,27 @@ fn accepts_with(setup: Setup, c: FlatCore, m: FlatMessage) -> u64
 }
 
 // Whether an accept is counted by the leader and the majority is not reached.
+#[tactic(auto, unfolding(crate::specs::Counting::counts_accept))]
 fn counts_accept(setup: Setup, c: FlatCore, m: FlatMessage) -> bool
     ensures { result ≡ counts_accept setup c m }
 {
-    if setup.my_pid == m.leader {
-        if in_own_round(setup, c, m) {
-            if repeats_held(c, m) {
-                if sets::size(accepts_with(setup, c, m)) >= majority_of(setup) {
-                    return false;
-                }
-                return true;
-            }
-            return false;
-        }
-        return false;
-    }
-    false
+    setup.my_pid == m.leader
+        && in_own_round(setup, c, m)
+        && repeats_held(c, m)
+        && sets::size(accepts_with(setup, c, m)) < majority_of(setup)
 }
 
 // Whether what is held stays: something is held, and the promise's value was not accepted later.
+#[tactic(auto, using(message::proofs::Comparisons::rounds_before), unfolding(crate::specs::Counting::keeps_held))]
 fn keeps_held(c: FlatCore, m: FlatMessage) -> bool
     ensures { result ≡ keeps_held c m }
 {
-    let max_rv = c.max_rv;
-    let rv = m.rv;
-    let held = flat::decode_held(max_rv);
-    if held.is_held() {
-        let promise = flat::decode_promise(rv);
-        if held
-            .get_last_accepted_round()
-            .before(promise.get_accept_round())
-        {
-            return false;
-        }
-        return true;
+    let held = flat::decode_held(c.max_rv);
+    if held.is_none() {
+        return false;
     }
-    false
+    let promise = flat::decode_promise(m.rv);
+    get_last_accepted_round(held) >= promise.get_accept_round()
 }
 
 fn promises_with(setup: Setup, c: FlatCore, m: FlatMessage) -> u64
@@ -119,57 +98,44 @@ fn promises_with(setup: Setup, c: FlatCore, m: FlatMessage) -> u64
 }
 
 // Whether the majority is reached with this promise: then the accept phase begins.
+#[tactic(auto, unfolding(crate::specs::Counting::completes))]
 fn completes(setup: Setup, c: FlatCore, m: FlatMessage) -> bool
     ensures { result ≡ completes setup c m }
 {
     let majority = majority_of(setup);
-    if sets::size(c.prepared_set) >= majority {
-        return false;
-    }
-    sets::size(promises_with(setup, c, m)) >= majority
+    sets::size(c.prepared_set) < majority && sets::size(promises_with(setup, c, m)) >= majority
 }
 
 // Whether the member gathers the promises of the round. That a fast value's proposer may gather them is left to the handlers.
+#[tactic(auto, unfolding(crate::specs::Counting::gathers))]
 fn gathers(setup: Setup, delegates: &[u64; 64], m: FlatMessage) -> bool
     ensures { result ≡ gathers setup delegates.now m }
 {
-    if m.rv.fast == 0 {
-        return settings::delegate_in(delegates, flat::decode_mode(setup.mode), m.leader)
-            == setup.my_pid;
-    }
-    false
+    m.rv.fast == 0
+        && settings::delegate_in(delegates, flat::decode_mode(setup.mode), m.leader) == setup.my_pid
 }
 
 // Whether a promise is counted, and the majority is not reached with this one.
+#[tactic(auto, unfolding(crate::specs::Counting::counts_promise))]
 fn counts_promise(setup: Setup, delegates: &[u64; 64], c: FlatCore, m: FlatMessage) -> bool
     ensures { result ≡ counts_promise setup delegates.now c m }
 {
-    if gathers(setup, delegates, m) {
-        if in_own_round(setup, c, m) {
-            if keeps_held(c, m) {
-                if completes(setup, c, m) {
-                    return false;
-                }
-                return true;
-            }
-            return false;
-        }
-        return false;
-    }
-    false
+    gathers(setup, delegates, m)
+        && in_own_round(setup, c, m)
+        && keeps_held(c, m)
+        && !completes(setup, c, m)
 }
 
 // Whether the message is only counted.
+#[tactic(auto, unfolding(crate::specs::Counting::counts))]
 pub fn counts(setup: Setup, delegates: &[u64; 64], c: FlatCore, m: FlatMessage) -> bool
     ensures { result ≡ counts setup delegates.now c m }
 {
-    if m.kind == 2 {
-        return counts_accept(setup, c, m);
+    match m.kind {
+        2 => counts_accept(setup, c, m),
+        1 => counts_promise(setup, delegates, c, m),
+        _ => false,
     }
-    if m.kind == 1 {
-        return counts_promise(setup, delegates, c, m);
-    }
-    false
 }
 
 // The core with the sender counted. An accept takes the slot off the fast path.

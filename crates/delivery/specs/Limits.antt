@@ -2,14 +2,14 @@
 -- Assumes nothing.
 use Rattle.std.specs.Prelude.{Bool, ◌&&◌, ℕ, ltb}
 pub use Rattle.limits.specs.Limits.{is_number, is_slot}
-unfoldable pub use Rattle.limits.specs.Limits.{round_numbers, rv_numbers, msg_numbers, value_numbers, process_numbers, rv_processes, msg_processes, requester_below}
+unfoldable pub use Rattle.limits.specs.Limits.{round_numbers, rv_numbers, msg_numbers, number_given, rv_processes, msg_processes, requester_below}
 use Rattle.delivery.specs.declared.Delivery.{Delivery}
 
 -- every number of the message, its source and its last value, and of both requesters
 unfoldable pub numbers_fit : Delivery → Bool
 numbers_fit d =
-    msg_numbers d.message.msg && is_number d.message.src && value_numbers d.message.last_v && process_numbers d.said.requester
-    && process_numbers d.held_requester
+    msg_numbers d.message.msg && is_number d.message.src && number_given d.message.last_v && number_given d.said.requester
+    && number_given d.held_requester
 
 -- source, leader of the round, leader of the accept round, proposer, both requesters
 unfoldable pub processes_fit : ℕ → Delivery → Bool

@@ -7,109 +7,71 @@ ghost use Rattle.delivery.specs.Limits.{numbers_fit, processes_fit};
 ghost use Rattle.delivery.specs.Admit.{is_ahead, is_own_slot, is_other_last, needs_value, other_last_value, value_awaited, ready, admit};
 
 pub use limits::{is_number, is_slot};
-use limits::{msg_numbers, msg_processes, process_numbers, requester_below, value_numbers};
-use message::{
-    ConsensusMessage, ConsensusMsg, OptionalProcess, OptionalSlot, OptionalValue, Outcome, Refusal,
-};
+use limits::{msg_numbers, msg_processes, number_given, requester_below};
+use message::{ConsensusMessage, ConsensusMsg, Outcome, Refusal};
 use steps::Core;
 
 // What the host says of a message: whether it holds the message's value, the value's requester, and the fast mark of a read.
-#[derive(Clone, Copy)]
+#[derive(Clone, Copy, PartialEq, Eq, Debug)]
 pub struct Said {
     pub value_held: bool,
-    pub requester: OptionalProcess,
+    pub requester: Option<u64>,
     pub fast: bool,
 }
 
 // A message that comes in, with the host's words. The requester of the value in the held promise belongs to the call and not to
 // the message.
-#[derive(Clone, Copy)]
+#[derive(Clone, Copy, PartialEq, Eq, Debug)]
 pub struct Delivery {
     pub message: ConsensusMessage,
     pub said: Said,
-    pub held_requester: OptionalProcess,
+    pub held_requester: Option<u64>,
 }
 
 impl Delivery {
     // Whether no number of the message, nor of what the host adds to it, is too large.
+    #[tactic(auto, unfolding(crate::specs::Limits::numbers_fit))]
     pub fn numbers_fit(self) -> bool
         ensures { result ≡ numbers_fit self }
     {
-        let message = self.message;
-        let said = self.said;
-        let msg = message.msg;
-        let last_v = message.last_v;
-        let requester = said.requester;
-        let held_requester = self.held_requester;
-        if !msg_numbers(msg) {
-            return false;
-        }
-        if !is_number(message.src) {
-            return false;
-        }
-        if !value_numbers(last_v) {
-            return false;
-        }
-        if !process_numbers(requester) {
-            return false;
-        }
-        process_numbers(held_requester)
+        msg_numbers(self.message.msg)
+            && is_number(self.message.src)
+            && number_given(self.message.last_v)
+            && number_given(self.said.requester)
+            && number_given(self.held_requester)
     }
 
     // Whether every process number is below the count n: source, leaders, proposer and both requesters.
+    #[tactic(auto, unfolding(crate::specs::Limits::processes_fit))]
     pub fn processes_fit(self, n: u64) -> bool
         ensures { result ≡ processes_fit n self }
     {
-        let message = self.message;
-        let said = self.said;
-        let msg = message.msg;
-        let requester = said.requester;
-        let held_requester = self.held_requester;
-        if message.src < n {
-            if msg_processes(n, msg) {
-                if requester_below(n, requester) {
-                    return requester_below(n, held_requester);
-                }
-                return false;
-            }
-            return false;
-        }
-        false
+        self.message.src < n
+            && msg_processes(n, self.message.msg)
+            && requester_below(n, self.said.requester)
+            && requester_below(n, self.held_requester)
     }
 }
 
-pub fn is_ahead(core: Core, slot: OptionalSlot) -> bool
+pub fn is_ahead(core: Core, slot: Option<u64>) -> bool
     ensures { result ≡ is_ahead core slot }
 {
-    match slot {
-        OptionalSlot::NoSlot => false,
-        OptionalSlot::Slot(n) => core.slot < n,
-    }
+    slot.is_some_and(|n| core.slot < n)
 }
 
-pub fn is_own_slot(core: Core, slot: OptionalSlot) -> bool
+#[tactic(auto, using(message::proofs::Comparisons::process_equal))]
+pub fn is_own_slot(core: Core, slot: Option<u64>) -> bool
     ensures { result ≡ is_own_slot core slot }
 {
-    match slot {
-        OptionalSlot::NoSlot => false,
-        OptionalSlot::Slot(n) => n == core.slot,
-    }
+    slot == Some(core.slot)
 }
 
 // Whether a last value is given that is not the own one.
-pub fn is_other_last(core: Core, last_v: OptionalValue) -> bool
+#[tactic(auto, using(message::proofs::Comparisons::values_equal))]
+pub fn is_other_last(core: Core, last_v: Option<u64>) -> bool
     ensures { result ≡ is_other_last core last_v }
 {
-    let own = core.last_v;
-    match last_v {
-        OptionalValue::NoValue => false,
-        OptionalValue::Value(v) => {
-            if OptionalValue::Value(v).equals(own) {
-                return false;
-            }
-            true
-        }
-    }
+    last_v.is_some() && last_v != core.last_v
 }
 
 // Whether the message waits for its value: a Commit does, and a Prepare or an Accept of a round that oneself leads.
@@ -117,87 +79,61 @@ pub fn needs_value(own: u64, msg: ConsensusMsg) -> bool
     ensures { result ≡ needs_value own msg }
 {
     match msg {
-        ConsensusMsg::Prepare {
-            slot: _,
-            round,
-            rv: _,
-        } => round.leader == own,
-        ConsensusMsg::Accept {
-            slot: _,
-            round,
-            v: _,
-        } => round.leader == own,
-        ConsensusMsg::ForwardRequest { v: _ } => false,
-        ConsensusMsg::Commit { slot: _, v: _ } => true,
-        ConsensusMsg::ReadRequest { id: _ } => false,
-        ConsensusMsg::ReadResponse {
-            id: _,
-            next_readable_slot: _,
-        } => false,
+        ConsensusMsg::Prepare { round, .. } | ConsensusMsg::Accept { round, .. } => {
+            round.leader == own
+        }
+        ConsensusMsg::Commit { .. } => true,
+        ConsensusMsg::ForwardRequest { .. }
+        | ConsensusMsg::ReadRequest { .. }
+        | ConsensusMsg::ReadResponse { .. } => false,
     }
 }
 
 impl Delivery {
+    #[tactic(auto, unfolding(crate::specs::Admit::other_last_value))]
     pub fn other_last_value(self, core: Core) -> bool
         ensures { result ≡ other_last_value core self }
     {
-        let message = self.message;
-        let msg = message.msg;
-        let last_v = message.last_v;
-        if is_own_slot(core, msg.get_slot()) {
-            return is_other_last(core, last_v);
-        }
-        false
+        is_own_slot(core, self.message.msg.get_slot()) && is_other_last(core, self.message.last_v)
     }
 
+    #[tactic(auto, unfolding(crate::specs::Admit::value_awaited))]
     fn value_awaited(self, own: u64, core: Core) -> bool
         ensures { result ≡ value_awaited own core self }
     {
-        let message = self.message;
-        let msg = message.msg;
-        if is_own_slot(core, msg.get_slot()) {
-            if needs_value(own, msg) {
-                if self.said.value_held {
-                    return false;
-                }
-                return true;
-            }
-            return false;
-        }
-        false
+        is_own_slot(core, self.message.msg.get_slot())
+            && needs_value(own, self.message.msg)
+            && !self.said.value_held
     }
 
     // What the Rust's ready_to_process decides. Its assertion on the last value comes before it asks for the value.
+    #[tactic(auto, unfolding(crate::specs::Admit::ready))]
     fn ready(self, own: u64, core: Core) -> Outcome
         ensures { result ≡ ready own core self }
     {
-        let message = self.message;
-        let msg = message.msg;
-        let slot_ahead = is_ahead(core, msg.get_slot());
-        let other_last_v = self.other_last_value(core);
-        let awaited = self.value_awaited(own, core);
-        if slot_ahead {
-            return Outcome::Refused(Refusal::SlotAhead);
+        if is_ahead(core, self.message.msg.get_slot()) {
+            return Err(Refusal::SlotAhead);
         }
-        if other_last_v {
-            return Outcome::Refused(Refusal::OtherLastValue);
+        if self.other_last_value(core) {
+            return Err(Refusal::OtherLastValue);
         }
-        if awaited {
-            return Outcome::Refused(Refusal::ValueNotHeld);
+        if self.value_awaited(own, core) {
+            return Err(Refusal::ValueNotHeld);
         }
-        Outcome::Done
+        Ok(())
     }
 
     // What is decided before a message is handled, in document 01's order, at a member with this number in a group of so many processes.
+    #[tactic(auto, unfolding(crate::specs::Admit::admit))]
     pub fn admit(self, process_count: u64, own: u64, core: Core) -> Outcome
         ensures { result ≡ admit process_count own core self }
     {
-        if self.numbers_fit() {
-            if self.processes_fit(process_count) {
-                return self.ready(own, core);
-            }
-            return Outcome::Refused(Refusal::NoSuchProcess);
+        if !self.numbers_fit() {
+            return Err(Refusal::NumberTooLarge);
         }
-        Outcome::Refused(Refusal::NumberTooLarge)
+        if !self.processes_fit(process_count) {
+            return Err(Refusal::NoSuchProcess);
+        }
+        self.ready(own, core)
     }
 }

@@ -1,7 +1,7 @@
 -- What a call leaves in the arrays that are lent, and the number that it hands back: 0 where it is taken, a refusal's number, or `passed_on` where the fast
 -- half has to act. The open and the served reads are what the numbers of their arrays stand for (`table_of`).
 -- Assumes nothing.
-use Rattle.std.specs.Prelude.{Bool, cond, not, ◌&&◌, ◌||◌, List, ◌≡◌, ℕ, ◌+◌, eqb, leb, ltb, set}
+use Rattle.std.specs.Prelude.{Bool, cond, not, ◌&&◌, ◌||◌, List, ◌≡◌, ℕ, ◌+◌, eqb, leb, ltb, set, Some}
 use Rattle.array_reads.specs.Rows.{table_of}
 use Rattle.arrays.specs.Arrays.{core_of, core_numbers}
 use Rattle.arrays.specs.declared.Setup.{Setup}
@@ -13,7 +13,6 @@ use Rattle.message.specs.Modes.{has_fast_path}
 use Rattle.message.specs.Refusals.{refusal_number}
 use Rattle.message.specs.Rounds.{before}
 use Rattle.message.specs.declared.ConsensusMsg.TheVariants.{ReadRequest}
-use Rattle.message.specs.declared.OptionalRound.TheVariants.{Round}
 use Rattle.message.specs.declared.Refusal.TheVariants.{NoRoomForRead}
 use Rattle.propose.specs.Propose.{propose_classic}
 use Rattle.quorum.specs.Quorum.{row_of}
@@ -152,7 +151,7 @@ names_slot kind = eqb kind 1 || (eqb kind 2 || eqb kind 4)
 
 -- a Commit has no round
 unfoldable pub of_older_round : FlatCore → FlatMessage → Bool
-of_older_round c m = not (eqb m.kind 4) && before (Round (round_in m)) (decoded_round c.round)
+of_older_round c m = not (eqb m.kind 4) && before (Some (round_in m)) (decoded_round c.round)
 
 -- of an older slot or round
 unfoldable pub is_older : FlatCore → FlatMessage → Bool

@@ -12,7 +12,7 @@ ghost use Rattle.direct.specs.Direct.{reads_came, reads_left, tracker_of, with_t
 use arrays::Setup;
 use direct_core::{ACCEPT, COMMIT, NEW_READ, PASSED_ON, PREPARE, PROPOSAL, READ_RESPONSE};
 use flat::{FlatCall, FlatCore, FlatMessage};
-use message::{ConsensusMsg, OptionalRound, ReadId};
+use message::{ConsensusMsg, ReadId};
 use read_tracker::{OpenRead, ReadTracker};
 
 // The number of a refusal.
@@ -157,65 +157,55 @@ pub fn serve_ready(
     rest[4] = ready.served_count;
 }
 
+#[tactic(auto, unfolding(crate::specs::Direct::is_response))]
 fn is_response(f: FlatCall) -> bool
     ensures { result ≡ is_response f }
 {
-    if f.kind == PROPOSAL {
-        return false;
-    }
-    f.message.kind == READ_RESPONSE
+    f.kind != PROPOSAL && f.message.kind == READ_RESPONSE
 }
 
 // A proposal, a Prepare, an Accept, a ForwardRequest or a Commit: kinds 1 to 4.
+#[tactic(auto, unfolding(crate::specs::Direct::concerns_slot))]
 pub fn concerns_slot(f: FlatCall) -> bool
     ensures { result ≡ concerns_slot f }
 {
     if f.kind == PROPOSAL {
         return true;
     }
-    if f.message.kind >= PREPARE {
-        return f.message.kind <= COMMIT;
-    }
-    false
+    PREPARE <= f.message.kind && f.message.kind <= COMMIT
 }
 
+#[tactic(auto, unfolding(crate::specs::Direct::names_slot))]
 fn names_slot(kind: u64) -> bool
     ensures { result ≡ names_slot kind }
 {
-    if kind == PREPARE {
-        return true;
-    }
-    if kind == ACCEPT {
-        return true;
-    }
-    kind == COMMIT
+    kind == PREPARE || kind == ACCEPT || kind == COMMIT
 }
 
 // Whether a Prepare or an Accept is of an older round.
+#[tactic(auto, unfolding(crate::specs::Direct::of_older_round))]
 fn of_older_round(c: FlatCore, m: FlatMessage) -> bool
     ensures { result ≡ of_older_round c m }
 {
-    let at = c.round;
-    if m.kind == COMMIT {
-        return false;
-    }
-    OptionalRound::Round(counting::round_in(m)).before(flat::decode_round(at))
+    m.kind != COMMIT && Some(counting::round_in(m)) < flat::decode_round(c.round)
 }
 
 // Whether the message is a Prepare or an Accept of an older slot or round, or a Commit of an older slot, which does nothing.
+#[tactic(auto, unfolding(crate::specs::Direct::is_older))]
 pub fn is_older(c: FlatCore, m: FlatMessage) -> bool
     ensures { result ≡ is_older c m }
 {
-    if names_slot(m.kind) {
-        if m.slot < c.slot {
-            return true;
-        }
-        return of_older_round(c, m);
+    if !names_slot(m.kind) {
+        return false;
     }
-    false
+    if m.slot < c.slot {
+        return true;
+    }
+    of_older_round(c, m)
 }
 
 // Takes the core out for this question alone, so that the compiler loads only the numbers that it asks for.
+#[tactic(auto, unfolding(crate::specs::Direct::is_older))]
 fn is_older_in(core: &[u64; 18], m: FlatMessage) -> bool
     ensures { result ≡ is_older (core_of core.now) m }
 {

@@ -1,5 +1,7 @@
 -- A direct call is the call on the shard that the arrays stand for, or is passed on and has written nothing.
 -- Assumes nothing.
+use Rattle.std.specs.Prelude.{None, Some, Ok, Err, is_some}
+use Rattle.message.specs.Outcomes.{Outcome}
 use mathlib.Core.Bool.{Bool, true, false, cond, not, ◌&&◌, ◌||◌}
 use mathlib.Core.List.{List}
 use mathlib.Core.Logic.{◌⊎◌, inl, inr}
@@ -15,7 +17,6 @@ use Rattle.calls.specs.Asked.{asked_of}
 use Rattle.calls.specs.Decision.{decision_for, decision_of}
 use Rattle.calls.specs.declared.Call.{Call}
 use Rattle.calls.specs.declared.Call.TheVariants.{Propose, StartRead, Receive}
-use Rattle.calls.specs.declared.Decision.TheVariants.{Handle}
 use Rattle.calls.specs.declared.Reply.{Reply}
 use Rattle.consensus.proofs.ByParts.{by_parts}
 use Rattle.consensus.specs.ByParts.{from_state}
@@ -31,16 +32,12 @@ use Rattle.direct_fast.specs.DirectFast.{fast_half_acts}
 use Rattle.fast_state.specs.declared.FastState.{FastState}
 use Rattle.message.specs.Modes.{has_fast_path}
 use Rattle.message.specs.Refusals.{refusal_number}
-use Rattle.message.specs.declared.Outcome.{Outcome}
-use Rattle.message.specs.declared.Outcome.TheVariants.{Done, Refused}
 use Rattle.message.specs.declared.Refusal.{Refusal}
 use Rattle.message.specs.declared.Refusal.TheVariants.{Panic, NoRoomForRead}
 use Rattle.propose.specs.Propose.{propose_classic}
 use Rattle.read_tracker.specs.Reads.{insert, inserted, refused as refused_read}
 use Rattle.read_tracker.specs.declared.Inserted.{Inserted}
 use Rattle.read_tracker.specs.declared.ReadTable.{ReadTable}
-use Rattle.round_state.specs.Paxos.{is_held}
-use Rattle.round_state.specs.declared.HeldPromise.TheVariants.{NothingHeld, Held}
 use Rattle.rounds_calls.specs.RoundsCall.{with_fast, rounds_handle, rounds_taken, rounds_passed}
 use Rattle.rounds_calls.specs.declared.RoundsAnswer.{RoundsAnswer}
 use Rattle.state_calls.specs.StateCall.{state_call, state_after, state_passed, with_reads, reads_handle, reads_taken, serve_ready, with_table, after_insert, count_response as states_count, open_read as state_open_read}
@@ -105,7 +102,7 @@ module _ (s : Setup) (committers delegates core : List ℕ) (fast : FastState) (
   after_by : (c : Call) (k : Core) (reply : Reply) (t : Bool) → has_fast_path settings.mode ≡ false
       → reads_taken (asked_of settings) table (with_fast fast (record { core = k; reply = reply; deeper = t })) c
       ≡ serve_ready (majority_of s) table (with_fast fast (record { core = k; reply = reply; deeper = t }))
-      → state_after shard.state (Handle (taken_as c)) (record { core = k; reply = reply; deeper = t })
+      → state_after shard.state (Ok (taken_as c)) (record { core = k; reply = reply; deeper = t })
       ≡ on_state s core fast table w t (record { core = k; reply = reply; deeper = t })
   unfolding state_after state_passed rounds_passed with_reads
   after_by c k reply true p r =
@@ -122,13 +119,13 @@ module _ (s : Setup) (committers delegates core : List ℕ) (fast : FastState) (
       (finish_step (asked_of settings) (is_yes f.value_held) decoded processing)
 
   classic : (c : Call) → has_fast_path settings.mode ≡ false
-      → core_call decoded (Handle (taken_as c)) ≡ core_answer
+      → core_call decoded (Ok (taken_as c)) ≡ core_answer
       → reads_taken (asked_of settings) table (with_fast fast (core_answer)) c
       ≡ serve_ready (majority_of s) table (with_fast fast (core_answer))
-      → StandsFor (state_call shard.state (Handle (taken_as c))) (served s table (put_answer (core_answer) core w))
+      → StandsFor (state_call shard.state (Ok (taken_as c))) (served s table (put_answer (core_answer) core w))
   classic c p e r =
       subst (λ (x : StateAnswer). StandsFor x (served s table (put_answer a core w)))
-      (sym (ap (state_after shard.state (Handle (taken_as c))) e ∙ after_by c a.core a.reply a.deeper p r))
+      (sym (ap (state_after shard.state (Ok (taken_as c))) e ∙ after_by c a.core a.reply a.deeper p r))
       (answered s core fast table w a answer_deeper)
     where
       a : CoreAnswer
@@ -136,16 +133,16 @@ module _ (s : Setup) (committers delegates core : List ℕ) (fast : FastState) (
 
   -- ---- a call that sends from the core, and opens and serves no read
 
-  leaves : (c : Call) (next : Core) (core' : List ℕ) (ms : Messages) {d : Direct} → core_call decoded (Handle (taken_as c)) ≡ sends_from next ms → decoded_core (core_of core') ≡ next
+  leaves : (c : Call) (next : Core) (core' : List ℕ) (ms : Messages) {d : Direct} → core_call decoded (Ok (taken_as c)) ≡ sends_from next ms → decoded_core (core_of core') ≡ next
       → d ≡ direct 0 core' table (put_reply (sent_reply ms) w)
-      → StandsFor (state_call shard.state (Handle (taken_as c))) d
+      → StandsFor (state_call shard.state (Ok (taken_as c))) d
   unfolding state_after
   leaves c next core' ms {d} e n p =
-      subst (λ (x : StateAnswer). StandsFor x d) (sym (ap (state_after shard.state (Handle (taken_as c))) e))
+      subst (λ (x : StateAnswer). StandsFor x d) (sym (ap (state_after shard.state (Ok (taken_as c))) e))
       (subst (λ (x : Direct). StandsFor (with_table table (with_fast fast (sends_from next ms))) x) (sym p) (refl, n, refl, refl, refl))
 
-  nothing : (c : Call) {d : Direct} → core_call decoded (Handle (taken_as c)) ≡ sends_from decoded no_messages → d ≡ direct 0 core table (put_served 0 w)
-      → StandsFor (state_call shard.state (Handle (taken_as c))) d
+  nothing : (c : Call) {d : Direct} → core_call decoded (Ok (taken_as c)) ≡ sends_from decoded no_messages → d ≡ direct 0 core table (put_served 0 w)
+      → StandsFor (state_call shard.state (Ok (taken_as c))) d
   nothing c e p = leaves c decoded core no_messages e refl p
 
   -- ---- proposals
@@ -158,7 +155,7 @@ module _ (s : Setup) (committers delegates core : List ℕ) (fast : FastState) (
 
   -- a proposal that goes no deeper is what the core makes of it
   shallow : (k : Core) (reply : Reply) (t : Bool) → t ≡ false
-      → state_after shard.state (Handle (taken_as (Propose f.v))) (record { core = k; reply = reply; deeper = t })
+      → state_after shard.state (Ok (taken_as (Propose f.v))) (record { core = k; reply = reply; deeper = t })
       ≡ with_table table (with_fast fast (record { core = k; reply = reply; deeper = t }))
   unfolding state_after
   shallow k reply true e = absurd (not_both refl e)
@@ -174,20 +171,20 @@ module _ (s : Setup) (committers delegates core : List ℕ) (fast : FastState) (
       go (Refuses why) u = refl
 
   proposed : has_fast_path settings.mode ≡ false
-      → StandsFor (state_call shard.state (Handle (taken_as (Propose f.v)))) (served s table (put_step (propose_classic (asked_in s) f.v decoded) core w))
+      → StandsFor (state_call shard.state (Ok (taken_as (Propose f.v)))) (served s table (put_step (propose_classic (asked_in s) f.v decoded) core w))
   unfolding core_call core_taken core_proposed
   proposed p =
       let u : Uncommitted proposing.next = proposal_uncommitted (asked_of settings) f.v decoded in
-      let e : core_call decoded (Handle (taken_as (Propose f.v))) ≡ finished = simp (p) in
+      let e : core_call decoded (Ok (taken_as (Propose f.v))) ≡ finished = simp (p) in
       subst (λ (x : StateAnswer). StandsFor x (served s table (put_step proposing core w)))
-      (sym (ap (state_after shard.state (Handle (taken_as (Propose f.v)))) e ∙ shallow finished.core finished.reply finished.deeper (not_deeper proposing u)))
+      (sym (ap (state_after shard.state (Ok (taken_as (Propose f.v)))) e ∙ shallow finished.core finished.reply finished.deeper (not_deeper proposing u)))
       (step_written s (asked_of settings) core fast table w decoded proposing u)
 
   -- ---- messages
 
   abbrev StandsHandled : Type 0
   StandsHandled =
-      StandsFor (state_call shard.state (Handle (taken_as (Receive delivered)))) (served s table (put_answer (core_answer) core w))
+      StandsFor (state_call shard.state (Ok (taken_as (Receive delivered)))) (served s table (put_answer (core_answer) core w))
 
   prepare_handled : has_fast_path settings.mode ≡ false → eqb kind 1 ≡ true → eqb kind 4 ≡ false → StandsHandled
   unfolding core_call core_taken core_handle core_processed decoded_msg reads_taken reads_handle
@@ -210,7 +207,7 @@ module _ (s : Setup) (committers delegates core : List ℕ) (fast : FastState) (
   source = decoded_source s.process_count s.my_pid f.message
 
   abbrev StandsRequested : Type 0
-  StandsRequested = StandsFor (state_call shard.state (Handle (taken_as (Receive delivered)))) (served s table (answer_request s core f.message w))
+  StandsRequested = StandsFor (state_call shard.state (Ok (taken_as (Receive delivered)))) (served s table (answer_request s core f.message w))
 
   request_handled : eqb kind 1 ≡ false → eqb kind 2 ≡ false → eqb kind 3 ≡ false → eqb kind 4 ≡ false → eqb kind 6 ≡ false → StandsRequested
   unfolding core_call core_taken core_handle core_on_read_request decoded_msg answer_request served state_after
@@ -218,10 +215,10 @@ module _ (s : Setup) (committers delegates core : List ℕ) (fast : FastState) (
     where
       go : (eqb source s.my_pid ≡ true) ⊎ (eqb source s.my_pid ≡ false) → StandsRequested
       go (inl own) =
-          let e : core_call decoded (Handle (taken_as (Receive delivered))) ≡ refuses_in decoded Panic = simp (k1, k2, k3, k4, k6, own) in
+          let e : core_call decoded (Ok (taken_as (Receive delivered))) ≡ refuses_in decoded Panic = simp (k1, k2, k3, k4, k6, own) in
           let d : served s table (answer_request s core f.message w) ≡ direct (refusal_number Panic) core table w = simp (own) in
           subst (λ (x : StateAnswer). StandsFor x (served s table (answer_request s core f.message w)))
-          (sym (ap (state_after shard.state (Handle (taken_as (Receive delivered)))) e))
+          (sym (ap (state_after shard.state (Ok (taken_as (Receive delivered)))) e))
           d
       go (inr other) = leaves (Receive delivered) decoded core (one_message (read_answer s.my_pid source (record { 0 = f.message.id }) decoded)) (simp (k1, k2, k3, k4, k6, other)) refl (simp (other))
 
@@ -242,21 +239,21 @@ module _ (s : Setup) (committers delegates core : List ℕ) (fast : FastState) (
   unfolding of_older_round
   no_commit k4 o = not_both (and_left (not (eqb kind 4)) _ o) (ap not k4)
 
-  older_answer : is_before → has_fast_path settings.mode ≡ false → names_slot kind ≡ true → core_call decoded (Handle (taken_as (Receive delivered))) ≡ sends_from decoded no_messages
+  older_answer : is_before → has_fast_path settings.mode ≡ false → names_slot kind ≡ true → core_call decoded (Ok (taken_as (Receive delivered))) ≡ sends_from decoded no_messages
   unfolding core_call core_taken core_handle core_processed core_on_commit decoded_msg names_slot
   older_answer o p n = go (either (eqb kind 1)) (either (eqb kind 2))
     where
-      commit : eqb kind 1 ≡ false → eqb kind 2 ≡ false → eqb kind 4 ≡ true → is_before → core_call decoded (Handle (taken_as (Receive delivered))) ≡ sends_from decoded no_messages
+      commit : eqb kind 1 ≡ false → eqb kind 2 ≡ false → eqb kind 4 ≡ true → is_before → core_call decoded (Ok (taken_as (Receive delivered))) ≡ sends_from decoded no_messages
       commit k1 k2 k4 (inl o) = let k3 : eqb kind 3 ≡ false = other_kind kind 4 3 k4 refl in simp (k1, k2, k3, k4, o)
       commit k1 k2 k4 (inr o) = absurd (no_commit k4 o)
 
-      go : (eqb kind 1 ≡ true) ⊎ (eqb kind 1 ≡ false) → (eqb kind 2 ≡ true) ⊎ (eqb kind 2 ≡ false) → core_call decoded (Handle (taken_as (Receive delivered))) ≡ sends_from decoded no_messages
+      go : (eqb kind 1 ≡ true) ⊎ (eqb kind 1 ≡ false) → (eqb kind 2 ≡ true) ⊎ (eqb kind 2 ≡ false) → core_call decoded (Ok (taken_as (Receive delivered))) ≡ sends_from decoded no_messages
       go (inl k1) k2 = (simp (k1, p)) ∙ nothing_handled (older_prepare (asked_of settings) (heard_in s committers delegates f) f.message.slot round (decoded_promise f.message.rv) decoded (by_round o))
       go (inr k1) (inl k2) = (simp (k1, k2, p)) ∙ nothing_handled (older_accept (asked_of settings) (heard_in s committers delegates f) f.message.slot round f.message.v decoded (by_round o))
       go (inr k1) (inr k2) = commit k1 k2 (sym (simp (k1, k2)) ∙ n) o
 
   older_stands : is_older (core_of core) f.message ≡ true → has_fast_path settings.mode ≡ false
-      → StandsFor (state_call shard.state (Handle (taken_as (Receive delivered)))) (direct 0 core table (put_served 0 w))
+      → StandsFor (state_call shard.state (Ok (taken_as (Receive delivered)))) (direct 0 core table (put_served 0 w))
   unfolding is_older
   older_stands o p =
       nothing (Receive delivered)
@@ -271,12 +268,12 @@ module _ (s : Setup) (committers delegates core : List ℕ) (fast : FastState) (
   not_older n k4 o = sym (simp (n, k4)) ∙ o
 
   counted_answer_lem : has_fast_path settings.mode ≡ false → is_older (core_of core) f.message ≡ false → counts s delegates (core_of core) f.message ≡ true
-      → core_call decoded (Handle (taken_as (Receive delivered))) ≡ sends_from (decoded_core (with_counted s (core_of core) f.message)) no_messages
+      → core_call decoded (Ok (taken_as (Receive delivered))) ≡ sends_from (decoded_core (with_counted s (core_of core) f.message)) no_messages
   unfolding core_call core_taken core_handle core_processed decoded_msg names_slot counts with_counted
   counted_answer_lem p o n = go (either (eqb kind 2))
     where
       accept : eqb kind 2 ≡ true → eqb kind 1 ≡ false → eqb kind 4 ≡ false
-          → core_call decoded (Handle (taken_as (Receive delivered))) ≡ sends_from (decoded_core (with_counted s (core_of core) f.message)) no_messages
+          → core_call decoded (Ok (taken_as (Receive delivered))) ≡ sends_from (decoded_core (with_counted s (core_of core) f.message)) no_messages
       accept k2 k1 k4 =
           let e : counts_accept s (core_of core) f.message ≡ true = sym (simp (k2)) ∙ n in
           let names : names_slot kind ≡ true = simp (k1, k2) in
@@ -285,14 +282,14 @@ module _ (s : Setup) (committers delegates core : List ℕ) (fast : FastState) (
           ∙ simp (k2)
 
       promise : eqb kind 1 ≡ true → eqb kind 2 ≡ false → eqb kind 4 ≡ false → counts_promise s delegates (core_of core) f.message ≡ true
-          → core_call decoded (Handle (taken_as (Receive delivered))) ≡ sends_from (decoded_core (with_counted s (core_of core) f.message)) no_messages
+          → core_call decoded (Ok (taken_as (Receive delivered))) ≡ sends_from (decoded_core (with_counted s (core_of core) f.message)) no_messages
       promise k1 k2 k4 e =
           let names : names_slot kind ≡ true = simp (k1) in
           (simp (k1, p))
           ∙ ap (core_finish (asked_of settings) (is_yes f.value_held) decoded) (promise_leaves s committers delegates (core_of core) f (not_older names k4 o) k1 e)
           ∙ simp (k2)
 
-      go : (eqb kind 2 ≡ true) ⊎ (eqb kind 2 ≡ false) → core_call decoded (Handle (taken_as (Receive delivered))) ≡ sends_from (decoded_core (with_counted s (core_of core) f.message)) no_messages
+      go : (eqb kind 2 ≡ true) ⊎ (eqb kind 2 ≡ false) → core_call decoded (Ok (taken_as (Receive delivered))) ≡ sends_from (decoded_core (with_counted s (core_of core) f.message)) no_messages
       go (inl k2) = accept k2 (other_kind kind 2 1 k2 refl) (other_kind kind 2 4 k2 refl)
       go (inr k2) =
           let both : (eqb kind 1 && counts_promise s delegates (core_of core) f.message) ≡ true = sym (simp (k2)) ∙ n in
@@ -303,7 +300,7 @@ module _ (s : Setup) (committers delegates core : List ℕ) (fast : FastState) (
   counted_core = core_numbers (with_counted s (core_of core) f.message)
 
   counted_stands : has_fast_path settings.mode ≡ false → is_older (core_of core) f.message ≡ false → counts s delegates (core_of core) f.message ≡ true
-      → StandsFor (state_call shard.state (Handle (taken_as (Receive delivered)))) (direct 0 counted_core table (put_served 0 w))
+      → StandsFor (state_call shard.state (Ok (taken_as (Receive delivered)))) (direct 0 counted_core table (put_served 0 w))
   counted_stands p o n = leaves (Receive delivered) (decoded_core (with_counted s (core_of core) f.message)) counted_core no_messages (counted_answer_lem p o n) refl refl
 
   -- ---- responses
@@ -319,33 +316,33 @@ module _ (s : Setup) (committers delegates core : List ℕ) (fast : FastState) (
   passed_response k1 k2 k3 k4 k6 = simp (k1, k2, k3, k4, k6) (either_mode (has_fast_path settings.mode) (with_fast fast (needs_more decoded)))
 
   response_stands : eqb kind 1 ≡ false → eqb kind 2 ≡ false → eqb kind 3 ≡ false → eqb kind 4 ≡ false → eqb kind 6 ≡ true
-      → StandsFor (state_call shard.state (Handle (taken_as (Receive delivered)))) (response s core table f w)
+      → StandsFor (state_call shard.state (Ok (taken_as (Receive delivered)))) (response s core table f w)
   unfolding core_call core_taken core_handle core_on_read_response decoded_msg response count_response state_after state_passed with_reads reads_taken reads_handle
   response_stands k1 k2 k3 k4 k6 = go (either (eqb decoded.tracker.open_count 0))
     where
       counts : StateAnswer
       counts = states_count (majority_of s) table (with_fast fast (needs_more decoded)) (record { 0 = f.message.id }) (is_yes f.fast)
 
-      deeper : state_after shard.state (Handle (taken_as (Receive delivered))) (needs_more decoded) ≡ counts
+      deeper : state_after shard.state (Ok (taken_as (Receive delivered))) (needs_more decoded) ≡ counts
       deeper = ap (with_reads (asked_of settings) table (Receive delivered)) (passed_response k1 k2 k3 k4 k6) ∙ simp (k1, k2, k3, k4, k6)
 
       go : (eqb decoded.tracker.open_count 0 ≡ true) ⊎ (eqb decoded.tracker.open_count 0 ≡ false)
-          → StandsFor (state_call shard.state (Handle (taken_as (Receive delivered)))) (response s core table f w)
+          → StandsFor (state_call shard.state (Ok (taken_as (Receive delivered)))) (response s core table f w)
       go (inl o) = nothing (Receive delivered) (simp (k1, k2, k3, k4, k6, o)) (simp (o))
       go (inr o) =
-          let e : core_call decoded (Handle (taken_as (Receive delivered))) ≡ needs_more decoded = simp (k1, k2, k3, k4, k6, o) in
+          let e : core_call decoded (Ok (taken_as (Receive delivered))) ≡ needs_more decoded = simp (k1, k2, k3, k4, k6, o) in
           let d : response s core table f w ≡ count_response s core table f w = simp (o) in
           subst (λ (x : StateAnswer). StandsFor x (response s core table f w))
-          (sym (ap (state_after shard.state (Handle (taken_as (Receive delivered)))) e ∙ deeper))
+          (sym (ap (state_after shard.state (Ok (taken_as (Receive delivered)))) e ∙ deeper))
           (subst (StandsFor counts) (sym d) (refl, refl, refl, refl, refl))
 
   -- ---- new reads
 
-  local : (h : FlatHeld) → not (is_held (decoded_held h)) ≡ eqb h.given 0
+  local : (h : FlatHeld) → not (is_some (decoded_held h)) ≡ eqb h.given 0
   unfolding decoded_held
   local h = go (eqb h.given 0)
     where
-      go : (t : Bool) → not (is_held (cond t NothingHeld (Held (decoded_promise h.promise)))) ≡ t
+      go : (t : Bool) → not (is_some (cond t None (Some (decoded_promise h.promise)))) ≡ t
       go true = refl
       go false = refl
 
@@ -358,7 +355,7 @@ module _ (s : Setup) (committers delegates core : List ℕ) (fast : FastState) (
       after_insert (asked_of settings) shard.state.rounds table (insert decoded.tracker table f.v f.arrival_slot ready)
       (insert decoded.tracker table f.v f.arrival_slot ready).opened
 
-  state_opens_lem : state_call shard.state (Handle (taken_as asks)) ≡ state_opens (eqb (core_of core).max_rv.given 0)
+  state_opens_lem : state_call shard.state (Ok (taken_as asks)) ≡ state_opens (eqb (core_of core).max_rv.given 0)
   unfolding core_call core_taken state_after state_passed rounds_passed rounds_taken with_reads reads_taken state_open_read
   state_opens_lem =
       ap (with_reads (asked_of settings) table asks) (either_mode (has_fast_path settings.mode) (with_fast fast (needs_more decoded)))
@@ -384,18 +381,18 @@ module _ (s : Setup) (committers delegates core : List ℕ) (fast : FastState) (
       go false true = refl
       go false false = (refl, refl, refl, refl, refl)
 
-  read_stands : StandsFor (state_call shard.state (Handle (taken_as asks))) (from_opening table (open_read s core table.reads f w))
+  read_stands : StandsFor (state_call shard.state (Ok (taken_as asks))) (from_opening table (open_read s core table.reads f w))
   read_stands = subst (λ (x : StateAnswer). StandsFor x (from_opening table (open_read s core table.reads f w))) (sym state_opens_lem) opens
 
   -- ---- together
 
   abbrev Done? : Type 0
-  Done? = Passed result ⊎ StandsFor (state_call shard.state (Handle (taken_as called))) result
+  Done? = Passed result ⊎ StandsFor (state_call shard.state (Ok (taken_as called))) result
 
-  stands_as : (c : Call) (d : Direct) → called ≡ c → result ≡ d → StandsFor (state_call shard.state (Handle (taken_as c))) d → Done?
+  stands_as : (c : Call) (d : Direct) → called ≡ c → result ≡ d → StandsFor (state_call shard.state (Ok (taken_as c))) d → Done?
   stands_as c d p e h =
-      inr (subst (λ (x : Call). StandsFor (state_call shard.state (Handle (taken_as x))) result) (sym p)
-      (subst (StandsFor (state_call shard.state (Handle (taken_as c)))) (sym e) h))
+      inr (subst (λ (x : Call). StandsFor (state_call shard.state (Ok (taken_as x))) result) (sym p)
+      (subst (StandsFor (state_call shard.state (Ok (taken_as c)))) (sym e) h))
 
   module _ (z : refusal_of s (core_of core) f ≡ 0) where
     read_is : eqb f.kind 1 ≡ true → result ≡ from_opening table (open_read s core table.reads f w)
@@ -532,22 +529,22 @@ module _ (s : Setup) (committers delegates core : List ℕ) (fast : FastState) (
         new (inl k) = read k
         new (inr k) = other_call k (either (eqb f.kind 0))
 
-  refused_is : (why : Refusal) → outcome ≡ Refused why → result ≡ direct (refusal_number why) core table w
+  refused_is : (why : Refusal) → outcome ≡ Err why → result ≡ direct (refusal_number why) core table w
   unfolding direct_call encoded_outcome
   refused_is why e = simp (e, not_taken why)
 
-  number_is : outcome ≡ Done → refusal_of s (core_of core) f ≡ 0
+  number_is : outcome ≡ Ok tt → refusal_of s (core_of core) f ≡ 0
   unfolding encoded_outcome
   number_is e = simp (e)
 
   decided : (o : Outcome) → outcome ≡ o → Passed result ⊎ StandsFor (state_call shard.state (decision_for settings called o)) result
   unfolding state_after core_call
-  decided Done e = taken_call (number_is e)
-  decided (Refused why) e = inr (refused_is why e)
+  decided (Ok tt) e = taken_call (number_is e)
+  decided (Err why) e = inr (refused_is why e)
 
   together : (x : StateAnswer) (o : Outcome) (d : Direct) → Parts core fast table w x o d → Stands s committers delegates core fast table w (from_state shard x) o d
-  together x Done d p = parts_stand s committers delegates core fast fast table w x d p
-  together x (Refused why) d e = e
+  together x (Ok tt) d p = parts_stand s committers delegates core fast fast table w x d p
+  together x (Err why) d e = e
 
   claimed : DirectDoesOrPasses s committers delegates core fast table f w (call_of shard called)
   unfolding decision_of

@@ -1,6 +1,7 @@
 -- What the theorems on the two functions for hosts have in common: the shard and the call that the arrays stand for, the numbers of refusals, and the
 -- kinds of a message.
 -- Assumes nothing.
+use Rattle.message.specs.Outcomes.{Outcome}
 use mathlib.Core.Bool.{true, false}
 use mathlib.Core.List.{List}
 use mathlib.Core.Logic.{◌⊎◌, inl, inr}
@@ -21,7 +22,6 @@ use Rattle.delivery.specs.declared.Delivery.{Delivery}
 use Rattle.direct_core.specs.Handled.{passed_on}
 use Rattle.fast_state.specs.declared.FastState.{FastState}
 use Rattle.message.specs.Refusals.{refusal_number}
-use Rattle.message.specs.declared.Outcome.{Outcome}
 use Rattle.message.specs.declared.PaxosRound.{PaxosRound}
 use Rattle.message.specs.declared.Refusal.{Refusal}
 use Rattle.message.specs.declared.Refusal.TheVariants.{SettingsOutsideLimits, NumberTooLarge, NoSuchProcess, OtherLastValue, SlotAhead, ValueNotHeld, SourceNotLive, Panic, AcceptUnlikeHeld, SecondFastAnswer, ProposalNotAllowed, NoRoomForRead}

@@ -1,7 +1,8 @@
 -- A message that is only counted: the handlers make of the core what is written, and send nothing.
 -- Assumes nothing.
+use Rattle.std.specs.Prelude.{Option, None, Some, is_some}
 use mathlib.Core.Bool.{Bool, true, false, not, ◌&&◌}
-use mathlib.Core.List.{List, []}
+use mathlib.Core.List.{List}
 use mathlib.Core.Logic.{◌⊎◌, inl, inr}
 use mathlib.Core.Path.{◌≡◌, refl, sym, ap, ap₂, ◌∙◌}
 use Prim.Native.Nat.{ℕ}
@@ -19,7 +20,6 @@ use Rattle.message.specs.Modes.{has_fast_path, is_swift_paxos}
 use Rattle.message.specs.Promises.{accept_round_of}
 use Rattle.message.specs.Rounds.{before}
 use Rattle.message.specs.declared.ConsensusMsg.TheVariants.{Prepare, Accept}
-use Rattle.message.specs.declared.OptionalRound.TheVariants.{Round}
 use Rattle.message.specs.declared.PFMode.{PFMode}
 use Rattle.message.specs.declared.PFMode.TheVariants.{Paxos, MultiPaxos, MultiPaxos3P, EPaxos, Pando, SwiftPaxos}
 use Rattle.message.specs.declared.PaxosRound.{PaxosRound}
@@ -28,9 +28,7 @@ use Rattle.message.specs.declared.RoundV.TheVariants.{PaxosV}
 use Rattle.paxos_family.specs.Process.{process_classic, on_prepare, in_prepare, on_accept}
 use Rattle.prepare.specs.Prepare.{hold_first, preparing, prepared, becomes_prepared, gather}
 use Rattle.round_state.proofs.Holding.{accept_fits_lem, promise_not_later}
-use Rattle.round_state.specs.Paxos.{get_last_accepted_round, is_held, is_prepared, counted, held_after_promise, receive_promise, accept_fits, after_accept, receive_accept}
-use Rattle.round_state.specs.declared.HeldPromise.{HeldPromise}
-use Rattle.round_state.specs.declared.HeldPromise.TheVariants.{NothingHeld, Held}
+use Rattle.round_state.specs.Paxos.{get_last_accepted_round, is_prepared, counted, held_after_promise, receive_promise, accept_fits, after_accept, receive_accept}
 use Rattle.sets.specs.Sets.{contains, size}
 use Rattle.settings.specs.Questions.{delegate_in}
 use Rattle.settings.specs.declared.Settings.{Settings}
@@ -63,7 +61,7 @@ module _ (a : Asked) (h : Heard) (slot : ℕ) (round : PaxosRound) (core : Core)
     pub replica : a.member.replica ≡ true
     pub live : h.source_live ≡ true
     pub not_older : is_older slot round core ≡ false
-    pub not_later : before core.paxos.round (Round round) ≡ false
+    pub not_later : before core.paxos.round (Some round) ≡ false
 
   enters : Meets → enter a h slot round core ≡ continues core no_messages
   unfolding enter from_live in_round
@@ -79,21 +77,21 @@ module _ (a : Asked) (h : Heard) (slot : ℕ) (round : PaxosRound) (core : Core)
   accept_counted v m swift own fits few = simp (enters m, fits, swift, own, few)
 
   -- who gathers the promises counts one that changes nothing that is held
-  pub promise_counted : (rv : RoundV) → Meets → is_held core.paxos.max_rv ≡ true → eqb h.delegate a.member.my_pid ≡ true
+  pub promise_counted : (rv : RoundV) → Meets → is_some core.paxos.max_rv ≡ true → eqb h.delegate a.member.my_pid ≡ true
       → (not (is_prepared a.member core.paxos) && leb a.member.quorums.majority (size (counted a.member h.src core.paxos.prepared_set))) ≡ false
-      → process_classic a h (Prepare slot round rv) core ≡ stays (with_paxos (receive_promise a.member h.src rv core.paxos).state core) no_messages
+      → process_classic a h (Prepare slot round rv) core ≡ stays (with_paxos (receive_promise a.member h.src rv core.paxos) core) no_messages
   unfolding process_classic on_prepare in_prepare prepared hold_first preparing gather becomes_prepared receive_promise
   promise_counted rv m held own few = simp (enters m, held, own, few)
 
-kept : (held : HeldPromise) (rv : RoundV) → is_held held ≡ true → before (get_last_accepted_round held) (accept_round_of rv) ≡ false → held_after_promise held rv ≡ held
-kept NothingHeld rv e b = absurd (not_both e refl)
-kept (Held old) rv e b = promise_not_later old rv b
+kept : (held : Option RoundV) (rv : RoundV) → is_some held ≡ true → before (get_last_accepted_round held) (accept_round_of rv) ≡ false → held_after_promise held rv ≡ held
+kept None rv e b = absurd (not_both e refl)
+kept (Some old) rv e b = promise_not_later old rv b
 
-accepted_is : (held : HeldPromise) (round : PaxosRound) (v : ℕ) → before (get_last_accepted_round held) (Round round) ≡ false → accept_fits held round v ≡ true
-    → held ≡ Held (PaxosV (Round round) v)
+accepted_is : (held : Option RoundV) (round : PaxosRound) (v : ℕ) → before (get_last_accepted_round held) (Some round) ≡ false → accept_fits held round v ≡ true
+    → held ≡ Some (PaxosV (Some round) v)
 accepted_is held round v b e = go (accept_fits_lem held round v e)
   where
-    go : (before (get_last_accepted_round held) (Round round) ≡ true) ⊎ (held ≡ Held (PaxosV (Round round) v)) → held ≡ Held (PaxosV (Round round) v)
+    go : (before (get_last_accepted_round held) (Some round) ≡ true) ⊎ (held ≡ Some (PaxosV (Some round) v)) → held ≡ Some (PaxosV (Some round) v)
     go (inl l) = absurd (not_both l b)
     go (inr same) = same
 
@@ -136,7 +134,7 @@ module _ (s : Setup) (committers delegates : List ℕ) (c : FlatCore) (f : FlatC
         not_later = negated _ (and_right (contains s.alive_replicas m.src) _ rest);
       }
 
-  abbrev with_set : ℕ → HeldPromise → Core
+  abbrev with_set : ℕ → Option RoundV → Core
   with_set src held =
       left_fast_path
       (with_paxos
@@ -151,7 +149,7 @@ module _ (s : Setup) (committers delegates : List ℕ) (c : FlatCore) (f : FlatC
       (and_left (eqb s.my_pid m.leader) _ e)
       fits
       (ap (λ (x : ℕ). leb (majority_of s) (size (counted (member_of s) x c.accepted_set))) src ∙ negated _ (and_right (repeats_held c m) _ last))
-      ∙ ap₂ (λ (x : ℕ) (y : HeldPromise). stays (with_set x y) no_messages) src (sym same)
+      ∙ ap₂ (λ (x : ℕ) (y : Option RoundV). stays (with_set x y) no_messages) src (sym same)
     where
       src : decoded_source s.process_count s.my_pid m ≡ m.src
       src = source_is 2 k refl refl
@@ -163,7 +161,7 @@ module _ (s : Setup) (committers delegates : List ℕ) (c : FlatCore) (f : FlatC
       last = and_right (in_own_round s c m) _ rest
 
       is_later : Bool
-      is_later = before (get_last_accepted_round (decoded_held c.max_rv)) (Round (round_in m))
+      is_later = before (get_last_accepted_round (decoded_held c.max_rv)) (Some (round_in m))
 
       fitting : Bool
       fitting = accept_fits (decoded_held c.max_rv) (round_in m) m.v
@@ -174,10 +172,10 @@ module _ (s : Setup) (committers delegates : List ℕ) (c : FlatCore) (f : FlatC
       fits : fitting ≡ true
       fits = and_right (not is_later) fitting repeats
 
-      same : decoded_held c.max_rv ≡ Held (PaxosV (Round (round_in m)) m.v)
+      same : decoded_held c.max_rv ≡ Some (PaxosV (Some (round_in m)) m.v)
       same = accepted_is (decoded_held c.max_rv) (round_in m) m.v (negated is_later (and_left (not is_later) fitting repeats)) fits
 
-  abbrev with_prepared : ℕ → HeldPromise → Core
+  abbrev with_prepared : ℕ → Option RoundV → Core
   with_prepared src held =
       with_paxos
       (record { round = core.paxos.round; max_rv = held; prepared_set = counted a.member src c.prepared_set; accepted_set = c.accepted_set })
@@ -194,11 +192,11 @@ module _ (s : Setup) (committers delegates : List ℕ) (c : FlatCore) (f : FlatC
   unfolding counts_promise gathers keeps_held completes promises_with receive_promise
   promise_leaves o k e =
       promise_counted a h m.slot (round_in m) core (decoded_promise m.rv) (meets o (and_left (in_own_round s c m) _ rest) src)
-      (and_left (is_held (decoded_held c.max_rv)) _ keeps)
+      (and_left (is_some (decoded_held c.max_rv)) _ keeps)
       (ap (λ (x : ℕ). eqb x s.my_pid) (gatherer_is k (and_left (eqb m.rv.fast 0) _ gathered)) ∙ and_right (eqb m.rv.fast 0) _ gathered)
       (ap (λ (x : ℕ). not (is_prepared a.member core.paxos) && leb (majority_of s) (size (counted (member_of s) x c.prepared_set))) src ∙ negated _ (and_right (keeps_held c m) _ last))
-      ∙ ap₂ (λ (x : ℕ) (y : HeldPromise). stays (with_prepared x y) no_messages) src
-      (kept (decoded_held c.max_rv) (decoded_promise m.rv) (and_left (is_held (decoded_held c.max_rv)) _ keeps) (negated _ (and_right (is_held (decoded_held c.max_rv)) _ keeps)))
+      ∙ ap₂ (λ (x : ℕ) (y : Option RoundV). stays (with_prepared x y) no_messages) src
+      (kept (decoded_held c.max_rv) (decoded_promise m.rv) (and_left (is_some (decoded_held c.max_rv)) _ keeps) (negated _ (and_right (is_some (decoded_held c.max_rv)) _ keeps)))
     where
       src : decoded_source s.process_count s.my_pid m ≡ m.src
       src = source_is 1 k refl refl
@@ -212,5 +210,5 @@ module _ (s : Setup) (committers delegates : List ℕ) (c : FlatCore) (f : FlatC
       last : (keeps_held c m && not (completes s c m)) ≡ true
       last = and_right (in_own_round s c m) _ rest
 
-      keeps : (is_held (decoded_held c.max_rv) && not (before (get_last_accepted_round (decoded_held c.max_rv)) (accept_round_of (decoded_promise m.rv)))) ≡ true
+      keeps : (is_some (decoded_held c.max_rv) && not (before (get_last_accepted_round (decoded_held c.max_rv)) (accept_round_of (decoded_promise m.rv)))) ≡ true
       keeps = and_left (keeps_held c m) _ last

@@ -1,5 +1,6 @@
 -- What the core passes on or commits is no refusal, and what is written of a step is its answer.
 -- Assumes nothing.
+use Rattle.std.specs.Prelude.{Ok}
 use mathlib.Core.Bool.{Bool, true, false}
 use mathlib.Core.List.{List}
 use mathlib.Core.Path.{◌≡◌, refl}
@@ -10,7 +11,6 @@ use Rattle.core_calls.specs.CoreCall.{core_committed, core_finish_at, core_finis
 use Rattle.core_calls.specs.declared.CoreAnswer.{CoreAnswer}
 use Rattle.direct_core.specs.Handled.{Written, put_outcome, put_answer, refused_by, is_commit, decided_value, put_processed}
 use Rattle.message.specs.Modes.{has_fast_path}
-use Rattle.message.specs.declared.Outcome.TheVariants.{Done}
 use Rattle.steps.specs.declared.Asked.{Asked}
 use Rattle.steps.specs.declared.Core.{Core}
 use Rattle.steps.specs.declared.CoreStep.{CoreStep}
@@ -20,7 +20,7 @@ use Rattle.steps.specs.declared.Next.TheVariants.{Stays, Continues, Commits, Ref
 use Rattle.direct_calls.proofs.Common.{not_taken}
 
 abbrev pub DeeperDone : CoreAnswer → Type 0
-DeeperDone a = a.deeper ≡ true → a.reply.outcome ≡ Done
+DeeperDone a = a.deeper ≡ true → a.reply.outcome ≡ Ok tt
 
 pub finish : (a : Asked) (held : Bool) (old s : Core) (ms : Messages) (next : Next) → DeeperDone (core_finish_at a held old s ms next)
 unfolding core_committed

@@ -1,5 +1,8 @@
 -- A call in EPaxos or SwiftPaxos is the call on the shard that the arrays stand for; and by one of the two functions every call is.
 -- Assumes nothing.
+use Rattle.std.specs.Prelude.{Option, Some, Ok, Err}
+use Rattle.message.specs.Outcomes.{Outcome}
+use Rattle.calls.specs.declared.CommittedSlot.{CommittedSlot}
 use mathlib.Core.Bool.{Bool, true, false, cond, not, ◌&&◌, ◌||◌}
 use mathlib.Core.List.{List}
 use mathlib.Core.Logic.{◌⊎◌, inl, inr}
@@ -15,8 +18,6 @@ use Rattle.calls.specs.Asked.{asked_of}
 use Rattle.calls.specs.Decision.{decision_for, decision_of}
 use Rattle.calls.specs.declared.Call.{Call}
 use Rattle.calls.specs.declared.Call.TheVariants.{Propose, Receive}
-use Rattle.calls.specs.declared.Decision.TheVariants.{Handle}
-use Rattle.calls.specs.declared.OptionalCommit.{OptionalCommit}
 use Rattle.consensus.proofs.ByParts.{by_parts}
 use Rattle.consensus.specs.ByParts.{from_state}
 use Rattle.consensus.specs.Call.{call_of}
@@ -40,9 +41,6 @@ use Rattle.message.specs.Refusals.{refusal_number}
 use Rattle.message.specs.Rounds.{before}
 use Rattle.message.specs.declared.ConsensusMsg.{ConsensusMsg}
 use Rattle.message.specs.declared.ConsensusMsg.TheVariants.{Prepare, Accept, ForwardRequest, Commit, ReadRequest, ReadResponse}
-use Rattle.message.specs.declared.OptionalRound.TheVariants.{Round}
-use Rattle.message.specs.declared.Outcome.{Outcome}
-use Rattle.message.specs.declared.Outcome.TheVariants.{Done, Refused}
 use Rattle.message.specs.declared.Refusal.{Refusal}
 use Rattle.paxos_family.proofs.Older.{Older, older_fast_prepare, older_fast_accept}
 use Rattle.paxos_family.specs.Commit.{commit_slot}
@@ -65,7 +63,7 @@ use Rattle.steps.specs.declared.Rounds.{Rounds}
 use Rattle.flat_calls.specs.Refusals.{refusal_of}
 use Rattle.flat.proofs.Encoded.{value_encoded}
 use Rattle.flat.specs.Encode.{encoded_outcome}
-use Rattle.flat.specs.Decode.{is_yes, decoded_call, decoded_mode, decoded_msg, decoded_promise, decoded_value}
+use Rattle.flat.specs.Decode.{is_yes, decoded_call, decoded_mode, decoded_msg, decoded_promise, decoded_option}
 use Rattle.flat.specs.declared.FlatCall.{FlatCall}
 use Rattle.direct_calls.specs.FastStands.{FastStands, FastDoes, Declined, DirectDoes, OneOfBoth, DeclinedIsDirect, ClassicIsDirect}
 use Rattle.direct_calls.specs.Stands.{DirectDoesOrPasses}
@@ -94,26 +92,26 @@ module _ (s : Setup) (committers delegates core : List ℕ) (fast : FastArrays) 
   -- ---- the fast half afterwards
 
   abbrev half_after : Outcome → After → FastState
-  half_after Done (Changed c) = changed c half
-  half_after Done Cleared = no_answers
-  half_after (Refused why) after = half
+  half_after (Ok tt) (Changed c) = changed c half
+  half_after (Ok tt) Cleared = no_answers
+  half_after (Err why) after = half
 
   -- what is written stands for it
   half_written : (a : CoreAnswer) (o : Outcome) (after : After)
       → fast_of (cond (eqb (put_outcome a o core w).handled.number 0) (put_after after fast) fast) ≡ half_after o after
-  unfolding put_outcome decoded_value
-  half_written a Done (Changed c) = simp (value_encoded c.answers.swift_leader_answer)
-  half_written a Done Cleared = refl
-  half_written a (Refused why) after = simp (not_taken why)
+  unfolding put_outcome decoded_option
+  half_written a (Ok tt) (Changed c) = simp (value_encoded c.answers.swift_leader_answer)
+  half_written a (Ok tt) Cleared = refl
+  half_written a (Err why) after = simp (not_taken why)
 
-  not_written : (a : CoreAnswer) (why : Refusal) (after : After) → cond (eqb (put_outcome a (Refused why) core w).handled.number 0) (put_after after fast) fast ≡ fast
+  not_written : (a : CoreAnswer) (why : Refusal) (after : After) → cond (eqb (put_outcome a (Err why) core w).handled.number 0) (put_after after fast) fast ≡ fast
   unfolding put_outcome
   not_written a why after = simp (not_taken why)
 
   -- what a call leaves, part by part
   abbrev FastParts : StateAnswer → Outcome → FastDirect → Type 0
-  FastParts x Done d = Parts core (fast_of d.fast) table w x Done d.direct
-  FastParts x (Refused why) d = d ≡ fast_direct (refusal_number why) core fast table w
+  FastParts x (Ok tt) d = Parts core (fast_of d.fast) table w x (Ok tt) d.direct
+  FastParts x (Err why) d = d ≡ fast_direct (refusal_number why) core fast table w
 
   abbrev StandsFor : StateAnswer → FastDirect → Type 0
   StandsFor x d = FastParts x x.reply.outcome d
@@ -125,37 +123,37 @@ module _ (s : Setup) (committers delegates core : List ℕ) (fast : FastArrays) 
   abbrev on_state_of : FastAnswer → StateAnswer
   on_state_of x = on_state s core (half_after x.answer.reply.outcome x.after) table w x.answer.deeper x.answer
 
-  stands_by : (k : Core) (o : Outcome) (ms : Messages) (commit : OptionalCommit) (n : ℕ) (t : Bool) (after : After) → (t ≡ true → o ≡ Done)
+  stands_by : (k : Core) (o : Outcome) (ms : Messages) (commit : Option CommittedSlot) (n : ℕ) (t : Bool) (after : After) → (t ≡ true → o ≡ Ok tt)
       → let a : CoreAnswer = record { core = k; reply = record { outcome = o; messages = ms; commit = commit; served_count = n }; deeper = t } in
       StandsFor (on_state s core (half_after o after) table w t a) (fast_served s table (put_fast (record { answer = a; after = after }) core fast w))
   unfolding put_fast
-  stands_by k Done ms commit n true after h =
-      let a : CoreAnswer = record { core = k; reply = record { outcome = Done; messages = ms; commit = commit; served_count = n }; deeper = true } in
-      let p = answered s core (half_after Done after) table w a h in
-      (p.0, p.1, p.2 ∙ sym (half_written a Done after), p.3, p.4)
-  stands_by k Done ms commit n false after h =
-      let a : CoreAnswer = record { core = k; reply = record { outcome = Done; messages = ms; commit = commit; served_count = n }; deeper = false } in
-      let p = answered s core (half_after Done after) table w a h in
-      (p.0, p.1, p.2 ∙ sym (half_written a Done after), p.3, p.4)
-  stands_by k (Refused why) ms commit n true after h = absurd (not_both (ap is_done (h refl)) refl)
-  stands_by k (Refused why) ms commit n false after h =
-      let a : CoreAnswer = record { core = k; reply = record { outcome = Refused why; messages = ms; commit = commit; served_count = n }; deeper = false } in
+  stands_by k (Ok tt) ms commit n true after h =
+      let a : CoreAnswer = record { core = k; reply = record { outcome = Ok tt; messages = ms; commit = commit; served_count = n }; deeper = true } in
+      let p = answered s core (half_after (Ok tt) after) table w a h in
+      (p.0, p.1, p.2 ∙ sym (half_written a (Ok tt) after), p.3, p.4)
+  stands_by k (Ok tt) ms commit n false after h =
+      let a : CoreAnswer = record { core = k; reply = record { outcome = Ok tt; messages = ms; commit = commit; served_count = n }; deeper = false } in
+      let p = answered s core (half_after (Ok tt) after) table w a h in
+      (p.0, p.1, p.2 ∙ sym (half_written a (Ok tt) after), p.3, p.4)
+  stands_by k (Err why) ms commit n true after h = absurd (not_both (ap is_done (h refl)) refl)
+  stands_by k (Err why) ms commit n false after h =
+      let a : CoreAnswer = record { core = k; reply = record { outcome = Err why; messages = ms; commit = commit; served_count = n }; deeper = false } in
       ap₂ (λ (x : Direct) (y : FastArrays). record { direct = x; fast = y }) (answered s core half table w a h) (not_written a why after)
 
   -- ---- a call that the core passes on
 
   module _ (c : Call) where
     abbrev state_of : StateAnswer
-    state_of = state_call shard.state (Handle (taken_as c))
+    state_of = state_call shard.state (Ok (taken_as c))
 
     passes : (x : FastAnswer) → has_fast_path settings.mode ≡ true
-        → core_call decoded (Handle (taken_as c)) ≡ needs_more decoded
+        → core_call decoded (Ok (taken_as c)) ≡ needs_more decoded
         → rounds_taken (asked_of settings) (taken_as c).heard rounds (needs_more decoded) c ≡ on_rounds_of x
         → reads_taken (asked_of settings) table (on_rounds_of x) c ≡ serve_ready (majority_of s) table (on_rounds_of x)
         → state_of ≡ on_state_of x
     unfolding state_after state_passed rounds_passed with_reads
     passes x p e r q =
-        ap (state_after shard.state (Handle (taken_as c))) e
+        ap (state_after shard.state (Ok (taken_as c))) e
         ∙ ap (λ (t : Bool). with_reads (asked_of settings) table c (cond t taken_rounds (with_fast half (needs_more decoded)))) p
         ∙ ap (with_reads (asked_of settings) table c) r
         ∙ ap (λ (y : StateAnswer). cond x.answer.deeper y (with_table table (on_rounds_of x))) q
@@ -163,7 +161,7 @@ module _ (s : Setup) (committers delegates core : List ℕ) (fast : FastArrays) 
         taken_rounds : RoundsAnswer
         taken_rounds = rounds_taken (asked_of settings) (taken_as c).heard rounds (needs_more decoded) c
 
-    stands : (x : FastAnswer) {y : FastAnswer} → y ≡ x → state_of ≡ on_state_of x → (x.answer.deeper ≡ true → x.answer.reply.outcome ≡ Done)
+    stands : (x : FastAnswer) {y : FastAnswer} → y ≡ x → state_of ≡ on_state_of x → (x.answer.deeper ≡ true → x.answer.reply.outcome ≡ Ok tt)
         → StandsFor state_of (fast_served s table (put_fast y core fast w))
     stands x {y} e q h =
         subst (λ (z : StateAnswer). StandsFor z (fast_served s table (put_fast y core fast w))) (sym q)
@@ -271,7 +269,7 @@ module _ (s : Setup) (committers delegates core : List ℕ) (fast : FastArrays) 
     rounds_handle_lem (ReadRequest _) t = elim t [ ]
     rounds_handle_lem (ReadResponse _ _) t = elim t [ ]
 
-    deeper_done : (m : ConsensusMsg) → (processed_as m).answer.deeper ≡ true → (processed_as m).answer.reply.outcome ≡ Done
+    deeper_done : (m : ConsensusMsg) → (processed_as m).answer.deeper ≡ true → (processed_as m).answer.reply.outcome ≡ Ok tt
     unfolding fast_finish
     deeper_done m = finish (asked_of settings) held decoded (step_of m).core (step_of m).messages (step_of m).next
 
@@ -284,7 +282,7 @@ module _ (s : Setup) (committers delegates core : List ℕ) (fast : FastArrays) 
         stands receives (processed_as msg) (simp (k, k4))
         (passes receives _ p (core_passes msg t) (rounds_handle_lem msg t ∙ finished msg) (reads_after msg t _)) (deeper_done msg)
 
-    commit_done : (v : ℕ) → (committed_as v).answer.reply.outcome ≡ Done
+    commit_done : (v : ℕ) → (committed_as v).answer.reply.outcome ≡ Ok tt
     unfolding core_committed
     commit_done v = refl
 
@@ -305,8 +303,8 @@ module _ (s : Setup) (committers delegates core : List ℕ) (fast : FastArrays) 
     unfolding core_call core_taken state_after state_passed rounds_passed rounds_taken with_reads
     idle m e t o =
         nothing receives
-        (ap (λ (x : ConsensusMsg). state_after shard.state (Handle (taken_as receives)) (core_handle (asked_of settings) heard delivered decoded x)) e
-        ∙ ap (state_after shard.state (Handle (taken_as receives))) (core_passes m t)
+        (ap (λ (x : ConsensusMsg). state_after shard.state (Ok (taken_as receives)) (core_handle (asked_of settings) heard delivered decoded x)) e
+        ∙ ap (state_after shard.state (Ok (taken_as receives))) (core_passes m t)
         ∙ ap (λ (b : Bool). with_reads (asked_of settings) table receives (cond b (rounds_handle (asked_of settings) heard held rounds (needs_more decoded) msg) (with_fast half (needs_more decoded)))) p
         ∙ ap (λ (x : ConsensusMsg). with_reads (asked_of settings) table receives (rounds_handle (asked_of settings) heard held rounds (needs_more decoded) x)) e
         ∙ ap (with_reads (asked_of settings) table receives) (rounds_handle_lem m t ∙ ap (rounds_finish (asked_of settings) held rounds) o))
@@ -317,7 +315,7 @@ module _ (s : Setup) (committers delegates core : List ℕ) (fast : FastArrays) 
     unfolding core_call core_taken core_handle core_on_commit state_after
     idle_commit e o =
         let handles : core_handle (asked_of settings) heard delivered decoded msg ≡ sends_from decoded no_messages = ap (core_handle (asked_of settings) heard delivered decoded) e ∙ simp (o) in
-        nothing receives (ap (state_after shard.state (Handle (taken_as receives))) handles)
+        nothing receives (ap (state_after shard.state (Ok (taken_as receives))) handles)
 
     -- ---- by the kind of the message
 
@@ -358,7 +356,7 @@ module _ (s : Setup) (committers delegates core : List ℕ) (fast : FastArrays) 
           go (inr o) = subst (λ (t : Bool). StandsFor (state_of receives) (handled_as t)) (sym o) (own o)
 
       abbrev before_round : Bool
-      before_round = before (Round round) decoded.paxos.round
+      before_round = before (Some round) decoded.paxos.round
 
       -- of an older slot, or of an older round
       too_old : (is_before || before_round) ≡ true → Older f.message.slot round decoded
@@ -453,22 +451,22 @@ module _ (s : Setup) (committers delegates core : List ℕ) (fast : FastArrays) 
           go (inl k) = proposal_stands k
           go (inr k) = message_stands k
 
-    refused_is : (why : Refusal) → outcome ≡ Refused why → result ≡ fast_direct (refusal_number why) core fast table w
+    refused_is : (why : Refusal) → outcome ≡ Err why → result ≡ fast_direct (refusal_number why) core fast table w
     unfolding fast_call encoded_outcome
     refused_is why e = simp (a, e, not_taken why)
 
-    number_is : outcome ≡ Done → refusal_of s (core_of core) f ≡ 0
+    number_is : outcome ≡ Ok tt → refusal_of s (core_of core) f ≡ 0
     unfolding encoded_outcome
     number_is e = simp (e)
 
     decided : (o : Outcome) → outcome ≡ o → StandsFor (state_call shard.state (decision_for settings called o)) result
     unfolding state_after core_call
-    decided Done e = taken_stands (number_is e)
-    decided (Refused why) e = refused_is why e
+    decided (Ok tt) e = taken_stands (number_is e)
+    decided (Err why) e = refused_is why e
 
     together : (x : StateAnswer) (o : Outcome) (d : FastDirect) → FastParts x o d → FastStands s committers delegates core fast table w (from_state shard x) o d
-    together x Done d p = parts_stand s committers delegates core half (fast_of d.fast) table w x d.direct p
-    together x (Refused why) d e = e
+    together x (Ok tt) d p = parts_stand s committers delegates core half (fast_of d.fast) table w x d.direct p
+    together x (Err why) d e = e
 
     does : FastDoes s committers delegates core fast table w f
     unfolding decision_of
@@ -490,8 +488,8 @@ module _ (s : Setup) (committers delegates core : List ℕ) (fast : FastArrays) 
 
   -- what the fast half makes has another number than what is passed on
   not_declined : (a : Answer) (o : Outcome) (d : FastDirect) → FastStands s committers delegates core fast table w a o d → d.direct.number ≡ passed_on → ⊥
-  not_declined a Done d (n, k, r) e = not_both (ap (λ (x : ℕ). eqb x passed_on) e) (ap (λ (x : ℕ). eqb x passed_on) n)
-  not_declined a (Refused why) d p e =
+  not_declined a (Ok tt) d (n, k, r) e = not_both (ap (λ (x : ℕ). eqb x passed_on) e) (ap (λ (x : ℕ). eqb x passed_on) n)
+  not_declined a (Err why) d p e =
       not_both (ap (λ (x : ℕ). eqb x passed_on) e) (ap (λ (x : FastDirect). eqb x.direct.number passed_on) p ∙ not_passed_on why)
 
   has_no_part : result.direct.number ≡ passed_on → fast_half_acts s f ≡ false

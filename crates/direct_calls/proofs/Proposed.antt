@@ -1,5 +1,6 @@
 -- What a proposal leaves in the arrays stands for what the state makes of it: a proposal in a classic mode commits nothing.
 -- Assumes nothing.
+use Rattle.std.specs.Prelude.{None, Some, Result, Ok, Err}
 use mathlib.Core.Bool.{true}
 use mathlib.Core.List.{List}
 use mathlib.Core.Path.{refl}
@@ -12,10 +13,8 @@ use Rattle.direct_core.specs.Handled.{Written, refused_by, put_step}
 use Rattle.fast_state.specs.declared.FastState.{FastState}
 use Rattle.message.specs.Modes.{is_multi_paxos}
 use Rattle.message.specs.declared.ConsensusMsg.TheVariants.{Prepare, Accept}
-use Rattle.message.specs.declared.OptionalRound.TheVariants.{NoRound, Round}
-use Rattle.message.specs.declared.Outcome.{Outcome}
-use Rattle.message.specs.declared.Outcome.TheVariants.{Done, Refused}
 use Rattle.message.specs.declared.PaxosRound.{PaxosRound}
+use Rattle.message.specs.declared.Refusal.{Refusal}
 use Rattle.message.specs.declared.RoundV.{RoundV}
 use Rattle.message.specs.declared.RoundV.TheVariants.{PaxosV}
 use Rattle.proposal.specs.Proposal.{may_propose, proposal_round}
@@ -50,32 +49,29 @@ UncommittedBy step = Uncommitted step.next
 module _ (a : Asked) where
   by_prepare : (round : PaxosRound) (rv : RoundV) (core : Core) → UncommittedBy (propose_prepare a round rv core)
   unfolding propose_prepare
-  by_prepare round rv core = go (paxos_propose_v a.member rv (goto_round (Round round) core.paxos)).outcome
+  by_prepare round rv core = go (paxos_propose_v a.member rv (goto_round (Some round) core.paxos))
     where
-      go : (o : Outcome) → UncommittedBy (proposed a (Prepare core.slot round rv) core (paxos_propose_v a.member rv (goto_round (Round round) core.paxos)).state o)
-      go Done = tt
-      go (Refused why) = tt
+      go : (promised : Result PaxosState Refusal) → UncommittedBy (proposed a (Prepare core.slot round rv) core promised)
+      go (Ok p) = tt
+      go (Err why) = tt
 
   by_accept : (round : PaxosRound) (v : ℕ) (core : Core) → UncommittedBy (propose_accept a round v core)
   unfolding propose_accept
-  by_accept round v core = go (paxos_propose_v a.member (PaxosV NoRound v) (goto_round (Round round) core.paxos)).outcome
+  by_accept round v core = go (paxos_propose_v a.member (PaxosV None v) (goto_round (Some round) core.paxos))
     where
-      p : PaxosState
-      p = (paxos_propose_v a.member (PaxosV NoRound v) (goto_round (Round round) core.paxos)).state
+      then : (accepted : Result PaxosState Refusal) → UncommittedBy (proposed a (Accept core.slot round v) core accepted)
+      then (Ok p) = tt
+      then (Err why) = tt
 
-      then : (o : Outcome) → UncommittedBy (proposed a (Accept core.slot round v) core (self_accept a.member round p).state o)
-      then Done = tt
-      then (Refused why) = tt
-
-      go : (o : Outcome) → UncommittedBy (after_own_promise a round v core p o)
-      go Done = then (self_accept a.member round p).outcome
-      go (Refused why) = tt
+      go : (promised : Result PaxosState Refusal) → UncommittedBy (after_own_promise a round v core promised)
+      go (Ok p) = then (self_accept a.member round p)
+      go (Err why) = tt
 
   pub proposal_uncommitted : (v : ℕ) (core : Core) → Uncommitted (propose_classic a v core).next
   unfolding propose_classic
   proposal_uncommitted v core =
       of-both UncommittedBy (may_propose a core)
-      (of-both UncommittedBy (is_multi_paxos a.mode) (by_accept (proposal_round a core) v core) (by_prepare (proposal_round a core) (PaxosV NoRound v) core))
+      (of-both UncommittedBy (is_multi_paxos a.mode) (by_accept (proposal_round a core) v core) (by_prepare (proposal_round a core) (PaxosV None v) core))
       tt
 
 -- ---- what is written

@@ -1,5 +1,7 @@
 -- Demand 3 of hosts that lend arrays: a run of their calls is a run of the claim. A struct of numbers and its arrays stand for one shard.
 -- Assumes nothing.
+use Rattle.std.specs.Prelude.{Ok, Err}
+use Rattle.message.specs.Outcomes.{Outcome}
 use mathlib.Core.Path.{◌≡◌, refl, sym, ap, subst, ◌∙◌}
 use mathlib.Core.Logic.{◌⊎◌, inl, inr}
 use mathlib.Core.Bool.{Bool, true, false, cond}
@@ -25,8 +27,6 @@ use Rattle.host.specs.Shards.{decoded_shard}
 use Rattle.host.specs.declared.FlatShard.{FlatShard}
 use Rattle.message.specs.Modes.{has_fast_path}
 use Rattle.message.specs.Refusals.{refusal_number}
-use Rattle.message.specs.declared.Outcome.{Outcome}
-use Rattle.message.specs.declared.Outcome.TheVariants.{Done, Refused}
 use Rattle.message.specs.declared.Refusal.{Refusal}
 use Rattle.read_tracker.specs.declared.OpenRead.{OpenRead}
 use Rattle.read_tracker.specs.declared.ServedRead.{ServedRead}
@@ -67,10 +67,10 @@ module _ (m : Memory) (f : FlatCall) (w : Written) where
     pub stands : shard_of x.memory ≡ made.shard
     pub told : Told made.reply made.reply.outcome w x
 
-  taken : (x : HostAnswer) → made.reply.outcome ≡ Done → x.number ≡ 0 → shard_of x.memory ≡ made.shard → x.reply ≡ put_reply made.reply w → IsCall x
+  taken : (x : HostAnswer) → made.reply.outcome ≡ Ok tt → x.number ≡ 0 → shard_of x.memory ≡ made.shard → x.reply ≡ put_reply made.reply w → IsCall x
   taken x e n s r = record { stands = s; told = subst (λ (o : Outcome). Told made.reply o w x) (sym e) (n, r) }
 
-  left_alone : (why : Refusal) → made.reply.outcome ≡ Refused why → IsCall (left_by m m.fast (direct (refusal_number why) m.core m.table w))
+  left_alone : (why : Refusal) → made.reply.outcome ≡ Err why → IsCall (left_by m m.fast (direct (refusal_number why) m.core m.table w))
   left_alone why e =
       record {
         stands = sym (refusal_leaves (shard_of m) (call_in m f) why e);
@@ -78,12 +78,12 @@ module _ (m : Memory) (f : FlatCall) (w : Written) where
       }
 
   by_fast_lem : (o : Outcome) → made.reply.outcome ≡ o → (d : FastDirect) → FastStands m.setup m.committers m.delegates m.core m.fast m.table w made o d → IsCall (left_by_fast m d)
-  by_fast_lem Done e d (n, s, r) = taken (left_by_fast m d) e n s r
-  by_fast_lem (Refused why) e d same = subst (λ (x : FastDirect). IsCall (left_by_fast m x)) (sym same) (left_alone why e)
+  by_fast_lem (Ok tt) e d (n, s, r) = taken (left_by_fast m d) e n s r
+  by_fast_lem (Err why) e d same = subst (λ (x : FastDirect). IsCall (left_by_fast m x)) (sym same) (left_alone why e)
 
   by_direct_lem : (o : Outcome) → made.reply.outcome ≡ o → (d : Direct) → Stands m.setup m.committers m.delegates m.core (fast_of m.fast) m.table w made o d → IsCall (left_by m m.fast d)
-  by_direct_lem Done e d (n, s, r) = taken (left_by m m.fast d) e n s r
-  by_direct_lem (Refused why) e d same = subst (λ (x : Direct). IsCall (left_by m m.fast x)) (sym same) (left_alone why e)
+  by_direct_lem (Ok tt) e d (n, s, r) = taken (left_by m m.fast d) e n s r
+  by_direct_lem (Err why) e d same = subst (λ (x : Direct). IsCall (left_by m m.fast x)) (sym same) (left_alone why e)
 
   -- the fast half has no part in the call
   direct_is : fast_half_acts m.setup f ≡ false → IsCall (by_direct m f w)

@@ -1,7 +1,8 @@
 -- When what a call in EPaxos or SwiftPaxos leaves in the arrays stands for what a call makes of the shard that the arrays stood for; and which of the two
 -- functions for hosts makes a call.
 -- Assumes nothing.
-use Rattle.std.specs.Prelude.{true, false, List, ◌≡◌, ℕ}
+use Rattle.std.specs.Prelude.{true, false, List, ◌≡◌, ℕ, Ok, Err}
+use Rattle.message.specs.Outcomes.{Outcome}
 use Rattle.arrays.specs.declared.Setup.{Setup}
 use Rattle.consensus.specs.Call.{call_of}
 use Rattle.consensus.specs.declared.Answer.{Answer}
@@ -11,8 +12,6 @@ use Rattle.direct_fast.specs.DirectFast.{FastDirect, fast_direct, fast_half_acts
 use Rattle.fast_arrays.specs.FastArrays.{FastArrays, fast_of}
 use Rattle.message.specs.Modes.{has_fast_path}
 use Rattle.message.specs.Refusals.{refusal_number}
-use Rattle.message.specs.declared.Outcome.{Outcome}
-use Rattle.message.specs.declared.Outcome.TheVariants.{Done, Refused}
 use Rattle.read_tracker.specs.declared.ReadTable.{ReadTable}
 use Rattle.flat.specs.Decode.{decoded_call, decoded_mode}
 use Rattle.flat.specs.declared.FlatCall.{FlatCall}
@@ -21,11 +20,11 @@ use Rattle.direct_calls.specs.Stands.{shard_in, Stands}
 module _ (s : Setup) (committers delegates core : List ℕ) (fast : FastArrays) (table : ReadTable) (w : Written) where
   -- a call that is taken: the arrays stand for the new shard, and the reply is written; a refusal writes nothing
   abbrev pub FastStands : Answer → Outcome → FastDirect → Type 0
-  FastStands a Done d =
+  FastStands a (Ok tt) d =
       (d.direct.number ≡ 0)
       × (shard_in s committers delegates d.direct.core (fast_of d.fast) d.direct.table ≡ a.shard)
       × (d.direct.reply ≡ put_reply a.reply w)
-  FastStands a (Refused why) d = d ≡ fast_direct (refusal_number why) core fast table w
+  FastStands a (Err why) d = d ≡ fast_direct (refusal_number why) core fast table w
 
   module _ (f : FlatCall) where
     -- what the call makes of the shard that the arrays stand for

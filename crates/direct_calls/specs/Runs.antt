@@ -1,7 +1,8 @@
 -- Runs of a group whose hosts lend arrays (document 01, "Group runs": "A shard goes from one call of its member to the next, by value or lent, and has
 -- no other writer").
 -- Assumes nothing.
-use Rattle.std.specs.Prelude.{cond, List, [], ◌∷◌, ◌≡◌, ℕ, eqb}
+use Rattle.std.specs.Prelude.{cond, List, [], ◌∷◌, ◌≡◌, ℕ, eqb, Ok, Err}
+use Rattle.message.specs.Outcomes.{Outcome}
 use Rattle.array_reads.specs.Rows.{table_of}
 use Rattle.arrays.specs.Arrays.{setup_of, core_numbers}
 use Rattle.arrays.specs.declared.Setup.{Setup}
@@ -14,8 +15,6 @@ use Rattle.direct_fast.specs.DirectFast.{FastDirect, fast_call}
 use Rattle.fast_arrays.specs.FastArrays.{FastArrays, fast_arrays, fast_of}
 use Rattle.group.specs.Claim.{MemberCall, Entry}
 use Rattle.host.specs.declared.FlatShard.{FlatShard}
-use Rattle.message.specs.declared.Outcome.{Outcome}
-use Rattle.message.specs.declared.Outcome.TheVariants.{Done, Refused}
 use Rattle.message.specs.Modes.{has_fast_path}
 use Rattle.message.specs.Refusals.{refusal_number}
 use Rattle.read_tracker.specs.declared.ReadTable.{ReadTable}
@@ -80,8 +79,8 @@ host_call m f w =
 
 -- what the host is told of a reply: 0 and the reply in its arrays, or a refusal's number and nothing written
 abbrev pub Told : Reply → Outcome → Written → HostAnswer → Type 0
-Told reply Done w x = (x.number ≡ 0) × (x.reply ≡ put_reply reply w)
-Told reply (Refused why) w x = (x.number ≡ refusal_number why) × (x.reply ≡ w)
+Told reply (Ok tt) w x = (x.number ≡ 0) × (x.reply ≡ put_reply reply w)
+Told reply (Err why) w x = (x.number ≡ refusal_number why) × (x.reply ≡ w)
 
 -- ---- runs
 

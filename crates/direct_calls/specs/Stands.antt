@@ -1,6 +1,7 @@
 -- When what a direct call leaves in the arrays stands for what a call makes of the shard that the arrays stood for.
 -- Assumes nothing.
-use Rattle.std.specs.Prelude.{true, List, ◌⊎◌, ◌≡◌, ℕ}
+use Rattle.std.specs.Prelude.{true, List, ◌⊎◌, ◌≡◌, ℕ, Ok, Err}
+use Rattle.message.specs.Outcomes.{Outcome}
 use Rattle.arrays.specs.Arrays.{settings_of, core_of}
 use Rattle.arrays.specs.declared.Setup.{Setup}
 use Rattle.consensus.specs.Call.{call_of}
@@ -11,8 +12,6 @@ use Rattle.direct_core.specs.Handled.{Written, put_reply, passed_on}
 use Rattle.direct_fast.specs.DirectFast.{fast_half_acts}
 use Rattle.fast_state.specs.declared.FastState.{FastState}
 use Rattle.message.specs.Refusals.{refusal_number}
-use Rattle.message.specs.declared.Outcome.{Outcome}
-use Rattle.message.specs.declared.Outcome.TheVariants.{Done, Refused}
 use Rattle.read_tracker.specs.declared.ReadTable.{ReadTable}
 use Rattle.flat.specs.Decode.{decoded_call, decoded_core, decoded_made, decoded_settings}
 use Rattle.flat.specs.declared.FlatCall.{FlatCall}
@@ -29,9 +28,9 @@ shard_in s committers delegates core fast table =
 module _ (s : Setup) (committers delegates core : List ℕ) (fast : FastState) (table : ReadTable) (w : Written) where
   -- a call that is taken: the arrays stand for the new shard, with the fast half as it was, and the reply is written; a refusal writes nothing
   abbrev pub Stands : Answer → Outcome → Direct → Type 0
-  Stands a Done d =
+  Stands a (Ok tt) d =
       (d.number ≡ 0) × (shard_in s committers delegates d.core fast d.table ≡ a.shard) × (d.reply ≡ put_reply a.reply w)
-  Stands a (Refused why) d = d ≡ direct (refusal_number why) core table w
+  Stands a (Err why) d = d ≡ direct (refusal_number why) core table w
 
 -- the call is passed on, where the fast half has a part in it, and nothing is written; or it is made
 abbrev pub DirectDoesOrPasses : Setup → List ℕ → List ℕ → List ℕ → FastState → ReadTable → FlatCall → Written → Answer → Type 0

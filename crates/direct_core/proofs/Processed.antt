@@ -1,5 +1,6 @@
 -- The answer to what the rounds handle, from what is asked and heard, to a proposal, and to a ReadRequest.
 -- Assumes nothing.
+use Rattle.std.specs.Prelude.{None}
 use mathlib.Core.Bool.{Bool, true, false}
 use mathlib.Core.List.{List}
 use mathlib.Core.Path.{◌≡◌, sym, ap, ap₂, ◌∙◌}
@@ -7,7 +8,6 @@ use Prim.Native.Nat.{ℕ}
 use lib.Dec.{eqb}
 use Rattle.arrays.specs.Arrays.{core_of, core_numbers, put_message, rest_numbers}
 use Rattle.arrays.specs.declared.Setup.{Setup}
-use Rattle.calls.specs.declared.OptionalCommit.TheVariants.{NoCommit}
 use Rattle.core_calls.specs.CoreCall.{core_committed, read_answer}
 use Rattle.core_calls.specs.Replies.{sent_reply}
 use Rattle.core_calls.specs.declared.CoreAnswer.{CoreAnswer}
@@ -143,7 +143,7 @@ module _ (s : Setup) (v : ℕ) (core : List ℕ) (w : Written) {asked : Asked} {
 -- what the messages of a step leave in the arrays
 pub replied : (ms : Messages) (w : Written) {f g h r : List ℕ} → f ≡ put_message ms.first w.first → g ≡ put_message ms.second w.second
     → h ≡ put_message ms.third w.third
-    → r ≡ rest_numbers NoCommit 0
+    → r ≡ rest_numbers None 0
     → written f g h r ≡ put_reply (sent_reply ms) w
 unfolding put_reply
 replied ms w p q s t = cc

@@ -1,17 +1,15 @@
 -- What a call that is not refused before leaves in the arrays that are lent: the core, the three messages of the reply, and the rest of the reply.
 -- Assumes nothing.
-use Rattle.std.specs.Prelude.{Bool, true, false, cond, List, [], ℕ, eqb}
+use Rattle.std.specs.Prelude.{Bool, true, false, cond, List, [], ℕ, eqb, None, Ok, Err}
+use Rattle.message.specs.Outcomes.{Outcome}
 use Rattle.arrays.specs.Arrays.{settings_of, core_of, core_numbers, put_message, rest_numbers}
 use Rattle.arrays.specs.declared.Setup.{Setup}
 use Rattle.calls.specs.Asked.{asked_of, heard_of}
-use Rattle.calls.specs.declared.OptionalCommit.TheVariants.{NoCommit}
 use Rattle.calls.specs.declared.Reply.{Reply}
 use Rattle.core_calls.specs.CoreCall.{core_committed, core_on_commit, read_answer}
 use Rattle.core_calls.specs.Replies.{sent_reply}
 use Rattle.core_calls.specs.declared.CoreAnswer.{CoreAnswer}
 use Rattle.message.specs.Refusals.{refusal_number}
-use Rattle.message.specs.declared.Outcome.{Outcome}
-use Rattle.message.specs.declared.Outcome.TheVariants.{Done, Refused}
 use Rattle.message.specs.declared.Refusal.TheVariants.{ValueNotHeld, Panic}
 use Rattle.paxos_family.specs.Process.{process_classic}
 use Rattle.steps.specs.Steps.{no_messages, one_message}
@@ -58,7 +56,7 @@ put_reply r w =
 
 -- a call that sends and commits nothing, and has served so many reads
 abbrev pub put_served : ℕ → Written → Written
-put_served n w = put_reply (record { outcome = Done; messages = no_messages; commit = NoCommit; served_count = n }) w
+put_served n w = put_reply (record { outcome = Ok tt; messages = no_messages; commit = None; served_count = n }) w
 
 -- ---- what is left
 
@@ -87,8 +85,8 @@ passed_on = 255
 
 -- what the answer leaves, by whether it is a refusal
 unfoldable pub put_outcome : CoreAnswer → Outcome → List ℕ → Written → Left
-put_outcome a Done core w = leaves (record { number = 0; may_serve = a.deeper }) (core_numbers (encoded_core a.core)) (put_reply a.reply w)
-put_outcome a (Refused why) core w = refused_with (refusal_number why) core w
+put_outcome a (Ok tt) core w = leaves (record { number = 0; may_serve = a.deeper }) (core_numbers (encoded_core a.core)) (put_reply a.reply w)
+put_outcome a (Err why) core w = refused_with (refusal_number why) core w
 
 abbrev pub put_answer : CoreAnswer → List ℕ → Written → Left
 put_answer a core w = put_outcome a a.reply.outcome core w

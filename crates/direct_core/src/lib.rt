@@ -13,11 +13,11 @@ ghost use Rattle.steps.specs.Steps.{one_message};
 ghost use Rattle.flat.specs.Decode.{decoded_core};
 
 use arrays::Setup;
-use calls::{OptionalCommit, Reply};
+use calls::Reply;
 use core_calls::CoreAnswer;
 use flat::{FlatCall, FlatMessage};
-use message::{Outcome, ReadId};
-use steps::{Asked, CoreStep, Next, OptionalMessage, Outgoing};
+use message::ReadId;
+use steps::{Asked, CoreStep, Next, Outgoing};
 
 // What a call gives that has to go to the other of the two functions for hosts. No refusal has this number.
 pub const PASSED_ON: u64 = 255;
@@ -88,10 +88,10 @@ pub fn put_served(
 )
     ensures { reply_left first second third rest ≡ put_served served_count (reply_came first second third rest) }
 {
-    arrays::put_message(first, OptionalMessage::NoMessage);
-    arrays::put_message(second, OptionalMessage::NoMessage);
-    arrays::put_message(third, OptionalMessage::NoMessage);
-    arrays::put_rest(rest, OptionalCommit::NoCommit, served_count);
+    arrays::put_message(first, None);
+    arrays::put_message(second, None);
+    arrays::put_message(third, None);
+    arrays::put_rest(rest, None, served_count);
 }
 
 // The reply of a call that sends one message.
@@ -106,9 +106,9 @@ pub fn put_sent(
         ≡ put_reply (sent_reply (one_message sent)) (reply_came first second third rest) }
 {
     arrays::put_sent(first, sent);
-    arrays::put_message(second, OptionalMessage::NoMessage);
-    arrays::put_message(third, OptionalMessage::NoMessage);
-    arrays::put_rest(rest, OptionalCommit::NoCommit, 0);
+    arrays::put_message(second, None);
+    arrays::put_message(third, None);
+    arrays::put_rest(rest, None, 0);
 }
 
 // What the core answers, written into the arrays.
@@ -125,7 +125,7 @@ pub fn put_answer(
     let reply = a.reply;
     let outcome = reply.outcome;
     match outcome {
-        Outcome::Done => {
+        Ok(()) => {
             let next = a.core;
             arrays::put_core(core, flat::encode_core(next));
             put_reply(first, second, third, rest, reply);
@@ -134,7 +134,7 @@ pub fn put_answer(
                 may_serve: a.deeper,
             }
         }
-        Outcome::Refused(why) => with_number(why.number()),
+        Err(why) => with_number(why.number()),
     }
 }
 
@@ -166,37 +166,31 @@ pub fn answer_request(
 // written at once: the compiler keeps an answer that may be of every kind in memory (docs/DECISIONS.md 58).
 
 // The number of the refusal, or 0.
+#[tactic(auto, unfolding(crate::specs::Handled::refused_by))]
 fn refused_by(next: Next) -> u64
     ensures { result ≡ refused_by next }
 {
     match next {
-        Next::Stays => 0,
-        Next::Continues => 0,
-        Next::Commits(_) => 0,
         Next::Refuses(why) => why.number(),
+        _ => 0,
     }
 }
 
+#[tactic(auto, unfolding(crate::specs::Handled::is_commit))]
 fn is_commit(next: Next) -> bool
     ensures { result ≡ is_commit next }
 {
-    match next {
-        Next::Stays => false,
-        Next::Continues => false,
-        Next::Commits(_) => true,
-        Next::Refuses(_) => false,
-    }
+    matches!(next, Next::Commits(_))
 }
 
 // The value that is committed, or 0.
+#[tactic(auto, unfolding(crate::specs::Handled::decided_value))]
 fn decided_value(next: Next) -> u64
     ensures { result ≡ decided_value next }
 {
     match next {
-        Next::Stays => 0,
-        Next::Continues => 0,
         Next::Commits(v) => v,
-        Next::Refuses(_) => 0,
+        _ => 0,
     }
 }
 
@@ -231,7 +225,7 @@ pub fn propose(
     arrays::put_message(first, one);
     arrays::put_message(second, two);
     arrays::put_message(third, three);
-    arrays::put_rest(rest, OptionalCommit::NoCommit, 0);
+    arrays::put_rest(rest, None, 0);
     0
 }
 
@@ -271,7 +265,7 @@ fn put_processed(
     arrays::put_message(first, one);
     arrays::put_message(second, two);
     arrays::put_message(third, three);
-    arrays::put_rest(rest, OptionalCommit::NoCommit, 0);
+    arrays::put_rest(rest, None, 0);
     with_number(0)
 }
 

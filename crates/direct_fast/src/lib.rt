@@ -17,6 +17,7 @@ use flat::{FlatCall, FlatCore};
 use steps::{Asked, ChangeStep, Core};
 
 // Whether the fast half has a part in the call: in EPaxos and SwiftPaxos, in what concerns a slot and is no new read.
+#[tactic(auto, unfolding(crate::specs::DirectFast::fast_half_acts))]
 fn fast_half_acts(setup: Setup, f: FlatCall) -> bool
     ensures { result ≡ fast_half_acts setup f }
 {
@@ -31,6 +32,7 @@ fn fast_half_acts(setup: Setup, f: FlatCall) -> bool
 }
 
 // Whether the call is a message that is too old to do anything.
+#[tactic(auto, unfolding(crate::specs::DirectFast::is_old))]
 fn is_old(c: FlatCore, f: FlatCall) -> bool
     ensures { result ≡ is_old c f }
 {
@@ -68,6 +70,7 @@ fn fast_step(
 }
 
 // Whether the host holds the value: the one that it proposes, and that of a Commit, which refusal 6 has asked for.
+#[tactic(auto, unfolding(crate::specs::DirectFast::holds_value))]
 fn holds_value(f: FlatCall) -> bool
     ensures { result ≡ holds_value f }
 {

@@ -1,22 +1,22 @@
 -- What a run is extended by is what is enabled, over any call on a shard and any host.
 -- Assumes nothing.
+use Rattle.std.specs.Prelude.{Ok, Err}
+use Rattle.message.specs.Outcomes.{Outcome}
 use mathlib.Core.Path.{◌≡◌, refl, sym, ap, subst, ◌∙◌}
 use mathlib.Core.Logic.{◌⊎◌, inl, inr, ◌↔◌}
-use mathlib.Core.Bool.{Bool, true, false, cond, not, ◌&&◌, ◌||◌}
-use mathlib.Core.List.{List, [], ◌∷◌, ◌++◌}
+use mathlib.Core.Bool.{Bool, true, false, cond, not, ◌&&◌}
+use mathlib.Core.List.{List, [], ◌∷◌}
 use mathlib.Core.Option.{Option, none, some, none-ne-some, some-injective}
 use Prim.Native.Nat.{ℕ, zero, suc, ◌≤◌, ◌<◌}
 use native.Mathlib.Omega.{arith}
 use lib.Dec.{eqb}
 use lib.ListN.{length}
-use borrow.Author.Tests.{eqb-true, eqb-false, eq-eqb, ne_eqb}
+use borrow.Author.Tests.{eqb-true, eq-eqb, ne_eqb}
 use Rattle.basics.specs.Lists.{In}
-use Rattle.basics.proofs.Tests.{either, not_both, fails, and_left, and_right, and_both, or_cases, or_left, or_right}
+use Rattle.basics.proofs.Tests.{not_both, fails, and_left, and_right, and_both, or_cases, or_left, or_right}
 use Rattle.message.specs.declared.ConsensusMessage.{ConsensusMessage}
 use Rattle.message.specs.declared.ConsensusMsg.{ConsensusMsg}
 use Rattle.message.specs.declared.ConsensusMsg.TheVariants.{Prepare, Accept, ForwardRequest, Commit, ReadRequest, ReadResponse}
-use Rattle.message.specs.declared.Outcome.{Outcome}
-use Rattle.message.specs.declared.Outcome.TheVariants.{Done, Refused}
 use Rattle.steps.specs.declared.Destination.{Destination}
 use Rattle.steps.specs.declared.Destination.TheVariants.{One, All}
 use Rattle.delivery.specs.declared.Delivery.{Delivery}
@@ -30,7 +30,7 @@ use Rattle.enabled_runs.specs.declared.Sending.{Sending}
 use Rattle.enabled_runs.specs.Enabled.{RunSoFar, sent_in, StandsAt, WasSentTo, HasProposed, with_call, office_proposal, office_delivery, Enabled, ends, proposes, delivers}
 use Rattle.enabled_runs.specs.Listing.{at_place, is_reached, is_commit_message, goes_to, is_sent_to, is_proposal, has_proposed, if_done, all_sent, with_delivery, extended_by, runs_from}
 use Rattle.enabled_runs.specs.Order.{RunsInOrder}
-use Rattle.enabled_runs.proofs.Listed.{Chain, Short, listed_short, short_listed, listing_order}
+use Rattle.enabled_runs.proofs.Listed.{Chain, listed_short, short_listed, listing_order}
 
 -- ---- places
 
@@ -129,12 +129,12 @@ to_sent s member h =
 -- ---- the run with an event more
 
 module _ {A : Type 0} where
-  may_propose_lem : (t : Bool) (o : Outcome) (x v : A) → cond t none (if_done o x) ≡ some v → (t ≡ false) × (o ≡ Done) × (x ≡ v)
+  may_propose_lem : (t : Bool) (o : Outcome) (x v : A) → cond t none (if_done o x) ≡ some v → (t ≡ false) × (o ≡ Ok tt) × (x ≡ v)
   may_propose_lem true o x v e = absurd (none-ne-some v e)
-  may_propose_lem false Done x v e = (refl, refl, some-injective x v e)
-  may_propose_lem false (Refused why) x v e = absurd (none-ne-some v e)
+  may_propose_lem false (Ok tt) x v e = (refl, refl, some-injective x v e)
+  may_propose_lem false (Err why) x v e = absurd (none-ne-some v e)
 
-  proposal_tried : (t : Bool) (o : Outcome) (x : A) → t ≡ false → o ≡ Done → cond t none (if_done o x) ≡ some x
+  proposal_tried : (t : Bool) (o : Outcome) (x : A) → t ≡ false → o ≡ Ok tt → cond t none (if_done o x) ≡ some x
   proposal_tried t o x p q = ap (λ (b : Bool). cond b none (if_done o x)) p ∙ ap (λ (b : Outcome). if_done b x) q
 
 module _ {S : Type 0} (call : S → Call → S × Reply) (host : S → ConsensusMessage → Delivery) where
@@ -171,7 +171,7 @@ module _ {S : Type 0} (call : S → Call → S × Reply) (host : S → Consensus
       delivers member place a.0 c.1.0 (found_stands (sent_in w.past) place a.0 a.1) a.2
       (subst (λ (v : RunSoFar S). Enabled call host v es) (sym a.3) (chain_enabled c.0 es c.3))
 
-  pub tried_proposal : (w : RunSoFar S) (member : ℕ) → (HasProposed w.past member → ⊥) → (call (w.shards member) (office_proposal call host member)).1.outcome ≡ Done
+  pub tried_proposal : (w : RunSoFar S) (member : ℕ) → (HasProposed w.past member → ⊥) → (call (w.shards member) (office_proposal call host member)).1.outcome ≡ Ok tt
       → extended_by call host w (Proposes member) ≡ some (with_call call host w member (office_proposal call host member))
   unfolding extended_by
   tried_proposal w member new done =

@@ -1,9 +1,8 @@
 -- What the order of runs says: no run stands before itself, and what stands between a run and one that extends it extends it too.
 -- Assumes nothing.
-use mathlib.Core.Path.{◌≡◌, refl, sym, ap, ap₂, subst, ◌∙◌}
+use mathlib.Core.Path.{◌≡◌, refl, sym, ap₂, subst}
 use mathlib.Core.Logic.{◌⊎◌, inl, inr}
 use mathlib.Core.List.{List, [], ◌∷◌, ◌++◌}
-use Prim.Native.Nat.{ℕ, ◌<◌}
 use native.Mathlib.Nat.{lt_irrefl, lt_trans}
 use native.Mathlib.Omega.{arith}
 use Rattle.basics.specs.Lists.{In}

@@ -3,23 +3,21 @@
 use mathlib.Core.Path.{◌≡◌, refl, sym, ap, subst, ◌∙◌}
 use mathlib.Core.Logic.{◌⊎◌, inl, inr, ◌↔◌}
 use mathlib.Core.List.{List, [], ◌∷◌, ◌++◌}
-use mathlib.Core.Option.{Option, none, some, get_or}
-use Prim.Native.Nat.{ℕ, zero, suc, ◌≤◌, ◌<◌}
+use mathlib.Core.Option.{Option, get_or}
+use Prim.Native.Nat.{ℕ, zero, suc, ◌≤◌}
 use lib.ListN.{length}
 use Rattle.basics.specs.Lists.{In}
 use Rattle.steps.specs.declared.Outgoing.{Outgoing}
 use Rattle.consensus.specs.declared.Shard.{Shard}
-use Rattle.group.specs.Claim.{Entry, MemberCall, messages_of, WasSent, ours, LegalFrom, Legal, entries_from, entries, Claim}
+use Rattle.group.specs.Claim.{Entry, messages_of, WasSent, ours, LegalFrom, Legal, entries_from, entries, Claim}
 use Rattle.group.proofs.Agreement.{agreement}
 use Rattle.enabled_runs.specs.declared.RunEvent.{RunEvent}
-use Rattle.enabled_runs.specs.declared.RunEvent.TheVariants.{Proposes, Delivers}
 use Rattle.enabled_runs.specs.declared.Sending.{Sending}
-use Rattle.enabled_runs.specs.Enabled.{RunSoFar, sendings, sent_in, StandsAt, WasSentTo, with_call, office_proposal, office_delivery, Enabled, ends, proposes, delivers, calls_of}
-use Rattle.enabled_runs.specs.Listing.{all_sent, extended_by, listing, after_run, runs_from}
+use Rattle.enabled_runs.specs.Enabled.{RunSoFar, sendings, sent_in, StandsAt, WasSentTo, Enabled, ends, proposes, delivers, calls_of}
+use Rattle.enabled_runs.specs.Listing.{all_sent, extended_by, after_run}
 use Rattle.enabled_runs.specs.Order.{RunsInOrder, Once, Extends}
 use Rattle.enabled_runs.specs.Offices.{three_offices, heard_by, engine_call, before_events, EnabledRun, short_runs, past_of}
 use Rattle.enabled_runs.proofs.Lists.{in_either}
-use Rattle.enabled_runs.proofs.Listed.{Chain}
 use Rattle.enabled_runs.proofs.Enabling.{listed_iff_enabled, listed_in_order, tried_proposal, tried_delivery}
 use Rattle.enabled_runs.proofs.Ordering.{order_once, followed_at_once}
 

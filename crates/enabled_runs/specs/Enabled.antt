@@ -1,10 +1,9 @@
 -- Enabled runs (document 02, E12), over any call on a shard and any host. Nothing of the lister is used here but the types of an event and of a
 -- sent message.
 -- Assumes nothing.
-use Rattle.std.specs.Prelude.{◌≡◌, cond, List, [], ◌∷◌, ◌++◌, ℕ, zero, suc, ◌+◌, ◌<◌, eqb}
+use Rattle.std.specs.Prelude.{◌≡◌, cond, List, [], ◌∷◌, ◌++◌, ℕ, zero, suc, ◌+◌, ◌<◌, eqb, Ok}
 use Rattle.basics.specs.Lists.{In}
 use Rattle.message.specs.declared.ConsensusMessage.{ConsensusMessage}
-use Rattle.message.specs.declared.Outcome.TheVariants.{Done}
 use Rattle.steps.specs.declared.Outgoing.{Outgoing}
 use Rattle.delivery.specs.declared.Delivery.{Delivery}
 use Rattle.calls.specs.declared.Call.{Call}
@@ -74,7 +73,7 @@ module _ {S : Type 0} (call : S → Call → S × Reply) (host : S → Consensus
   pub data Enabled : RunSoFar S → List RunEvent → Type 0 where
     ends : {w : RunSoFar S} → Enabled w []
     proposes : {w : RunSoFar S} {es : List RunEvent} (member : ℕ) → member < 3 → (HasProposed w.past member → ⊥)
-        → (call (w.shards member) (office_proposal member)).1.outcome ≡ Done → Enabled (with_call w member (office_proposal member)) es
+        → (call (w.shards member) (office_proposal member)).1.outcome ≡ Ok tt → Enabled (with_call w member (office_proposal member)) es
         → Enabled w (Proposes member ∷ es)
     delivers : {w : RunSoFar S} {es : List RunEvent} (member place : ℕ) (s : Sending) → member < 3 → StandsAt s place (sent_in w.past) → WasSentTo s member
         → Enabled (with_call w member (office_delivery w member s)) es → Enabled w (Delivers member place ∷ es)

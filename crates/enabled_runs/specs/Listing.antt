@@ -1,13 +1,12 @@
 -- The listing (document 02, E12), over any kind of run, count of its sent messages and way to extend it by an event; then over any call on a shard and
 -- any host.
 -- Assumes nothing.
-use Rattle.std.specs.Prelude.{Bool, true, false, cond, not, ◌&&◌, ◌||◌, List, [], ◌∷◌, ◌++◌, ℕ, zero, suc, eqb, length}
+use Rattle.std.specs.Prelude.{Bool, true, false, cond, not, ◌&&◌, ◌||◌, List, [], ◌∷◌, ◌++◌, ℕ, zero, suc, eqb, length, Ok, Err}
+use Rattle.message.specs.Outcomes.{Outcome}
 use Rattle.std.proofs.Math.Option.{Option, none, some, get_or}
 use Rattle.message.specs.declared.ConsensusMessage.{ConsensusMessage}
 use Rattle.message.specs.declared.ConsensusMsg.{ConsensusMsg}
 use Rattle.message.specs.declared.ConsensusMsg.TheVariants.{Prepare, Accept, ForwardRequest, Commit, ReadRequest, ReadResponse}
-use Rattle.message.specs.declared.Outcome.{Outcome}
-use Rattle.message.specs.declared.Outcome.TheVariants.{Done, Refused}
 use Rattle.steps.specs.declared.Destination.{Destination}
 use Rattle.steps.specs.declared.Destination.TheVariants.{One, All}
 use Rattle.delivery.specs.declared.Delivery.{Delivery}
@@ -88,8 +87,8 @@ has_proposed [] member = false
 has_proposed (e ∷ past) member = (eqb e.member member && is_proposal e.call) || has_proposed past member
 
 abbrev pub if_done : {A : Type 0} → Outcome → A → Option A
-if_done Done x = some x
-if_done (Refused why) x = none
+if_done (Ok tt) x = some x
+if_done (Err why) x = none
 
 module _ {S : Type 0} (call : S → Call → S × Reply) (host : S → ConsensusMessage → Delivery) where
   abbrev pub all_sent : RunSoFar S → ℕ

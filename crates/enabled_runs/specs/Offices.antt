@@ -1,21 +1,16 @@
 -- The three offices of document 02's E12, their hosts, and the listing of their short runs.
 -- Assumes nothing.
-use Rattle.std.specs.Prelude.{true, false, List, [], ◌∷◌, ◌++◌, ℕ, ◌-◌, replicate}
-use Rattle.sets.specs.declared.OptionalSet.TheVariants.{NoSet}
+use Rattle.std.specs.Prelude.{true, false, List, [], ◌∷◌, ◌++◌, ℕ, ◌-◌, replicate, Option, None, Some}
+use Rattle.message.specs.declared.RoundV.{RoundV}
+use Rattle.calls.specs.declared.CommittedSlot.{CommittedSlot}
 use Rattle.message.specs.Promises.{value_of}
 use Rattle.message.specs.declared.ConsensusMessage.{ConsensusMessage}
 use Rattle.message.specs.declared.ConsensusMsg.{ConsensusMsg}
 use Rattle.message.specs.declared.ConsensusMsg.TheVariants.{Prepare, Accept, ForwardRequest, Commit, ReadRequest, ReadResponse}
-use Rattle.message.specs.declared.OptionalProcess.{OptionalProcess}
-use Rattle.message.specs.declared.OptionalProcess.TheVariants.{NoProcess, Process}
 use Rattle.message.specs.declared.PFMode.TheVariants.{Paxos}
 use Rattle.settings.specs.declared.Settings.{Settings}
-use Rattle.round_state.specs.declared.HeldPromise.{HeldPromise}
-use Rattle.round_state.specs.declared.HeldPromise.TheVariants.{NothingHeld, Held}
 use Rattle.delivery.specs.declared.Delivery.{Delivery}
 use Rattle.calls.specs.declared.Call.{Call}
-use Rattle.calls.specs.declared.OptionalCommit.{OptionalCommit}
-use Rattle.calls.specs.declared.OptionalCommit.TheVariants.{NoCommit, Committed}
 use Rattle.calls.specs.declared.Reply.{Reply}
 use Rattle.consensus.specs.Call.{call_of}
 use Rattle.consensus.specs.declared.Shard.{Shard}
@@ -35,7 +30,7 @@ office_settings member =
       alive_replicas = 7;
       first_leader = 0;
       mode = Paxos;
-      quorum = NoSet;
+      quorum = None;
       has_committers = false;
       committers = replicate 64 0;
       delegates = replicate 64 0;
@@ -47,20 +42,20 @@ three_offices = office_settings 0
 -- ---- the hosts
 
 -- "names the member that proposes a value as its requester": 10, 11 and 12 are proposed by 0, 1 and 2
-abbrev pub requester_of_value : ℕ → OptionalProcess
-requester_of_value v = Process (v - 10)
+abbrev pub requester_of_value : ℕ → Option ℕ
+requester_of_value v = Some (v - 10)
 
-unfoldable pub message_requester : ConsensusMsg → OptionalProcess
+unfoldable pub message_requester : ConsensusMsg → Option ℕ
 message_requester (Prepare slot round rv) = requester_of_value (value_of rv)
 message_requester (Accept slot round v) = requester_of_value v
 message_requester (ForwardRequest v) = requester_of_value v
 message_requester (Commit slot v) = requester_of_value v
-message_requester (ReadRequest id) = NoProcess
-message_requester (ReadResponse id next) = NoProcess
+message_requester (ReadRequest id) = None
+message_requester (ReadResponse id next) = None
 
-unfoldable pub held_requester : HeldPromise → OptionalProcess
-held_requester NothingHeld = NoProcess
-held_requester (Held rv) = requester_of_value (value_of rv)
+unfoldable pub held_requester : Option RoundV → Option ℕ
+held_requester None = None
+held_requester (Some rv) = requester_of_value (value_of rv)
 
 -- "each host holds all values"
 abbrev pub heard_by : Shard → ConsensusMessage → Delivery
@@ -89,9 +84,9 @@ short_runs = runs_from engine_call heard_by 5 before_events
 
 -- ---- commits
 
-abbrev pub member_commits : ℕ → OptionalCommit → List CommitBy
-member_commits member NoCommit = []
-member_commits member (Committed slot v fast) = record { member = member; slot = slot; v = v } ∷ []
+abbrev pub member_commits : ℕ → Option CommittedSlot → List CommitBy
+member_commits member None = []
+member_commits member (Some commit) = record { member = member; slot = commit.slot; v = commit.v } ∷ []
 
 -- "Commits, in time order"
 abbrev pub commits_in : List Entry → List CommitBy

@@ -1,7 +1,7 @@
 -- The order of runs (document 02, E12): "Each run is followed at once by those that extend it; events are ordered with proposals before
 -- deliveries, by member, then by the sent message's place in time."
 -- Assumes nothing.
-use Rattle.std.specs.Prelude.{◌≡◌, ◌⊎◌, List, [], ◌∷◌, ◌++◌, ℕ, ◌<◌}
+use Rattle.std.specs.Prelude.{◌≡◌, ◌⊎◌, List, [], ◌∷◌, ◌++◌, ◌<◌}
 use Rattle.basics.specs.Lists.{In}
 use Rattle.enabled_runs.specs.declared.RunEvent.{RunEvent}
 use Rattle.enabled_runs.specs.declared.RunEvent.TheVariants.{Proposes, Delivers}

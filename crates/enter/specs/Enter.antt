@@ -1,9 +1,8 @@
 -- What a Prepare and an Accept have in common (the first part of the Rust's process_message).
 -- Assumes nothing.
-use Rattle.std.specs.Prelude.{Bool, cond, ◌||◌, ℕ, ltb}
+use Rattle.std.specs.Prelude.{Bool, cond, ◌||◌, ℕ, ltb, Some}
 use Rattle.message.specs.Modes.{is_swift_paxos}
 use Rattle.message.specs.Rounds.{before}
-use Rattle.message.specs.declared.OptionalRound.TheVariants.{Round}
 use Rattle.message.specs.declared.PaxosRound.{PaxosRound}
 use Rattle.message.specs.declared.Refusal.TheVariants.{SourceNotLive}
 use Rattle.round_state.specs.Paxos.{goto_round}
@@ -23,11 +22,11 @@ source_taken a h = h.source_live || is_swift_paxos a.mode
 
 -- a later round is entered: goto_round
 unfoldable pub in_round : PaxosRound → Core → Core
-in_round round core = cond (before core.paxos.round (Round round)) (with_paxos (goto_round (Round round) core.paxos) core) core
+in_round round core = cond (before core.paxos.round (Some round)) (with_paxos (goto_round (Some round) core.paxos) core) core
 
 -- an older slot or round: `*slot < self.slot || Some(*round) < self.round_state.round`
 unfoldable pub is_older : ℕ → PaxosRound → Core → Bool
-is_older slot round core = ltb slot core.slot || before (Round round) core.paxos.round
+is_older slot round core = ltb slot core.slot || before (Some round) core.paxos.round
 
 -- the round is entered if the source is taken; the Rust's goto_round comes before its assertion, and a refused call leaves nothing of it
 unfoldable pub from_live : Asked → Heard → PaxosRound → Core → CoreStep

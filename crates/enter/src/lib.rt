@@ -4,55 +4,43 @@
 ghost use Rattle.std.specs.Prelude.{◌≡◌};
 ghost use Rattle.enter.specs.Enter.{can_propose, source_taken, in_round, is_older, from_live, enter};
 
-use message::{OptionalRound, PaxosRound, Refusal};
+use message::{PaxosRound, Refusal};
 use steps::{Asked, Core, CoreStep, Heard, no_messages};
 
 // Whether the member takes part: a replica does, and in SwiftPaxos its clients do.
 pub fn can_propose(asked: Asked) -> bool
     ensures { result ≡ can_propose asked }
 {
-    let me = asked.member;
-    if me.replica {
-        return true;
-    }
-    let mode = asked.mode;
-    mode.is_swift_paxos()
+    asked.member.replica || asked.mode.is_swift_paxos()
 }
 
 fn source_taken(asked: Asked, heard: Heard) -> bool
     ensures { result ≡ source_taken asked heard }
 {
-    if heard.source_live {
-        return true;
-    }
-    let mode = asked.mode;
-    mode.is_swift_paxos()
+    heard.source_live || asked.mode.is_swift_paxos()
 }
 
 // A later round is entered.
+#[tactic(auto, using(message::proofs::Comparisons::rounds_before), unfolding(crate::specs::Enter::in_round))]
 fn in_round(core: Core, round: PaxosRound) -> Core
     ensures { result ≡ in_round round core }
 {
     let paxos = core.paxos;
-    let now_at = paxos.round;
-    if now_at.before(OptionalRound::Round(round)) {
-        return core.with_paxos(paxos.goto_round(OptionalRound::Round(round)));
+    if paxos.round < Some(round) {
+        return core.with_paxos(paxos.goto_round(Some(round)));
     }
     core
 }
 
 // Whether a message is of an older slot or round.
+#[tactic(auto, using(message::proofs::Comparisons::rounds_before), unfolding(crate::specs::Enter::is_older))]
 fn is_older(core: Core, slot: u64, round: PaxosRound) -> bool
     ensures { result ≡ is_older slot round core }
 {
-    if slot < core.slot {
-        return true;
-    }
-    let paxos = core.paxos;
-    let now_at = paxos.round;
-    OptionalRound::Round(round).before(now_at)
+    slot < core.slot || Some(round) < core.paxos.round
 }
 
+#[tactic(auto, unfolding(crate::specs::Enter::from_live))]
 fn from_live(asked: Asked, heard: Heard, round: PaxosRound, core: Core) -> CoreStep
     ensures { result ≡ from_live asked heard round core }
 {
@@ -63,6 +51,7 @@ fn from_live(asked: Asked, heard: Heard, round: PaxosRound, core: Core) -> CoreS
 }
 
 // What a Prepare and an Accept have in common. One that is simply old does nothing, before anything else of it is looked at.
+#[tactic(auto, unfolding(crate::specs::Enter::enter))]
 pub fn enter(asked: Asked, heard: Heard, slot: u64, round: PaxosRound, core: Core) -> CoreStep
     ensures { result ≡ enter asked heard slot round core }
 {

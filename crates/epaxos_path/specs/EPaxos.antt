@@ -1,9 +1,7 @@
 -- Where EPaxos parts from the other modes (the Rust's process_message).
 -- Assumes nothing.
-use Rattle.std.specs.Prelude.{cond, List, ℕ, eqb}
-use Rattle.message.specs.declared.OptionalProcess.{OptionalProcess}
-use Rattle.message.specs.declared.Outcome.{Outcome}
-use Rattle.message.specs.declared.Outcome.TheVariants.{Done, Refused}
+use Rattle.std.specs.Prelude.{cond, List, ℕ, eqb, Option, None, Some, Result, Ok, Err}
+use Rattle.message.specs.declared.Refusal.{Refusal}
 use Rattle.message.specs.declared.PaxosRound.{PaxosRound}
 use Rattle.message.specs.declared.Refusal.TheVariants.{Panic}
 use Rattle.message.specs.declared.RoundV.{RoundV}
@@ -11,8 +9,6 @@ use Rattle.message.specs.declared.RoundV.TheVariants.{FastV, PaxosV}
 use Rattle.round_state.specs.Paxos.{is_prepared, adopt_from_epaxos}
 use Rattle.fast_state.specs.Adopt.{Choice, epaxos_try_adopt_after}
 use Rattle.fast_state.specs.Fast.{unchanged, epaxos_answered, epaxos_can_commit}
-use Rattle.fast_state.specs.declared.Adoption.{Adoption}
-use Rattle.fast_state.specs.declared.Adoption.TheVariants.{NoAdoption, Adopt, AdoptionRefused}
 use Rattle.fast_state.specs.declared.FastAnswers.{FastAnswers}
 use Rattle.fast_state.specs.declared.FastChange.{FastChange}
 use Rattle.accept.specs.Accept.{commit_message}
@@ -26,7 +22,7 @@ use Rattle.steps.specs.declared.Heard.{Heard}
 
 -- The requester of a value by the host's two answers: the first where it is the message's value v, and else the second, which is for the
 -- value that was held when the call came.
-abbrev pub requester_of : Heard → ℕ → ℕ → OptionalProcess
+abbrev pub requester_of : Heard → ℕ → ℕ → Option ℕ
 requester_of h v held = cond (eqb held v) h.requester h.held_requester
 
 -- broadcast_commit of the held value, and commit_slot of the message's
@@ -37,14 +33,14 @@ epaxos_commit a h v core = commits v core (one_message (commit_message a core (r
 unfoldable pub adopting : Asked → PaxosRound → ℕ → Core → CoreStep
 adopting a round v core =
     cond (is_prepared a.member core.paxos)
-    (after_own_accept a round core (adopt_from_epaxos a.member round v core.paxos).state (adopt_from_epaxos a.member round v core.paxos).outcome)
+    (after_own_accept a round core (adopt_from_epaxos a.member round v core.paxos))
     (refuses Panic core)
 
 -- by what epaxos_try_adopt says: nothing, a value to adopt, or its failed assertion
-abbrev pub epaxos_adopt : Asked → PaxosRound → Core → Adoption → CoreStep
-epaxos_adopt a round core NoAdoption = stays core no_messages
-epaxos_adopt a round core (Adopt v) = adopting a round v core
-epaxos_adopt a round core (AdoptionRefused why) = refuses why core
+abbrev pub epaxos_adopt : Asked → PaxosRound → Core → Result (Option ℕ) Refusal → CoreStep
+epaxos_adopt a round core (Ok None) = stays core no_messages
+epaxos_adopt a round core (Ok (Some v)) = adopting a round v core
+epaxos_adopt a round core (Err why) = refuses why core
 
 module _ (choose : Choice) where
   -- `if epaxos_can_commit()` commit on the fast path; else adopt, or wait
@@ -54,13 +50,12 @@ module _ (choose : Choice) where
       (epaxos_adopt a round core (epaxos_try_adopt_after choose a.member change values scores))
 
   -- epaxos_answered was taken, or its assertion failed
-  abbrev pub after_epaxos_answer : Asked → Heard → PaxosRound → ℕ → Core → List ℕ → List ℕ → FastChange → Outcome → ChangeStep
-  after_epaxos_answer a h round v core values scores change Done = with_change change (epaxos_decide a h round v core change values scores)
-  after_epaxos_answer a h round v core values scores change (Refused why) = with_change change (refuses why core)
+  abbrev pub after_epaxos_answer : Asked → Heard → PaxosRound → ℕ → Core → FastAnswers → List ℕ → List ℕ → Result FastChange Refusal → ChangeStep
+  after_epaxos_answer a h round v core answers values scores (Ok change) = with_change change (epaxos_decide a h round v core change values scores)
+  after_epaxos_answer a h round v core answers values scores (Err why) = with_change (unchanged answers) (refuses why core)
 
   -- a fast answer; a promise without a proposer can't be one
   unfoldable pub epaxos_answer : Asked → Heard → PaxosRound → RoundV → Core → FastAnswers → List ℕ → List ℕ → ChangeStep
   epaxos_answer a h round (FastV proposer v) core answers values scores =
-      after_epaxos_answer a h round v core values scores (epaxos_answered a.member h.src proposer v answers scores).change
-      (epaxos_answered a.member h.src proposer v answers scores).outcome
+      after_epaxos_answer a h round v core answers values scores (epaxos_answered a.member h.src proposer v answers scores)
   epaxos_answer a h round (PaxosV at v) core answers values scores = with_change (unchanged answers) (refuses Panic core)

@@ -2,16 +2,16 @@
 #![tactic(auto)]
 
 ghost use Rattle.std.specs.Prelude.{◌≡◌};
-ghost use Rattle.epaxos_path.specs.EPaxos.{requester_of, epaxos_commit, adopting, epaxos_adopt, epaxos_decide, after_epaxos_answer, epaxos_answer};
+ghost use Rattle.epaxos_path.specs.EPaxos.{requester_of, epaxos_commit, adopting, epaxos_adopt, epaxos_decide, epaxos_answer};
 ghost use Rattle.fast_state.specs.Adopt.{lowest_best};
 
-use fast_state::{Adoption, FastAnswers, FastChange};
-use message::{OptionalProcess, Outcome, PaxosRound, Refusal, RoundV};
+use fast_state::{FastAnswers, FastChange};
+use message::{PaxosRound, Refusal, RoundV};
 use steps::{Asked, ChangeStep, Core, CoreStep, Heard};
 
 // The requester of a value by the host's two answers: the first is for the message's value v, and the second for the value that was
 // held when the call came.
-fn requester_of(heard: Heard, v: u64, held: u64) -> OptionalProcess
+fn requester_of(heard: Heard, v: u64, held: u64) -> Option<u64>
     ensures { result ≡ requester_of heard v held }
 {
     if held == v {
@@ -23,39 +23,41 @@ fn requester_of(heard: Heard, v: u64, held: u64) -> OptionalProcess
 fn epaxos_commit(asked: Asked, heard: Heard, v: u64, core: Core) -> CoreStep
     ensures { result ≡ epaxos_commit asked heard v core }
 {
-    let paxos = core.paxos;
-    let held = paxos.max_rv;
-    let requester = requester_of(heard, v, steps::held_v(held));
+    let requester = requester_of(heard, v, steps::held_v(core.paxos.max_rv));
     let message = accept::commit_message(asked, core, requester);
     core.commits(v, steps::one_message(message))
 }
 
 // An adopted value goes into the accept phase, for which a majority must have promised.
+#[tactic(auto, unfolding(crate::specs::EPaxos::adopting))]
 fn adopting(asked: Asked, round: PaxosRound, v: u64, core: Core) -> CoreStep
     ensures { result ≡ adopting asked round v core }
 {
-    let paxos = core.paxos;
     let me = asked.member;
-    if paxos.is_prepared(me) {
-        let step = paxos.adopt_from_epaxos(me, round, v);
-        let state = step.state;
-        let outcome = step.outcome;
-        return prepare::after_own_accept(asked, round, core, state, outcome);
+    if core.paxos.is_prepared(me) {
+        let accepted = core.paxos.adopt_from_epaxos(me, round, v);
+        return prepare::after_own_accept(asked, round, core, accepted);
     }
     core.refuses(Refusal::Panic)
 }
 
-fn epaxos_adopt(asked: Asked, round: PaxosRound, core: Core, adoption: Adoption) -> CoreStep
+fn epaxos_adopt(
+    asked: Asked,
+    round: PaxosRound,
+    core: Core,
+    adoption: Result<Option<u64>, Refusal>,
+) -> CoreStep
     ensures { result ≡ epaxos_adopt asked round core adoption }
 {
     match adoption {
-        Adoption::NoAdoption => core.stays_silent(),
-        Adoption::Adopt(v) => adopting(asked, round, v, core),
-        Adoption::AdoptionRefused(why) => core.refuses(why),
+        Ok(None) => core.stays_silent(),
+        Ok(Some(v)) => adopting(asked, round, v, core),
+        Err(why) => core.refuses(why),
     }
 }
 
 // Commit on the fast path, adopt a value, or wait for more answers.
+#[tactic(auto, unfolding(crate::specs::EPaxos::epaxos_decide))]
 fn epaxos_decide(
     asked: Asked,
     heard: Heard,
@@ -69,36 +71,15 @@ fn epaxos_decide(
     ensures { result ≡ epaxos_decide lowest_best asked heard round v core change values.now scores.now }
 {
     let me = asked.member;
-    let answers = change.answers;
-    if epaxos_state::epaxos_can_commit(answers, me) {
+    if epaxos_state::epaxos_can_commit(change.answers, me) {
         return epaxos_commit(asked, heard, v, core);
     }
     let adoption = epaxos_state::epaxos_try_adopt(change, values, scores, me);
     epaxos_adopt(asked, round, core, adoption)
 }
 
-fn after_epaxos_answer(
-    asked: Asked,
-    heard: Heard,
-    round: PaxosRound,
-    v: u64,
-    core: Core,
-    values: &[u64; 64],
-    scores: &[u64; 64],
-    change: FastChange,
-    outcome: Outcome,
-) -> ChangeStep
-    ensures { result ≡ after_epaxos_answer lowest_best asked heard round v core values.now scores.now change outcome }
-{
-    match outcome {
-        Outcome::Done => epaxos_decide(
-            asked, heard, round, v, core, change, values, scores,
-        ).with_change(change),
-        Outcome::Refused(why) => core.refuses(why).with_change(change),
-    }
-}
-
 // A fast answer. A promise without a proposer is none.
+#[tactic(auto, unfolding(crate::specs::EPaxos::epaxos_answer))]
 pub fn epaxos_answer(
     asked: Asked,
     heard: Heard,
@@ -114,16 +95,13 @@ pub fn epaxos_answer(
     match rv {
         RoundV::FastV { proposer, v } => {
             let me = asked.member;
-            let step = epaxos_state::epaxos_answered(answers, scores, me, heard.src, proposer, v);
-            let change = step.change;
-            let outcome = step.outcome;
-            after_epaxos_answer(
-                asked, heard, round, v, core, values, scores, change, outcome,
-            )
+            match epaxos_state::epaxos_answered(answers, scores, me, heard.src, proposer, v) {
+                Ok(change) => epaxos_decide(
+                    asked, heard, round, v, core, change, values, scores,
+                ).with_change(change),
+                Err(why) => core.refuses_unchanged(why, answers),
+            }
         }
-        RoundV::PaxosV {
-            accept_round: _,
-            v: _,
-        } => core.refuses_unchanged(Refusal::Panic, answers),
+        RoundV::PaxosV { .. } => core.refuses_unchanged(Refusal::Panic, answers),
     }
 }

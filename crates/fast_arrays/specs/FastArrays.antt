@@ -7,7 +7,7 @@ use Rattle.fast_state.specs.Fast.{answers_of, to_v_after, epaxos_scores_after, s
 use Rattle.fast_state.specs.declared.FastAnswers.{FastAnswers}
 use Rattle.fast_state.specs.declared.FastChange.{FastChange}
 use Rattle.fast_state.specs.declared.FastState.{FastState}
-use Rattle.flat.specs.Encode.{encoded_value}
+use Rattle.flat.specs.Encode.{encoded_option}
 use Rattle.flat.specs.Decode.{decoded_fast}
 use Rattle.flat.specs.declared.FlatFast.{FlatFast}
 
@@ -48,8 +48,8 @@ answers_numbers f =
     f.fast_answer_set
     ∷ f.fast_preaccepted
     ∷ f.fast_proposers
-    ∷ (encoded_value f.swift_leader_answer).given
-    ∷ (encoded_value f.swift_leader_answer).n
+    ∷ (encoded_option f.swift_leader_answer).given
+    ∷ (encoded_option f.swift_leader_answer).n
     ∷ []
 
 abbrev pub put_change : FastChange → FastArrays → FastArrays

@@ -3,10 +3,9 @@
 
 ghost use Rattle.std.specs.Prelude.{◌≡◌};
 ghost use Rattle.fast_arrays.specs.FastArrays.{fast_arrays, answers_in, answers_numbers, put_change, cleared, put_after};
-ghost use Rattle.fast_state.specs.Fast.{to_v_after, epaxos_scores_after, swift_scores_after};
 
 use fast_calls::After;
-use fast_state::{Entry, FastAnswers, FastChange};
+use fast_state::{FastAnswers, FastChange};
 use flat::FlatOption;
 
 pub fn answers_in(a: &[u64; 5]) -> FastAnswers
@@ -20,7 +19,7 @@ pub fn answers_in(a: &[u64; 5]) -> FastAnswers
         fast_answer_set: a[0],
         fast_preaccepted: a[1],
         fast_proposers: a[2],
-        swift_leader_answer: flat::decode_value(leader_answer),
+        swift_leader_answer: flat::decode_option(leader_answer),
     }
 }
 
@@ -28,7 +27,7 @@ fn put_answers(a: &mut [u64; 5], answers: FastAnswers)
     ensures { a.new ≡ answers_numbers answers }
 {
     let answer = answers.swift_leader_answer;
-    let f = flat::encode_value(answer);
+    let f = flat::encode_option(answer);
     *a = [
         answers.fast_answer_set,
         answers.fast_preaccepted,
@@ -36,26 +35,6 @@ fn put_answers(a: &mut [u64; 5], answers: FastAnswers)
         f.given,
         f.n,
     ];
-}
-
-// The entry of one proposer.
-fn put_entry(values: &mut [u64; 64], epaxos: &mut [u64; 64], swift: &mut [u64; 64], entry: Entry)
-    ensures { (values.new ≡ to_v_after entry values.old) × (epaxos.new ≡ epaxos_scores_after entry epaxos.old) × (swift.new ≡ swift_scores_after entry swift.old) }
-{
-    match entry {
-        Entry::SameEntries => {}
-        Entry::Recorded { proposer, v } => {
-            tables::store_in(values, proposer, v);
-        }
-        Entry::EPaxosScored { proposer, v, score } => {
-            tables::store_in(values, proposer, v);
-            tables::store_in(epaxos, proposer, score);
-        }
-        Entry::SwiftScored { proposer, v, score } => {
-            tables::store_in(values, proposer, v);
-            tables::store_in(swift, proposer, score);
-        }
-    }
 }
 
 fn put_change(
@@ -68,9 +47,8 @@ fn put_change(
     ensures { fast_arrays answers.new values.new epaxos.new swift.new ≡ put_change change (fast_arrays answers.old values.old epaxos.old swift.old) }
 {
     let counted = change.answers;
-    let entry = change.entry;
     put_answers(answers, counted);
-    put_entry(values, epaxos, swift, entry);
+    change.entry.put(values, epaxos, swift);
 }
 
 fn clear(

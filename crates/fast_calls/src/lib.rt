@@ -25,21 +25,22 @@ fn after_next(next: Next, change: FastChange) -> After
     ensures { result ≡ after_next next change }
 {
     match next {
-        Next::Stays => After::Changed(change),
-        Next::Continues => After::Changed(change),
         Next::Commits(_) => After::Cleared,
-        Next::Refuses(_) => After::Changed(change),
+        _ => After::Changed(change),
     }
 }
 
 // A step becomes an answer, as in the classic modes.
+#[tactic(auto, unfolding(crate::specs::FastCall::fast_finish))]
 pub fn fast_finish(asked: Asked, held: bool, old: Core, step: ChangeStep) -> FastAnswer
     ensures { result ≡ fast_finish asked held old step }
 {
-    let core = step.core;
-    let messages = step.messages;
-    let next = step.next;
-    let change = step.change;
+    let ChangeStep {
+        core,
+        messages,
+        next,
+        change,
+    } = step;
     let core_step = CoreStep {
         core,
         messages,

@@ -1,5 +1,6 @@
 -- The proposer whose value an EPaxos leader adopts is present, has the best score, and is the lowest such.
 -- Assumes nothing.
+use Rattle.std.specs.Prelude.{None, Some}
 use mathlib.Core.Path.{◌≡◌, refl, sym, ap, subst, ◌∙◌}
 use mathlib.Core.Logic.{◌⊎◌, inl, inr}
 use mathlib.Core.Bool.{Bool, true, false, cond, ◌&&◌}
@@ -10,7 +11,6 @@ use lib.Dec.{ltb}
 use borrow.Author.Tests.{ltb-true, ltb-false}
 use Rattle.basics.proofs.Tests.{either, not_both, and_left, and_right, and_both}
 use Rattle.sets.specs.Sets.{contains}
-use Rattle.message.specs.declared.OptionalProcess.TheVariants.{NoProcess, Process}
 use Rattle.fast_state.specs.Adopt.{better, best_below}
 use Rattle.fast_state.specs.declared.Best.{Best}
 
@@ -23,15 +23,15 @@ pub record IsBest (proposers : ℕ) (scores : ℕ → ℕ) (n : ℕ) (best : Bes
   -- none has a higher score
   pub none_higher : (q score : ℕ) → q < n → Scored proposers scores q score → score ≤ best.score
   -- where one is chosen, it has that score, and every lower proposer has a lower one
-  pub chosen : (p : ℕ) → best.proposer ≡ Process p → Scored proposers scores p best.score × (p < n) × (0 < best.score)
-  pub lowest : (p q score : ℕ) → best.proposer ≡ Process p → q < p → Scored proposers scores q score → score < best.score
+  pub chosen : (p : ℕ) → best.proposer ≡ Some p → Scored proposers scores p best.score × (p < n) × (0 < best.score)
+  pub lowest : (p q score : ℕ) → best.proposer ≡ Some p → q < p → Scored proposers scores q score → score < best.score
   -- where none is chosen, every score is 0
-  pub nobody : best.proposer ≡ NoProcess → best.score ≡ 0
+  pub nobody : best.proposer ≡ None → best.score ≡ 0
 
-no_process : (p : ℕ) → NoProcess ≡ Process p → ⊥
+no_process : (p : ℕ) → None ≡ Some p → ⊥
 no_process p e = let z : ◌≡◌ {A = ℕ} 0 1 = cc in omega arith
 
-same_process : (p q : ℕ) → Process p ≡ Process q → p ≡ q
+same_process : (p q : ℕ) → Some p ≡ Some q → p ≡ q
 same_process p q e = cc
 
 module _ (proposers : ℕ) (scores : ℕ → ℕ) (n : ℕ) (best : Best) (h : IsBest proposers scores n best) where
@@ -42,7 +42,7 @@ module _ (proposers : ℕ) (scores : ℕ → ℕ) (n : ℕ) (best : Best) (h : I
   present = contains proposers n
 
   -- the next proposer is better
-  taken : present ≡ true → best.score < score → IsBest proposers scores (suc n) (record { score = score; proposer = Process n })
+  taken : present ≡ true → best.score < score → IsBest proposers scores (suc n) (record { score = score; proposer = Some n })
   taken there more = record {
     none_higher = λ q s l e. higher q s e (eq-or-lt_of_le (le_of_suc-le-suc l));
     chosen = λ p e. let d : n ≡ p = same_process n p e in (subst (λ (x : ℕ). Scored proposers scores x score) d (there, refl), omega arith, omega arith);
@@ -81,7 +81,7 @@ module _ (proposers : ℕ) (scores : ℕ → ℕ) (n : ℕ) (best : Best) (h : I
   unfolding better
   next = go (present && ltb best.score score) refl
     where
-      go : (t : Bool) → (present && ltb best.score score) ≡ t → IsBest proposers scores (suc n) (cond t (record { score = score; proposer = Process n }) best)
+      go : (t : Bool) → (present && ltb best.score score) ≡ t → IsBest proposers scores (suc n) (cond t (record { score = score; proposer = Some n }) best)
       go true e = taken (and_left present (ltb best.score score) e) (ltb-true best.score score (and_right present (ltb best.score score) e))
       go false e = left e
 

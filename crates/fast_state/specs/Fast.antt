@@ -2,16 +2,10 @@
 -- "Round state"). The number of fast answers is the size of their set in EPaxos, the only mode that compares it with a quorum; where the Rust
 -- asserts that it is 0, the set is empty.
 -- Assumes nothing.
-use Rattle.std.specs.Prelude.{Bool, true, cond, not, ◌&&◌, List, ℕ, ◌-◌, leb, eqb, replicate}
+use Rattle.std.specs.Prelude.{Bool, true, cond, not, ◌&&◌, List, ℕ, ◌-◌, leb, eqb, replicate, Option, None, Some, is_some, Result, Ok, Err}
 use Rattle.sets.specs.Sets.{contains, insert, size, is_empty}
-use Rattle.sets.specs.declared.OptionalSet.{OptionalSet}
-use Rattle.sets.specs.declared.OptionalSet.TheVariants.{NoSet, Set}
 use Rattle.tables.specs.Tables.{look_up, store}
-use Rattle.message.specs.Promises.{has_value}
 use Rattle.message.specs.Rounds.{increment}
-use Rattle.message.specs.declared.OptionalValue.{OptionalValue}
-use Rattle.message.specs.declared.OptionalValue.TheVariants.{NoValue, Value}
-use Rattle.message.specs.declared.Outcome.TheVariants.{Done, Refused}
 use Rattle.message.specs.declared.Refusal.{Refusal}
 use Rattle.message.specs.declared.Refusal.TheVariants.{Panic, SecondFastAnswer}
 use Rattle.fast_state.specs.declared.Entry.{Entry}
@@ -19,7 +13,6 @@ use Rattle.fast_state.specs.declared.Entry.TheVariants.{SameEntries, Recorded, E
 use Rattle.fast_state.specs.declared.FastAnswers.{FastAnswers}
 use Rattle.fast_state.specs.declared.FastChange.{FastChange}
 use Rattle.fast_state.specs.declared.FastState.{FastState}
-use Rattle.fast_state.specs.declared.FastStep.{FastStep}
 use Rattle.round_state.specs.declared.Member.{Member}
 
 -- ---- what a call changes
@@ -37,14 +30,6 @@ answers_of f =
 -- nothing is changed
 abbrev pub unchanged : FastAnswers → FastChange
 unchanged answers = record { answers = answers; entry = SameEntries }
-
--- the change is made
-abbrev pub taken : FastChange → FastStep
-taken change = record { change = change; outcome = Done }
-
--- the Rust panics, and nothing is changed
-abbrev pub refused : Refusal → FastAnswers → FastStep
-refused why answers = record { change = unchanged answers; outcome = Refused why }
 
 -- the tables after a change: the value of one proposer is stored, and its score in the table of its mode
 unfoldable pub to_v_after : Entry → List ℕ → List ℕ
@@ -90,7 +75,7 @@ no_answers =
       fast_proposer_to_v = replicate 64 0;
       epaxos_proposer_scores = replicate 64 2;
       swift_proposer_scores = replicate 64 0;
-      swift_leader_answer = NoValue;
+      swift_leader_answer = None;
     }
 
 -- the answers for one's own proposal, after one more for a proposer
@@ -98,8 +83,8 @@ unfoldable pub preaccepted_after : Member → ℕ → ℕ → ℕ
 preaccepted_after me proposer n = cond (eqb proposer me.my_pid) (increment n) n
 
 -- a second answer: nothing if it is one's own, and else refused with 10
-unfoldable pub second_answer : Member → ℕ → FastAnswers → FastStep
-second_answer me src f = cond (eqb src me.my_pid) (taken (unchanged f)) (refused SecondFastAnswer f)
+unfoldable pub second_answer : Member → ℕ → FastAnswers → Result FastChange Refusal
+second_answer me src f = cond (eqb src me.my_pid) (Ok (unchanged f)) (Err SecondFastAnswer)
 
 -- the assertions that both proposals make first: no answer, none preaccepted, no proposer
 unfoldable pub is_unanswered : FastAnswers → Bool
@@ -126,14 +111,14 @@ epaxos_counted me src proposer v f scores =
     }
 
 -- epaxos_answered
-unfoldable pub epaxos_answered : Member → ℕ → ℕ → ℕ → FastAnswers → List ℕ → FastStep
+unfoldable pub epaxos_answered : Member → ℕ → ℕ → ℕ → FastAnswers → List ℕ → Result FastChange Refusal
 epaxos_answered me src proposer v f scores =
-    cond (contains f.fast_answer_set src) (second_answer me src f) (taken (epaxos_counted me src proposer v f scores))
+    cond (contains f.fast_answer_set src) (second_answer me src f) (Ok (epaxos_counted me src proposer v f scores))
 
 -- epaxos_propose_v
-unfoldable pub epaxos_propose_v : Member → ℕ → FastAnswers → List ℕ → FastStep
+unfoldable pub epaxos_propose_v : Member → ℕ → FastAnswers → List ℕ → Result FastChange Refusal
 epaxos_propose_v me v f scores =
-    cond (is_unanswered f && eqb (look_up scores me.my_pid) 2) (epaxos_answered me me.my_pid me.my_pid v f scores) (refused Panic f)
+    cond (is_unanswered f && eqb (look_up scores me.my_pid) 2) (epaxos_answered me me.my_pid me.my_pid v f scores) (Err Panic)
 
 -- epaxos_can_commit
 abbrev pub epaxos_can_commit : Member → FastAnswers → Bool
@@ -142,13 +127,13 @@ epaxos_can_commit me f = eqb (size f.fast_proposers) 1 && leb me.quorums.epaxos 
 -- ---- SwiftPaxos
 
 -- an answer counts from every process, or from those of the fixed quorum
-abbrev pub in_quorum : OptionalSet → ℕ → Bool
-in_quorum NoSet src = true
-in_quorum (Set quorum) src = contains quorum src
+abbrev pub in_quorum : Option ℕ → ℕ → Bool
+in_quorum None src = true
+in_quorum (Some quorum) src = contains quorum src
 
 -- the leader's own answer, after an answer that may be the leader's
-unfoldable pub leader_answer_after : Bool → ℕ → OptionalValue → OptionalValue
-leader_answer_after leader v old = cond leader (Value v) old
+unfoldable pub leader_answer_after : Bool → ℕ → Option ℕ → Option ℕ
+leader_answer_after leader v old = cond leader (Some v) old
 
 -- the source and the proposer are recorded, with the proposer's value and one more for its score
 abbrev pub swift_counted : Member → ℕ → ℕ → ℕ → Bool → FastAnswers → List ℕ → FastChange
@@ -179,32 +164,32 @@ swift_recorded src proposer v f =
     }
 
 -- an answer from outside the fixed quorum, with the assertion that it is not the leader's
-unfoldable pub swift_uncounted : ℕ → ℕ → ℕ → Bool → FastAnswers → FastStep
-swift_uncounted src proposer v leader f = cond leader (refused Panic f) (taken (swift_recorded src proposer v f))
+unfoldable pub swift_uncounted : ℕ → ℕ → ℕ → Bool → FastAnswers → Result FastChange Refusal
+swift_uncounted src proposer v leader f = cond leader (Err Panic) (Ok (swift_recorded src proposer v f))
 
 -- the first answer of a process
-unfoldable pub swift_first : Member → ℕ → ℕ → ℕ → OptionalSet → Bool → FastAnswers → List ℕ → FastStep
+unfoldable pub swift_first : Member → ℕ → ℕ → ℕ → Option ℕ → Bool → FastAnswers → List ℕ → Result FastChange Refusal
 swift_first me src proposer v quorum leader f scores =
-    cond (in_quorum quorum src) (taken (swift_counted me src proposer v leader f scores)) (swift_uncounted src proposer v leader f)
+    cond (in_quorum quorum src) (Ok (swift_counted me src proposer v leader f scores)) (swift_uncounted src proposer v leader f)
 
 -- swift_answered
-unfoldable pub swift_answered : Member → ℕ → ℕ → ℕ → OptionalSet → Bool → FastAnswers → List ℕ → FastStep
+unfoldable pub swift_answered : Member → ℕ → ℕ → ℕ → Option ℕ → Bool → FastAnswers → List ℕ → Result FastChange Refusal
 swift_answered me src proposer v quorum leader f scores =
     cond (contains f.fast_answer_set src) (second_answer me src f) (swift_first me src proposer v quorum leader f scores)
 
 -- a replica answers its own proposal, and another process does not
-unfoldable pub swift_own : Member → ℕ → OptionalSet → Bool → FastAnswers → List ℕ → FastStep
+unfoldable pub swift_own : Member → ℕ → Option ℕ → Bool → FastAnswers → List ℕ → Result FastChange Refusal
 swift_own me v quorum leader f scores =
-    cond me.replica (swift_answered me me.my_pid me.my_pid v quorum leader f scores) (taken (unchanged f))
+    cond me.replica (swift_answered me me.my_pid me.my_pid v quorum leader f scores) (Ok (unchanged f))
 
 -- the assertions of swift_propose_v
 unfoldable pub swift_unanswered : Member → FastAnswers → List ℕ → Bool
-swift_unanswered me f scores = not (has_value f.swift_leader_answer) && (is_unanswered f && eqb (look_up scores me.my_pid) 0)
+swift_unanswered me f scores = not (is_some f.swift_leader_answer) && (is_unanswered f && eqb (look_up scores me.my_pid) 0)
 
 -- swift_propose_v
-unfoldable pub swift_propose_v : Member → ℕ → OptionalSet → Bool → FastAnswers → List ℕ → FastStep
+unfoldable pub swift_propose_v : Member → ℕ → Option ℕ → Bool → FastAnswers → List ℕ → Result FastChange Refusal
 swift_propose_v me v quorum leader f scores =
-    cond (swift_unanswered me f scores) (swift_own me v quorum leader f scores) (refused Panic f)
+    cond (swift_unanswered me f scores) (swift_own me v quorum leader f scores) (Err Panic)
 
 -- quorum_required of swift_can_commit: with a fixed quorum a majority of preaccepts is enough, and without one the fast quorum is needed
 unfoldable pub swift_quorum : Member → Bool → ℕ
@@ -213,4 +198,4 @@ swift_quorum me fixed = cond fixed me.quorums.majority me.quorums.fast
 -- swift_can_commit
 unfoldable pub swift_can_commit : Member → Bool → FastAnswers → Bool
 swift_can_commit me fixed f =
-    has_value f.swift_leader_answer && (eqb (size f.fast_proposers) 1 && leb (swift_quorum me fixed) f.fast_preaccepted)
+    is_some f.swift_leader_answer && (eqb (size f.fast_proposers) 1 && leb (swift_quorum me fixed) f.fast_preaccepted)

@@ -4,11 +4,11 @@
 #![tactic(auto)]
 
 ghost use Rattle.std.specs.Prelude.{◌≡◌};
-ghost use Rattle.fast_state.specs.Fast.{answers_of, unchanged, taken as taken_fast, refused as refused_fast, to_v_after, epaxos_scores_after, swift_scores_after, changed, no_answers, preaccepted_after, second_answer, is_unanswered};
+ghost use Rattle.fast_state.specs.Fast.{answers_of, unchanged, to_v_after, epaxos_scores_after, swift_scores_after, changed, no_answers, preaccepted_after, second_answer, is_unanswered};
 ghost use Rattle.fast_state.specs.RoundState.{new_round_state};
 
-use message::{OptionalProcess, OptionalRound, OptionalValue, Outcome, Refusal};
-use round_state::{HeldPromise, Member, PaxosState};
+use message::{PaxosRound, Refusal};
+use round_state::{Member, PaxosState};
 
 // EPaxos and SwiftPaxos state. The Rust's map from proposers to values is an array by process, with the set of those present.
 #[derive(Clone, Copy)]
@@ -19,20 +19,20 @@ pub struct FastState {
     pub fast_proposer_to_v: [u64; 64],
     pub epaxos_proposer_scores: [u64; 64],
     pub swift_proposer_scores: [u64; 64],
-    pub swift_leader_answer: OptionalValue,
+    pub swift_leader_answer: Option<u64>,
 }
 
 // The same without the tables.
-#[derive(Clone, Copy)]
+#[derive(Clone, Copy, PartialEq, Eq, Debug)]
 pub struct FastAnswers {
     pub fast_answer_set: u64,
     pub fast_preaccepted: u64,
     pub fast_proposers: u64,
-    pub swift_leader_answer: OptionalValue,
+    pub swift_leader_answer: Option<u64>,
 }
 
 // What a call changes in the tables: nothing, the value of a proposer, or its value and its score.
-#[derive(Clone, Copy)]
+#[derive(Clone, Copy, PartialEq, Eq, Debug)]
 pub enum Entry {
     SameEntries,
     Recorded { proposer: u64, v: u64 },
@@ -41,7 +41,7 @@ pub enum Entry {
 }
 
 // What a call changes in the state: the answers that there are afterwards, and the entry of a proposer.
-#[derive(Clone, Copy)]
+#[derive(Clone, Copy, PartialEq, Eq, Debug)]
 pub struct FastChange {
     pub answers: FastAnswers,
     pub entry: Entry,
@@ -53,28 +53,15 @@ pub struct PaxosFamilyRoundState {
     pub fast: FastState,
 }
 
-// A step of the fast half, and whether it is refused.
-#[derive(Clone, Copy)]
-pub struct FastStep {
-    pub change: FastChange,
-    pub outcome: Outcome,
-}
-
 // The best score so far, and its proposer.
-#[derive(Clone, Copy)]
+#[derive(Clone, Copy, PartialEq, Eq, Debug)]
 pub struct Best {
     pub score: u64,
-    pub proposer: OptionalProcess,
-}
-
-#[derive(Clone, Copy)]
-pub enum Adoption {
-    NoAdoption,
-    Adopt(u64),
-    AdoptionRefused(Refusal),
+    pub proposer: Option<u64>,
 }
 
 // The answers for one's own proposal, after one more for a proposer.
+#[tactic(auto, unfolding(crate::specs::Fast::preaccepted_after))]
 pub fn preaccepted_after(me: Member, proposer: u64, n: u64) -> u64
     ensures { result ≡ preaccepted_after me proposer n }
 {
@@ -82,17 +69,6 @@ pub fn preaccepted_after(me: Member, proposer: u64, n: u64) -> u64
         return message::increment(n);
     }
     n
-}
-
-impl FastChange {
-    pub fn taken(self) -> FastStep
-        ensures { result ≡ taken_fast self }
-    {
-        FastStep {
-            change: self,
-            outcome: Outcome::Done,
-        }
-    }
 }
 
 impl FastAnswers {
@@ -105,93 +81,48 @@ impl FastAnswers {
         }
     }
 
-    pub fn refused(self, why: Refusal) -> FastStep
-        ensures { result ≡ refused_fast why self }
-    {
-        FastStep {
-            change: self.unchanged(),
-            outcome: Outcome::Refused(why),
-        }
-    }
-
     // A second answer from one process.
-    pub fn second_answer(self, me: Member, src: u64) -> FastStep
+    #[tactic(auto, unfolding(crate::specs::Fast::second_answer))]
+    pub fn second_answer(self, me: Member, src: u64) -> Result<FastChange, Refusal>
         ensures { result ≡ second_answer me src self }
     {
         if src == me.my_pid {
-            return self.unchanged().taken();
+            return Ok(self.unchanged());
         }
-        self.refused(Refusal::SecondFastAnswer)
+        Err(Refusal::SecondFastAnswer)
     }
 
     // No answer, none preaccepted, no proposer.
+    #[tactic(auto, unfolding(crate::specs::Fast::is_unanswered))]
     pub fn is_unanswered(self) -> bool
         ensures { result ≡ is_unanswered self }
     {
-        if sets::is_empty(self.fast_answer_set) {
-            if self.fast_preaccepted == 0 {
-                return sets::is_empty(self.fast_proposers);
+        sets::is_empty(self.fast_answer_set)
+            && self.fast_preaccepted == 0
+            && sets::is_empty(self.fast_proposers)
+    }
+}
+
+impl Entry {
+    // Writes the entry into the tables, which are lent, since a host keeps them in memory of its own.
+    #[tactic(auto, unfolding(crate::specs::Fast::to_v_after, crate::specs::Fast::epaxos_scores_after, crate::specs::Fast::swift_scores_after))]
+    pub fn put(self, values: &mut [u64; 64], epaxos: &mut [u64; 64], swift: &mut [u64; 64])
+        ensures values { values.new ≡ to_v_after self values.old }
+        ensures epaxos { epaxos.new ≡ epaxos_scores_after self epaxos.old }
+        ensures swift { swift.new ≡ swift_scores_after self swift.old }
+    {
+        match self {
+            Entry::SameEntries => {}
+            Entry::Recorded { proposer, v } => tables::store(values, proposer, v),
+            Entry::EPaxosScored { proposer, v, score } => {
+                tables::store(values, proposer, v);
+                tables::store(epaxos, proposer, score);
             }
-            return false;
+            Entry::SwiftScored { proposer, v, score } => {
+                tables::store(values, proposer, v);
+                tables::store(swift, proposer, score);
+            }
         }
-        false
-    }
-}
-
-fn to_v_after(entry: Entry, table: [u64; 64]) -> [u64; 64]
-    ensures { result ≡ to_v_after entry table }
-{
-    match entry {
-        Entry::SameEntries => table,
-        Entry::Recorded { proposer, v } => tables::store(table, proposer, v),
-        Entry::EPaxosScored {
-            proposer,
-            v,
-            score: _,
-        } => tables::store(table, proposer, v),
-        Entry::SwiftScored {
-            proposer,
-            v,
-            score: _,
-        } => tables::store(table, proposer, v),
-    }
-}
-
-fn epaxos_scores_after(entry: Entry, table: [u64; 64]) -> [u64; 64]
-    ensures { result ≡ epaxos_scores_after entry table }
-{
-    match entry {
-        Entry::SameEntries => table,
-        Entry::Recorded { proposer: _, v: _ } => table,
-        Entry::EPaxosScored {
-            proposer,
-            v: _,
-            score,
-        } => tables::store(table, proposer, score),
-        Entry::SwiftScored {
-            proposer: _,
-            v: _,
-            score: _,
-        } => table,
-    }
-}
-
-fn swift_scores_after(entry: Entry, table: [u64; 64]) -> [u64; 64]
-    ensures { result ≡ swift_scores_after entry table }
-{
-    match entry {
-        Entry::SameEntries => table,
-        Entry::Recorded { proposer: _, v: _ } => table,
-        Entry::EPaxosScored {
-            proposer: _,
-            v: _,
-            score: _,
-        } => table,
-        Entry::SwiftScored {
-            proposer,
-            v: _,
-            score,
-        } => tables::store(table, proposer, score),
     }
 }
 
@@ -207,51 +138,46 @@ impl FastState {
             fast_proposer_to_v: [0; 64],
             epaxos_proposer_scores: [2; 64],
             swift_proposer_scores: [0; 64],
-            swift_leader_answer: OptionalValue::NoValue,
+            swift_leader_answer: None,
         }
     }
 
     pub fn answers(self) -> FastAnswers
         ensures { result ≡ answers_of self }
     {
-        let answer = self.swift_leader_answer;
         FastAnswers {
             fast_answer_set: self.fast_answer_set,
             fast_preaccepted: self.fast_preaccepted,
             fast_proposers: self.fast_proposers,
-            swift_leader_answer: answer,
+            swift_leader_answer: self.swift_leader_answer,
         }
     }
 
     // The state with a change made to it.
-    pub fn changed(self, change: FastChange) -> FastState
+    pub fn changed(mut self, change: FastChange) -> FastState
         ensures { result ≡ changed change self }
     {
         let answers = change.answers;
-        let entry = change.entry;
-        let leader_answer = answers.swift_leader_answer;
-        let to_v = self.fast_proposer_to_v;
-        let epaxos_scores = self.epaxos_proposer_scores;
-        let swift_scores = self.swift_proposer_scores;
-        FastState {
-            fast_answer_set: answers.fast_answer_set,
-            fast_preaccepted: answers.fast_preaccepted,
-            fast_proposers: answers.fast_proposers,
-            fast_proposer_to_v: to_v_after(entry, to_v),
-            epaxos_proposer_scores: epaxos_scores_after(entry, epaxos_scores),
-            swift_proposer_scores: swift_scores_after(entry, swift_scores),
-            swift_leader_answer: leader_answer,
-        }
+        self.fast_answer_set = answers.fast_answer_set;
+        self.fast_preaccepted = answers.fast_preaccepted;
+        self.fast_proposers = answers.fast_proposers;
+        self.swift_leader_answer = answers.swift_leader_answer;
+        change.entry.put(
+            &mut self.fast_proposer_to_v,
+            &mut self.epaxos_proposer_scores,
+            &mut self.swift_proposer_scores,
+        );
+        self
     }
 }
 
 impl PaxosFamilyRoundState {
-    pub fn new(starting_round: OptionalRound) -> PaxosFamilyRoundState
+    pub fn new(starting_round: Option<PaxosRound>) -> PaxosFamilyRoundState
         ensures { result ≡ new_round_state starting_round }
     {
         let paxos = PaxosState {
             round: starting_round,
-            max_rv: HeldPromise::NothingHeld,
+            max_rv: None,
             prepared_set: 0,
             accepted_set: 0,
         };

@@ -1,12 +1,11 @@
--- The line for a line that is no call (docs/ORACLE.md, "Answer lines": the reasons), and nothing where there is no fault.
+-- The line for a line that is no call (docs/ORACLE.md, "Answer lines": the reasons).
 -- Assumes nothing.
-use Rattle.std.specs.Prelude.{List, [], ℕ}
+use Rattle.std.specs.Prelude.{List, ℕ}
 use Rattle.call_lines.specs.declared.Fault.{Fault}
-use Rattle.call_lines.specs.declared.Fault.TheVariants.{NoFault, NotDecimal, NumberAboveLimit, TooLong, UnknownKind, WrongCount, NotFlag, NoSuchMode, NoSuchPromise, PlaceAboveLimit}
+use Rattle.call_lines.specs.declared.Fault.TheVariants.{NotDecimal, NumberAboveLimit, TooLong, UnknownKind, WrongCount, NotFlag, NoSuchMode, NoSuchPromise, PlaceAboveLimit}
 use Rattle.texts.specs.Text.{ascii}
 
 unfoldable pub fault_text : Fault → List ℕ
-fault_text NoFault = []
 fault_text NotDecimal = ascii "bad line: not decimal numbers\n"
 fault_text NumberAboveLimit = ascii "bad line: number above 18446744073709551615\n"
 fault_text TooLong = ascii "bad line: too long\n"

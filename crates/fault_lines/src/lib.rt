@@ -6,29 +6,27 @@ ghost use Rattle.texts.specs.Text.{put};
 ghost use Rattle.fault_lines.specs.Faults.{fault_text};
 
 use call_lines::Fault;
+use texts::Output;
 
-// The line for a line that is no call, and nothing where there is no fault.
-pub fn put_fault(out: &mut [u8], at: usize, fault: Fault) -> usize
-    ensures { (out.new, result) ≡ put (fault_text fault) (out.old, at) }
+#[tactic(auto, unfolding(crate::specs::Faults::fault_text))]
+fn reason(fault: Fault) -> &'static [u8]
+    ensures { result.now ≡ fault_text fault }
 {
     match fault {
-        Fault::NoFault => at,
-        Fault::NotDecimal => texts::put_bytes(out, at, b"bad line: not decimal numbers\n"),
-        Fault::NumberAboveLimit => texts::put_bytes(
-            out,
-            at,
-            b"bad line: number above 18446744073709551615\n",
-        ),
-        Fault::TooLong => texts::put_bytes(out, at, b"bad line: too long\n"),
-        Fault::UnknownKind => texts::put_bytes(out, at, b"bad line: unknown kind\n"),
-        Fault::WrongCount => texts::put_bytes(out, at, b"bad line: wrong count of numbers\n"),
-        Fault::NotFlag => texts::put_bytes(out, at, b"bad line: not a flag\n"),
-        Fault::NoSuchMode => texts::put_bytes(out, at, b"bad line: no such mode\n"),
-        Fault::NoSuchPromise => texts::put_bytes(out, at, b"bad line: no such promise\n"),
-        Fault::PlaceAboveLimit => texts::put_bytes(
-            out,
-            at,
-            b"bad line: table place above its limit\n",
-        ),
+        Fault::NotDecimal => b"bad line: not decimal numbers\n",
+        Fault::NumberAboveLimit => b"bad line: number above 18446744073709551615\n",
+        Fault::TooLong => b"bad line: too long\n",
+        Fault::UnknownKind => b"bad line: unknown kind\n",
+        Fault::WrongCount => b"bad line: wrong count of numbers\n",
+        Fault::NotFlag => b"bad line: not a flag\n",
+        Fault::NoSuchMode => b"bad line: no such mode\n",
+        Fault::NoSuchPromise => b"bad line: no such promise\n",
+        Fault::PlaceAboveLimit => b"bad line: table place above its limit\n",
     }
+}
+
+pub fn put_fault(out: &mut Output, fault: Fault)
+    ensures { out.new ≡ put (fault_text fault) out.old }
+{
+    out.put_bytes(reason(fault));
 }

@@ -4,7 +4,6 @@ use mathlib.Core.Path.{◌≡◌, refl, sym, ap, subst, ◌∙◌}
 use mathlib.Core.Logic.{◌⊎◌, inl, inr, ⊎_elim, ◌↔◌}
 use mathlib.Core.Bool.{false, not}
 use Prim.Native.Nat.{ℕ}
-use native.Mathlib.Omega.{arith}
 use lib.Dec.{eqb, ltb}
 use lib.ListN.{length}
 use Rattle.basics.proofs.Tests.{and_left, and_right, and_both}
@@ -13,10 +12,8 @@ use Rattle.catch_up.specs.Joining.{too_large, first_slot}
 use Rattle.catch_up.specs.declared.JoinRefusal.{JoinRefusal}
 use Rattle.catch_up.specs.declared.JoinRefusal.TheVariants.{NumberTooLarge, OutsideLimits, Gap, TwoValues}
 use Rattle.catch_up.proofs.Deciding.{Decides, decided, either_decides, not_decides, less_decides, equal_decides, consecutive_decides, large_decides}
+use Rattle.std.specs.Prelude.{Option, None, Result, Ok, Err}
 use Rattle.feeding.specs.declared.FirstRefused.{FirstRefused}
-use Rattle.feeding.specs.declared.FirstRefused.TheVariants.{NoneRefused}
-use Rattle.feeding.specs.declared.FeedAnswer.{FeedAnswer}
-use Rattle.feeding.specs.declared.FeedAnswer.TheVariants.{Fed, NotFed}
 use Rattle.feeding.specs.Feeding.{FedList, commits_in, entries_in, fed_to, feed_all, outside_fed, begins_past, feeding}
 use Rattle.feeding.specs.FeedCauses.{OutsideFed, FeedCause, NoneBeforeFeed}
 
@@ -43,10 +40,10 @@ begins_decides r l =
     (λ t. (some.0 (and_left has far t), past.0 (and_right has far t)), λ c. and_both (some.1 c.0) (past.1 c.1))
 
 -- a number with its cause, and no earlier one; or the list is fed, and there is no cause
-abbrev Ends : Register → FedList → FeedAnswer → Type 0
+abbrev Ends : Register → FedList → Result (Option FirstRefused) JoinRefusal → Type 0
 Ends r l answer =
-    ((why : JoinRefusal) × FeedCause why r l × NoneBeforeFeed why r l × (answer ≡ NotFed why))
-    ⊎ (((why : JoinRefusal) → FeedCause why r l → ⊥) × ((first : FirstRefused) × (answer ≡ Fed first)))
+    ((why : JoinRefusal) × FeedCause why r l × NoneBeforeFeed why r l × (answer ≡ Err why))
+    ⊎ (((why : JoinRefusal) → FeedCause why r l → ⊥) × ((first : Option FirstRefused) × (answer ≡ Ok first)))
 
 ends : (r : Register) (l : FedList) → Ends r l (feeding r l).answer
 unfolding feeding
@@ -65,7 +62,7 @@ ends r l = ⊎_elim (λ p. inl (NumberTooLarge, p.1, tt, simp p.0)) fits (decide
             none g TwoValues c = c
 
             meets : (begins_past r l ≡ false) × (FeedCause Gap r l → ⊥) → Ends r l (feeding r l).answer
-            meets g = inr (none g.1, ((feed_all (fed_to NoneRefused r) (entries_in l)).first, simp (p.0, q.0, g.0)))
+            meets g = inr (none g.1, ((feed_all (fed_to None r) (entries_in l)).first, simp (p.0, q.0, g.0)))
 
 one_cause : (r : Register) (l : FedList) (x y : JoinRefusal) → FeedCause x r l → NoneBeforeFeed x r l → FeedCause y r l → NoneBeforeFeed y r l → x ≡ y
 one_cause r l NumberTooLarge NumberTooLarge c n d m = refl
@@ -82,19 +79,19 @@ one_cause r l Gap Gap c n d m = refl
 one_cause r l Gap TwoValues c n d m = absurd d
 one_cause r l TwoValues y c n d m = absurd c
 
-same_number : (x y : JoinRefusal) → NotFed x ≡ NotFed y → x ≡ y
+same_number : (x y : JoinRefusal) → ◌≡◌ {A = Result (Option FirstRefused) JoinRefusal} (Err x) (Err y) → x ≡ y
 same_number x y e = cc
 
-not_fed_lem : (answer : FeedAnswer) (why : JoinRefusal) (first : FirstRefused) → answer ≡ NotFed why → answer ≡ Fed first → ⊥
-not_fed_lem answer why first p q = let z : ◌≡◌ {A = ℕ} 0 1 = cc in omega arith
+not_fed_lem : (answer : Result (Option FirstRefused) JoinRefusal) (why : JoinRefusal) (first : Option FirstRefused) → answer ≡ Err why → answer ≡ Ok first → ⊥
+not_fed_lem answer why first p q = cc
 
-pub feed_numbered : (r : Register) (l : FedList) (why : JoinRefusal) → ((feeding r l).answer ≡ NotFed why) ↔ (FeedCause why r l × NoneBeforeFeed why r l)
+pub feed_numbered : (r : Register) (l : FedList) (why : JoinRefusal) → ((feeding r l).answer ≡ Err why) ↔ (FeedCause why r l × NoneBeforeFeed why r l)
 feed_numbered r l why = (λ e. given e (ends r l), λ c. gives c (ends r l))
   where
-    given : (feeding r l).answer ≡ NotFed why → Ends r l (feeding r l).answer → FeedCause why r l × NoneBeforeFeed why r l
+    given : (feeding r l).answer ≡ Err why → Ends r l (feeding r l).answer → FeedCause why r l × NoneBeforeFeed why r l
     given e (inl x) = subst (λ (y : JoinRefusal). FeedCause y r l × NoneBeforeFeed y r l) (same_number x.0 why (sym x.3 ∙ e)) (x.1, x.2)
     given e (inr x) = absurd (not_fed_lem _ why _ e x.1.1)
 
-    gives : FeedCause why r l × NoneBeforeFeed why r l → Ends r l (feeding r l).answer → (feeding r l).answer ≡ NotFed why
-    gives c (inl x) = x.3 ∙ ap NotFed (one_cause r l x.0 why x.1 x.2 c.0 c.1)
+    gives : FeedCause why r l × NoneBeforeFeed why r l → Ends r l (feeding r l).answer → (feeding r l).answer ≡ Err why
+    gives c (inl x) = x.3 ∙ ap Err (one_cause r l x.0 why x.1 x.2 c.0 c.1)
     gives c (inr x) = absurd (x.0 why c.0)

@@ -2,9 +2,11 @@
 -- E6, from the slot after the last one seen (at first 0), or gives 19 and feeds nothing where it begins past that; it hands back the first refused
 -- slot, if any, with its number").
 -- Assumes nothing.
-use Rattle.std.specs.Prelude.{◌≡◌, Bool, cond, not, ◌&&◌, ◌||◌, List, [], ◌∷◌, ℕ, zero, suc, ◌+◌, ltb, eqb, length, get_or}
+use Rattle.std.specs.Prelude.{◌≡◌, Option, Some, None, Result, Ok, Err, Bool, cond, not, ◌&&◌, ◌||◌, List, [], ◌∷◌, ℕ, zero, suc, ◌+◌, ltb, eqb, length, get_or}
 use Rattle.register.specs.Register.{apply}
-use Rattle.register.specs.Refusals.{entry_number}
+use Rattle.register.specs.Refusals.{entry_refusal_number}
+use Rattle.register.specs.declared.Entered.{Entered}
+use Rattle.register.specs.declared.EntryRefusal.{EntryRefusal}
 use Rattle.register.specs.declared.CellEntry.{CellEntry}
 use Rattle.register.specs.declared.Register.{Register}
 use Rattle.register_arrays.specs.Columns.{entry_from_numbers}
@@ -12,10 +14,8 @@ use Rattle.catch_up.specs.Causes.{CommitList}
 use Rattle.catch_up.specs.Joining.{too_large, counts_from, first_slot}
 use Rattle.catch_up.specs.declared.JoinRefusal.{JoinRefusal}
 use Rattle.catch_up.specs.declared.JoinRefusal.TheVariants.{NumberTooLarge, OutsideLimits, Gap}
+use Rattle.feeding.specs.declared.EntryList.{EntryList}
 use Rattle.feeding.specs.declared.FirstRefused.{FirstRefused}
-use Rattle.feeding.specs.declared.FirstRefused.TheVariants.{NoneRefused, RefusedAt}
-use Rattle.feeding.specs.declared.FeedAnswer.{FeedAnswer}
-use Rattle.feeding.specs.declared.FeedAnswer.TheVariants.{Fed, NotFed}
 
 -- ---- the list
 
@@ -32,10 +32,16 @@ abbrev pub fed_list_of : List ℕ → List ℕ → List ℕ → List ℕ → Lis
 fed_list_of slots values kinds cells carriers widths =
     record { slots = slots; values = values; kinds = kinds; cells = cells; carriers = carriers; widths = widths }
 
+-- what a host lends
+abbrev pub fed_list : EntryList → FedList
+fed_list l = fed_list_of l.commits.slots.now l.commits.values.now l.kinds.now l.cells.now l.carriers.now l.widths.now
+
 -- as many of each
-abbrev pub SameLengths : List ℕ → List ℕ → List ℕ → List ℕ → List ℕ → Type 0
-SameLengths slots kinds cells carriers widths =
-    (length kinds ≡ length slots) × (length cells ≡ length slots) × (length carriers ≡ length slots) × (length widths ≡ length slots)
+pub record SameLengths (l : FedList) : Type 0 where
+  pub kinds : length l.kinds ≡ length l.slots
+  pub cells : length l.cells ≡ length l.slots
+  pub carriers : length l.carriers ≡ length l.slots
+  pub widths : length l.widths ≡ length l.slots
 
 abbrev pub commits_in : FedList → CommitList
 commits_in l = record { slots = l.slots; values = l.values }
@@ -57,18 +63,20 @@ entries_in l = entries_from l 0 (length l.slots)
 -- a register, and the first slot that was refused on the way to it
 pub record FedTo : Type 0 where
   pub register : Register
-  pub first : FirstRefused
+  pub first : Option FirstRefused
 
-abbrev pub fed_to : FirstRefused → Register → FedTo
+abbrev pub fed_to : Option FirstRefused → Register → FedTo
 fed_to first r = record { register = r; first = first }
 
 -- document 02's number of a refusal: neither 0, done, nor 64, older
 abbrev pub is_refusal : ℕ → Bool
 is_refusal number = not (eqb number 0) && not (eqb number 64)
 
-unfoldable pub or_refused : FirstRefused → ℕ → ℕ → FirstRefused
-or_refused NoneRefused slot number = cond (is_refusal number) (RefusedAt slot number) NoneRefused
-or_refused (RefusedAt slot' number') slot number = RefusedAt slot' number'
+-- the first that was refused, after one more
+unfoldable pub or_refused : Option FirstRefused → ℕ → Result Entered EntryRefusal → Option FirstRefused
+or_refused None slot (Ok entered) = None
+or_refused None slot (Err why) = Some (record { slot = slot; why = why })
+or_refused (Some first) slot outcome = Some first
 
 -- every entry is "taken as in E6", also those behind a refused one; what is older does nothing there
 unfoldable pub feed_all : FedTo → List CellEntry → FedTo
@@ -77,18 +85,18 @@ feed_all f (e ∷ es) =
     feed_all
     (record {
       register = (apply f.register e).register;
-      first = or_refused f.first e.slot (entry_number (apply f.register e).outcome);
+      first = or_refused f.first e.slot (apply f.register e).outcome;
     })
     es
 
 -- the slot and its number, both 0 where none was refused
-abbrev pub refused_slot : FirstRefused → ℕ
-refused_slot NoneRefused = 0
-refused_slot (RefusedAt slot number) = slot
+abbrev pub refused_slot : Option FirstRefused → ℕ
+refused_slot None = 0
+refused_slot (Some first) = first.slot
 
-abbrev pub refused_number : FirstRefused → ℕ
-refused_number NoneRefused = 0
-refused_number (RefusedAt slot number) = number
+abbrev pub refused_number : Option FirstRefused → ℕ
+refused_number None = 0
+refused_number (Some first) = entry_refusal_number first.why
 
 -- ---- the call
 
@@ -110,20 +118,20 @@ begins_past r l = ltb 0 (length l.slots) && ltb r.next_slot (first_slot l.slots)
 -- the register afterwards, and the answer
 pub record Feeding : Type 0 where
   pub register : Register
-  pub answer : FeedAnswer
+  pub answer : Result (Option FirstRefused) JoinRefusal
 
-abbrev pub feeding_in : FeedAnswer → Register → Feeding
+abbrev pub feeding_in : Result (Option FirstRefused) JoinRefusal → Register → Feeding
 feeding_in answer r = record { register = r; answer = answer }
 
 abbrev pub not_fed : JoinRefusal → Register → Feeding
-not_fed why r = feeding_in (NotFed why) r
+not_fed why r = feeding_in (Err why) r
 
 abbrev pub fed_by : FedTo → Feeding
-fed_by f = feeding_in (Fed f.first) f.register
+fed_by f = feeding_in (Ok f.first) f.register
 
 -- "in that order, after 2"
 unfoldable pub feeding : Register → FedList → Feeding
 feeding r l =
     cond (too_large (commits_in l)) (not_fed NumberTooLarge r)
     (cond (outside_fed l) (not_fed OutsideLimits r)
-    (cond (begins_past r l) (not_fed Gap r) (fed_by (feed_all (fed_to NoneRefused r) (entries_in l)))))
+    (cond (begins_past r l) (not_fed Gap r) (fed_by (feed_all (fed_to None r) (entries_in l)))))

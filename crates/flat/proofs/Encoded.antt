@@ -1,5 +1,7 @@
 -- What the engine writes stands for what it is: decoded again it is the same.
 -- Assumes nothing.
+use Rattle.std.specs.Prelude.{Option, None, Some}
+use Rattle.message.specs.declared.PaxosRound.{PaxosRound}
 use mathlib.Core.Path.{◌≡◌, refl, ap, ap₂}
 use mathlib.Core.Bool.{Bool, true, false}
 use mathlib.Core.List.{List, [], ◌∷◌, map}
@@ -7,47 +9,41 @@ use Prim.Native.Nat.{ℕ}
 use Rattle.message.specs.declared.ConsensusMessage.{ConsensusMessage}
 use Rattle.message.specs.declared.ConsensusMsg.{ConsensusMsg}
 use Rattle.message.specs.declared.ConsensusMsg.TheVariants.{Prepare, Accept, ForwardRequest, Commit, ReadRequest, ReadResponse}
-use Rattle.message.specs.declared.OptionalRound.{OptionalRound}
-use Rattle.message.specs.declared.OptionalRound.TheVariants.{NoRound, Round}
-use Rattle.message.specs.declared.OptionalValue.{OptionalValue}
-use Rattle.message.specs.declared.OptionalValue.TheVariants.{NoValue, Value}
 use Rattle.message.specs.declared.RoundV.{RoundV}
 use Rattle.message.specs.declared.RoundV.TheVariants.{FastV, PaxosV}
-use Rattle.round_state.specs.declared.HeldPromise.{HeldPromise}
-use Rattle.round_state.specs.declared.HeldPromise.TheVariants.{NothingHeld, Held}
 use Rattle.fast_state.specs.declared.FastState.{FastState}
 use Rattle.read_tracker.specs.declared.OpenRead.{OpenRead}
 use Rattle.read_tracker.specs.declared.ReadTable.{ReadTable}
 use Rattle.read_tracker.specs.declared.ServedRead.{ServedRead}
 use Rattle.steps.specs.declared.Core.{Core}
 use Rattle.steps.specs.declared.Rounds.{Rounds}
-use Rattle.flat.specs.Encode.{encoded_bool, encoded_value, encoded_round, encoded_promise, encoded_held, encoded_core, encoded_fast, encoded_rounds, encoded_open, encoded_served, encoded_table, encoded_msg, with_source, encoded_message}
-use Rattle.flat.specs.Decode.{is_yes, decoded_value, decoded_round, decoded_promise, decoded_held, decoded_core, decoded_fast, decoded_rounds, decoded_open, decoded_served, decoded_table, decoded_msg, decoded_source, decoded_message}
+use Rattle.flat.specs.Encode.{encoded_bool, encoded_option, encoded_round, encoded_promise, encoded_held, encoded_core, encoded_fast, encoded_rounds, encoded_open, encoded_served, encoded_table, encoded_msg, with_source, encoded_message}
+use Rattle.flat.specs.Decode.{is_yes, decoded_option, decoded_round, decoded_promise, decoded_held, decoded_core, decoded_fast, decoded_rounds, decoded_open, decoded_served, decoded_table, decoded_msg, decoded_source, decoded_message}
 use Rattle.flat.specs.declared.FlatOption.{FlatOption}
 
 yes_encoded : (b : Bool) → is_yes (encoded_bool b) ≡ b
 yes_encoded true = refl
 yes_encoded false = refl
 
-pub value_encoded : (o : OptionalValue) → decoded_value (encoded_value o) ≡ o
-unfolding decoded_value encoded_value
-value_encoded NoValue = refl
-value_encoded (Value n) = refl
+pub value_encoded : (o : Option ℕ) → decoded_option (encoded_option o) ≡ o
+unfolding decoded_option encoded_option
+value_encoded None = refl
+value_encoded (Some n) = refl
 
-round_encoded : (o : OptionalRound) → decoded_round (encoded_round o) ≡ o
+round_encoded : (o : Option PaxosRound) → decoded_round (encoded_round o) ≡ o
 unfolding decoded_round encoded_round
-round_encoded NoRound = refl
-round_encoded (Round r) = refl
+round_encoded None = refl
+round_encoded (Some r) = refl
 
 promise_encoded : (rv : RoundV) → decoded_promise (encoded_promise rv) ≡ rv
 unfolding decoded_promise encoded_promise
 promise_encoded (FastV proposer v) = refl
-promise_encoded (PaxosV at v) = ap (λ (o : OptionalRound). PaxosV o v) (round_encoded at)
+promise_encoded (PaxosV at v) = ap (λ (o : Option PaxosRound). PaxosV o v) (round_encoded at)
 
-held_encoded : (h : HeldPromise) → decoded_held (encoded_held h) ≡ h
+held_encoded : (h : Option RoundV) → decoded_held (encoded_held h) ≡ h
 unfolding decoded_held encoded_held
-held_encoded NothingHeld = refl
-held_encoded (Held rv) = ap Held (promise_encoded rv)
+held_encoded None = refl
+held_encoded (Some rv) = ap Some (promise_encoded rv)
 
 pub core_encoded : (c : Core) → decoded_core (encoded_core c) ≡ c
 core_encoded c =

@@ -1,27 +1,17 @@
 -- What the flat forms stand for. 0 is no, and any other number yes.
 -- Assumes nothing.
-use Rattle.std.specs.Prelude.{Bool, cond, not, ◌&&◌, map, ℕ, eqb, ltb, leb}
+use Rattle.std.specs.Prelude.{Bool, cond, not, ◌&&◌, map, ℕ, eqb, ltb, leb, Option, None, Some, Ok, Err}
+use Rattle.message.specs.Outcomes.{Outcome}
+use Rattle.message.specs.declared.PaxosRound.{PaxosRound}
 use Rattle.message.specs.declared.ConsensusMessage.{ConsensusMessage}
 use Rattle.message.specs.declared.ConsensusMsg.{ConsensusMsg}
 use Rattle.message.specs.declared.ConsensusMsg.TheVariants.{Prepare, Accept, ForwardRequest, Commit, ReadRequest, ReadResponse}
-use Rattle.message.specs.declared.OptionalProcess.{OptionalProcess}
-use Rattle.message.specs.declared.OptionalProcess.TheVariants.{NoProcess, Process}
-use Rattle.message.specs.declared.OptionalRound.{OptionalRound}
-use Rattle.message.specs.declared.OptionalRound.TheVariants.{NoRound, Round}
-use Rattle.message.specs.declared.OptionalValue.{OptionalValue}
-use Rattle.message.specs.declared.OptionalValue.TheVariants.{NoValue, Value}
-use Rattle.message.specs.declared.Outcome.{Outcome}
-use Rattle.message.specs.declared.Outcome.TheVariants.{Done, Refused}
 use Rattle.message.specs.declared.PFMode.{PFMode}
 use Rattle.message.specs.declared.PFMode.TheVariants.{Paxos, MultiPaxos, MultiPaxos3P, EPaxos, Pando, SwiftPaxos}
 use Rattle.message.specs.declared.Refusal.TheVariants.{SettingsOutsideLimits}
 use Rattle.message.specs.declared.RoundV.{RoundV}
 use Rattle.message.specs.declared.RoundV.TheVariants.{FastV, PaxosV}
-use Rattle.sets.specs.declared.OptionalSet.{OptionalSet}
-use Rattle.sets.specs.declared.OptionalSet.TheVariants.{NoSet, Set}
 use Rattle.settings.specs.declared.Settings.{Settings}
-use Rattle.round_state.specs.declared.HeldPromise.{HeldPromise}
-use Rattle.round_state.specs.declared.HeldPromise.TheVariants.{NothingHeld, Held}
 use Rattle.fast_state.specs.declared.FastState.{FastState}
 use Rattle.read_tracker.specs.declared.OpenRead.{OpenRead}
 use Rattle.read_tracker.specs.declared.ReadTable.{ReadTable}
@@ -48,23 +38,18 @@ use Rattle.flat.specs.declared.FlatTable.{FlatTable}
 abbrev pub is_yes : ℕ → Bool
 is_yes n = not (eqb n 0)
 
-unfoldable pub decoded_value : FlatOption → OptionalValue
-decoded_value f = cond (eqb f.given 0) NoValue (Value f.n)
+-- a value, a process number or a set
+unfoldable pub decoded_option : FlatOption → Option ℕ
+decoded_option f = cond (eqb f.given 0) None (Some f.n)
 
-unfoldable pub decoded_process : FlatOption → OptionalProcess
-decoded_process f = cond (eqb f.given 0) NoProcess (Process f.n)
-
-unfoldable pub decoded_set : FlatOption → OptionalSet
-decoded_set f = cond (eqb f.given 0) NoSet (Set f.n)
-
-unfoldable pub decoded_round : FlatRound → OptionalRound
-decoded_round f = cond (eqb f.given 0) NoRound (Round (record { round_group = f.round_group; leader = f.leader }))
+unfoldable pub decoded_round : FlatRound → Option PaxosRound
+decoded_round f = cond (eqb f.given 0) None (Some (record { round_group = f.round_group; leader = f.leader }))
 
 unfoldable pub decoded_promise : FlatPromise → RoundV
 decoded_promise f = cond (eqb f.fast 0) (PaxosV (decoded_round f.accept_round) f.v) (FastV f.proposer f.v)
 
-unfoldable pub decoded_held : FlatHeld → HeldPromise
-decoded_held f = cond (eqb f.given 0) NothingHeld (Held (decoded_promise f.promise))
+unfoldable pub decoded_held : FlatHeld → Option RoundV
+decoded_held f = cond (eqb f.given 0) None (Some (decoded_promise f.promise))
 
 -- ---- settings
 
@@ -74,7 +59,7 @@ decoded_mode n =
 
 -- a mode that there is not is outside the limits, which are the one cause for which a shard is not made
 unfoldable pub decoded_made : ℕ → ℕ → Outcome
-decoded_made made mode = cond (leb mode 5) (cond (eqb made 0) Done (Refused SettingsOutsideLimits)) (Refused SettingsOutsideLimits)
+decoded_made made mode = cond (leb mode 5) (cond (eqb made 0) (Ok tt) (Err SettingsOutsideLimits)) (Err SettingsOutsideLimits)
 
 abbrev pub decoded_settings : FlatSettings → Settings
 decoded_settings f =
@@ -85,7 +70,7 @@ decoded_settings f =
       alive_replicas = f.alive_replicas;
       first_leader = f.first_leader;
       mode = decoded_mode f.mode;
-      quorum = decoded_set f.quorum;
+      quorum = decoded_option f.quorum;
       has_committers = is_yes f.has_committers;
       committers = f.committers;
       delegates = f.delegates;
@@ -97,7 +82,7 @@ abbrev pub decoded_core : FlatCore → Core
 decoded_core f =
     record {
       slot = f.slot;
-      last_v = decoded_value f.last_v;
+      last_v = decoded_option f.last_v;
       slot_left_fast_path = is_yes f.slot_left_fast_path;
       paxos =
           record {
@@ -118,7 +103,7 @@ decoded_fast f =
       fast_proposer_to_v = f.fast_proposer_to_v;
       epaxos_proposer_scores = f.epaxos_proposer_scores;
       swift_proposer_scores = f.swift_proposer_scores;
-      swift_leader_answer = decoded_value f.swift_leader_answer;
+      swift_leader_answer = decoded_option f.swift_leader_answer;
     }
 
 abbrev pub decoded_rounds : FlatRounds → Rounds
@@ -159,14 +144,14 @@ unfoldable pub decoded_source : ℕ → ℕ → FlatMessage → ℕ
 decoded_source count own f = cond (is_known f.kind) f.src (cond (ltb f.src count) own f.src)
 
 abbrev pub decoded_message : ℕ → ℕ → FlatMessage → ConsensusMessage
-decoded_message count own f = record { msg = decoded_msg f; src = decoded_source count own f; last_v = decoded_value f.last_v }
+decoded_message count own f = record { msg = decoded_msg f; src = decoded_source count own f; last_v = decoded_option f.last_v }
 
 abbrev pub decoded_delivery : ℕ → ℕ → FlatCall → Delivery
 decoded_delivery count own f =
     record {
       message = decoded_message count own f.message;
-      said = record { value_held = is_yes f.value_held; requester = decoded_process f.requester; fast = is_yes f.fast };
-      held_requester = decoded_process f.held_requester;
+      said = record { value_held = is_yes f.value_held; requester = decoded_option f.requester; fast = is_yes f.fast };
+      held_requester = decoded_option f.held_requester;
     }
 
 unfoldable pub decoded_call : ℕ → ℕ → FlatCall → Call

@@ -1,22 +1,16 @@
 -- The flat forms that the engine writes: 1 for yes, and 0 for what is not given.
 -- Assumes nothing.
-use Rattle.std.specs.Prelude.{Bool, cond, map, ℕ}
+use Rattle.std.specs.Prelude.{Bool, cond, map, ℕ, Option, None, Some, Ok, Err}
+use Rattle.message.specs.Outcomes.{Outcome}
+use Rattle.message.specs.declared.PaxosRound.{PaxosRound}
+use Rattle.steps.specs.declared.Outgoing.{Outgoing}
+use Rattle.calls.specs.declared.CommittedSlot.{CommittedSlot}
 use Rattle.message.specs.Refusals.{refusal_number}
 use Rattle.message.specs.declared.ConsensusMessage.{ConsensusMessage}
 use Rattle.message.specs.declared.ConsensusMsg.{ConsensusMsg}
 use Rattle.message.specs.declared.ConsensusMsg.TheVariants.{Prepare, Accept, ForwardRequest, Commit, ReadRequest, ReadResponse}
-use Rattle.message.specs.declared.OptionalProcess.{OptionalProcess}
-use Rattle.message.specs.declared.OptionalProcess.TheVariants.{NoProcess, Process}
-use Rattle.message.specs.declared.OptionalRound.{OptionalRound}
-use Rattle.message.specs.declared.OptionalRound.TheVariants.{NoRound, Round}
-use Rattle.message.specs.declared.OptionalValue.{OptionalValue}
-use Rattle.message.specs.declared.OptionalValue.TheVariants.{NoValue, Value}
-use Rattle.message.specs.declared.Outcome.{Outcome}
-use Rattle.message.specs.declared.Outcome.TheVariants.{Done, Refused}
 use Rattle.message.specs.declared.RoundV.{RoundV}
 use Rattle.message.specs.declared.RoundV.TheVariants.{FastV, PaxosV}
-use Rattle.round_state.specs.declared.HeldPromise.{HeldPromise}
-use Rattle.round_state.specs.declared.HeldPromise.TheVariants.{NothingHeld, Held}
 use Rattle.fast_state.specs.declared.FastState.{FastState}
 use Rattle.read_tracker.specs.declared.OpenRead.{OpenRead}
 use Rattle.read_tracker.specs.declared.ReadTable.{ReadTable}
@@ -24,11 +18,7 @@ use Rattle.read_tracker.specs.declared.ServedRead.{ServedRead}
 use Rattle.steps.specs.declared.Core.{Core}
 use Rattle.steps.specs.declared.Destination.{Destination}
 use Rattle.steps.specs.declared.Destination.TheVariants.{One, All}
-use Rattle.steps.specs.declared.OptionalMessage.{OptionalMessage}
-use Rattle.steps.specs.declared.OptionalMessage.TheVariants.{NoMessage, Send}
 use Rattle.steps.specs.declared.Rounds.{Rounds}
-use Rattle.calls.specs.declared.OptionalCommit.{OptionalCommit}
-use Rattle.calls.specs.declared.OptionalCommit.TheVariants.{NoCommit, Committed}
 use Rattle.calls.specs.declared.Reply.{Reply}
 use Rattle.flat.specs.declared.FlatCommit.{FlatCommit}
 use Rattle.flat.specs.declared.FlatCore.{FlatCore}
@@ -50,26 +40,22 @@ encoded_bool b = cond b 1 0
 
 -- Done is 0, and a refusal its number of document 01
 unfoldable pub encoded_outcome : Outcome → ℕ
-encoded_outcome Done = 0
-encoded_outcome (Refused why) = refusal_number why
+encoded_outcome (Ok tt) = 0
+encoded_outcome (Err why) = refusal_number why
 
 abbrev pub not_given : FlatOption
 not_given = record { given = 0; n = 0 }
 
-unfoldable pub encoded_value : OptionalValue → FlatOption
-encoded_value NoValue = not_given
-encoded_value (Value n) = record { given = 1; n = n }
-
-unfoldable pub encoded_process : OptionalProcess → FlatOption
-encoded_process NoProcess = not_given
-encoded_process (Process n) = record { given = 1; n = n }
+unfoldable pub encoded_option : Option ℕ → FlatOption
+encoded_option None = not_given
+encoded_option (Some n) = record { given = 1; n = n }
 
 abbrev pub no_flat_round : FlatRound
 no_flat_round = record { given = 0; round_group = 0; leader = 0 }
 
-unfoldable pub encoded_round : OptionalRound → FlatRound
-encoded_round NoRound = no_flat_round
-encoded_round (Round r) = record { given = 1; round_group = r.round_group; leader = r.leader }
+unfoldable pub encoded_round : Option PaxosRound → FlatRound
+encoded_round None = no_flat_round
+encoded_round (Some r) = record { given = 1; round_group = r.round_group; leader = r.leader }
 
 unfoldable pub encoded_promise : RoundV → FlatPromise
 encoded_promise (FastV proposer v) = record { fast = 1; proposer = proposer; accept_round = no_flat_round; v = v }
@@ -78,9 +64,9 @@ encoded_promise (PaxosV at v) = record { fast = 0; proposer = 0; accept_round = 
 abbrev pub no_promise : FlatPromise
 no_promise = record { fast = 0; proposer = 0; accept_round = no_flat_round; v = 0 }
 
-unfoldable pub encoded_held : HeldPromise → FlatHeld
-encoded_held NothingHeld = record { given = 0; promise = no_promise }
-encoded_held (Held rv) = record { given = 1; promise = encoded_promise rv }
+unfoldable pub encoded_held : Option RoundV → FlatHeld
+encoded_held None = record { given = 0; promise = no_promise }
+encoded_held (Some rv) = record { given = 1; promise = encoded_promise rv }
 
 -- ---- the state
 
@@ -88,7 +74,7 @@ abbrev pub encoded_core : Core → FlatCore
 encoded_core core =
     record {
       slot = core.slot;
-      last_v = encoded_value core.last_v;
+      last_v = encoded_option core.last_v;
       slot_left_fast_path = encoded_bool core.slot_left_fast_path;
       round = encoded_round core.paxos.round;
       max_rv = encoded_held core.paxos.max_rv;
@@ -104,7 +90,7 @@ encoded_fast fast =
       fast_answer_set = fast.fast_answer_set;
       fast_preaccepted = fast.fast_preaccepted;
       fast_proposers = fast.fast_proposers;
-      swift_leader_answer = encoded_value fast.swift_leader_answer;
+      swift_leader_answer = encoded_option fast.swift_leader_answer;
       fast_proposer_to_v = fast.fast_proposer_to_v;
       epaxos_proposer_scores = fast.epaxos_proposer_scores;
       swift_proposer_scores = fast.swift_proposer_scores;
@@ -180,19 +166,19 @@ with_source f src last =
     }
 
 abbrev pub encoded_message : ConsensusMessage → FlatMessage
-encoded_message m = with_source (encoded_msg m.msg) m.src (encoded_value m.last_v)
+encoded_message m = with_source (encoded_msg m.msg) m.src (encoded_option m.last_v)
 
 unfoldable pub encoded_to : Destination → FlatMessage → FlatOutgoing
 encoded_to (One p) message = record { kind = 1; to = p; first = not_given; message = message }
-encoded_to (All first) message = record { kind = 2; to = 0; first = encoded_process first; message = message }
+encoded_to (All first) message = record { kind = 2; to = 0; first = encoded_option first; message = message }
 
-unfoldable pub encoded_outgoing : OptionalMessage → FlatOutgoing
-encoded_outgoing NoMessage = record { kind = 0; to = 0; first = not_given; message = no_message }
-encoded_outgoing (Send o) = encoded_to o.destination (encoded_message o.message)
+unfoldable pub encoded_outgoing : Option Outgoing → FlatOutgoing
+encoded_outgoing None = record { kind = 0; to = 0; first = not_given; message = no_message }
+encoded_outgoing (Some o) = encoded_to o.destination (encoded_message o.message)
 
-unfoldable pub encoded_commit : OptionalCommit → FlatCommit
-encoded_commit NoCommit = record { given = 0; slot = 0; v = 0; fast = 0 }
-encoded_commit (Committed slot v fast) = record { given = 1; slot = slot; v = v; fast = encoded_bool fast }
+unfoldable pub encoded_commit : Option CommittedSlot → FlatCommit
+encoded_commit None = record { given = 0; slot = 0; v = 0; fast = 0 }
+encoded_commit (Some commit) = record { given = 1; slot = commit.slot; v = commit.v; fast = encoded_bool commit.fast }
 
 abbrev pub encoded_reply : Reply → FlatReply
 encoded_reply r =

@@ -1,23 +1,22 @@
 // A flat form of the parts of a shard, of calls and of replies that has numbers only, for a host in C or Rust: no enum crosses `extern "C"`. 0 is no and
 // any other number yes; what is not given is 0 where the engine writes it. Every flat form stands for some part or call, whatever numbers are in it.
+// Functions with names and no From: hosts read their definitions by these names, and a message is read with two numbers besides.
 #![tactic(auto)]
 
-ghost use Rattle.std.specs.Prelude.{map, ◌≡◌};
-ghost use Rattle.flat.specs.Decode.{is_yes, decoded_value, decoded_process, decoded_set, decoded_round, decoded_promise, decoded_held, decoded_mode, decoded_made, decoded_settings, decoded_core, decoded_fast, decoded_rounds, decoded_open, decoded_served, decoded_table, decoded_msg, is_known, decoded_source, decoded_message, decoded_delivery, decoded_call};
-ghost use Rattle.flat.specs.Encode.{encoded_bool, encoded_outcome, encoded_value, encoded_process, encoded_round, encoded_promise, encoded_held, encoded_core, encoded_fast, encoded_rounds, encoded_open, encoded_served, encoded_table, encoded_msg, encoded_message, encoded_to, encoded_outgoing, encoded_commit, encoded_reply, no_promise, no_message};
+ghost use Rattle.std.specs.Prelude.{ℕ, ◌≡◌, ◌<◌, length, slice_index_or};
+ghost use Rattle.flat.specs.Decode.{is_yes, decoded_option, decoded_round, decoded_promise, decoded_held, decoded_mode, decoded_made, decoded_settings, decoded_core, decoded_fast, decoded_rounds, decoded_open, decoded_served, decoded_table, decoded_msg, is_known, decoded_source, decoded_message, decoded_delivery, decoded_call};
+ghost use Rattle.flat.specs.Encode.{encoded_bool, encoded_outcome, encoded_option, encoded_round, encoded_promise, encoded_held, encoded_core, encoded_fast, encoded_rounds, encoded_open, encoded_served, encoded_table, encoded_msg, encoded_message, encoded_to, encoded_outgoing, encoded_commit, encoded_reply, no_promise, no_message};
 
-use calls::{Call, OptionalCommit, Reply};
+use calls::{Call, CommittedSlot, Reply};
 use delivery::{Delivery, Said};
 use fast_state::FastState;
 use message::{
-    ConsensusMessage, ConsensusMsg, OptionalProcess, OptionalRound, OptionalValue, Outcome, PFMode,
-    PaxosRound, ReadId, Refusal, RoundV,
+    ConsensusMessage, ConsensusMsg, Outcome, PFMode, PaxosRound, ReadId, Refusal, RoundV,
 };
 use read_tracker::{OpenRead, ReadTable, ReadTracker, ServedRead};
-use round_state::{HeldPromise, PaxosState};
-use sets::OptionalSet;
+use round_state::PaxosState;
 use settings::Settings;
-use steps::{Core, Destination, OptionalMessage, Rounds};
+use steps::{Core, Destination, Outgoing, Rounds};
 
 // A number, if it is given.
 #[repr(C)]
@@ -167,6 +166,11 @@ pub struct FlatOutgoing {
     pub message: FlatMessage,
 }
 
+// Kinds of a message that goes out.
+const TO_ONE: u64 = 1;
+
+const TO_ALL: u64 = 2;
+
 #[repr(C)]
 #[derive(Clone, Copy)]
 pub struct FlatCommit {
@@ -191,58 +195,37 @@ pub struct FlatReply {
 pub fn is_yes(n: u64) -> bool
     ensures { result ≡ is_yes n }
 {
-    if n == 0 {
-        return false;
-    }
-    true
+    n != 0
 }
 
-pub fn decode_value(f: FlatOption) -> OptionalValue
-    ensures { result ≡ decoded_value f }
+// A value, a process number or a set, if it is given.
+#[tactic(auto, unfolding(crate::specs::Decode::decoded_option))]
+pub fn decode_option(f: FlatOption) -> Option<u64>
+    ensures { result ≡ decoded_option f }
 {
-    if f.given == 0 {
-        return OptionalValue::NoValue;
-    }
-    OptionalValue::Value(f.n)
+    if f.given == 0 { None } else { Some(f.n) }
 }
 
-pub fn decode_process(f: FlatOption) -> OptionalProcess
-    ensures { result ≡ decoded_process f }
-{
-    if f.given == 0 {
-        return OptionalProcess::NoProcess;
-    }
-    OptionalProcess::Process(f.n)
-}
-
-pub fn decode_set(f: FlatOption) -> OptionalSet
-    ensures { result ≡ decoded_set f }
-{
-    if f.given == 0 {
-        return OptionalSet::NoSet;
-    }
-    OptionalSet::Set(f.n)
-}
-
-pub fn decode_round(f: FlatRound) -> OptionalRound
+#[tactic(auto, unfolding(crate::specs::Decode::decoded_round))]
+pub fn decode_round(f: FlatRound) -> Option<PaxosRound>
     ensures { result ≡ decoded_round f }
 {
     if f.given == 0 {
-        return OptionalRound::NoRound;
+        return None;
     }
-    OptionalRound::Round(PaxosRound {
+    Some(PaxosRound {
         round_group: f.round_group,
         leader: f.leader,
     })
 }
 
+#[tactic(auto, unfolding(crate::specs::Decode::decoded_promise))]
 pub fn decode_promise(f: FlatPromise) -> RoundV
     ensures { result ≡ decoded_promise f }
 {
-    let round = f.accept_round;
     if f.fast == 0 {
         return RoundV::PaxosV {
-            accept_round: decode_round(round),
+            accept_round: decode_round(f.accept_round),
             v: f.v,
         };
     }
@@ -252,54 +235,44 @@ pub fn decode_promise(f: FlatPromise) -> RoundV
     }
 }
 
-pub fn decode_held(f: FlatHeld) -> HeldPromise
+#[tactic(auto, unfolding(crate::specs::Decode::decoded_held))]
+pub fn decode_held(f: FlatHeld) -> Option<RoundV>
     ensures { result ≡ decoded_held f }
 {
-    let promise = f.promise;
     if f.given == 0 {
-        return HeldPromise::NothingHeld;
+        return None;
     }
-    HeldPromise::Held(decode_promise(promise))
+    Some(decode_promise(f.promise))
 }
 
+#[tactic(auto, unfolding(crate::specs::Decode::decoded_mode))]
 pub fn decode_mode(n: u64) -> PFMode
     ensures { result ≡ decoded_mode n }
 {
-    if n == 1 {
-        return PFMode::MultiPaxos;
+    match n {
+        1 => PFMode::MultiPaxos,
+        2 => PFMode::MultiPaxos3P,
+        3 => PFMode::EPaxos,
+        4 => PFMode::Pando,
+        5 => PFMode::SwiftPaxos,
+        _ => PFMode::Paxos,
     }
-    if n == 2 {
-        return PFMode::MultiPaxos3P;
-    }
-    if n == 3 {
-        return PFMode::EPaxos;
-    }
-    if n == 4 {
-        return PFMode::Pando;
-    }
-    if n == 5 {
-        return PFMode::SwiftPaxos;
-    }
-    PFMode::Paxos
 }
 
 // A mode that there is not is outside the limits. Settings outside the limits are the one cause for which a shard is not made.
+#[tactic(auto, unfolding(crate::specs::Decode::decoded_made))]
 pub fn decode_made(made: u64, mode: u64) -> Outcome
     ensures { result ≡ decoded_made made mode }
 {
-    if mode <= 5 {
-        if made == 0 {
-            return Outcome::Done;
-        }
-        return Outcome::Refused(Refusal::SettingsOutsideLimits);
+    if mode <= 5 && made == 0 {
+        return Ok(());
     }
-    Outcome::Refused(Refusal::SettingsOutsideLimits)
+    Err(Refusal::SettingsOutsideLimits)
 }
 
 pub fn decode_settings(f: FlatSettings) -> Settings
     ensures { result ≡ decoded_settings f }
 {
-    let quorum = f.quorum;
     let committers = f.committers;
     let delegates = f.delegates;
     Settings {
@@ -309,7 +282,7 @@ pub fn decode_settings(f: FlatSettings) -> Settings
         alive_replicas: f.alive_replicas,
         first_leader: f.first_leader,
         mode: decode_mode(f.mode),
-        quorum: decode_set(quorum),
+        quorum: decode_option(f.quorum),
         has_committers: is_yes(f.has_committers),
         committers,
         delegates,
@@ -319,12 +292,9 @@ pub fn decode_settings(f: FlatSettings) -> Settings
 pub fn decode_core(f: FlatCore) -> Core
     ensures { result ≡ decoded_core f }
 {
-    let last_v = f.last_v;
-    let round = f.round;
-    let held = f.max_rv;
     let paxos = PaxosState {
-        round: decode_round(round),
-        max_rv: decode_held(held),
+        round: decode_round(f.round),
+        max_rv: decode_held(f.max_rv),
         prepared_set: f.prepared_set,
         accepted_set: f.accepted_set,
     };
@@ -334,7 +304,7 @@ pub fn decode_core(f: FlatCore) -> Core
     };
     Core {
         slot: f.slot,
-        last_v: decode_value(last_v),
+        last_v: decode_option(f.last_v),
         slot_left_fast_path: is_yes(f.slot_left_fast_path),
         paxos,
         tracker,
@@ -344,7 +314,6 @@ pub fn decode_core(f: FlatCore) -> Core
 fn decode_fast(f: FlatFast) -> FastState
     ensures { result ≡ decoded_fast f }
 {
-    let answer = f.swift_leader_answer;
     let fast_proposer_to_v = f.fast_proposer_to_v;
     let epaxos_proposer_scores = f.epaxos_proposer_scores;
     let swift_proposer_scores = f.swift_proposer_scores;
@@ -355,18 +324,16 @@ fn decode_fast(f: FlatFast) -> FastState
         fast_proposer_to_v,
         epaxos_proposer_scores,
         swift_proposer_scores,
-        swift_leader_answer: decode_value(answer),
+        swift_leader_answer: decode_option(f.swift_leader_answer),
     }
 }
 
 pub fn decode_rounds(f: FlatRounds) -> Rounds
     ensures { result ≡ decoded_rounds f }
 {
-    let core = f.core;
-    let fast = f.fast;
     Rounds {
-        core: decode_core(core),
-        fast: decode_fast(fast),
+        core: decode_core(f.core),
+        fast: decode_fast(f.fast),
     }
 }
 
@@ -396,50 +363,41 @@ fn decode_served(f: FlatServedRead) -> ServedRead
 pub fn encode_bool(b: bool) -> u64
     ensures { result ≡ encoded_bool b }
 {
-    if b {
-        return 1;
-    }
-    0
+    b as u64
 }
 
 // Done is 0, and a refusal its number.
+#[tactic(auto, unfolding(crate::specs::Encode::encoded_outcome))]
 pub fn encode_outcome(outcome: Outcome) -> u64
     ensures { result ≡ encoded_outcome outcome }
 {
     match outcome {
-        Outcome::Done => 0,
-        Outcome::Refused(why) => why.number(),
+        Ok(()) => 0,
+        Err(why) => why.number(),
     }
 }
 
-pub fn encode_value(value: OptionalValue) -> FlatOption
-    ensures { result ≡ encoded_value value }
+#[tactic(auto, unfolding(crate::specs::Encode::encoded_option))]
+pub fn encode_option(option: Option<u64>) -> FlatOption
+    ensures { result ≡ encoded_option option }
 {
-    match value {
-        OptionalValue::NoValue => FlatOption { given: 0, n: 0 },
-        OptionalValue::Value(n) => FlatOption { given: 1, n },
+    match option {
+        None => FlatOption { given: 0, n: 0 },
+        Some(n) => FlatOption { given: 1, n },
     }
 }
 
-fn encode_process(process: OptionalProcess) -> FlatOption
-    ensures { result ≡ encoded_process process }
-{
-    match process {
-        OptionalProcess::NoProcess => FlatOption { given: 0, n: 0 },
-        OptionalProcess::Process(n) => FlatOption { given: 1, n },
-    }
-}
-
-fn encode_round(round: OptionalRound) -> FlatRound
+#[tactic(auto, unfolding(crate::specs::Encode::encoded_round))]
+fn encode_round(round: Option<PaxosRound>) -> FlatRound
     ensures { result ≡ encoded_round round }
 {
     match round {
-        OptionalRound::NoRound => FlatRound {
+        None => FlatRound {
             given: 0,
             round_group: 0,
             leader: 0,
         },
-        OptionalRound::Round(given) => FlatRound {
+        Some(given) => FlatRound {
             given: 1,
             round_group: given.round_group,
             leader: given.leader,
@@ -447,23 +405,17 @@ fn encode_round(round: OptionalRound) -> FlatRound
     }
 }
 
+#[tactic(auto, unfolding(crate::specs::Encode::encoded_promise, crate::specs::Encode::encoded_round))]
 fn encode_promise(rv: RoundV) -> FlatPromise
     ensures { result ≡ encoded_promise rv }
 {
     match rv {
-        RoundV::FastV { proposer, v } => {
-            let none = FlatRound {
-                given: 0,
-                round_group: 0,
-                leader: 0,
-            };
-            FlatPromise {
-                fast: 1,
-                proposer,
-                accept_round: none,
-                v,
-            }
-        }
+        RoundV::FastV { proposer, v } => FlatPromise {
+            fast: 1,
+            proposer,
+            accept_round: encode_round(None),
+            v,
+        },
         RoundV::PaxosV { accept_round, v } => FlatPromise {
             fast: 0,
             proposer: 0,
@@ -488,15 +440,16 @@ fn no_promise() -> FlatPromise
     }
 }
 
-fn encode_held(held: HeldPromise) -> FlatHeld
+#[tactic(auto, unfolding(crate::specs::Encode::encoded_held))]
+fn encode_held(held: Option<RoundV>) -> FlatHeld
     ensures { result ≡ encoded_held held }
 {
     match held {
-        HeldPromise::NothingHeld => FlatHeld {
+        None => FlatHeld {
             given: 0,
             promise: no_promise(),
         },
-        HeldPromise::Held(rv) => FlatHeld {
+        Some(rv) => FlatHeld {
             given: 1,
             promise: encode_promise(rv),
         },
@@ -506,28 +459,23 @@ fn encode_held(held: HeldPromise) -> FlatHeld
 pub fn encode_core(core: Core) -> FlatCore
     ensures { result ≡ encoded_core core }
 {
-    let last_v = core.last_v;
     let paxos = core.paxos;
-    let round = paxos.round;
-    let held = paxos.max_rv;
-    let tracker = core.tracker;
     FlatCore {
         slot: core.slot,
-        last_v: encode_value(last_v),
+        last_v: encode_option(core.last_v),
         slot_left_fast_path: encode_bool(core.slot_left_fast_path),
-        round: encode_round(round),
-        max_rv: encode_held(held),
+        round: encode_round(paxos.round),
+        max_rv: encode_held(paxos.max_rv),
         prepared_set: paxos.prepared_set,
         accepted_set: paxos.accepted_set,
-        next_id: tracker.next_id,
-        open_count: tracker.open_count,
+        next_id: core.tracker.next_id,
+        open_count: core.tracker.open_count,
     }
 }
 
 fn encode_fast(fast: FastState) -> FlatFast
     ensures { result ≡ encoded_fast fast }
 {
-    let answer = fast.swift_leader_answer;
     let fast_proposer_to_v = fast.fast_proposer_to_v;
     let epaxos_proposer_scores = fast.epaxos_proposer_scores;
     let swift_proposer_scores = fast.swift_proposer_scores;
@@ -535,7 +483,7 @@ fn encode_fast(fast: FastState) -> FlatFast
         fast_answer_set: fast.fast_answer_set,
         fast_preaccepted: fast.fast_preaccepted,
         fast_proposers: fast.fast_proposers,
-        swift_leader_answer: encode_value(answer),
+        swift_leader_answer: encode_option(fast.swift_leader_answer),
         fast_proposer_to_v,
         epaxos_proposer_scores,
         swift_proposer_scores,
@@ -545,11 +493,9 @@ fn encode_fast(fast: FastState) -> FlatFast
 pub fn encode_rounds(rounds: Rounds) -> FlatRounds
     ensures { result ≡ encoded_rounds rounds }
 {
-    let core = rounds.core;
-    let fast = rounds.fast;
     FlatRounds {
-        core: encode_core(core),
-        fast: encode_fast(fast),
+        core: encode_core(rounds.core),
+        fast: encode_fast(rounds.fast),
     }
 }
 
@@ -576,157 +522,91 @@ fn encode_served(read: ServedRead) -> FlatServedRead
     }
 }
 
-fn decode_reads(flat: [FlatOpenRead; 128]) -> [OpenRead; 128]
-    ensures { result ≡ map decoded_open flat }
+// Puts what `make` gives for each element of `from` into its place of `to`. By array::map, which proves too, a table of reads took twice as long.
+fn put_each<A: Copy, B: Copy, F: Fn(A) -> B>(from: &[A], to: &mut [B], make: F)
+    requires long { length to.old ≡ length from.now }
+    requires callable { F.IsAlwaysCallable make }
+    ensures long { length to.new ≡ length from.now }
+    ensures each { (i : ℕ) (d : A) (e : B) → i < length from.now → F.post make (slice_index_or from.now i d) (slice_index_or to.new i e) }
 {
-    let empty = OpenRead {
-        id: ReadId(0),
-        tag: 0,
-        arrival_slot: 0,
-        ready_count: 0,
-        local_ready: false,
-    };
-    let mut reads = [empty; 128];
-    let mut i: usize = 0;
-    while i < 128 {
-        let read = flat[i];
-        reads[i] = decode_open(read);
-        i += 1;
+    for i in 0..from.len() {
+        to[i] = make(from[i]);
     }
-    reads
-}
-
-fn decode_served_reads(flat: [FlatServedRead; 128]) -> [ServedRead; 128]
-    ensures { result ≡ map decoded_served flat }
-{
-    let none = ServedRead {
-        id: ReadId(0),
-        tag: 0,
-        waited_for: 0,
-        fast: false,
-    };
-    let mut reads = [none; 128];
-    let mut i: usize = 0;
-    while i < 128 {
-        let read = flat[i];
-        reads[i] = decode_served(read);
-        i += 1;
-    }
-    reads
-}
-
-fn encode_reads(reads: [OpenRead; 128]) -> [FlatOpenRead; 128]
-    ensures { result ≡ map encoded_open reads }
-{
-    let empty = FlatOpenRead {
-        id: 0,
-        tag: 0,
-        arrival_slot: 0,
-        ready_count: 0,
-        local_ready: 0,
-    };
-    let mut flat = [empty; 128];
-    let mut i: usize = 0;
-    while i < 128 {
-        let read = reads[i];
-        flat[i] = encode_open(read);
-        i += 1;
-    }
-    flat
-}
-
-fn encode_served_reads(reads: [ServedRead; 128]) -> [FlatServedRead; 128]
-    ensures { result ≡ map encoded_served reads }
-{
-    let none = FlatServedRead {
-        id: 0,
-        tag: 0,
-        waited_for: 0,
-        fast: 0,
-    };
-    let mut flat = [none; 128];
-    let mut i: usize = 0;
-    while i < 128 {
-        let read = reads[i];
-        flat[i] = encode_served(read);
-        i += 1;
-    }
-    flat
 }
 
 pub fn decode_table(f: FlatTable) -> ReadTable
     ensures { result ≡ decoded_table f }
 {
-    let reads = f.reads;
-    let served = f.served;
-    ReadTable {
-        reads: decode_reads(reads),
-        served: decode_served_reads(served),
-    }
+    let mut table = ReadTable::new();
+    put_each(&f.reads, &mut table.reads, decode_open);
+    put_each(&f.served, &mut table.served, decode_served);
+    table
 }
 
 pub fn encode_table(table: ReadTable) -> FlatTable
     ensures { result ≡ encoded_table table }
 {
-    let reads = table.reads;
-    let served = table.served;
-    FlatTable {
-        reads: encode_reads(reads),
-        served: encode_served_reads(served),
-    }
+    let mut f = FlatTable {
+        reads: [FlatOpenRead {
+            id: 0,
+            tag: 0,
+            arrival_slot: 0,
+            ready_count: 0,
+            local_ready: 0,
+        }; 128],
+        served: [FlatServedRead {
+            id: 0,
+            tag: 0,
+            waited_for: 0,
+            fast: 0,
+        }; 128],
+    };
+    put_each(&table.reads, &mut f.reads, encode_open);
+    put_each(&table.served, &mut f.served, encode_served);
+    f
 }
 
 // A message of a kind that there is not is read as a ReadRequest, which `decode_source` makes the engine refuse.
+#[tactic(auto, unfolding(crate::specs::Decode::decoded_msg))]
 pub fn decode_msg(f: FlatMessage) -> ConsensusMsg
     ensures { result ≡ decoded_msg f }
 {
-    let rv = f.rv;
     let round = PaxosRound {
         round_group: f.round_group,
         leader: f.leader,
     };
-    if f.kind == 1 {
-        return ConsensusMsg::Prepare {
+    match f.kind {
+        1 => ConsensusMsg::Prepare {
             slot: f.slot,
             round,
-            rv: decode_promise(rv),
-        };
-    }
-    if f.kind == 2 {
-        return ConsensusMsg::Accept {
+            rv: decode_promise(f.rv),
+        },
+        2 => ConsensusMsg::Accept {
             slot: f.slot,
             round,
             v: f.v,
-        };
-    }
-    if f.kind == 3 {
-        return ConsensusMsg::ForwardRequest { v: f.v };
-    }
-    if f.kind == 4 {
-        return ConsensusMsg::Commit {
+        },
+        3 => ConsensusMsg::ForwardRequest { v: f.v },
+        4 => ConsensusMsg::Commit {
             slot: f.slot,
             v: f.v,
-        };
-    }
-    if f.kind == 6 {
-        return ConsensusMsg::ReadResponse {
+        },
+        6 => ConsensusMsg::ReadResponse {
             id: ReadId(f.id),
             next_readable_slot: f.next_readable_slot,
-        };
+        },
+        _ => ConsensusMsg::ReadRequest { id: ReadId(f.id) },
     }
-    ConsensusMsg::ReadRequest { id: ReadId(f.id) }
 }
 
 fn is_known(kind: u64) -> bool
     ensures { result ≡ is_known kind }
 {
-    if kind >= 1 {
-        return kind <= 6;
-    }
-    false
+    1 <= kind && kind <= 6
 }
 
 // The source of a message. One of a kind that there is not counts as the member's own: a ReadRequest of its own is refused with 8, after 2 and 3.
+#[tactic(auto, unfolding(crate::specs::Decode::decoded_source))]
 pub fn decode_source(process_count: u64, own: u64, f: FlatMessage) -> u64
     ensures { result ≡ decoded_source process_count own f }
 {
@@ -742,45 +622,40 @@ pub fn decode_source(process_count: u64, own: u64, f: FlatMessage) -> u64
 fn decode_message(process_count: u64, own: u64, f: FlatMessage) -> ConsensusMessage
     ensures { result ≡ decoded_message process_count own f }
 {
-    let last_v = f.last_v;
     ConsensusMessage {
         msg: decode_msg(f),
         src: decode_source(process_count, own, f),
-        last_v: decode_value(last_v),
+        last_v: decode_option(f.last_v),
     }
 }
 
 pub fn decode_delivery(process_count: u64, own: u64, f: FlatCall) -> Delivery
     ensures { result ≡ decoded_delivery process_count own f }
 {
-    let message = f.message;
-    let requester = f.requester;
-    let held_requester = f.held_requester;
     let said = Said {
         value_held: is_yes(f.value_held),
-        requester: decode_process(requester),
+        requester: decode_option(f.requester),
         fast: is_yes(f.fast),
     };
     Delivery {
-        message: decode_message(process_count, own, message),
+        message: decode_message(process_count, own, f.message),
         said,
-        held_requester: decode_process(held_requester),
+        held_requester: decode_option(f.held_requester),
     }
 }
 
+#[tactic(auto, unfolding(crate::specs::Decode::decoded_call))]
 pub fn decode_call(process_count: u64, own: u64, f: FlatCall) -> Call
     ensures { result ≡ decoded_call process_count own f }
 {
-    if f.kind == 0 {
-        return Call::Propose(f.v);
-    }
-    if f.kind == 1 {
-        return Call::StartRead {
+    match f.kind {
+        0 => Call::Propose(f.v),
+        1 => Call::StartRead {
             tag: f.v,
             arrival_slot: f.arrival_slot,
-        };
+        },
+        _ => Call::Receive(decode_delivery(process_count, own, f)),
     }
-    Call::Receive(decode_delivery(process_count, own, f))
 }
 
 fn no_message() -> FlatMessage
@@ -801,116 +676,109 @@ fn no_message() -> FlatMessage
 }
 
 // The message's own fields, in one without source and last value.
+#[tactic(auto, unfolding(crate::specs::Encode::encoded_msg))]
 fn encode_msg(msg: ConsensusMsg) -> FlatMessage
     ensures { result ≡ encoded_msg msg }
 {
-    let mut f = no_message();
+    let none = no_message();
     match msg {
-        ConsensusMsg::Prepare { slot, round, rv } => {
-            let promise = encode_promise(rv);
-            f.kind = 1;
-            f.slot = slot;
-            f.round_group = round.round_group;
-            f.leader = round.leader;
-            f.rv = promise;
-            f
-        }
-        ConsensusMsg::Accept { slot, round, v } => {
-            f.kind = 2;
-            f.slot = slot;
-            f.round_group = round.round_group;
-            f.leader = round.leader;
-            f.v = v;
-            f
-        }
-        ConsensusMsg::ForwardRequest { v } => {
-            f.kind = 3;
-            f.v = v;
-            f
-        }
-        ConsensusMsg::Commit { slot, v } => {
-            f.kind = 4;
-            f.slot = slot;
-            f.v = v;
-            f
-        }
-        ConsensusMsg::ReadRequest { id } => {
-            f.kind = 5;
-            f.id = id.0;
-            f
-        }
+        ConsensusMsg::Prepare { slot, round, rv } => FlatMessage {
+            kind: 1,
+            slot,
+            round_group: round.round_group,
+            leader: round.leader,
+            rv: encode_promise(rv),
+            ..none
+        },
+        ConsensusMsg::Accept { slot, round, v } => FlatMessage {
+            kind: 2,
+            slot,
+            round_group: round.round_group,
+            leader: round.leader,
+            v,
+            ..none
+        },
+        ConsensusMsg::ForwardRequest { v } => FlatMessage { kind: 3, v, ..none },
+        ConsensusMsg::Commit { slot, v } => FlatMessage {
+            kind: 4,
+            slot,
+            v,
+            ..none
+        },
+        ConsensusMsg::ReadRequest { id } => FlatMessage {
+            kind: 5,
+            id: id.0,
+            ..none
+        },
         ConsensusMsg::ReadResponse {
             id,
             next_readable_slot,
-        } => {
-            f.kind = 6;
-            f.id = id.0;
-            f.next_readable_slot = next_readable_slot;
-            f
-        }
+        } => FlatMessage {
+            kind: 6,
+            id: id.0,
+            next_readable_slot,
+            ..none
+        },
     }
 }
 
 fn encode_message(message: ConsensusMessage) -> FlatMessage
     ensures { result ≡ encoded_message message }
 {
-    let msg = message.msg;
-    let value = message.last_v;
-    let last_v = encode_value(value);
-    let mut f = encode_msg(msg);
-    f.src = message.src;
-    f.last_v = last_v;
-    f
+    FlatMessage {
+        src: message.src,
+        last_v: encode_option(message.last_v),
+        ..encode_msg(message.msg)
+    }
 }
 
+#[tactic(auto, unfolding(crate::specs::Encode::encoded_to))]
 fn encode_to(destination: Destination, message: FlatMessage) -> FlatOutgoing
     ensures { result ≡ encoded_to destination message }
 {
     match destination {
         Destination::One(p) => FlatOutgoing {
-            kind: 1,
+            kind: TO_ONE,
             to: p,
             first: FlatOption { given: 0, n: 0 },
             message,
         },
         Destination::All(first) => FlatOutgoing {
-            kind: 2,
+            kind: TO_ALL,
             to: 0,
-            first: encode_process(first),
+            first: encode_option(first),
             message,
         },
     }
 }
 
-pub fn encode_outgoing(message: OptionalMessage) -> FlatOutgoing
+#[tactic(auto, unfolding(crate::specs::Encode::encoded_outgoing))]
+pub fn encode_outgoing(message: Option<Outgoing>) -> FlatOutgoing
     ensures { result ≡ encoded_outgoing message }
 {
     match message {
-        OptionalMessage::NoMessage => FlatOutgoing {
+        None => FlatOutgoing {
             kind: 0,
             to: 0,
             first: FlatOption { given: 0, n: 0 },
             message: no_message(),
         },
-        OptionalMessage::Send(outgoing) => {
-            let destination = outgoing.destination;
-            let sent = outgoing.message;
-            encode_to(destination, encode_message(sent))
-        }
+        Some(outgoing) => encode_to(outgoing.destination, encode_message(outgoing.message)),
     }
 }
 
-pub fn encode_commit(commit: OptionalCommit) -> FlatCommit
+#[tactic(auto, unfolding(crate::specs::Encode::encoded_commit))]
+pub fn encode_commit(commit: Option<CommittedSlot>) -> FlatCommit
     ensures { result ≡ encoded_commit commit }
 {
     match commit {
-        OptionalCommit::NoCommit => FlatCommit {
+        None => FlatCommit {
             given: 0,
             slot: 0,
             v: 0,
             fast: 0,
         },
-        OptionalCommit::Committed { slot, v, fast } => FlatCommit {
+        Some(CommittedSlot { slot, v, fast }) => FlatCommit {
             given: 1,
             slot,
             v,
@@ -922,18 +790,13 @@ pub fn encode_commit(commit: OptionalCommit) -> FlatCommit
 pub fn encode_reply(reply: Reply) -> FlatReply
     ensures { result ≡ encoded_reply reply }
 {
-    let outcome = reply.outcome;
     let messages = reply.messages;
-    let first = messages.first;
-    let second = messages.second;
-    let third = messages.third;
-    let commit = reply.commit;
     FlatReply {
-        outcome: encode_outcome(outcome),
-        first: encode_outgoing(first),
-        second: encode_outgoing(second),
-        third: encode_outgoing(third),
-        commit: encode_commit(commit),
+        outcome: encode_outcome(reply.outcome),
+        first: encode_outgoing(messages.first),
+        second: encode_outgoing(messages.second),
+        third: encode_outgoing(messages.third),
+        commit: encode_commit(reply.commit),
         served_count: reply.served_count,
     }
 }

@@ -1,5 +1,7 @@
 -- A message that is plain fits: its numbers, and its processes.
 -- Assumes nothing.
+use Rattle.std.specs.Prelude.{Option}
+use Rattle.message.specs.declared.PaxosRound.{PaxosRound}
 use mathlib.Core.Bool.{true, ◌&&◌}
 use mathlib.Core.Path.{◌≡◌, refl}
 use Prim.Native.Nat.{ℕ}
@@ -9,14 +11,11 @@ use lib.Bits.{bit_or, or_add_and, and_le_l, and_le_r}
 use lib.Dec.{eqb, leb, ltb}
 use Rattle.basics.proofs.Tests.{and_left, and_right, and_both, of-both}
 use Rattle.delivery.specs.Limits.{numbers_fit, processes_fit}
-use Rattle.limits.specs.Limits.{is_number, is_slot, round_numbers, rv_numbers, msg_numbers, value_numbers, process_numbers, rv_processes, msg_processes, requester_below}
+use Rattle.limits.specs.Limits.{is_number, is_slot, round_numbers, rv_numbers, msg_numbers, number_given, rv_processes, msg_processes, requester_below}
 use Rattle.message.specs.declared.ConsensusMsg.{ConsensusMsg}
-use Rattle.message.specs.declared.OptionalProcess.{OptionalProcess}
-use Rattle.message.specs.declared.OptionalRound.{OptionalRound}
-use Rattle.message.specs.declared.OptionalValue.{OptionalValue}
 use Rattle.message.specs.declared.RoundV.{RoundV}
 use Rattle.message.specs.declared.RoundV.TheVariants.{PaxosV}
-use Rattle.flat.specs.Decode.{decoded_delivery, decoded_msg, decoded_process, decoded_promise, decoded_round, decoded_source, decoded_value}
+use Rattle.flat.specs.Decode.{decoded_delivery, decoded_msg, decoded_option, decoded_promise, decoded_round, decoded_source}
 use Rattle.flat.specs.declared.FlatCall.{FlatCall}
 use Rattle.flat.specs.declared.FlatOption.{FlatOption}
 use Rattle.flat.specs.declared.FlatPromise.{FlatPromise}
@@ -32,17 +31,17 @@ right_small a b e = le-leb b 9223372036854775807 (omega (arith, leb-true (bit_or
 
 -- ---- what is given or not
 
-value_fits : (o : FlatOption) → is_number o.n ≡ true → value_numbers (decoded_value o) ≡ true
-unfolding value_numbers decoded_value
-value_fits o e = of-both (λ (x : OptionalValue). value_numbers x ≡ true) (eqb o.given 0) refl e
+value_fits : (o : FlatOption) → is_number o.n ≡ true → number_given (decoded_option o) ≡ true
+unfolding number_given decoded_option
+value_fits o e = of-both (λ (x : Option ℕ). number_given x ≡ true) (eqb o.given 0) refl e
 
-process_fits : (o : FlatOption) → is_number o.n ≡ true → process_numbers (decoded_process o) ≡ true
-unfolding process_numbers decoded_process
-process_fits o e = of-both (λ (x : OptionalProcess). process_numbers x ≡ true) (eqb o.given 0) refl e
+process_fits : (o : FlatOption) → is_number o.n ≡ true → number_given (decoded_option o) ≡ true
+unfolding number_given decoded_option
+process_fits o e = of-both (λ (x : Option ℕ). number_given x ≡ true) (eqb o.given 0) refl e
 
-process_below : (n : ℕ) (o : FlatOption) → ltb o.n n ≡ true → requester_below n (decoded_process o) ≡ true
-unfolding requester_below decoded_process
-process_below n o e = of-both (λ (x : OptionalProcess). requester_below n x ≡ true) (eqb o.given 0) refl e
+process_below : (n : ℕ) (o : FlatOption) → ltb o.n n ≡ true → requester_below n (decoded_option o) ≡ true
+unfolding requester_below decoded_option
+process_below n o e = of-both (λ (x : Option ℕ). requester_below n x ≡ true) (eqb o.given 0) refl e
 
 promise_fits_lem : (p : FlatPromise) → is_number p.proposer ≡ true → is_number p.accept_round.round_group ≡ true → is_number p.accept_round.leader ≡ true
     → is_number p.v ≡ true
@@ -50,14 +49,14 @@ promise_fits_lem : (p : FlatPromise) → is_number p.proposer ≡ true → is_nu
 unfolding rv_numbers round_numbers decoded_promise decoded_round
 promise_fits_lem p proposer group leader v =
     of-both (λ (x : RoundV). rv_numbers x ≡ true) (eqb p.fast 0)
-    (of-both (λ (x : OptionalRound). rv_numbers (PaxosV x p.v) ≡ true) (eqb p.accept_round.given 0) v (and_both (and_both group leader) v))
+    (of-both (λ (x : Option PaxosRound). rv_numbers (PaxosV x p.v) ≡ true) (eqb p.accept_round.given 0) v (and_both (and_both group leader) v))
     (and_both proposer v)
 
 promise_below : (n : ℕ) (p : FlatPromise) → ltb p.proposer n ≡ true → ltb p.accept_round.leader n ≡ true → rv_processes n (decoded_promise p) ≡ true
 unfolding rv_processes decoded_promise decoded_round
 promise_below n p proposer leader =
     of-both (λ (x : RoundV). rv_processes n x ≡ true) (eqb p.fast 0)
-    (of-both (λ (x : OptionalRound). rv_processes n (PaxosV x p.v) ≡ true) (eqb p.accept_round.given 0) refl leader)
+    (of-both (λ (x : Option PaxosRound). rv_processes n (PaxosV x p.v) ≡ true) (eqb p.accept_round.given 0) refl leader)
     proposer
 
 -- ---- the message

@@ -1,5 +1,7 @@
 -- The number of a refusal, from what is asked one after the other, and from the flat forms that are read.
 -- Assumes nothing.
+use Rattle.std.specs.Prelude.{Err}
+use Rattle.message.specs.Outcomes.{Outcome}
 use mathlib.Core.Bool.{Bool, true, false, cond}
 use mathlib.Core.Path.{◌≡◌, sym, ap, ap₂, ◌∙◌}
 use Prim.Native.Nat.{ℕ}
@@ -10,20 +12,16 @@ use Rattle.calls.specs.Decision.{unless_spent, admission_of}
 use Rattle.delivery.specs.Admit.{admit, ready}
 use Rattle.delivery.specs.Limits.{numbers_fit, processes_fit}
 use Rattle.delivery.specs.declared.Delivery.{Delivery}
-use Rattle.message.specs.declared.ConsensusMsg.TheVariants.{Accept}
-use Rattle.message.specs.declared.Outcome.{Outcome}
-use Rattle.message.specs.declared.Outcome.TheVariants.{Refused}
 use Rattle.message.specs.declared.Refusal.TheVariants.{NumberTooLarge, NoSuchProcess}
 use Rattle.steps.specs.declared.Core.{Core}
 use Rattle.flat.specs.Encode.{encoded_outcome}
-use Rattle.flat.specs.Decode.{decoded_call, decoded_core, decoded_delivery, decoded_made, decoded_msg}
+use Rattle.flat.specs.Decode.{decoded_call, decoded_core, decoded_delivery, decoded_made}
 use Rattle.flat.specs.declared.FlatCall.{FlatCall}
 use Rattle.flat.specs.declared.FlatCore.{FlatCore}
-use Rattle.flat.specs.declared.FlatMessage.{FlatMessage}
 use Rattle.flat_calls.specs.Refusals.{unfit, refusal_of}
 
 abbrev admitted : Bool → Bool → Outcome → Outcome
-admitted numbers processes x = cond numbers (cond processes x (Refused NoSuchProcess)) (Refused NumberTooLarge)
+admitted numbers processes x = cond numbers (cond processes x (Err NoSuchProcess)) (Err NumberTooLarge)
 
 refused_by_lem : (numbers processes : Bool) (x : Outcome) {k : ℕ} → k ≡ unfit numbers processes → eqb k 0 ≡ false → k ≡ encoded_outcome (admitted numbers processes x)
 unfolding encoded_outcome
@@ -72,8 +70,3 @@ shard_call f {r} {s} {s'} {c} {c'} p q mode made spent e = e ∙ by_tests ∙ ap
 
     by_tests : encoded_outcome (admission_of s.process_count s.my_pid (decoded_core c') (decoded_call s.process_count s.my_pid f)) ≡ refusal_of s c' f
     by_tests = simp (mode, made, left)
-
-pub accept_is : (m : FlatMessage) → eqb m.kind 1 ≡ false → eqb m.kind 2 ≡ true
-    → decoded_msg m ≡ Accept m.slot (record { round_group = m.round_group; leader = m.leader }) m.v
-unfolding decoded_msg
-accept_is m k1 k2 = simp (k1, k2)

@@ -15,7 +15,7 @@ ghost use Rattle.flat_calls.specs.Refusals.{is_small, is_below, is_plain, unfit,
 
 use arrays::Setup;
 use flat::{FlatCall, FlatCore, FlatMessage};
-use message::{OptionalSlot, PaxosRound};
+use message::PaxosRound;
 use round_state::Member;
 use steps::{Asked, Heard};
 
@@ -41,46 +41,25 @@ fn is_small(f: FlatCall) -> bool
 }
 
 // Whether every number that can be a process is below the count, whatever the kind.
+#[tactic(auto, unfolding(crate::specs::Refusals::is_below))]
 fn is_below(n: u64, f: FlatCall) -> bool
     ensures { result ≡ is_below n f }
 {
     let m = f.message;
-    let rv = m.rv;
-    let at = rv.accept_round;
-    let requester = f.requester;
-    let held = f.held_requester;
-    if m.src < n {
-        if m.leader < n {
-            if rv.proposer < n {
-                if at.leader < n {
-                    if requester.n < n {
-                        return held.n < n;
-                    }
-                    return false;
-                }
-                return false;
-            }
-            return false;
-        }
-        return false;
-    }
-    false
+    m.src < n
+        && m.leader < n
+        && m.rv.proposer < n
+        && m.rv.accept_round.leader < n
+        && f.requester.n < n
+        && f.held_requester.n < n
 }
 
 // A message of a kind that there is, whose numbers and processes fit at sight.
+#[tactic(auto, unfolding(crate::specs::Refusals::is_plain))]
 fn is_plain(n: u64, f: FlatCall) -> bool
     ensures { result ≡ is_plain n f }
 {
-    if f.message.kind >= 1 {
-        if f.message.kind <= 6 {
-            if is_small(f) {
-                return is_below(n, f);
-            }
-            return false;
-        }
-        return false;
-    }
-    false
+    1 <= f.message.kind && f.message.kind <= 6 && is_small(f) && is_below(n, f)
 }
 
 // Each question reads the call for itself, so that what it does not ask is not read.
@@ -120,46 +99,26 @@ fn unfit(process_count: u64, own: u64, call: &[u64; 25]) -> u64
     2
 }
 
-fn slot_in(m: FlatMessage) -> OptionalSlot
+#[tactic(auto, unfolding(flat::specs::Decode::decoded_msg))]
+fn slot_in(m: FlatMessage) -> Option<u64>
     ensures { result ≡ msg_slot (decoded_msg m) }
 {
-    if m.kind == 1 {
-        return OptionalSlot::Slot(m.slot);
+    match m.kind {
+        1 | 2 | 4 => Some(m.slot),
+        6 => Some(m.next_readable_slot),
+        _ => None,
     }
-    if m.kind == 2 {
-        return OptionalSlot::Slot(m.slot);
-    }
-    if m.kind == 3 {
-        return OptionalSlot::NoSlot;
-    }
-    if m.kind == 4 {
-        return OptionalSlot::Slot(m.slot);
-    }
-    if m.kind == 6 {
-        return OptionalSlot::Slot(m.next_readable_slot);
-    }
-    OptionalSlot::NoSlot
 }
 
+#[tactic(auto, unfolding(flat::specs::Decode::decoded_msg))]
 fn needs_value(own: u64, m: FlatMessage) -> bool
     ensures { result ≡ needs_value own (decoded_msg m) }
 {
-    if m.kind == 1 {
-        return m.leader == own;
+    match m.kind {
+        1 | 2 => m.leader == own,
+        4 => true,
+        _ => false,
     }
-    if m.kind == 2 {
-        return m.leader == own;
-    }
-    if m.kind == 3 {
-        return false;
-    }
-    if m.kind == 4 {
-        return true;
-    }
-    if m.kind == 6 {
-        return false;
-    }
-    false
 }
 
 // Refusals 5, and 4 before 6. Of another slot than the own one neither 4 nor 6 is asked. The process count is there for the contract alone.
@@ -174,7 +133,7 @@ fn ready(process_count: u64, own: u64, core: FlatCore, f: FlatCall) -> u64
         return 5;
     }
     if delivery::is_own_slot(at, slot) {
-        if delivery::is_other_last(at, flat::decode_value(last_v)) {
+        if delivery::is_other_last(at, flat::decode_option(last_v)) {
             return 4;
         }
         if needs_value(own, message) {
@@ -268,7 +227,7 @@ pub fn asked_of(setup: Setup) -> Asked
         mode,
         starting_round: PaxosRound::starting(mode, setup.first_leader),
         first_leader: setup.first_leader,
-        quorum: flat::decode_set(quorum),
+        quorum: flat::decode_option(quorum),
     }
 }
 
@@ -280,7 +239,7 @@ pub fn heard_of(setup: Setup, committers: &[u64; 64], delegates: &[u64; 64], f: 
     let named = f.requester;
     let held_named = f.held_requester;
     let src = flat::decode_source(setup.process_count, setup.my_pid, message);
-    let requester = flat::decode_process(named);
+    let requester = flat::decode_option(named);
     let mode = flat::decode_mode(setup.mode);
     let gathers = calls::gatherer_in(setup.my_pid, mode, delegates, flat::decode_msg(message));
     let given = flat::is_yes(setup.has_committers);
@@ -291,6 +250,6 @@ pub fn heard_of(setup: Setup, committers: &[u64; 64], delegates: &[u64; 64], f: 
         delegate: gathers,
         requester,
         committer: commits,
-        held_requester: flat::decode_process(held_named),
+        held_requester: flat::decode_option(held_named),
     }
 }

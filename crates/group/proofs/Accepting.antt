@@ -1,5 +1,7 @@
 -- Handling an Accept, in the classic modes and in EPaxos, is the model's `on_accept`.
 -- Assumes nothing.
+use Rattle.std.specs.Prelude.{Option, None, Some}
+use Rattle.message.specs.declared.RoundV.{RoundV}
 use mathlib.Core.Path.{◌≡◌, refl, sym, ap, ap₂, subst, ◌∙◌}
 use mathlib.Core.Logic.{◌⊎◌, inl, inr}
 use mathlib.Core.Bool.{Bool, true, false, cond, not, ◌&&◌, ◌||◌}
@@ -7,21 +9,15 @@ use mathlib.Core.List.{List, [], ◌∷◌, ◌++◌}
 use Prim.Native.Nat.{ℕ, suc, pred, ◌≤◌, ◌<◌}
 use native.Mathlib.Nat.{zero-lt-suc}
 use lib.Dec.{eqb, ltb, leb, eqb-zero-suc, eqb-suc-suc, eqb-suc-zero}
-use borrow.Author.Tests.{lt-ltb, eq-eqb, eqb-true}
-use Rattle.basics.proofs.Tests.{either, same_test}
+use borrow.Author.Tests.{lt-ltb}
+use Rattle.basics.proofs.Tests.{either}
 use Rattle.sets.specs.Sets.{contains, count, size}
 use Rattle.message.specs.Modes.{is_swift_paxos}
 use Rattle.message.specs.Promises.{is_process}
-use Rattle.message.specs.declared.OptionalProcess.{OptionalProcess}
-use Rattle.message.specs.declared.OptionalProcess.TheVariants.{NoProcess, Process}
-use Rattle.message.specs.declared.OptionalRound.{OptionalRound}
-use Rattle.message.specs.declared.OptionalRound.TheVariants.{Round}
 use Rattle.message.specs.declared.PaxosRound.{PaxosRound}
 use Rattle.message.specs.declared.Refusal.TheVariants.{Panic, AcceptUnlikeHeld}
 use Rattle.message.specs.declared.RoundV.TheVariants.{FastV, PaxosV}
 use Rattle.round_state.specs.Paxos.{get_last_accepted_round, paxos_can_commit, accept_fits, after_accept, receive_accept}
-use Rattle.round_state.specs.declared.HeldPromise.{HeldPromise}
-use Rattle.round_state.specs.declared.HeldPromise.TheVariants.{NothingHeld, Held}
 use Rattle.settings.specs.Questions.{quorums_of, delegate_of, committer_of, committer_in}
 use Rattle.settings.specs.declared.Settings.{Settings}
 use Rattle.accept.specs.Accept.{tells_committer, is_committer, accept_to, committer_hears, answer_accept, commit_message, tells_commit, commit_messages, try_commit, answered, follower, accepted, accepting}
@@ -34,6 +30,7 @@ use Rattle.steps.specs.declared.Messages.{Messages}
 use Rattle.steps.specs.declared.Next.{Next}
 use Rattle.steps.specs.declared.Next.TheVariants.{Stays, Continues, Commits, Refuses}
 use Rattle.steps.specs.declared.Outgoing.{Outgoing}
+use Rattle.consensus.proofs.Handled.{eqb_sym}
 use Rattle.agreement.specs.Model.{View, Answers, Outcome, Host, accepted_by, voted, refuse, say}
 use Rattle.agreement.specs.Model as model
 use Rattle.agreement.specs.Refinement.{meanings}
@@ -44,14 +41,14 @@ use Rattle.group.proofs.Preparing.{asked_by, follows_both}
 
 -- ---- whether an accept fits
 
-fits_number : (held : HeldPromise) (round : PaxosRound) (v : ℕ) → LeaderFits (get_last_accepted_round held) → round.leader < 64
+fits_number : (held : Option RoundV) (round : PaxosRound) (v : ℕ) → LeaderFits (get_last_accepted_round held) → round.leader < 64
     → accept_fits held round v
-    ≡ (ltb (round_number (get_last_accepted_round held)) (round_number (Round round)) || (eqb (round_number (get_last_accepted_round held)) (round_number (Round round)) && eqb (held_v held) v))
+    ≡ (ltb (round_number (get_last_accepted_round held)) (round_number (Some round)) || (eqb (round_number (get_last_accepted_round held)) (round_number (Some round)) && eqb (held_v held) v))
 unfolding accept_fits
-fits_number NothingHeld round v ok l = sym (ap (λ (t : Bool). t || (eqb 0 (round_number (Round round)) && eqb 0 v)) (lt-ltb 0 (round_number (Round round)) (zero-lt-suc _)))
-fits_number (Held (FastV p w)) round v ok l = sym (ap (λ (t : Bool). t || (eqb 0 (round_number (Round round)) && eqb w v)) (lt-ltb 0 (round_number (Round round)) (zero-lt-suc _)))
-fits_number (Held (PaxosV at w)) round v ok l =
-    ap₂ (λ (a b : Bool). a || (b && eqb w v)) (before_number at (Round round) ok l) (equal_number at (Round round) ok l)
+fits_number None round v ok l = sym (ap (λ (t : Bool). t || (eqb 0 (round_number (Some round)) && eqb 0 v)) (lt-ltb 0 (round_number (Some round)) (zero-lt-suc _)))
+fits_number (Some (FastV p w)) round v ok l = sym (ap (λ (t : Bool). t || (eqb 0 (round_number (Some round)) && eqb w v)) (lt-ltb 0 (round_number (Some round)) (zero-lt-suc _)))
+fits_number (Some (PaxosV at w)) round v ok l =
+    ap₂ (λ (a b : Bool). a || (b && eqb w v)) (before_number at (Some round) ok l) (equal_number at (Some round) ok l)
 
 -- ---- one message more
 
@@ -71,21 +68,18 @@ two_appends a b = record { behind = λ m. refl }
 
 -- ---- committers as numbers
 
-is_committer_number : (t : Bool) (p : OptionalProcess) (i : ℕ) → (t && is_process p i) ≡ eqb (cond t (process_number p) 0) (suc i)
+is_committer_number : (t : Bool) (p : Option ℕ) (i : ℕ) → (t && is_process p i) ≡ eqb (cond t (process_number p) 0) (suc i)
 is_committer_number false p i = sym (eqb-zero-suc i)
-is_committer_number true NoProcess i = sym (eqb-zero-suc i)
-is_committer_number true (Process q) i = sym (eqb-suc-suc q i)
+is_committer_number true None i = sym (eqb-zero-suc i)
+is_committer_number true (Some q) i = sym (eqb-suc-suc q i)
 
-is_process_number : (p : OptionalProcess) (i : ℕ) → is_process p i ≡ eqb (process_number p) (suc i)
-is_process_number NoProcess i = sym (eqb-zero-suc i)
-is_process_number (Process q) i = sym (eqb-suc-suc q i)
+is_process_number : (p : Option ℕ) (i : ℕ) → is_process p i ≡ eqb (process_number p) (suc i)
+is_process_number None i = sym (eqb-zero-suc i)
+is_process_number (Some q) i = sym (eqb-suc-suc q i)
 
-pub committer_same : (s : Settings) (i : ℕ) (p : OptionalProcess) → committer_of (member_settings s i) p ≡ committer_of s p
+pub committer_same : (s : Settings) (i : ℕ) (p : Option ℕ) → committer_of (member_settings s i) p ≡ committer_of s p
 unfolding committer_in
 committer_same s i p = refl
-
-eqb_swap : (a b : ℕ) → eqb b a ≡ eqb a b
-eqb_swap a b = same_test (λ e. eq-eqb a b (sym (eqb-true b a e))) (λ e. eq-eqb b a (sym (eqb-true a b e)))
 
 module _ (ans : Answers) (s : Settings) (i : ℕ) (no-swift : is_swift_paxos s.mode ≡ false) (alive : contains s.alive_replicas i ≡ true) (small : i < 64) (h : Heard) (src-small : h.src < 64) (by-requester : h.committer ≡ committer_of s h.requester) (round : PaxosRound) (below : round.leader < 64) where
   -- what the host says, as the model's host
@@ -97,14 +91,14 @@ module _ (ans : Answers) (s : Settings) (i : ℕ) (no-swift : is_swift_paxos s.m
   third = cond (tells_committer s.mode) ((setup_of s).committer host.requester) 0
 
   third_number : third ≡ cond (tells_committer s.mode) (process_number h.committer) 0
-  third_number = ap (λ (p : OptionalProcess). cond (tells_committer s.mode) (process_number p) 0) (ap (committer_of s) (process_of_lem h.requester) ∙ sym by-requester)
+  third_number = ap (λ (p : Option ℕ). cond (tells_committer s.mode) (process_number p) 0) (ap (committer_of s) (process_of_lem h.requester) ∙ sym by-requester)
 
   committer_number : is_committer (asked_by s i) h ≡ eqb third (suc i)
   unfolding is_committer
   committer_number = is_committer_number (tells_committer s.mode) h.committer i ∙ ap (λ (c : ℕ). eqb c (suc i)) (sym third_number)
 
-  leader_number_lem : (core : Core) → core.paxos.round ≡ Round round → leader_of (view_of ans core).round ≡ round.leader
-  leader_number_lem core at = ap (λ (r : OptionalRound). leader_of (round_number r)) at ∙ leader_of_lem round below
+  leader_number_lem : (core : Core) → core.paxos.round ≡ Some round → leader_of (view_of ans core).round ≡ round.leader
+  leader_number_lem core at = ap (λ (r : Option PaxosRound). leader_of (round_number r)) at ∙ leader_of_lem round below
 
   -- ---- the commit
 
@@ -190,23 +184,23 @@ module _ (ans : Answers) (s : Settings) (i : ℕ) (no-swift : is_swift_paxos s.m
   not_cond true x y = refl
   not_cond false x y = refl
 
-  answers_at_lem : (core : Core) (p : OptionalProcess)
+  answers_at_lem : (core : Core) (p : Option ℕ)
       → meanings meaning_of (envelopes (answer_accept (asked_by s i) round core p))
-      ≡ answers_at core (cond (tells_committer s.mode) (process_number p) 0) round.leader (round_number (Round round))
+      ≡ answers_at core (cond (tells_committer s.mode) (process_number p) 0) round.leader (round_number (Some round))
   unfolding answer_accept
-  answers_at_lem core NoProcess = go (tells_committer s.mode)
+  answers_at_lem core None = go (tells_committer s.mode)
     where
-      go : (t : Bool) → to_leader core round.leader (round_number (Round round)) ≡ answers_at core (cond t 0 0) round.leader (round_number (Round round))
+      go : (t : Bool) → to_leader core round.leader (round_number (Some round)) ≡ answers_at core (cond t 0 0) round.leader (round_number (Some round))
       go true = refl
       go false = refl
-  answers_at_lem core (Process p) = go (tells_committer s.mode) refl
+  answers_at_lem core (Some p) = go (tells_committer s.mode) refl
     where
       two : List model.Outgoing
-      two = record { destination = model.to p; message = model.accept core.slot (round_number (Round round)) (held_v core.paxos.max_rv) } ∷ to_leader core round.leader (round_number (Round round))
+      two = record { destination = model.to p; message = model.accept core.slot (round_number (Some round)) (held_v core.paxos.max_rv) } ∷ to_leader core round.leader (round_number (Some round))
 
       listed : (t : Bool)
           → meanings meaning_of (envelopes (cond t (two_messages (accept_to (asked_by s i) core round p) (accept_to (asked_by s i) core round round.leader)) (one_message (accept_to (asked_by s i) core round round.leader))))
-          ≡ cond t two (to_leader core round.leader (round_number (Round round)))
+          ≡ cond t two (to_leader core round.leader (round_number (Some round)))
       listed true = refl
       listed false = refl
 
@@ -215,50 +209,50 @@ module _ (ans : Answers) (s : Settings) (i : ℕ) (no-swift : is_swift_paxos s.m
 
       go : (t : Bool) → tells_committer s.mode ≡ t
           → meanings meaning_of (envelopes (cond (committer_hears (asked_by s i) round p) (two_messages (accept_to (asked_by s i) core round p) (accept_to (asked_by s i) core round round.leader)) (one_message (accept_to (asked_by s i) core round round.leader))))
-          ≡ answers_at core (cond (tells_committer s.mode) (suc p) 0) round.leader (round_number (Round round))
+          ≡ answers_at core (cond (tells_committer s.mode) (suc p) 0) round.leader (round_number (Some round))
       go true e =
-          listed (committer_hears (asked_by s i) round p) ∙ ap (λ (t : Bool). cond t two (to_leader core round.leader (round_number (Round round)))) (committer_hears_number p)
-          ∙ not_cond (told (cond (tells_committer s.mode) (suc p) 0)) (to_leader core round.leader (round_number (Round round))) two
+          listed (committer_hears (asked_by s i) round p) ∙ ap (λ (t : Bool). cond t two (to_leader core round.leader (round_number (Some round)))) (committer_hears_number p)
+          ∙ not_cond (told (cond (tells_committer s.mode) (suc p) 0)) (to_leader core round.leader (round_number (Some round))) two
           ∙ ap
           (λ (q : ℕ).
-          cond (told (cond (tells_committer s.mode) (suc p) 0)) (to_leader core round.leader (round_number (Round round)))
-          (record { destination = model.to q; message = model.accept core.slot (round_number (Round round)) (held_v core.paxos.max_rv) } ∷ to_leader core round.leader (round_number (Round round))))
+          cond (told (cond (tells_committer s.mode) (suc p) 0)) (to_leader core round.leader (round_number (Some round)))
+          (record { destination = model.to q; message = model.accept core.slot (round_number (Some round)) (held_v core.paxos.max_rv) } ∷ to_leader core round.leader (round_number (Some round))))
           (ap (λ (t : Bool). pred (cond t (suc p) 0)) (sym e))
       go false e =
-          listed (committer_hears (asked_by s i) round p) ∙ ap (λ (t : Bool). cond t two (to_leader core round.leader (round_number (Round round)))) (committer_hears_number p)
-          ∙ ap (λ (t : Bool). cond (not (told (cond t (suc p) 0))) two (to_leader core round.leader (round_number (Round round)))) e
-          ∙ ap (λ (t : Bool). answers_at core (cond t (suc p) 0) round.leader (round_number (Round round))) (sym e)
+          listed (committer_hears (asked_by s i) round p) ∙ ap (λ (t : Bool). cond t two (to_leader core round.leader (round_number (Some round)))) (committer_hears_number p)
+          ∙ ap (λ (t : Bool). cond (not (told (cond t (suc p) 0))) two (to_leader core round.leader (round_number (Some round)))) e
+          ∙ ap (λ (t : Bool). answers_at core (cond t (suc p) 0) round.leader (round_number (Some round))) (sym e)
 
-  answer_appends : (core : Core) (p : OptionalProcess) → Appends (answer_accept (asked_by s i) round core p)
+  answer_appends : (core : Core) (p : Option ℕ) → Appends (answer_accept (asked_by s i) round core p)
   unfolding answer_accept
-  answer_appends core NoProcess = one_appends (accept_to (asked_by s i) core round round.leader)
-  answer_appends core (Process p) = go (committer_hears (asked_by s i) round p)
+  answer_appends core None = one_appends (accept_to (asked_by s i) core round round.leader)
+  answer_appends core (Some p) = go (committer_hears (asked_by s i) round p)
     where
       go : (t : Bool)
           → Appends (cond t (two_messages (accept_to (asked_by s i) core round p) (accept_to (asked_by s i) core round round.leader)) (one_message (accept_to (asked_by s i) core round round.leader)))
       go true = two_appends (accept_to (asked_by s i) core round p) (accept_to (asked_by s i) core round round.leader)
       go false = one_appends (accept_to (asked_by s i) core round round.leader)
 
-  answers_model : (core : Core) → core.paxos.round ≡ Round round
+  answers_model : (core : Core) → core.paxos.round ≡ Some round
       → meanings meaning_of (envelopes (answer_accept (asked_by s i) round core h.committer)) ≡ model.replies (setup_of s) i third (view_of ans core)
   unfolding model.replies
   answers_model core at =
-      answers_at_lem core h.committer ∙ ap (λ (c : ℕ). answers_at core c round.leader (round_number (Round round))) (sym third_number)
+      answers_at_lem core h.committer ∙ ap (λ (c : ℕ). answers_at core c round.leader (round_number (Some round))) (sym third_number)
       ∙ ap₂ (answers_at core third) (sym (leader_number_lem core at)) (ap round_number (sym at))
 
   -- ---- the accept
 
   tells_leader : eqb i round.leader ≡ true → tells_commit (asked_by s i) h round ≡ true
   unfolding tells_commit
-  tells_leader e = simp (eqb_swap i round.leader ∙ e)
+  tells_leader e = simp (eqb_sym round.leader i ∙ e)
 
   tells_other : eqb i round.leader ≡ false → tells_commit (asked_by s i) h round ≡ not (eqb host.requester (suc i))
   unfolding tells_commit
-  tells_other e = simp (eqb_swap i round.leader ∙ e) (ap not (is_process_number h.requester i))
+  tells_other e = simp (eqb_sym round.leader i ∙ e) (ap not (is_process_number h.requester i))
 
   -- the accepted core: in the round, with the value held
   pub record Accepted (v : ℕ) (core : Core) : Type 0 where
-    pub at : core.paxos.round ≡ Round round
+    pub at : core.paxos.round ≡ Some round
     pub value : held_v core.paxos.max_rv ≡ v
 
   abbrev outcome_of : View → Core → Outcome
@@ -355,7 +349,7 @@ module _ (ans : Answers) (s : Settings) (i : ℕ) (no-swift : is_swift_paxos s.m
   unfolding accepting receive_accept
   accepting_unfit v core e = simp e
 
-  accepted_view_lem : (v : ℕ) (core : Core) → core.paxos.round ≡ Round round → view_of ans (accepted_core v core) ≡ accepted_by h.src (voted i v (view_of ans core))
+  accepted_view_lem : (v : ℕ) (core : Core) → core.paxos.round ≡ Some round → view_of ans (accepted_core v core) ≡ accepted_by h.src (voted i v (view_of ans core))
   accepted_view_lem v core at =
       ap₂
       (λ (r : ℕ) (f : ℕ → Bool).
@@ -376,7 +370,7 @@ module _ (ans : Answers) (s : Settings) (i : ℕ) (no-swift : is_swift_paxos s.m
   abbrev fits_model : ℕ → View → Bool
   fits_model v y = ltb y.held_round y.round || (eqb y.held_round y.round && eqb y.held_value v)
 
-  accepting_follows : h.delegate ≡ delegate_of s s.mode round.leader → (v : ℕ) (core : Core) → Leaders core → core.paxos.round ≡ Round round → (x0 : View)
+  accepting_follows : h.delegate ≡ delegate_of s s.mode round.leader → (v : ℕ) (core : Core) → Leaders core → core.paxos.round ≡ Some round → (x0 : View)
       → Follows (setup_of s) ans (accepting (asked_by s i) h round v core)
       (cond (fits_model v (view_of ans core)) (model.after_accept (setup_of s) i h.src host x0 (accepted_by h.src (voted i v (view_of ans core)))) (refuse x0))
   accepting_follows d v core ok at x0 = go (either (accept_fits core.paxos.max_rv round v))
@@ -415,7 +409,7 @@ module _ (ans : Answers) (s : Settings) (i : ℕ) (no-swift : is_swift_paxos s.m
     (rest : Core → X) (rest-follows : contains s.alive_replicas i ≡ true → (core : Core) (r : Outcome) → Follows (setup_of s) ans (accepting (asked_by s i) h round v core) r → Fits (rest core) r) where
   pub on_accept_follows : (core : Core) → Leaders core → slot ≤ core.slot
       → Fits (then_in lift (enter (asked_by s i) h slot round core) rest)
-      (model.on_accept (setup_of s) i (view_of ans core) h.src slot (round_number (Round round)) v (record { allows = true; requester = process_number h.requester; adoptee = 0 }))
+      (model.on_accept (setup_of s) i (view_of ans core) h.src slot (round_number (Some round)) v (record { allows = true; requester = process_number h.requester; adoptee = 0 }))
   unfolding model.on_accept
   on_accept_follows core ok le =
       enter_follows ans s i no-swift core h slot round X lift Fits lifted ok below live le rest _

@@ -1,6 +1,10 @@
 -- Demand 3, with request E9: in every mode but SwiftPaxos, with every settings, every legal list of calls meets the claim, whichever of the
 -- best-scored proposers each adoption takes.
 -- Assumes nothing.
+use Rattle.std.specs.Prelude.{Option, None, Some, Ok, Err}
+use Rattle.message.specs.Outcomes.{Outcome}
+use Rattle.calls.specs.Commits.{committed_slot}
+use Rattle.calls.specs.declared.CommittedSlot.{CommittedSlot}
 use mathlib.Core.Path.{◌≡◌, refl, sym, ap, ap₂, subst, ◌∙◌}
 use mathlib.Core.Logic.{◌⊎◌, inl, inr}
 use mathlib.Core.Bool.{Bool, true, false, cond, not, ◌&&◌}
@@ -19,8 +23,6 @@ use Rattle.message.specs.Rounds.{starting_round}
 use Rattle.message.specs.declared.ConsensusMessage.{ConsensusMessage}
 use Rattle.message.specs.declared.ConsensusMsg.{ConsensusMsg}
 use Rattle.message.specs.declared.ConsensusMsg.TheVariants.{Prepare, Accept, ForwardRequest, Commit, ReadRequest, ReadResponse}
-use Rattle.message.specs.declared.Outcome.{Outcome}
-use Rattle.message.specs.declared.Outcome.TheVariants.{Done, Refused}
 use Rattle.message.specs.declared.PFMode.{PFMode}
 use Rattle.message.specs.declared.PFMode.TheVariants.{Paxos, MultiPaxos, MultiPaxos3P, EPaxos, Pando, SwiftPaxos}
 use Rattle.message.specs.declared.Refusal.{Refusal}
@@ -36,14 +38,10 @@ use Rattle.consensus.specs.Call.{new_shard, if_made, call_with}
 use Rattle.consensus.specs.declared.Answer.{Answer}
 use Rattle.calls.specs.declared.Call.{Call}
 use Rattle.calls.specs.declared.Call.TheVariants.{Propose, StartRead, Receive}
-use Rattle.calls.specs.declared.OptionalCommit.{OptionalCommit}
-use Rattle.calls.specs.declared.OptionalCommit.TheVariants.{NoCommit, Committed}
 use Rattle.consensus.specs.declared.Shard.{Shard}
 use Rattle.steps.specs.declared.Destination.{Destination}
 use Rattle.steps.specs.declared.Destination.TheVariants.{One, All}
 use Rattle.steps.specs.declared.Messages.{Messages}
-use Rattle.steps.specs.declared.OptionalMessage.{OptionalMessage}
-use Rattle.steps.specs.declared.OptionalMessage.TheVariants.{NoMessage, Send}
 use Rattle.steps.specs.declared.Outgoing.{Outgoing}
 use Rattle.agreement.specs.Engine.{Kind}
 use Rattle.basics.specs.Lists.{In}
@@ -229,7 +227,7 @@ made_refines s claimed =
 
 -- a shard that was not made
 abbrev Unmade : Shard → Type 0
-Unmade shard = (why : Refusal) × (shard.made ≡ Refused why)
+Unmade shard = (why : Refusal) × (shard.made ≡ Err why)
 
 unmade_call : (choose : Choice) (shard : Shard) (u : Unmade shard) (c : Call) → call_with choose shard c ≡ refused u.0 shard
 unfolding call_with
@@ -243,7 +241,7 @@ unmade_refines s outside =
       meaning = meaning_of;
       Valid = λ i shard. Unmade shard;
       initial_view = λ i l. begun_view s i;
-      initial_valid = λ i l. (SettingsOutsideLimits, ap (λ (t : Bool). cond t Done (Refused SettingsOutsideLimits)) (limits_same s i l ∙ outside));
+      initial_valid = λ i l. (SettingsOutsideLimits, ap (λ (t : Bool). cond t (Ok tt) (Err SettingsOutsideLimits)) (limits_same s i l ∙ outside));
       answer_valid = λ c x u. subst (λ (r : Answer). Unmade r.shard) (sym (unmade_call c.choose x u c.of_member.call)) u;
       answer_as_model = λ c x u.
           subst (λ (r : Answer). AsModel meaning_of (unmade_setup s) c.of_member.member (view_shard x) (kind_of c.of_member.call) (seen_answer r))
@@ -292,20 +290,20 @@ run_log s choices best shards past (c ∷ cs) =
 in_envelopes : (o : Outgoing) (ms : Messages) → In o (messages_of ms) → In (envelope o) (envelopes ms)
 in_envelopes o ms m = first ms.first ms.second ms.third m
   where
-    third : (c : OptionalMessage) → In o (listed c []) → In (envelope o) (envelopes_of c [])
-    third NoMessage h = h
-    third (Send z) (inl e) = inl (ap envelope e)
-    third (Send z) (inr h) = absurd h
+    third : (c : Option Outgoing) → In o (listed c []) → In (envelope o) (envelopes_of c [])
+    third None h = h
+    third (Some z) (inl e) = inl (ap envelope e)
+    third (Some z) (inr h) = absurd h
 
-    second : (b c : OptionalMessage) → In o (listed b (listed c [])) → In (envelope o) (envelopes_of b (envelopes_of c []))
-    second NoMessage c h = third c h
-    second (Send z) c (inl e) = inl (ap envelope e)
-    second (Send z) c (inr h) = inr (third c h)
+    second : (b c : Option Outgoing) → In o (listed b (listed c [])) → In (envelope o) (envelopes_of b (envelopes_of c []))
+    second None c h = third c h
+    second (Some z) c (inl e) = inl (ap envelope e)
+    second (Some z) c (inr h) = inr (third c h)
 
-    first : (a b c : OptionalMessage) → In o (listed a (listed b (listed c []))) → In (envelope o) (envelopes_of a (envelopes_of b (envelopes_of c [])))
-    first NoMessage b c h = second b c h
-    first (Send z) b c (inl e) = inl (ap envelope e)
-    first (Send z) b c (inr h) = inr (second b c h)
+    first : (a b c : Option Outgoing) → In o (listed a (listed b (listed c []))) → In (envelope o) (envelopes_of a (envelopes_of b (envelopes_of c [])))
+    first None b c h = second b c h
+    first (Some z) b c (inl e) = inl (ap envelope e)
+    first (Some z) b c (inr h) = inr (second b c h)
 
 in_sent_with : (x : engine.Sent ConsensusMessage) (i : ℕ) (os : List (engine.Envelope ConsensusMessage)) (l : List (engine.Sent ConsensusMessage)) → In x l → In x (engine.sent_with i os l)
 in_sent_with x i [] l h = h
@@ -382,11 +380,11 @@ slots_same member (e ∷ past) = commit e.reply.commit (slots_same member past �
     same true = refl
     same false = refl
 
-    commit : (c : OptionalCommit) → slot_at member past ≡ engine.commits_by member (engine.with_proposal e.member (kind_of e.call) (is_done e.reply.outcome) (log_of past))
+    commit : (c : Option CommittedSlot) → slot_at member past ≡ engine.commits_by member (engine.with_proposal e.member (kind_of e.call) (is_done e.reply.outcome) (log_of past))
         → cond (eqb member e.member) (plus_commit c (slot_at member past)) (slot_at member past)
         ≡ engine.commits_by member (engine.with_commit e.member (decision_of c) (engine.with_proposal e.member (kind_of e.call) (is_done e.reply.outcome) (log_of past)))
-    commit NoCommit rest = same (eqb member e.member) ∙ rest
-    commit (Committed slot v fast) rest = ap (λ (n : ℕ). cond (eqb member e.member) (suc n) n) rest
+    commit None rest = same (eqb member e.member) ∙ rest
+    commit (Some c) rest = ap (λ (n : ℕ). cond (eqb member e.member) (suc n) n) rest
 
 -- the log with a proposal or a commit more has the log before it
 claim_before_proposal : (i : ℕ) (k : Kind ConsensusMessage) (t : Bool) (l : List engine.Event) → engine.Claim (engine.with_proposal i k t l) → engine.Claim l
@@ -422,12 +420,12 @@ in_commit : (x : engine.Event) (i : ℕ) (d : model.Decision) (l : List engine.E
 in_commit x i model.undecided l h = h
 in_commit x i (model.decided s v) l h = inr h
 
-in_log : (e : Entry) (earlier run : List Entry) (slot v : ℕ) (fast : Bool) → At e earlier run → e.reply.commit ≡ Committed slot v fast → In (engine.committed e.member slot v) (log_of run)
+in_log : (e : Entry) (earlier run : List Entry) (slot v : ℕ) (fast : Bool) → At e earlier run → e.reply.commit ≡ committed_slot slot v fast → In (engine.committed e.member slot v) (log_of run)
 in_log e earlier [] slot v fast h c = absurd h
 in_log e earlier (x ∷ xs) slot v fast (inl d) c =
     subst (λ (y : Entry). In (engine.committed e.member slot v) (log_of (y ∷ xs))) d.0
     (subst
-    (λ (o : OptionalCommit).
+    (λ (o : Option CommittedSlot).
     In (engine.committed e.member slot v) (engine.with_commit e.member (decision_of o) (engine.with_proposal e.member (kind_of e.call) (is_done e.reply.outcome) (log_of xs))))
     (sym c)
     (inl refl))
@@ -460,32 +458,32 @@ proposal_entry (e ∷ past) j s v h = commit e.reply.commit (λ (k : In (engine.
 
     proposed : (call : Call) → e.call ≡ call → (o : Outcome) → e.reply.outcome ≡ o → (In (engine.proposal j s v) (log_of past) → Proposed s v past)
         → In (engine.proposal j s v) (engine.with_proposal e.member (kind_of call) (is_done o) (log_of past)) → Proposed s v (e ∷ past)
-    proposed (Propose w) ec Done eo rest (inl d) =
+    proposed (Propose w) ec (Ok tt) eo rest (inl d) =
         let a : w ≡ v = cc in let b : engine.commits_by e.member (log_of past) ≡ s = cc in
         (e, past, inl (refl, refl), ec ∙ ap Propose a, eo, slots_same e.member past ∙ b)
-    proposed (Propose w) ec Done eo rest (inr k) = later (rest k)
-    proposed (Propose w) ec (Refused why) eo rest k = later (rest k)
+    proposed (Propose w) ec (Ok tt) eo rest (inr k) = later (rest k)
+    proposed (Propose w) ec (Err why) eo rest k = later (rest k)
     proposed (StartRead tag arrival) ec o eo rest k = later (rest k)
     proposed (Receive d) ec o eo rest k = later (rest k)
 
-    commit : (c : OptionalCommit) → (In (engine.proposal j s v) (log_of past) → Proposed s v past)
+    commit : (c : Option CommittedSlot) → (In (engine.proposal j s v) (log_of past) → Proposed s v past)
         → In (engine.proposal j s v) (engine.with_commit e.member (decision_of c) (engine.with_proposal e.member (kind_of e.call) (is_done e.reply.outcome) (log_of past))) → Proposed s v (e ∷ past)
-    commit NoCommit rest k = proposed e.call refl e.reply.outcome refl rest k
-    commit (Committed slot w fast) rest (inl d) = absurd (let z : ◌≡◌ {A = ℕ} 0 1 = cc in omega arith)
-    commit (Committed slot w fast) rest (inr k) = proposed e.call refl e.reply.outcome refl rest k
+    commit None rest k = proposed e.call refl e.reply.outcome refl rest k
+    commit (Some c) rest (inl d) = absurd (let z : ◌≡◌ {A = ℕ} 0 1 = cc in omega arith)
+    commit (Some c) rest (inr k) = proposed e.call refl e.reply.outcome refl rest k
 
 -- the value of a commit was proposed in its slot, in the same call or before
-commit_proposed : (e : Entry) (earlier : List Entry) (slot v : ℕ) (fast : Bool) → e.reply.commit ≡ Committed slot v fast → engine.Claim (log_of (e ∷ earlier)) → Proposed slot v (e ∷ earlier)
+commit_proposed : (e : Entry) (earlier : List Entry) (slot v : ℕ) (fast : Bool) → e.reply.commit ≡ committed_slot slot v fast → engine.Claim (log_of (e ∷ earlier)) → Proposed slot v (e ∷ earlier)
 commit_proposed e earlier slot v fast c claim =
     let l = engine.with_proposal e.member (kind_of e.call) (is_done e.reply.outcome) (log_of earlier) in
-    let k = subst (λ (o : OptionalCommit). engine.Claim (engine.with_commit e.member (decision_of o) l)) c claim in
+    let k = subst (λ (o : Option CommittedSlot). engine.Claim (engine.with_commit e.member (decision_of o) l)) c claim in
     proposal_entry (e ∷ earlier) k.1.0 slot v (in_commit (engine.proposal k.1.0 slot v) e.member (decision_of e.reply.commit) l k.1.1)
 
 -- a commit is of its member's slot
-commit_slot_lem : (e : Entry) (earlier : List Entry) (slot v : ℕ) (fast : Bool) → e.reply.commit ≡ Committed slot v fast → engine.Claim (log_of (e ∷ earlier)) → slot ≡ slot_at e.member earlier
+commit_slot_lem : (e : Entry) (earlier : List Entry) (slot v : ℕ) (fast : Bool) → e.reply.commit ≡ committed_slot slot v fast → engine.Claim (log_of (e ∷ earlier)) → slot ≡ slot_at e.member earlier
 commit_slot_lem e earlier slot v fast c claim =
     let l = engine.with_proposal e.member (kind_of e.call) (is_done e.reply.outcome) (log_of earlier) in
-    let k = subst (λ (o : OptionalCommit). engine.Claim (engine.with_commit e.member (decision_of o) l)) c claim in
+    let k = subst (λ (o : Option CommittedSlot). engine.Claim (engine.with_commit e.member (decision_of o) l)) c claim in
     k.0 ∙ proposal_slots e.member e.member (kind_of e.call) (is_done e.reply.outcome) (log_of earlier) ∙ sym (slots_same e.member earlier)
 
 claim_of : (run : List Entry) → engine.Claim (log_of run) → Claim run

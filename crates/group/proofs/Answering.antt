@@ -1,10 +1,12 @@
 -- An answer on the fast path of EPaxos is the model's `answering`: the fast half with the answer in it, its commit and the value that is adopted.
 -- Assumes nothing.
+use Rattle.std.specs.Prelude.{Option, None, Some, Result, Ok, Err}
+use Rattle.std.proofs.lemmas.List.{get_or-replicate}
 use mathlib.Core.Path.{◌≡◌, refl, sym, ap, ap₂, subst, fun_ext, ◌∙◌}
 use mathlib.Core.Logic.{◌⊎◌, inl, inr}
 use mathlib.Core.Bool.{Bool, true, false, cond, ◌&&◌}
 use mathlib.Core.List.{List, [], ◌∷◌}
-use Prim.Native.Nat.{ℕ, zero, suc, pred, ◌+◌, ◌-◌, ◌≤◌, ◌<◌}
+use Prim.Native.Nat.{ℕ, suc, pred, ◌+◌, ◌-◌, ◌≤◌, ◌<◌}
 use native.Mathlib.Numerals.{add-one}
 use native.Mathlib.Omega.{arith}
 use lib.Dec.{eqb, ltb, leb, eqb-suc-zero}
@@ -20,30 +22,22 @@ use Rattle.message.specs.Modes.{is_swift_paxos}
 use Rattle.message.specs.Promises.{value_of}
 use Rattle.message.specs.Rounds.{increment}
 use Rattle.message.proofs.NextLeader.{increment_next}
-use Rattle.message.specs.declared.OptionalProcess.{OptionalProcess}
-use Rattle.message.specs.declared.OptionalProcess.TheVariants.{NoProcess, Process}
-use Rattle.message.specs.declared.OptionalRound.{OptionalRound}
-use Rattle.message.specs.declared.OptionalRound.TheVariants.{NoRound, Round}
 use Rattle.message.specs.declared.PaxosRound.{PaxosRound}
 use Rattle.message.specs.declared.Refusal.{Refusal}
 use Rattle.message.specs.declared.Refusal.TheVariants.{Panic, AcceptUnlikeHeld, SecondFastAnswer}
 use Rattle.message.specs.declared.RoundV.{RoundV}
 use Rattle.message.specs.declared.RoundV.TheVariants.{FastV, PaxosV}
-use Rattle.round_state.specs.Paxos.{is_prepared, taken, refused, with_held, accept_fits, after_accept, receive_accept, accept_own, self_accept, adopt_from_epaxos}
-use Rattle.round_state.specs.declared.HeldPromise.TheVariants.{Held}
+use Rattle.round_state.specs.Paxos.{is_prepared, accept_fits, after_accept, receive_accept, accept_own, self_accept, adopt_from_epaxos}
 use Rattle.round_state.specs.declared.Member.{Member}
-use Rattle.round_state.specs.declared.PaxosStep.{PaxosStep}
+use Rattle.round_state.specs.declared.PaxosState.{PaxosState}
 use Rattle.settings.specs.Questions.{quorums_of}
 use Rattle.settings.specs.declared.Settings.{Settings}
 use Rattle.fast_state.specs.Adopt.{Choice, value_in, score_in, adopted, epaxos_try_adopt, epaxos_try_adopt_after}
 use Rattle.fast_state.specs.Fast as fast_half
 use Rattle.fast_state.specs.Fast.{answers_of, unchanged, changed, no_answers, to_v_after, epaxos_scores_after, preaccepted_after, second_answer, epaxos_counted, epaxos_answered, epaxos_can_commit}
 use Rattle.fast_state.proofs.Stored.{value_stored, score_stored}
-use Rattle.fast_state.specs.declared.Adoption.{Adoption}
-use Rattle.fast_state.specs.declared.Adoption.TheVariants.{NoAdoption, AdoptionRefused}
 use Rattle.fast_state.specs.declared.FastChange.{FastChange}
 use Rattle.fast_state.specs.declared.FastState.{FastState}
-use Rattle.fast_state.specs.declared.FastStep.{FastStep}
 use Rattle.prepare.specs.Prepare.{after_own_accept}
 use Rattle.epaxos_path.specs.EPaxos.{epaxos_commit, adopting, epaxos_adopt, epaxos_decide, after_epaxos_answer, epaxos_answer}
 use Rattle.steps.specs.Steps.{with_paxos, refuses, with_change}
@@ -56,6 +50,7 @@ use Rattle.agreement.specs.Model as model
 use Rattle.agreement.proofs.Answers.{count_none}
 use Rattle.group.specs.Claim.{PicksBest}
 use Rattle.group.proofs.View.{round_number, process_number, insert_add, proposer_of, is_e_paxos, answers_in, view_of, setup_of, Follows}
+use Rattle.group.proofs.Changes.{change_left}
 use Rattle.group.proofs.Preparing.{asked_by, follows_both, own_accept_view, broadcast_classic}
 
 -- ---- the fast half as the engine keeps it
@@ -100,17 +95,12 @@ stored_length table p n = go (ltb p 64)
 
 -- ---- the fast half at the beginning of a slot
 
-replicated : (n a d p : ℕ) → p < n → get_or (replicate n a) p d ≡ a
-replicated zero a d p l = absurd (omega arith)
-replicated (suc n) a d zero l = refl
-replicated (suc n) a d (suc p) l = replicated n a d p (omega arith)
-
 pub begins_with : (a p : ℕ) → cond (ltb p 64) (look_up (replicate 64 a) p) a ≡ a
 unfolding look_up
 begins_with a p = go (ltb p 64) refl
   where
     go : (t : Bool) → ltb p 64 ≡ t → cond t (cond (ltb p 64) (get_or (replicate 64 a) p 0) 0) a ≡ a
-    go true e = ap (λ (t : Bool). cond t (get_or (replicate 64 a) p 0) 0) e ∙ replicated 64 a 0 p (ltb-true p 64 e)
+    go true e = ap (λ (t : Bool). cond t (get_or (replicate 64 a) p 0) 0) e ∙ get_or-replicate 64 p a 0 (ltb-true p 64 e)
     go false e = refl
 
 pub values_begin : (p : ℕ) → look_up (replicate 64 0) p ≡ 0
@@ -118,12 +108,12 @@ unfolding look_up
 values_begin p = go (ltb p 64) refl
   where
     go : (t : Bool) → ltb p 64 ≡ t → ◌≡◌ {A = ℕ} (cond t (get_or (replicate 64 0) p 0) 0) 0
-    go true e = replicated 64 0 0 p (ltb-true p 64 e)
+    go true e = get_or-replicate 64 p 0 0 (ltb-true p 64 e)
     go false e = refl
 
 begins_at_two : (p : ℕ) → p < 64 → look_up (replicate 64 2) p ≡ 2
 unfolding look_up
-begins_at_two p l = ap (λ (t : Bool). cond t (get_or (replicate 64 2) p 0) 0) (lt-ltb p 64 l) ∙ replicated 64 2 0 p l
+begins_at_two p l = ap (λ (t : Bool). cond t (get_or (replicate 64 2) p 0) 0) (lt-ltb p 64 l) ∙ get_or-replicate 64 p 2 0 l
 
 pub no_answers_fit : FastFits no_answers
 unfolding look_up
@@ -140,7 +130,7 @@ no_answers_fit =
     }
   where
     high : (p : ℕ) (t : Bool) → ltb p 64 ≡ t → cond t (get_or (replicate 64 2) p 0) 0 ≤ 2 + size 0
-    high p true e = let z = replicated 64 2 0 p (ltb-true p 64 e) in omega arith
+    high p true e = subst (λ (n : ℕ). n ≤ 2 + size 0) (sym (get_or-replicate 64 p 2 0 (ltb-true p 64 e))) (omega arith)
     high p false e = omega arith
 
 -- nothing is changed
@@ -227,7 +217,7 @@ host_with choose change scores =
 -- the host by the answer that came from src
 abbrev pub host_for : Choice → Settings → ℕ → ℕ → FastState → RoundV → Host
 host_for choose s i src fast (FastV p v) =
-    host_with choose (epaxos_answered (asked_by s i).member src p v (answers_of fast) fast.epaxos_proposer_scores).change fast.epaxos_proposer_scores
+    host_with choose (change_left (answers_of fast) (epaxos_answered (asked_by s i).member src p v (answers_of fast) fast.epaxos_proposer_scores)) fast.epaxos_proposer_scores
 host_for choose s i src fast (PaxosV at v) = record { allows = true; requester = 0; adoptee = 0 }
 
 -- it lets the call through
@@ -242,23 +232,23 @@ ProposerFits (PaxosV at v) = Unit {0}
 
 module _ (choose : Choice) (picks_best : PicksBest choose) (s : Settings) (i : ℕ) (no-swift : is_swift_paxos s.mode ≡ false) (epaxos : is_e_paxos s.mode ≡ true)
     (alive : contains s.alive_replicas i ≡ true) (small : i < 64) (h : Heard) (src-small : h.src < 64) (round : PaxosRound) (below : round.leader < 64) (x0 : View)
-    (core : Core) (at : core.paxos.round ≡ Round round) where
+    (core : Core) (at : core.paxos.round ≡ Some round) where
   -- ---- the adopted value
 
   adopted_state : (v : ℕ) → is_empty core.paxos.accepted_set ≡ true
-      → adopt_from_epaxos (asked_by s i).member round v core.paxos ≡ taken (after_accept (asked_by s i).member i round v core.paxos)
+      → adopt_from_epaxos (asked_by s i).member round v core.paxos ≡ Ok (after_accept (asked_by s i).member i round v core.paxos)
   unfolding self_accept accept_own receive_accept accept_fits
   adopted_state v e = simp e
 
   adopted_full : (v : ℕ) → is_empty core.paxos.accepted_set ≡ false
-      → adopt_from_epaxos (asked_by s i).member round v core.paxos ≡ refused AcceptUnlikeHeld (with_held (Held (PaxosV NoRound v)) core.paxos)
+      → adopt_from_epaxos (asked_by s i).member round v core.paxos ≡ Err AcceptUnlikeHeld
   unfolding self_accept
   adopted_full v e = simp e
 
-  adopting_step : (v : ℕ) (step : PaxosStep) → is_prepared (asked_by s i).member core.paxos ≡ true → adopt_from_epaxos (asked_by s i).member round v core.paxos ≡ step
-      → adopting (asked_by s i) round v core ≡ after_own_accept (asked_by s i) round core step.state step.outcome
+  adopting_step : (v : ℕ) (step : Result PaxosState Refusal) → is_prepared (asked_by s i).member core.paxos ≡ true → adopt_from_epaxos (asked_by s i).member round v core.paxos ≡ step
+      → adopting (asked_by s i) round v core ≡ after_own_accept (asked_by s i) round core step
   unfolding adopting
-  adopting_step v step p e = simp p (ap (λ (t : PaxosStep). after_own_accept (asked_by s i) round core t.state t.outcome) e)
+  adopting_step v step p e = simp p (ap (after_own_accept (asked_by s i) round core) e)
 
   adopting_unprepared : (v : ℕ) → is_prepared (asked_by s i).member core.paxos ≡ false → adopting (asked_by s i) round v core ≡ refuses Panic core
   unfolding adopting
@@ -292,10 +282,10 @@ module _ (choose : Choice) (picks_best : PicksBest choose) (s : Settings) (i : �
     abbrev ans : Answers
     ans = answers_in (changed change fast)
 
-    abbrev adoption : Adoption
+    abbrev adoption : Result (Option ℕ) Refusal
     adoption = epaxos_try_adopt_after choose (asked_by s i).member change fast.fast_proposer_to_v fast.epaxos_proposer_scores
 
-    abbrev chosen : OptionalProcess
+    abbrev chosen : Option ℕ
     chosen = choose change.answers (score_in change.entry fast.epaxos_proposer_scores)
 
     abbrev host : Host
@@ -311,7 +301,7 @@ module _ (choose : Choice) (picks_best : PicksBest choose) (s : Settings) (i : �
         ∙ sym (score_stored fast.epaxos_proposer_scores long-scores q l change.entry)
 
     -- whom the choice takes is a best proposer of the model
-    best_model : (p : ℕ) → chosen ≡ Process p → model.is_best (setup_of s) p ans ≡ true
+    best_model : (p : ℕ) → chosen ≡ Some p → model.is_best (setup_of s) p ans ≡ true
     best_model p e = and_both (picks_best.proposer _ _ p e).1 (eq-eqb (count better 64) 0 (count_ext better (λ q. false) 64 none ∙ count_none 64))
       where
         better : ℕ → Bool
@@ -324,27 +314,27 @@ module _ (choose : Choice) (picks_best : PicksBest choose) (s : Settings) (i : �
             let a = score_at q l in let b = score_at p (picks_best.proposer _ _ p e).0 in
             omega arith)
 
-    adopt_none : (p : ℕ) → chosen ≡ Process p → eqb host.adoptee 0 ≡ false
-    adopt_none p e = ap (λ (o : OptionalProcess). eqb (process_number o) 0) e ∙ eqb-suc-zero p
+    adopt_none : (p : ℕ) → chosen ≡ Some p → eqb host.adoptee 0 ≡ false
+    adopt_none p e = ap (λ (o : Option ℕ). eqb (process_number o) 0) e ∙ eqb-suc-zero p
 
-    model_adopts : (p : ℕ) → chosen ≡ Process p → is_prepared (asked_by s i).member core.paxos ≡ true
+    model_adopts : (p : ℕ) → chosen ≡ Some p → is_prepared (asked_by s i).member core.paxos ≡ true
         → model.adopts (setup_of s) i host x0 (view_of ans core) ≡ model.casts (setup_of s) i x0 (ans.values p) (view_of ans core)
     unfolding model.adopts size
     model_adopts p e prepared =
         let first = adopt_none p e in
         simp first
-        (ap (λ (o : OptionalProcess). cond (model.is_best (setup_of s) (pred (process_number o)) ans && model.enough_prepared (setup_of s) (view_of ans core)) (model.casts (setup_of s) i x0 (ans.values (pred (process_number o))) (view_of ans core)) (refuse x0)) e
+        (ap (λ (o : Option ℕ). cond (model.is_best (setup_of s) (pred (process_number o)) ans && model.enough_prepared (setup_of s) (view_of ans core)) (model.casts (setup_of s) i x0 (ans.values (pred (process_number o))) (view_of ans core)) (refuse x0)) e
         ∙ ap (λ (t : Bool). cond t (model.casts (setup_of s) i x0 (ans.values p) (view_of ans core)) (refuse x0)) (and_both (best_model p e) prepared))
 
-    model_adopts_nobody : chosen ≡ NoProcess → model.adopts (setup_of s) i host x0 (view_of ans core) ≡ quiet (view_of ans core)
+    model_adopts_nobody : chosen ≡ None → model.adopts (setup_of s) i host x0 (view_of ans core) ≡ quiet (view_of ans core)
     unfolding model.adopts
-    model_adopts_nobody e = let first : eqb host.adoptee 0 ≡ true = ap (λ (o : OptionalProcess). eqb (process_number o) 0) e in simp first
+    model_adopts_nobody e = let first : eqb host.adoptee 0 ≡ true = ap (λ (o : Option ℕ). eqb (process_number o) 0) e in simp first
 
-    adopt_follows : (o : OptionalProcess) → chosen ≡ o
+    adopt_follows : (o : Option ℕ) → chosen ≡ o
         → Follows (setup_of s) ans (epaxos_adopt (asked_by s i) round core (adopted (value_in change.entry fast.fast_proposer_to_v) o)) (model.adopts (setup_of s) i host x0 (view_of ans core))
     unfolding adopted
-    adopt_follows NoProcess e = follows_both refl (model_adopts_nobody e) (record { seen_as = refl })
-    adopt_follows (Process p) e = go (either (is_prepared (asked_by s i).member core.paxos))
+    adopt_follows None e = follows_both refl (model_adopts_nobody e) (record { seen_as = refl })
+    adopt_follows (Some p) e = go (either (is_prepared (asked_by s i).member core.paxos))
       where
         same : value_in change.entry fast.fast_proposer_to_v p ≡ ans.values p
         same = value_stored fast.fast_proposer_to_v long_values p (picks_best.proposer _ _ p e).0 change.entry
@@ -366,14 +356,14 @@ module _ (choose : Choice) (picks_best : PicksBest choose) (s : Settings) (i : �
         proposers : ℕ
         proposers = count (contains change.answers.fast_proposers) 64
 
-        result : Adoption
+        result : Result (Option ℕ) Refusal
         result = adopted (value_in change.entry fast.fast_proposer_to_v) chosen
 
         goal : Bool → Outcome
         goal t = cond t (model.adopts (setup_of s) i host x0 (view_of ans core)) (quiet (view_of ans core))
 
-        tried : Bool → Bool → Bool → Adoption
-        tried a b c = cond a (cond b NoAdoption (cond c NoAdoption result)) (AdoptionRefused Panic)
+        tried : Bool → Bool → Bool → Result (Option ℕ) Refusal
+        tried a b c = cond a (cond b (Ok None) (cond c (Ok None) result)) (Err Panic)
 
         put : (a b c : Bool) → contains change.answers.fast_proposers i ≡ a → ltb answered (quorums_of s).majority ≡ b → ltb proposers 2 ≡ c
             → Follows (setup_of s) ans (epaxos_adopt (asked_by s i) round core (tried a b c)) (goal (leb (quorums_of s).majority answered && leb 2 proposers))
@@ -421,22 +411,22 @@ module _ (choose : Choice) (picks_best : PicksBest choose) (s : Settings) (i : �
   -- ---- the answer
 
   module _ (fast : FastState) (ok : FastFits fast) where
-    abbrev answered_by : ℕ → ℕ → FastStep
+    abbrev answered_by : ℕ → ℕ → Result FastChange Refusal
     answered_by p v = epaxos_answered (asked_by s i).member h.src p v (answers_of fast) fast.epaxos_proposer_scores
 
     abbrev view : View
     view = view_of (answers_in fast) core
 
     -- a second answer, and a first one
-    answered_again : (p v : ℕ) → contains fast.fast_answer_set h.src ≡ true → eqb h.src i ≡ true → answered_by p v ≡ fast_half.taken (unchanged (answers_of fast))
+    answered_again : (p v : ℕ) → contains fast.fast_answer_set h.src ≡ true → eqb h.src i ≡ true → answered_by p v ≡ Ok (unchanged (answers_of fast))
     unfolding epaxos_answered second_answer
     answered_again p v e d = simp (e, d)
 
-    answered_refused : (p v : ℕ) → contains fast.fast_answer_set h.src ≡ true → eqb h.src i ≡ false → answered_by p v ≡ fast_half.refused SecondFastAnswer (answers_of fast)
+    answered_refused : (p v : ℕ) → contains fast.fast_answer_set h.src ≡ true → eqb h.src i ≡ false → answered_by p v ≡ Err SecondFastAnswer
     unfolding epaxos_answered second_answer
     answered_refused p v e d = simp (e, d)
 
-    answered_first : (p v : ℕ) → contains fast.fast_answer_set h.src ≡ false → answered_by p v ≡ fast_half.taken (epaxos_counted (asked_by s i).member h.src p v (answers_of fast) fast.epaxos_proposer_scores)
+    answered_first : (p v : ℕ) → contains fast.fast_answer_set h.src ≡ false → answered_by p v ≡ Ok (epaxos_counted (asked_by s i).member h.src p v (answers_of fast) fast.epaxos_proposer_scores)
     unfolding epaxos_answered
     answered_first p v e = simp e
 
@@ -451,17 +441,17 @@ module _ (choose : Choice) (picks_best : PicksBest choose) (s : Settings) (i : �
     model_first p v host e = let n = eqb-suc-zero p in simp (n, e)
 
     -- by what epaxos_answered says
-    by_step : (p v : ℕ) (step : FastStep) → answered_by p v ≡ step
-        → FollowsChange (setup_of s) fast (after_epaxos_answer choose (asked_by s i) h round v core fast.fast_proposer_to_v fast.epaxos_proposer_scores step.change step.outcome)
-        (model.answering (setup_of s) i h.src (suc p) v (host_with choose step.change fast.epaxos_proposer_scores) x0 view)
+    by_step : (p v : ℕ) (step : Result FastChange Refusal) → answered_by p v ≡ step
+        → FollowsChange (setup_of s) fast (after_epaxos_answer choose (asked_by s i) h round v core (answers_of fast) fast.fast_proposer_to_v fast.epaxos_proposer_scores step)
+        (model.answering (setup_of s) i h.src (suc p) v (host_with choose (change_left (answers_of fast) step) fast.epaxos_proposer_scores) x0 view)
         → FollowsChange (setup_of s) fast (epaxos_answer choose (asked_by s i) h round (FastV p v) core (answers_of fast) fast.fast_proposer_to_v fast.epaxos_proposer_scores)
-        (model.answering (setup_of s) i h.src (suc p) v (host_with choose (answered_by p v).change fast.epaxos_proposer_scores) x0 view)
+        (model.answering (setup_of s) i h.src (suc p) v (host_with choose (change_left (answers_of fast) (answered_by p v)) fast.epaxos_proposer_scores) x0 view)
     unfolding epaxos_answer
     by_step p v step e f =
         subst
-        (λ (t : FastStep).
-        FollowsChange (setup_of s) fast (after_epaxos_answer choose (asked_by s i) h round v core fast.fast_proposer_to_v fast.epaxos_proposer_scores t.change t.outcome)
-        (model.answering (setup_of s) i h.src (suc p) v (host_with choose t.change fast.epaxos_proposer_scores) x0 view))
+        (λ (t : Result FastChange Refusal).
+        FollowsChange (setup_of s) fast (after_epaxos_answer choose (asked_by s i) h round v core (answers_of fast) fast.fast_proposer_to_v fast.epaxos_proposer_scores t)
+        (model.answering (setup_of s) i h.src (suc p) v (host_with choose (change_left (answers_of fast) t) fast.epaxos_proposer_scores) x0 view))
         (sym e)
         f
 
@@ -476,19 +466,19 @@ module _ (choose : Choice) (picks_best : PicksBest choose) (s : Settings) (i : �
       where
         go : (contains fast.fast_answer_set h.src ≡ true) ⊎ (contains fast.fast_answer_set h.src ≡ false) → (eqb h.src i ≡ true) ⊎ (eqb h.src i ≡ false)
             → FollowsChange (setup_of s) fast (epaxos_answer choose (asked_by s i) h round (FastV p v) core (answers_of fast) fast.fast_proposer_to_v fast.epaxos_proposer_scores)
-            (model.answering (setup_of s) i h.src (suc p) v (host_with choose (answered_by p v).change fast.epaxos_proposer_scores) x0 view)
+            (model.answering (setup_of s) i h.src (suc p) v (host_with choose (change_left (answers_of fast) (answered_by p v)) fast.epaxos_proposer_scores) x0 view)
         go (inl e) (inl d) =
-            by_step p v (fast_half.taken (unchanged (answers_of fast))) (answered_again p v e d)
+            by_step p v (Ok (unchanged (answers_of fast))) (answered_again p v e d)
             (decided (unchanged (answers_of fast)) v _
             (model_again p v _ e d ∙ ap (λ (a : Answers). model.decides (setup_of s) i v (host_with choose (unchanged (answers_of fast)) fast.epaxos_proposer_scores) x0 (view_of a core)) (sym (unchanged_answers fast))))
-        go (inl e) (inr d) = by_step p v (fast_half.refused SecondFastAnswer (answers_of fast)) (answered_refused p v e d) (refuses_follows (setup_of s) fast _ SecondFastAnswer core _)
+        go (inl e) (inr d) = by_step p v (Err SecondFastAnswer) (answered_refused p v e d) (refuses_follows (setup_of s) fast _ SecondFastAnswer core _)
         go (inr e) d =
             let change : FastChange = epaxos_counted (asked_by s i).member h.src p v (answers_of fast) fast.epaxos_proposer_scores in
-            by_step p v (fast_half.taken change) (answered_first p v e)
+            by_step p v (Ok change) (answered_first p v e)
             (decided change v _
             (model_first p v _ e ∙ ap (λ (a : Answers). model.decides (setup_of s) i v (host_with choose change fast.epaxos_proposer_scores) x0 (view_of a core)) (sym (counted_answers (asked_by s i).member h.src p v src-small p-small fast ok))))
 
-    slow_answer_follows : (at-round : OptionalRound) (v : ℕ)
+    slow_answer_follows : (at-round : Option PaxosRound) (v : ℕ)
         → FollowsChange (setup_of s) fast (epaxos_answer choose (asked_by s i) h round (PaxosV at-round v) core (answers_of fast) fast.fast_proposer_to_v fast.epaxos_proposer_scores)
         (model.answering (setup_of s) i h.src 0 v (record { allows = true; requester = 0; adoptee = 0 }) x0 view)
     unfolding epaxos_answer

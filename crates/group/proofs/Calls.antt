@@ -1,5 +1,8 @@
 -- Each call on a shard of the group is the model's call, or is refused, or has no part in the agreement.
 -- Assumes nothing.
+use Rattle.std.specs.Prelude.{Option, None, Some, Result, Ok, Err}
+use Rattle.message.specs.Outcomes.{Outcome}
+use Rattle.calls.specs.declared.CommittedSlot.{CommittedSlot}
 use mathlib.Core.Path.{◌≡◌, refl, sym, ap, subst, fun_ext, ◌∙◌}
 use mathlib.Core.Logic.{◌⊎◌, inl, inr}
 use mathlib.Core.Bool.{Bool, true, false, cond, not, ◌&&◌}
@@ -11,19 +14,12 @@ use lib.Dec.{eqb, ltb, leb}
 use borrow.Author.Tests.{ltb-true, ltb-false, leb-false, eq-eqb}
 use Rattle.basics.proofs.Tests.{either, not_both}
 use Rattle.message.specs.Messages.{msg_slot}
-use Rattle.sets.specs.Sets.{size}
 use Rattle.message.specs.Modes.{has_fast_path, is_multi_paxos, is_swift_paxos}
 use Rattle.message.specs.Promises.{value_of, accept_round_of}
 use Rattle.message.proofs.NextLeader.{increment_next}
 use Rattle.message.specs.declared.ConsensusMessage.{ConsensusMessage}
 use Rattle.message.specs.declared.ConsensusMsg.{ConsensusMsg}
 use Rattle.message.specs.declared.ConsensusMsg.TheVariants.{Prepare, Accept, ForwardRequest, Commit, ReadRequest, ReadResponse}
-use Rattle.message.specs.declared.OptionalRound.{OptionalRound}
-use Rattle.message.specs.declared.OptionalRound.TheVariants.{NoRound, Round}
-use Rattle.message.specs.declared.OptionalValue.{OptionalValue}
-use Rattle.message.specs.declared.OptionalValue.TheVariants.{NoValue}
-use Rattle.message.specs.declared.Outcome.{Outcome}
-use Rattle.message.specs.declared.Outcome.TheVariants.{Done, Refused}
 use Rattle.message.specs.declared.PFMode.{PFMode}
 use Rattle.message.specs.declared.PFMode.TheVariants.{Paxos, MultiPaxos, MultiPaxos3P, EPaxos, Pando, SwiftPaxos}
 use Rattle.message.specs.declared.PaxosRound.{PaxosRound}
@@ -36,15 +32,13 @@ use Rattle.round_state.specs.Paxos.{get_last_accepted_round}
 use Rattle.fast_state.specs.Adopt.{Choice}
 use Rattle.fast_state.specs.Fast.{answers_of, unchanged, changed, no_answers}
 use Rattle.fast_state.specs.declared.FastState.{FastState}
-use Rattle.read_tracker.specs.declared.Opened.{Opened}
-use Rattle.read_tracker.specs.declared.Opened.TheVariants.{Refused as NotOpened, Id}
 use Rattle.settings.specs.Questions.{delegate_of, starting_round_of, delegate_in}
 use Rattle.settings.specs.Settings.{within_limits}
 use Rattle.settings.specs.declared.Settings.{Settings}
 use Rattle.settings.proofs.Limits.{within_counts, within_members}
 use Rattle.paxos_family.specs.Commit.{commit_slot}
 use Rattle.accept.specs.Accept.{accepting}
-use Rattle.paxos_family.specs.Process.{on_prepare, on_accept, process_classic, on_fast_prepare, on_fast_accept, process_change, process_fast}
+use Rattle.paxos_family.specs.Process.{on_accept, process_classic, on_fast_prepare, on_fast_accept, process_change, process_fast}
 use Rattle.propose.specs.Propose.{propose_classic, propose_change, propose_fast}
 use Rattle.steps.specs.Steps.{no_messages, one_message, stays, with_change, on_rounds, change_rounds}
 use Rattle.steps.specs.declared.ChangeStep.{ChangeStep}
@@ -68,8 +62,6 @@ use Rattle.consensus.specs.declared.Answer.{Answer}
 use Rattle.calls.specs.declared.Call.{Call}
 use Rattle.calls.specs.declared.Call.TheVariants.{Propose, StartRead, Receive}
 use Rattle.delivery.specs.declared.Delivery.{Delivery}
-use Rattle.calls.specs.declared.OptionalCommit.{OptionalCommit}
-use Rattle.calls.specs.declared.OptionalCommit.TheVariants.{NoCommit, Committed}
 use Rattle.consensus.specs.declared.Shard.{Shard}
 use Rattle.state_calls.specs.declared.State.{State}
 use Rattle.agreement.specs.Engine.{Kind, proposes, delivers, reads, Engine}
@@ -95,9 +87,9 @@ kind_of (Propose v) = proposes v
 kind_of (StartRead tag arrival) = reads
 kind_of (Receive d) = delivers d.message.src d.message
 
-abbrev pub decision_of : OptionalCommit → model.Decision
-decision_of NoCommit = model.undecided
-decision_of (Committed slot v fast) = model.decided slot v
+abbrev pub decision_of : Option CommittedSlot → model.Decision
+decision_of None = model.undecided
+decision_of (Some commit) = model.decided commit.slot commit.v
 
 abbrev pub answer_from : Answer → engine.Answer Shard ConsensusMessage
 answer_from r =
@@ -247,10 +239,10 @@ module _ (s : Settings) (i : ℕ) (made : Outcome) (state : State) where
 
 -- ---- what is known of an admitted message
 
-ready_cond : (b : Bool) (o : Outcome) (why : Refusal) → cond b (Refused why) o ≡ Done → b ≡ false
+ready_cond : (b : Bool) (o : Outcome) (why : Refusal) → cond b (Err why) o ≡ Ok tt → b ≡ false
 ready_cond b o why e = go b refl e
   where
-    go : (t : Bool) → b ≡ t → cond t (Refused why) o ≡ Done → b ≡ false
+    go : (t : Bool) → b ≡ t → cond t (Err why) o ≡ Ok tt → b ≡ false
     go true d f = let z : ◌≡◌ {A = Bool} true false = ap is_done (sym f) in absurd (not_both refl z)
     go false d f = d
 
@@ -259,12 +251,12 @@ pub record Admitted (n : ℕ) (core : Core) (d : Delivery) : Type 0 where
   pub processes : processes_fit n d ≡ true
   pub not_ahead : is_ahead core (msg_slot d.message.msg) ≡ false
 
-admitted_facts : (count own : ℕ) (core : Core) (d : Delivery) → admit count own core d ≡ Done → Admitted count core d
+admitted_facts : (count own : ℕ) (core : Core) (d : Delivery) → admit count own core d ≡ Ok tt → Admitted count core d
 unfolding admit ready
 admitted_facts count own core d e =
-    let n = admit_cond (numbers_fit d) (cond (processes_fit count d) (ready own core d) (Refused NoSuchProcess)) NumberTooLarge e in
+    let n = admit_cond (numbers_fit d) (cond (processes_fit count d) (ready own core d) (Err NoSuchProcess)) NumberTooLarge e in
     let p = admit_cond (processes_fit count d) (ready own core d) NoSuchProcess n.1 in
-    record { numbers = n.0; processes = p.0; not_ahead = ready_cond (is_ahead core (msg_slot d.message.msg)) (cond (other_last_value core d) (Refused OtherLastValue) (cond (value_awaited own core d) (Refused ValueNotHeld) Done)) SlotAhead p.1 }
+    record { numbers = n.0; processes = p.0; not_ahead = ready_cond (is_ahead core (msg_slot d.message.msg)) (cond (other_last_value core d) (Err OtherLastValue) (cond (value_awaited own core d) (Err ValueNotHeld) (Ok tt))) SlotAhead p.1 }
 
 delegate_same : (s : Settings) (i : ℕ) (m : PFMode) (l : ℕ) → delegate_of (member_settings s i) m l ≡ delegate_of s m l
 unfolding delegate_in
@@ -276,16 +268,16 @@ delegate_same s i Pando l = refl
 delegate_same s i SwiftPaxos l = refl
 
 -- of a shard that was made, the leaders of rounds are below 64
-pub leaders_small : (shard : Shard) → Lasts shard → shard.made ≡ Done → Leaders shard.state.rounds.core
+pub leaders_small : (shard : Shard) → Lasts shard → shard.made ≡ Ok tt → Leaders shard.state.rounds.core
 leaders_small shard lasts done =
     record {
       in_round_lem = led_fits shard.state.rounds.core.paxos.round lasts.sets_fit.round_led;
       in_held = led_fits (get_last_accepted_round shard.state.rounds.core.paxos.max_rv) lasts.sets_fit.held_led;
     }
   where
-    led_fits : (r : OptionalRound) → LeaderIn (LeadsIn shard.made) r → LeaderFits r
-    led_fits NoRound led = tt
-    led_fits (Round r) led = led done
+    led_fits : (r : Option PaxosRound) → LeaderIn (LeadsIn shard.made) r → LeaderFits r
+    led_fits None led = tt
+    led_fits (Some r) led = led done
 
 module _ (s : Settings) (i : ℕ) (claimed : NotSwift s.mode) (choose : Choice) (picks_best : PicksBest choose) (limits : within_limits (member_settings s i) ≡ true) where
   few : s.process_count ≤ 64
@@ -321,7 +313,7 @@ module _ (s : Settings) (i : ℕ) (claimed : NotSwift s.mode) (choose : Choice) 
 
   -- ---- messages
 
-  module _ (made : Outcome) (state : State) (lasts : Lasts (shard_of s i made state)) (done : made ≡ Done) (room : state.rounds.core.slot < 9223372036854775807) where
+  module _ (made : Outcome) (state : State) (lasts : Lasts (shard_of s i made state)) (done : made ≡ Ok tt) (room : state.rounds.core.slot < 9223372036854775807) where
     abbrev shard : Shard
     shard = shard_of s i made state
 
@@ -386,7 +378,7 @@ module _ (s : Settings) (i : ℕ) (claimed : NotSwift s.mode) (choose : Choice) 
       prepare_ok : (slot : ℕ) (round : PaxosRound) (rv : RoundV) → d.message.msg ≡ Prepare slot round rv
           → (host : model.Host)
           × StepFollows s (processed choose (asked_by s i) h (Prepare slot round rv) state.rounds)
-          (outcome (setup_of s) (view_shard shard) (deliver i d.message.src (model.prepare slot (round_number (Round round)) (round_number (accept_round_of rv)) (proposer_of rv) (value_of rv)) host))
+          (outcome (setup_of s) (view_shard shard) (deliver i d.message.src (model.prepare slot (round_number (Some round)) (round_number (accept_round_of rv)) (proposer_of rv) (value_of rv)) host))
       unfolding process_classic process_change outcome model.on_message
       prepare_ok slot round rv e = go (mode_is s.mode claimed)
         where
@@ -403,11 +395,11 @@ module _ (s : Settings) (i : ℕ) (claimed : NotSwift s.mode) (choose : Choice) 
           slow_host = record { allows = true; requester = 0; adoptee = 0 }
 
           goal : model.Host → RoundsStep → Type 0
-          goal host step = StepFollows s step (model.on_prepare (setup_of s) i (view_shard shard) d.message.src slot (round_number (Round round)) (round_number (accept_round_of rv)) (proposer_of rv) (value_of rv) host)
+          goal host step = StepFollows s step (model.on_prepare (setup_of s) i (view_shard shard) d.message.src slot (round_number (Some round)) (round_number (accept_round_of rv)) (proposer_of rv) (value_of rv) host)
 
           go : ModeIs s.mode
               → (host : model.Host) × StepFollows s (processed choose (asked_by s i) h (Prepare slot round rv) state.rounds)
-              (cond host.allows (model.on_prepare (setup_of s) i (view_shard shard) d.message.src slot (round_number (Round round)) (round_number (accept_round_of rv)) (proposer_of rv) (value_of rv) host) (refuse (view_shard shard)))
+              (cond host.allows (model.on_prepare (setup_of s) i (view_shard shard) d.message.src slot (round_number (Some round)) (round_number (accept_round_of rv)) (proposer_of rv) (value_of rv) host) (refuse (view_shard shard)))
           go (is_classic no-fast no-epaxos) = (
             slow_host,
             subst (goal slow_host) (sym (processed_slow h (Prepare slot round rv) no-fast))
@@ -418,17 +410,17 @@ module _ (s : Settings) (i : ℕ) (claimed : NotSwift s.mode) (choose : Choice) 
             host-allows choose s i d.message.src fast_state rv
                 (λ (b : Bool).
                 StepFollows s (processed choose (asked_by s i) h (Prepare slot round rv) state.rounds)
-                (cond b (model.on_prepare (setup_of s) i (view_shard shard) d.message.src slot (round_number (Round round)) (round_number (accept_round_of rv)) (proposer_of rv) (value_of rv) (host_for choose s i d.message.src fast_state rv)) (refuse (view_shard shard))))
+                (cond b (model.on_prepare (setup_of s) i (view_shard shard) d.message.src slot (round_number (Some round)) (round_number (accept_round_of rv)) (proposer_of rv) (value_of rv) (host_for choose s i d.message.src fast_state rv)) (refuse (view_shard shard))))
                 (subst (goal (host_for choose s i d.message.src fast_state rv)) (sym (processed_fast h (Prepare slot round rv) has-fast))
                 (fast_step_lem epaxos
                 (on_fast_prepare choose (asked_by s i) h slot round rv core (answers_of fast_state) fast_state.fast_proposer_to_v fast_state.epaxos_proposer_scores fast_state.swift_proposer_scores)
-                (λ x. model.on_prepare (setup_of s) i x d.message.src slot (round_number (Round round)) (round_number (accept_round_of rv)) (proposer_of rv) (value_of rv) (host_for choose s i d.message.src fast_state rv))
+                (λ x. model.on_prepare (setup_of s) i x d.message.src slot (round_number (Some round)) (round_number (accept_round_of rv)) (proposer_of rv) (value_of rv) (host_for choose s i d.message.src fast_state rv))
                 (fast_prepare_follows choose picks_best s i (not_swift s.mode claimed) epaxos own_small fast_state fits h (source_small d adm.processes) round parts.0.1 slot rv parts.1 parts.2 refl delegate_of_lem core ok le))),
           )
 
       accept_ok : (slot : ℕ) (round : PaxosRound) (v : ℕ) → d.message.msg ≡ Accept slot round v
           → StepFollows s (processed choose (asked_by s i) h (Accept slot round v) state.rounds)
-          (outcome (setup_of s) (view_shard shard) (deliver i d.message.src (model.accept slot (round_number (Round round)) v) (record { allows = true; requester = process_number d.said.requester; adoptee = 0 })))
+          (outcome (setup_of s) (view_shard shard) (deliver i d.message.src (model.accept slot (round_number (Some round)) v) (record { allows = true; requester = process_number d.said.requester; adoptee = 0 })))
       unfolding process_classic process_change outcome model.on_message on_accept
       accept_ok slot round v e = go (mode_is s.mode claimed)
         where
@@ -445,7 +437,7 @@ module _ (s : Settings) (i : ℕ) (claimed : NotSwift s.mode) (choose : Choice) 
           host = record { allows = true; requester = process_number d.said.requester; adoptee = 0 }
 
           goal : RoundsStep → Type 0
-          goal step = StepFollows s step (model.on_accept (setup_of s) i (view_shard shard) d.message.src slot (round_number (Round round)) v host)
+          goal step = StepFollows s step (model.on_accept (setup_of s) i (view_shard shard) d.message.src slot (round_number (Some round)) v host)
 
           go : ModeIs s.mode → goal (processed choose (asked_by s i) h (Accept slot round v) state.rounds)
           go (is_classic no-fast no-epaxos) =
@@ -455,7 +447,7 @@ module _ (s : Settings) (i : ℕ) (claimed : NotSwift s.mode) (choose : Choice) 
           go (is_fast has-fast epaxos single) =
               subst goal (sym (processed_fast h (Accept slot round v) has-fast))
               (fast_step_lem epaxos (on_fast_accept (asked_by s i) h slot round v core (answers_of fast_state) fast_state.swift_proposer_scores)
-              (λ x. model.on_accept (setup_of s) i x d.message.src slot (round_number (Round round)) v host)
+              (λ x. model.on_accept (setup_of s) i x d.message.src slot (round_number (Some round)) v host)
               (fast_accept_follows choose picks_best s i (not_swift s.mode claimed) epaxos own_small fast_state fits h (source_small d adm.processes) round leader slot v refl delegate_of_lem (committer_same s i d.said.requester) core ok le))
 
       -- a ForwardRequest does nothing
@@ -506,7 +498,7 @@ module _ (s : Settings) (i : ℕ) (claimed : NotSwift s.mode) (choose : Choice) 
     unfolding on_commit
     commit_own slot v e = simp e
 
-    on_commit_lem : (source : ℕ) (last : OptionalValue) (slot v : ℕ) → slot ≤ core.slot
+    on_commit_lem : (source : ℕ) (last : Option ℕ) (slot v : ℕ) → slot ≤ core.slot
         → as_model (delivers source (record { msg = Commit slot v; src = source; last_v = last })) (on_commit shard slot v)
     unfolding outcome model.on_message model.on_commit
     on_commit_lem source last slot v le = go (either (ltb slot core.slot))
@@ -530,7 +522,7 @@ module _ (s : Settings) (i : ℕ) (claimed : NotSwift s.mode) (choose : Choice) 
         go : (t : Bool)
             → as_model (delivers source message)
             (cond t (refused Panic shard)
-            (sent shard (one_message (record { destination = One source; message = record { msg = ReadResponse id (next_readable core); src = i; last_v = NoValue } }))))
+            (sent shard (one_message (record { destination = One source; message = record { msg = ReadResponse id (next_readable core); src = i; last_v = None } }))))
         go true = inr (no_part, refl, refl, tt)
         go false = inr (no_part, refl, refl, (refl, tt))
 
@@ -554,8 +546,8 @@ module _ (s : Settings) (i : ℕ) (claimed : NotSwift s.mode) (choose : Choice) 
     received d = go (admit s.process_count i core d) refl
       where
         go : (o : Outcome) → admit s.process_count i core d ≡ o → as_model (kind_of (Receive d)) (admitted choose shard d o)
-        go Done e = handled d (admitted_facts s.process_count i core d e) d.message.msg refl
-        go (Refused why) e = refuse_as_model (setup_of s) i (view_shard shard) (kind_of (Receive d))
+        go (Ok tt) e = handled d (admitted_facts s.process_count i core d e) d.message.msg refl
+        go (Err why) e = refuse_as_model (setup_of s) i (view_shard shard) (kind_of (Receive d))
 
     -- ---- proposals
 
@@ -609,9 +601,9 @@ module _ (s : Settings) (i : ℕ) (claimed : NotSwift s.mode) (choose : Choice) 
     unfolding read start_read
     new_read_lem tag arrival = go (is_number tag && is_slot arrival)
       where
-        opened : (o : Opened) → as_model reads (after_insert shard (read_inserted shard tag arrival) o)
-        opened (NotOpened why) = (refl, refl, tt)
-        opened (Id id) = (refl, refl, (refl, tt))
+        opened : (o : Result ReadId Refusal) → as_model reads (after_insert shard (read_inserted shard tag arrival) o)
+        opened (Err why) = (refl, refl, tt)
+        opened (Ok id) = (refl, refl, (refl, tt))
 
         go : (t : Bool) → as_model reads (cond t (after_insert shard (read_inserted shard tag arrival) (read_inserted shard tag arrival).opened) (refused NumberTooLarge shard))
         go true = opened (read_inserted shard tag arrival).opened
@@ -630,15 +622,15 @@ pub record Valid (s : Settings) (i : ℕ) (shard : Shard) : Type 0 where
   pub own_settings : shard.settings ≡ member_settings s i
   pub lasting : Lasts shard
 
-pub valid_within : (s : Settings) (i : ℕ) (shard : Shard) → Valid s i shard → shard.made ≡ Done → within_limits (member_settings s i) ≡ true
-valid_within s i shard valid e = subst (λ (x : Settings). within_limits x ≡ true) valid.own_settings (valid.lasting.made_within e)
+pub valid_within : (s : Settings) (i : ℕ) (shard : Shard) → Valid s i shard → shard.made ≡ Ok tt → within_limits (member_settings s i) ≡ true
+valid_within s i _ valid e = subst (λ (x : Settings). within_limits x ≡ true) valid.own_settings (valid.lasting.made_within e)
 
 -- what is shown of each call on a shard: it is the model's, and the shard stays valid
 pub record CallOk (s : Settings) (i : ℕ) (shard : Shard) (k : Kind ConsensusMessage) (r : Answer) : Type 0 where
   pub as_model_lem : AsModel meaning_of (setup_of s) i (view_shard shard) k (seen_answer r)
   pub valid : Valid s i r.shard
 
-not_spent_as_model : (s : Settings) (i : ℕ) → NotSwift s.mode → (choose : Choice) → PicksBest choose → (made : Outcome) (state : State) → Lasts (shard_of s i made state) → made ≡ Done → (c : Call)
+not_spent_as_model : (s : Settings) (i : ℕ) → NotSwift s.mode → (choose : Choice) → PicksBest choose → (made : Outcome) (state : State) → Lasts (shard_of s i made state) → made ≡ Ok tt → (c : Call)
     → AsModel meaning_of (setup_of s) i (view_shard (shard_of s i made state)) (kind_of c) (seen_answer (unless_spent choose (shard_of s i made state) c))
 unfolding unless_spent
 not_spent_as_model s i claimed choose picks_best made state lasts done c = go (leb 9223372036854775807 state.rounds.core.slot) refl
@@ -658,7 +650,7 @@ call_ok s i claimed choose picks_best shard valid c =
     left = call_lasts choose shard valid.lasting c
 
     go : (o : Outcome) → shard.made ≡ o → AsModel meaning_of (setup_of s) i (view_shard shard) (kind_of c) (seen_answer (if_made choose shard c o))
-    go Done e =
+    go (Ok tt) e =
         subst
         (λ (x : Settings).
         (y : Lasts (record { made = shard.made; settings = x; state = shard.state }))
@@ -666,4 +658,4 @@ call_ok s i claimed choose picks_best shard valid c =
         (sym valid.own_settings)
         (λ y. not_spent_as_model s i claimed choose picks_best shard.made shard.state y e c)
         valid.lasting
-    go (Refused why) e = refuse_as_model (setup_of s) i (view_shard shard) (kind_of c)
+    go (Err why) e = refuse_as_model (setup_of s) i (view_shard shard) (kind_of c)

@@ -1,5 +1,6 @@
 -- What a Prepare and an Accept have in common is the model's `enter`; and the views of a round entered, of a promise and of an accept.
 -- Assumes nothing.
+use Rattle.std.specs.Prelude.{Option, Some, is_some}
 use mathlib.Core.Path.{◌≡◌, refl, sym, ap, subst, fun_ext, ◌∙◌}
 use mathlib.Core.Logic.{◌⊎◌, inl, inr}
 use mathlib.Core.Bool.{Bool, true, false, cond, ◌||◌}
@@ -12,11 +13,9 @@ use Rattle.sets.specs.Sets.{contains}
 use Rattle.message.specs.Modes.{is_swift_paxos}
 use Rattle.message.specs.Rounds.{before}
 use Rattle.message.proofs.Order.{optional_rounds_ordered}
-use Rattle.message.specs.declared.OptionalRound.{OptionalRound}
-use Rattle.message.specs.declared.OptionalRound.TheVariants.{Round}
 use Rattle.message.specs.declared.PaxosRound.{PaxosRound}
 use Rattle.message.specs.declared.Refusal.TheVariants.{SourceNotLive}
-use Rattle.round_state.specs.Paxos.{get_last_accepted_round, is_held, goto_round, with_sender, counted}
+use Rattle.round_state.specs.Paxos.{get_last_accepted_round, goto_round, with_sender, counted}
 use Rattle.round_state.specs.declared.Member.{Member}
 use Rattle.round_state.proofs.Counting.{with_sender_own, with_sender_other, with_own_replica}
 use Rattle.settings.specs.declared.Settings.{Settings}
@@ -34,14 +33,14 @@ use Rattle.group.proofs.View.{round_number, before_number, no_member, insert_add
 -- ---- views
 
 -- a later round
-pub goto_view : (ans : Answers) (round : OptionalRound) (core : Core) → view_of ans (with_paxos (goto_round round core.paxos) core) ≡ joined (round_number round) (view_of ans core)
+pub goto_view : (ans : Answers) (round : Option PaxosRound) (core : Core) → view_of ans (with_paxos (goto_round round core.paxos) core) ≡ joined (round_number round) (view_of ans core)
 goto_view ans round core =
     ap
     (λ (f : ℕ → Bool).
     record {
       slot = core.slot;
       round = round_number round;
-      holds = is_held core.paxos.max_rv;
+      holds = is_some core.paxos.max_rv;
       held_round = round_number (get_last_accepted_round core.paxos.max_rv);
       held_proposer = proposer_of (held_rv core.paxos.max_rv);
       held_value = held_v core.paxos.max_rv;
@@ -53,34 +52,34 @@ goto_view ans round core =
 
 pub in_round_view : (ans : Answers) (round : PaxosRound) (core : Core) → Leaders core → round.leader < 64
     → view_of ans (in_round round core)
-    ≡ cond (ltb (view_of ans core).round (round_number (Round round))) (joined (round_number (Round round)) (view_of ans core)) (view_of ans core)
+    ≡ cond (ltb (view_of ans core).round (round_number (Some round))) (joined (round_number (Some round)) (view_of ans core)) (view_of ans core)
 unfolding in_round
 in_round_view ans round core ok l =
-    go (before core.paxos.round (Round round)) ∙ ap (λ (t : Bool). cond t (joined (round_number (Round round)) (view_of ans core)) (view_of ans core)) (before_number core.paxos.round (Round round) ok.in_round_lem l)
+    go (before core.paxos.round (Some round)) ∙ ap (λ (t : Bool). cond t (joined (round_number (Some round)) (view_of ans core)) (view_of ans core)) (before_number core.paxos.round (Some round) ok.in_round_lem l)
   where
-    go : (t : Bool) → view_of ans (cond t (with_paxos (goto_round (Round round) core.paxos) core) core) ≡ cond t (joined (round_number (Round round)) (view_of ans core)) (view_of ans core)
-    go true = goto_view ans (Round round) core
+    go : (t : Bool) → view_of ans (cond t (with_paxos (goto_round (Some round) core.paxos) core) core) ≡ cond t (joined (round_number (Some round)) (view_of ans core)) (view_of ans core)
+    go true = goto_view ans (Some round) core
     go false = refl
 
 pub in_round_leaders : (round : PaxosRound) (core : Core) → Leaders core → round.leader < 64 → Leaders (in_round round core)
 unfolding in_round
-in_round_leaders round core ok l = go (before core.paxos.round (Round round))
+in_round_leaders round core ok l = go (before core.paxos.round (Some round))
   where
-    go : (t : Bool) → Leaders (cond t (with_paxos (goto_round (Round round) core.paxos) core) core)
+    go : (t : Bool) → Leaders (cond t (with_paxos (goto_round (Some round) core.paxos) core) core)
     go true = record { in_round_lem = l; in_held = ok.in_held }
     go false = ok
 
 -- what is not older is then in the round
-pub in_round_round : (round : PaxosRound) (core : Core) → before (Round round) core.paxos.round ≡ false → (in_round round core).paxos.round ≡ Round round
+pub in_round_round : (round : PaxosRound) (core : Core) → before (Some round) core.paxos.round ≡ false → (in_round round core).paxos.round ≡ Some round
 unfolding in_round
-in_round_round round core no-older = go (either (before core.paxos.round (Round round)))
+in_round_round round core no-older = go (either (before core.paxos.round (Some round)))
   where
-    go : (before core.paxos.round (Round round) ≡ true) ⊎ (before core.paxos.round (Round round) ≡ false)
-        → (cond (before core.paxos.round (Round round)) (with_paxos (goto_round (Round round) core.paxos) core) core).paxos.round ≡ Round round
-    go (inl e) = ap (λ (t : Bool). (cond t (with_paxos (goto_round (Round round) core.paxos) core) core).paxos.round) e
+    go : (before core.paxos.round (Some round) ≡ true) ⊎ (before core.paxos.round (Some round) ≡ false)
+        → (cond (before core.paxos.round (Some round)) (with_paxos (goto_round (Some round) core.paxos) core) core).paxos.round ≡ Some round
+    go (inl e) = ap (λ (t : Bool). (cond t (with_paxos (goto_round (Some round) core.paxos) core) core).paxos.round) e
     go (inr e) =
-        ap (λ (t : Bool). (cond t (with_paxos (goto_round (Round round) core.paxos) core) core).paxos.round) e
-        ∙ optional_rounds_ordered.connected core.paxos.round (Round round) e no-older
+        ap (λ (t : Bool). (cond t (with_paxos (goto_round (Some round) core.paxos) core) core).paxos.round) e
+        ∙ optional_rounds_ordered.connected core.paxos.round (Some round) e no-older
 
 -- ---- counting
 
@@ -134,32 +133,32 @@ module _ (ans : Answers) (s : Settings) (i : ℕ) (no-swift : is_swift_paxos s.m
   enter_not_live e o l = simp (e, o, l, no-swift)
 
   older_number : Leaders core → round.leader < 64
-      → is_older slot round core ≡ (ltb slot core.slot || ltb (round_number (Round round)) (view_of ans core).round)
+      → is_older slot round core ≡ (ltb slot core.slot || ltb (round_number (Some round)) (view_of ans core).round)
   unfolding is_older
-  older_number ok l = ap (λ (t : Bool). ltb slot core.slot || t) (before_number (Round round) core.paxos.round l ok.in_round_lem)
+  older_number ok l = ap (λ (t : Bool). ltb slot core.slot || t) (before_number (Some round) core.paxos.round l ok.in_round_lem)
 
   -- what is not older is of the own slot, and not of an earlier round
-  not_older : slot ≤ core.slot → is_older slot round core ≡ false → (slot ≡ core.slot) × (before (Round round) core.paxos.round ≡ false)
+  not_older : slot ≤ core.slot → is_older slot round core ≡ false → (slot ≡ core.slot) × (before (Some round) core.paxos.round ≡ false)
   unfolding is_older
   not_older le e =
-      let low : ltb slot core.slot ≡ false = fails (λ t. not_both (or_left (before (Round round) core.paxos.round) t) e) in
+      let low : ltb slot core.slot ≡ false = fails (λ t. not_both (or_left (before (Some round) core.paxos.round) t) e) in
       let ge : core.slot ≤ slot = ltb-false slot core.slot low in
       (omega arith, fails (λ t. not_both (or_right (ltb slot core.slot) t) e))
 
   -- the model's four cases
   model_client : (k : View → Outcome) → contains s.alive_replicas i ≡ false
-      → model.enter (setup_of s) i (view_of ans core) h.src slot (round_number (Round round)) k ≡ quiet (view_of ans core)
+      → model.enter (setup_of s) i (view_of ans core) h.src slot (round_number (Some round)) k ≡ quiet (view_of ans core)
   unfolding model.enter
   model_client k e = simp e
 
   model_older : (k : View → Outcome) → contains s.alive_replicas i ≡ true → Leaders core → round.leader < 64 → is_older slot round core ≡ true
-      → model.enter (setup_of s) i (view_of ans core) h.src slot (round_number (Round round)) k ≡ quiet (view_of ans core)
+      → model.enter (setup_of s) i (view_of ans core) h.src slot (round_number (Some round)) k ≡ quiet (view_of ans core)
   unfolding model.enter
   model_older k e ok l o = let d = sym (older_number ok l) ∙ o in simp (e, d)
 
   model_live : (k : View → Outcome) → contains s.alive_replicas i ≡ true → Leaders core → round.leader < 64 → is_older slot round core ≡ false
       → slot ≡ core.slot → contains s.alive_replicas h.src ≡ true
-      → model.enter (setup_of s) i (view_of ans core) h.src slot (round_number (Round round)) k ≡ k (view_of ans (in_round round core))
+      → model.enter (setup_of s) i (view_of ans core) h.src slot (round_number (Some round)) k ≡ k (view_of ans (in_round round core))
   unfolding model.enter
   model_live k e ok l o same v =
       let d = sym (older_number ok l) ∙ o in
@@ -170,15 +169,15 @@ module _ (ans : Answers) (s : Settings) (i : ℕ) (no-swift : is_swift_paxos s.m
   module _ (X : Type 0) (lift : CoreStep → X) (Fits : X → Outcome → Type 0) (lifted : (step : CoreStep) (r : Outcome) → Follows (setup_of s) ans step r → Fits (lift step) r) where
     pub enter_follows : Leaders core → round.leader < 64 → h.source_live ≡ contains s.alive_replicas h.src → slot ≤ core.slot
         → (rest : Core → X) (k : View → Outcome)
-        → (contains s.alive_replicas i ≡ true → slot ≡ core.slot → before (Round round) core.paxos.round ≡ false → Fits (rest (in_round round core)) (k (view_of ans (in_round round core))))
+        → (contains s.alive_replicas i ≡ true → slot ≡ core.slot → before (Some round) core.paxos.round ≡ false → Fits (rest (in_round round core)) (k (view_of ans (in_round round core))))
         → Fits (then_in lift (enter (asked_of (member_settings s i)) h slot round core) rest)
-        (model.enter (setup_of s) i (view_of ans core) h.src slot (round_number (Round round)) k)
+        (model.enter (setup_of s) i (view_of ans core) h.src slot (round_number (Some round)) k)
     enter_follows ok l live le rest k go_on = go (either (contains s.alive_replicas i)) (either (is_older slot round core)) (either (contains s.alive_replicas h.src))
       where
         put : (step : CoreStep) (r : Outcome) → enter (asked_of (member_settings s i)) h slot round core ≡ step
-            → model.enter (setup_of s) i (view_of ans core) h.src slot (round_number (Round round)) k ≡ r → Fits (then_in lift step rest) r
+            → model.enter (setup_of s) i (view_of ans core) h.src slot (round_number (Some round)) k ≡ r → Fits (then_in lift step rest) r
             → Fits (then_in lift (enter (asked_of (member_settings s i)) h slot round core) rest)
-            (model.enter (setup_of s) i (view_of ans core) h.src slot (round_number (Round round)) k)
+            (model.enter (setup_of s) i (view_of ans core) h.src slot (round_number (Some round)) k)
         put step r e d f =
             subst (λ (o : Outcome). Fits (then_in lift (enter (asked_of (member_settings s i)) h slot round core) rest) o) (sym d)
             (subst (λ (t : CoreStep). Fits (then_in lift t rest) r) (sym e) f)
@@ -187,12 +186,12 @@ module _ (ans : Answers) (s : Settings) (i : ℕ) (no-swift : is_swift_paxos s.m
             → (is_older slot round core ≡ true) ⊎ (is_older slot round core ≡ false)
             → (contains s.alive_replicas h.src ≡ true) ⊎ (contains s.alive_replicas h.src ≡ false)
             → Fits (then_in lift (enter (asked_of (member_settings s i)) h slot round core) rest)
-            (model.enter (setup_of s) i (view_of ans core) h.src slot (round_number (Round round)) k)
+            (model.enter (setup_of s) i (view_of ans core) h.src slot (round_number (Some round)) k)
         go (inr e) o v = put (stays core no_messages) (quiet (view_of ans core)) (enter_client e) (model_client k e) (lifted (stays core no_messages) (quiet (view_of ans core)) (record { seen_as = refl }))
         go (inl e) (inl o) v = put (stays core no_messages) (quiet (view_of ans core)) (enter_older e o) (model_older k e ok l o) (lifted (stays core no_messages) (quiet (view_of ans core)) (record { seen_as = refl }))
         go (inl e) (inr o) (inr v) =
-            put (refuses SourceNotLive core) (model.enter (setup_of s) i (view_of ans core) h.src slot (round_number (Round round)) k) (enter_not_live e o (live ∙ v)) refl
-            (lifted (refuses SourceNotLive core) (model.enter (setup_of s) i (view_of ans core) h.src slot (round_number (Round round)) k) (record { seen_as = tt }))
+            put (refuses SourceNotLive core) (model.enter (setup_of s) i (view_of ans core) h.src slot (round_number (Some round)) k) (enter_not_live e o (live ∙ v)) refl
+            (lifted (refuses SourceNotLive core) (model.enter (setup_of s) i (view_of ans core) h.src slot (round_number (Some round)) k) (record { seen_as = tt }))
         go (inl e) (inr o) (inl v) =
             put (continues (in_round round core) no_messages) (k (view_of ans (in_round round core))) (enter_live e o (live ∙ v)) (model_live k e ok l o (not_older le o).0 v)
             (go_on e (not_older le o).0 (not_older le o).1)

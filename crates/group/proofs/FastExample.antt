@@ -2,6 +2,7 @@
 -- where 0 and 1 propose 20 and 21 and their scores tie, member 1 adopts a value and commits it on the slow path. By our choice this is 20, and by
 -- one that prefers member 1 it is 21.
 -- Assumes nothing.
+use Rattle.std.specs.Prelude.{None, Some}
 use mathlib.Core.Path.{◌≡◌, refl}
 use mathlib.Core.Bool.{true, false}
 use mathlib.Core.List.{List, [], ◌∷◌}
@@ -11,7 +12,6 @@ use lib.Dec.{lit<}
 use Rattle.sets.specs.Sets.{contains, count, size, insert}
 use Rattle.message.specs.Rounds.{increment, round_of, next_leader_round, round_before, round_equal}
 use Rattle.message.specs.declared.ConsensusMsg.TheVariants.{Prepare, Accept, Commit}
-use Rattle.message.specs.declared.OptionalValue.TheVariants.{NoValue, Value}
 use Rattle.message.specs.declared.PFMode.TheVariants.{EPaxos}
 use Rattle.message.specs.declared.RoundV.TheVariants.{FastV}
 use Rattle.settings.specs.Settings.{counts_fit, members_fit, committers_fit, mode_fits, within_limits}
@@ -32,7 +32,7 @@ use Rattle.consensus.specs.Answers.{committed}
 use Rattle.consensus.specs.Call.{new_shard, proposing, propose, receive, dispatch, unless_spent, call_with}
 use Rattle.calls.specs.Asked.{gatherer_in}
 use Rattle.consensus.specs.Handle.{on_commit, processed, process_message, handle}
-use Rattle.delivery.specs.Limits.{round_numbers, rv_numbers, msg_numbers, value_numbers, process_numbers, numbers_fit, rv_processes, msg_processes, requester_below, processes_fit}
+use Rattle.delivery.specs.Limits.{round_numbers, rv_numbers, msg_numbers, number_given, numbers_fit, rv_processes, msg_processes, requester_below, processes_fit}
 use Rattle.agreement.proofs.Tests.{neqb→ne}
 use Rattle.group.specs.Claim.{Choices, ours, MemberCall, entries_from, entries_with, entries, LegalFrom, LegalWith, Claim}
 use Rattle.group.proofs.Agreement.{agreement, agreement_ties}
@@ -44,16 +44,16 @@ use Rattle.group.proofs.Example.{three, proposes, hears, commits_of, none, commi
 abbrev calls : ℕ → List MemberCall
 calls adopts =
     proposes 0 10
-    ∷ hears 1 0 NoValue (Prepare 0 (round_of 0 0) (FastV 0 10))
-    ∷ hears 0 1 NoValue (Prepare 0 (round_of 0 0) (FastV 0 10))
-    ∷ hears 1 0 NoValue (Commit 0 10)
-    ∷ hears 2 0 NoValue (Commit 0 10)
+    ∷ hears 1 0 None (Prepare 0 (round_of 0 0) (FastV 0 10))
+    ∷ hears 0 1 None (Prepare 0 (round_of 0 0) (FastV 0 10))
+    ∷ hears 1 0 None (Commit 0 10)
+    ∷ hears 2 0 None (Commit 0 10)
     ∷ proposes 0 20
     ∷ proposes 1 21
-    ∷ hears 0 1 (Value 10) (Prepare 1 (round_of 0 1) (FastV 1 21))
-    ∷ hears 1 0 (Value 10) (Prepare 1 (round_of 0 1) (FastV 0 20))
-    ∷ hears 2 1 (Value 10) (Accept 1 (round_of 0 1) adopts)
-    ∷ hears 1 2 (Value 10) (Accept 1 (round_of 0 1) adopts)
+    ∷ hears 0 1 (Some 10) (Prepare 1 (round_of 0 1) (FastV 1 21))
+    ∷ hears 1 0 (Some 10) (Prepare 1 (round_of 0 1) (FastV 0 20))
+    ∷ hears 2 1 (Some 10) (Accept 1 (round_of 0 1) adopts)
+    ∷ hears 1 2 (Some 10) (Accept 1 (round_of 0 1) adopts)
     ∷ []
 
 -- member 1 adopts its own value
@@ -68,7 +68,7 @@ pub record FastShown (choices : Choices) (adopts : ℕ) : Type 0 where
       ∷ commits 2 0 10 true ∷ commits 1 0 10 true ∷ commits 0 0 10 true ∷ none 1 ∷ none 0 ∷ [])
 
 pub fast_examples_shown : FastShown ours 20 × FastShown prefer_one 21
-unfolding entries_from LegalFrom prefer new_shard call_with unless_spent dispatch propose receive admit numbers_fit processes_fit ready other_last_value value_awaited round_numbers rv_numbers msg_numbers value_numbers process_numbers rv_processes msg_processes requester_below handle on_commit committed process_message processed gatherer_in proposing propose_fast propose_change leads_from_start own_answer epaxos_propose_v is_unanswered may_propose electing propose_prepare process_fast process_change on_fast_prepare in_fast_prepare fast_prepared fast_gather starts_accept waits leads_round fast_promised fast_answered epaxos_answer epaxos_answered preaccepted_after score_after epaxos_decide epaxos_try_adopt adopted value_in score_in better best_below adopting on_fast_accept in_fast_accept replica_accept to_v_after epaxos_scores_after swift_scores_after look_up store enter from_live is_older in_round prepared hold_first preparing answers_nothing answer_prepare becomes_prepared accept_phase broadcast_accept accepting accepted follower answered try_commit commit_messages tells_commit is_committer answer_accept commit_slot paxos_propose_v receive_promise held_after_promise receive_accept accept_fits accept_own self_accept with_sender with_own next_leader_round round_before round_equal increment delegate_in committer_in committer_for within_limits counts_fit members_fit committers_fit mode_fits contains count size insert
+unfolding entries_from LegalFrom prefer new_shard call_with unless_spent dispatch propose receive admit numbers_fit processes_fit ready other_last_value value_awaited round_numbers rv_numbers msg_numbers number_given rv_processes msg_processes requester_below handle on_commit committed process_message processed gatherer_in proposing propose_fast propose_change leads_from_start own_answer epaxos_propose_v is_unanswered may_propose electing propose_prepare process_fast process_change on_fast_prepare in_fast_prepare fast_prepared fast_gather starts_accept waits leads_round fast_promised fast_answered epaxos_answer epaxos_answered preaccepted_after score_after epaxos_decide epaxos_try_adopt adopted value_in score_in better best_below adopting on_fast_accept in_fast_accept replica_accept to_v_after epaxos_scores_after swift_scores_after look_up store enter from_live is_older in_round prepared hold_first preparing answers_nothing answer_prepare becomes_prepared accept_phase broadcast_accept accepting accepted follower answered try_commit commit_messages tells_commit is_committer answer_accept commit_slot paxos_propose_v receive_promise held_after_promise receive_accept accept_fits accept_own self_accept with_sender with_own next_leader_round round_before round_equal increment delegate_in committer_in committer_for within_limits counts_fit members_fit committers_fit mode_fits contains count size insert
 fast_examples_shown = (
   record {
     legal =

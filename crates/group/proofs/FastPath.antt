@@ -1,5 +1,7 @@
 -- A Prepare, an Accept and a proposal in EPaxos are the model's.
 -- Assumes nothing.
+use Rattle.std.specs.Prelude.{Option, None, Some, is_some, Result, Ok, Err}
+use Rattle.std.proofs.Math.Bool.{not-not}
 use mathlib.Core.Path.{◌≡◌, refl, sym, ap, ap₂, subst, ◌∙◌}
 use mathlib.Core.Logic.{◌⊎◌, inl, inr}
 use mathlib.Core.Bool.{Bool, true, false, cond, not, ◌&&◌}
@@ -13,23 +15,19 @@ use Rattle.sets.proofs.Laws.{contains_empty, size_empty}
 use Rattle.tables.specs.Tables.{look_up}
 use Rattle.message.specs.Modes.{is_multi_paxos, is_swift_paxos}
 use Rattle.message.specs.Promises.{value_of, accept_round_of}
-use Rattle.message.specs.Rounds.{is_round}
-use Rattle.message.specs.declared.OptionalRound.{OptionalRound}
-use Rattle.message.specs.declared.OptionalRound.TheVariants.{NoRound, Round}
 use Rattle.message.specs.declared.PaxosRound.{PaxosRound}
+use Rattle.message.specs.declared.Refusal.{Refusal}
 use Rattle.message.specs.declared.Refusal.TheVariants.{Panic, ProposalNotAllowed}
 use Rattle.message.specs.declared.RoundV.{RoundV}
 use Rattle.message.specs.declared.RoundV.TheVariants.{FastV}
-use Rattle.round_state.specs.Paxos.{get_last_accepted_round, is_held, receive_promise}
+use Rattle.round_state.specs.Paxos.{get_last_accepted_round, receive_promise}
 use Rattle.settings.specs.Questions.{delegate_of, committer_of}
 use Rattle.settings.specs.declared.Settings.{Settings}
 use Rattle.fast_state.specs.Adopt.{Choice}
-use Rattle.fast_state.specs.Fast as fast_half
 use Rattle.fast_state.specs.Fast.{answers_of, unchanged, changed, is_unanswered, second_answer, epaxos_counted, epaxos_answered, epaxos_propose_v, swift_propose_v}
 use Rattle.fast_state.specs.declared.FastAnswers.{FastAnswers}
 use Rattle.fast_state.specs.declared.FastChange.{FastChange}
 use Rattle.fast_state.specs.declared.FastState.{FastState}
-use Rattle.fast_state.specs.declared.FastStep.{FastStep}
 use Rattle.accept.specs.Accept.{accepting}
 use Rattle.enter.specs.Enter.{in_round}
 use Rattle.epaxos_path.specs.EPaxos.{epaxos_answer}
@@ -50,17 +48,13 @@ use Rattle.group.proofs.View.{round_number, LeaderFits, process_number, proposer
 use Rattle.group.proofs.Entering.{in_round_leaders, in_round_round, enter_follows}
 use Rattle.group.proofs.Preparing.{asked_by, follows_both, promise_view, gather_follows, in_prepare_follows}
 use Rattle.group.proofs.Accepting.{ends, on_accept_follows}
-use Rattle.group.proofs.Proposing.{Allowed, allowed, promised, prepare_step, promised_view, may_model, round, first_own}
+use Rattle.group.proofs.Proposing.{Allowed, allowed, promised, prepare_step, promised_view, may_model, first_own}
 use Rattle.group.proofs.Answering.{FastFits, counted_answers, FollowsChange, lifted, refuses_follows, host_for, ProposerFits, answer_follows}
 
 -- a round is none exactly where its number is 0
-round_number_lem : (r : OptionalRound) → is_round r ≡ not (eqb (round_number r) 0)
-round_number_lem NoRound = refl
-round_number_lem (Round r) = ap not (sym (eqb-suc-zero (r.round_group * 64 + r.leader)))
-
-not_not : (t : Bool) → not (not t) ≡ t
-not_not true = refl
-not_not false = refl
+round_number_lem : (r : Option PaxosRound) → is_some r ≡ not (eqb (round_number r) 0)
+round_number_lem None = refl
+round_number_lem (Some r) = ap not (sym (eqb-suc-zero (r.round_group * 64 + r.leader)))
 
 -- what the delegate makes of a promise: by whether it completes a majority behind an accepted value, and whether a value was accepted
 module _ (choose : Choice) (a : Asked) (h : Heard) (round : PaxosRound) (rv : RoundV) where
@@ -108,7 +102,7 @@ module _ (choose : Choice) (picks_best : PicksBest choose) (s : Settings) (i : �
 
   module _ (h : Heard) (src-small : h.src < 64) (round : PaxosRound) (below : round.leader < 64) where
     module _ (alive : contains s.alive_replicas i ≡ true) (rv : RoundV) (fits : LeaderFits (accept_round_of rv)) (proposer-fits : ProposerFits rv) (x0 : View)
-        (core : Core) (leaders : Leaders core) (at : core.paxos.round ≡ Round round) (held : is_held core.paxos.max_rv ≡ true) where
+        (core : Core) (leaders : Leaders core) (at : core.paxos.round ≡ Some round) (held : is_some core.paxos.max_rv ≡ true) where
       abbrev host : Host
       host = host_for choose s i h.src fast rv
 
@@ -139,7 +133,7 @@ module _ (choose : Choice) (picks_best : PicksBest choose) (s : Settings) (i : �
       counted_view = view_of (answers_in fast) promised_core
 
       held_number : eqb counted_view.held_round 0 ≡ not (has_accepted promised_core)
-      held_number = sym (ap not (round_number_lem (get_last_accepted_round promised_core.paxos.max_rv)) ∙ not_not _)
+      held_number = sym (ap not (round_number_lem (get_last_accepted_round promised_core.paxos.max_rv)) ∙ not-not _)
 
       model_slow : has_accepted promised_core ≡ true → (c v : ℕ) (old : View)
           → model.gathers (setup_of s) i h.src c v host x0 old counted_view ≡ model.picks (setup_of s) i x0 old counted_view
@@ -187,7 +181,7 @@ module _ (choose : Choice) (picks_best : PicksBest choose) (s : Settings) (i : �
         ap (λ (t : Bool). then_in lift (cond t (prepared (asked_by s i) h round rv core) (continues core no_messages)) (λ c. fast_gather choose (asked_by s i) h round rv c (answers_of fast) values scores swifts)) alive
 
     in_fast_prepare_follows : contains s.alive_replicas i ≡ true → (rv : RoundV) → LeaderFits (accept_round_of rv) → ProposerFits rv → h.delegate ≡ delegate_of s s.mode round.leader → (x0 : View)
-        → (core : Core) → Leaders core → core.paxos.round ≡ Round round
+        → (core : Core) → Leaders core → core.paxos.round ≡ Some round
         → FollowsChange (setup_of s) fast (in_fast_prepare choose (asked_by s i) h round rv core (answers_of fast) values scores swifts)
         (model.promised (setup_of s) i h.src (round_number (accept_round_of rv)) (proposer_of rv) (value_of rv) (host_for choose s i h.src fast rv) x0
         (cond (view_of (answers_in fast) core).holds (view_of (answers_in fast) core) (prepared_by i (adopted (round_number (accept_round_of rv)) (proposer_of rv) (value_of rv) (view_of (answers_in fast) core)))))
@@ -206,7 +200,7 @@ module _ (choose : Choice) (picks_best : PicksBest choose) (s : Settings) (i : �
     pub fast_prepare_follows : (slot : ℕ) (rv : RoundV) → LeaderFits (accept_round_of rv) → ProposerFits rv
         → h.source_live ≡ contains s.alive_replicas h.src → h.delegate ≡ delegate_of s s.mode round.leader → (core : Core) → Leaders core → slot ≤ core.slot
         → FollowsChange (setup_of s) fast (on_fast_prepare choose (asked_by s i) h slot round rv core (answers_of fast) values scores swifts)
-        (model.on_prepare (setup_of s) i (view_of (answers_in fast) core) h.src slot (round_number (Round round)) (round_number (accept_round_of rv)) (proposer_of rv) (value_of rv) (host_for choose s i h.src fast rv))
+        (model.on_prepare (setup_of s) i (view_of (answers_in fast) core) h.src slot (round_number (Some round)) (round_number (accept_round_of rv)) (proposer_of rv) (value_of rv) (host_for choose s i h.src fast rv))
     unfolding on_fast_prepare model.on_prepare
     fast_prepare_follows slot rv fits proposer-fits live d core leaders le =
         enter_follows (answers_in fast) s i no-swift core h slot round ChangeStep lift (FollowsChange (setup_of s) fast) (lifted (setup_of s) fast) leaders below live le
@@ -226,7 +220,7 @@ module _ (choose : Choice) (picks_best : PicksBest choose) (s : Settings) (i : �
     pub fast_accept_follows : (slot v : ℕ) → h.source_live ≡ contains s.alive_replicas h.src → h.delegate ≡ delegate_of s s.mode round.leader
         → h.committer ≡ committer_of s h.requester → (core : Core) → Leaders core → slot ≤ core.slot
         → FollowsChange (setup_of s) fast (on_fast_accept (asked_by s i) h slot round v core (answers_of fast) swifts)
-        (model.on_accept (setup_of s) i (view_of (answers_in fast) core) h.src slot (round_number (Round round)) v (record { allows = true; requester = process_number h.requester; adoptee = 0 }))
+        (model.on_accept (setup_of s) i (view_of (answers_in fast) core) h.src slot (round_number (Some round)) v (record { allows = true; requester = process_number h.requester; adoptee = 0 }))
     unfolding on_fast_accept
     fast_accept_follows slot v live d c core leaders le =
         on_accept_follows (answers_in fast) s i no-swift small h src-small slot round below v live d c ChangeStep lift (FollowsChange (setup_of s) fast) (lifted (setup_of s) fast)
@@ -240,45 +234,45 @@ module _ (choose : Choice) (picks_best : PicksBest choose) (s : Settings) (i : �
   -- ---- a proposal
 
   module _ (first_small : s.first_leader < 64) (v : ℕ) (core : Core) (leaders : Leaders core) (single : is_multi_paxos s.mode ≡ false) where
-    abbrev pub own_answer_lem : FastStep
+    abbrev pub own_answer_lem : Result FastChange Refusal
     own_answer_lem = own_answer (asked_by s i) v (answers_of fast) scores swifts
 
     abbrev counts_own : FastChange
     counts_own = epaxos_counted (asked_by s i).member i i v (answers_of fast) scores
 
     -- the own answer is the first, or is refused
-    own_first : is_unanswered (answers_of fast) ≡ true → eqb (look_up scores i) 2 ≡ true → own_answer_lem ≡ fast_half.taken counts_own
+    own_first : is_unanswered (answers_of fast) ≡ true → eqb (look_up scores i) 2 ≡ true → own_answer_lem ≡ Ok counts_own
     unfolding own_answer epaxos_propose_v epaxos_answered
-    own_first e d = ap (λ (t : Bool). cond t (swift_own_lem) (cond (is_unanswered (answers_of fast) && eqb (look_up scores i) 2) first_own_step (fast_half.refused Panic (answers_of fast)))) no-swift
-        ∙ ap₂ (λ (t u : Bool). cond (t && u) first_own_step (fast_half.refused Panic (answers_of fast))) e d
-        ∙ ap (λ (t : Bool). cond t (second_answer (asked_by s i).member i (answers_of fast)) (fast_half.taken counts_own)) nobody
+    own_first e d = ap (λ (t : Bool). cond t (swift_own_lem) (cond (is_unanswered (answers_of fast) && eqb (look_up scores i) 2) first_own_step (Err Panic))) no-swift
+        ∙ ap₂ (λ (t u : Bool). cond (t && u) first_own_step (Err Panic)) e d
+        ∙ ap (λ (t : Bool). cond t (second_answer (asked_by s i).member i (answers_of fast)) (Ok counts_own)) nobody
       where
-        swift_own_lem : FastStep
+        swift_own_lem : Result FastChange Refusal
         swift_own_lem = swift_propose_v (asked_by s i).member v (asked_by s i).quorum false (answers_of fast) swifts
 
-        first_own_step : FastStep
-        first_own_step = cond (contains fast.fast_answer_set i) (second_answer (asked_by s i).member i (answers_of fast)) (fast_half.taken counts_own)
+        first_own_step : Result FastChange Refusal
+        first_own_step = cond (contains fast.fast_answer_set i) (second_answer (asked_by s i).member i (answers_of fast)) (Ok counts_own)
 
         nobody : contains fast.fast_answer_set i ≡ false
         nobody = ap (λ (n : ℕ). contains n i) (empty_set fast e) ∙ contains_empty i
 
-    own_refused : (is_unanswered (answers_of fast) && eqb (look_up scores i) 2) ≡ false → own_answer_lem ≡ fast_half.refused Panic (answers_of fast)
+    own_refused : (is_unanswered (answers_of fast) && eqb (look_up scores i) 2) ≡ false → own_answer_lem ≡ Err Panic
     unfolding own_answer epaxos_propose_v
     own_refused e =
         ap (λ (t : Bool). cond t (swift_propose_v (asked_by s i).member v (asked_by s i).quorum false (answers_of fast) swifts)
-        (cond (is_unanswered (answers_of fast) && eqb (look_up scores i) 2) (epaxos_answered (asked_by s i).member i i v (answers_of fast) scores) (fast_half.refused Panic (answers_of fast)))) no-swift
-        ∙ ap (λ (t : Bool). cond t (epaxos_answered (asked_by s i).member i i v (answers_of fast) scores) (fast_half.refused Panic (answers_of fast))) e
+        (cond (is_unanswered (answers_of fast) && eqb (look_up scores i) 2) (epaxos_answered (asked_by s i).member i i v (answers_of fast) scores) (Err Panic))) no-swift
+        ∙ ap (λ (t : Bool). cond t (epaxos_answered (asked_by s i).member i i v (answers_of fast) scores) (Err Panic)) e
 
     -- the steps of a proposal
     change_allowed : may_propose (asked_by s i) core ≡ true
-        → propose_change (asked_by s i) v core (answers_of fast) scores swifts ≡ after_own_answer (asked_by s i) (proposal_round (asked_by s i) core) v core own_answer_lem.change own_answer_lem.outcome
+        → propose_change (asked_by s i) v core (answers_of fast) scores swifts ≡ after_own_answer (asked_by s i) (proposal_round (asked_by s i) core) v core (answers_of fast) own_answer_lem
     unfolding propose_change leads_from_start
     change_allowed e =
         ap₂
         (λ (t u : Bool).
         cond t
         (cond (u && eqb (electing (asked_by s i)) i) (with_change (unchanged (answers_of fast)) (propose_accept (asked_by s i) (proposal_round (asked_by s i) core) v core))
-        (after_own_answer (asked_by s i) (proposal_round (asked_by s i) core) v core own_answer_lem.change own_answer_lem.outcome))
+        (after_own_answer (asked_by s i) (proposal_round (asked_by s i) core) v core (answers_of fast) own_answer_lem))
         (with_change (unchanged (answers_of fast)) (not_allowed core)))
         e
         no-swift
@@ -290,13 +284,13 @@ module _ (choose : Choice) (picks_best : PicksBest choose) (s : Settings) (i : �
         (λ (t : Bool).
         cond t
         (cond (leads_from_start (asked_by s i)) (with_change (unchanged (answers_of fast)) (propose_accept (asked_by s i) (proposal_round (asked_by s i) core) v core))
-        (after_own_answer (asked_by s i) (proposal_round (asked_by s i) core) v core own_answer_lem.change own_answer_lem.outcome))
+        (after_own_answer (asked_by s i) (proposal_round (asked_by s i) core) v core (answers_of fast) own_answer_lem))
         (with_change (unchanged (answers_of fast)) (not_allowed core)))
         e
 
-    after_step_lem : (step : FastStep) → own_answer_lem ≡ step → may_propose (asked_by s i) core ≡ true
-        → propose_change (asked_by s i) v core (answers_of fast) scores swifts ≡ after_own_answer (asked_by s i) (proposal_round (asked_by s i) core) v core step.change step.outcome
-    after_step_lem step e may = change_allowed may ∙ ap (λ (t : FastStep). after_own_answer (asked_by s i) (proposal_round (asked_by s i) core) v core t.change t.outcome) e
+    after_step_lem : (step : Result FastChange Refusal) → own_answer_lem ≡ step → may_propose (asked_by s i) core ≡ true
+        → propose_change (asked_by s i) v core (answers_of fast) scores swifts ≡ after_own_answer (asked_by s i) (proposal_round (asked_by s i) core) v core (answers_of fast) step
+    after_step_lem step e may = change_allowed may ∙ ap (after_own_answer (asked_by s i) (proposal_round (asked_by s i) core) v core (answers_of fast)) e
 
     -- the model's proposal
     abbrev view : View
@@ -317,13 +311,13 @@ module _ (choose : Choice) (picks_best : PicksBest choose) (s : Settings) (i : �
         let may = allowed (answers_in fast) s i no-swift small first_small v core leaders m in
         let r : PaxosRound = proposal_round (asked_by s i) core in
         subst (λ (t : ChangeStep). FollowsChange (setup_of s) fast t (model.on_propose (setup_of s) i view v))
-        (sym (after_step_lem (fast_half.taken counts_own) (own_first e d) m))
+        (sym (after_step_lem (Ok counts_own) (own_first e d) m))
         (record {
           follows =
               follows_both (prepare_step (answers_in fast) s i no-swift small first_small v core leaders may r (FastV i v)) (model_fast_proposal may e)
               (record {
                 seen_as =
-                    ap (λ (x : View). say (with_answers (answers_in (changed counts_own fast)) x) (record { destination = model.all; message = model.prepare core.slot (round_number (Round r)) 0 (suc i) v } ∷ []))
+                    ap (λ (x : View). say (with_answers (answers_in (changed counts_own fast)) x) (record { destination = model.all; message = model.prepare core.slot (round_number (Some r)) 0 (suc i) v } ∷ []))
                     (promised_view (answers_in fast) s i no-swift small first_small v core leaders may r (FastV i v))
                     ∙ ap₂
                     (λ (n : ℕ) (a : Answers).
@@ -343,6 +337,6 @@ module _ (choose : Choice) (picks_best : PicksBest choose) (s : Settings) (i : �
             subst (λ (t : ChangeStep). FollowsChange (setup_of s) fast t (model.on_propose (setup_of s) i view v)) (sym (change_refused m))
             (refuses_follows (setup_of s) fast (unchanged (answers_of fast)) ProposalNotAllowed core (model.on_propose (setup_of s) i view v))
         go (inl m) (inr e) =
-            subst (λ (t : ChangeStep). FollowsChange (setup_of s) fast t (model.on_propose (setup_of s) i view v)) (sym (after_step_lem (fast_half.refused Panic (answers_of fast)) (own_refused e) m))
+            subst (λ (t : ChangeStep). FollowsChange (setup_of s) fast t (model.on_propose (setup_of s) i view v)) (sym (after_step_lem (Err Panic) (own_refused e) m))
             (refuses_follows (setup_of s) fast (unchanged (answers_of fast)) ProposalNotAllowed core (model.on_propose (setup_of s) i view v))
         go (inl m) (inl e) = follows_proposal m (and_left (is_unanswered (answers_of fast)) (eqb (look_up scores i) 2) e) (and_right (is_unanswered (answers_of fast)) (eqb (look_up scores i) 2) e)

@@ -1,6 +1,8 @@
 -- In a group of one no legal list of calls commits, in any mode: proposals and new reads send to all others and commit nothing, and so no
 -- message comes back.
 -- Assumes nothing.
+use Rattle.std.specs.Prelude.{Option, None}
+use Rattle.message.specs.declared.RoundV.{RoundV}
 use mathlib.Core.Path.{◌≡◌, refl, sym, subst, ◌∙◌}
 use mathlib.Core.Logic.{inl, inr}
 use mathlib.Core.Bool.{true}
@@ -24,12 +26,10 @@ use Rattle.consensus.specs.Answers.{finish_at, finish}
 use Rattle.consensus.specs.Call.{proposing, call_of}
 use Rattle.calls.specs.Asked.{asked_of}
 use Rattle.calls.specs.declared.Call.{Call}
-use Rattle.calls.specs.declared.OptionalCommit.TheVariants.{NoCommit}
 use Rattle.calls.specs.declared.Reply.{Reply}
 use Rattle.consensus.specs.declared.Shard.{Shard}
 use Rattle.basics.specs.Lists.{In}
 use Rattle.group.specs.Claim.{begun, ours, MemberCall, Entry, entry_of, after_call, entries_from, entries, Reaches, SentTo, WasSent, MayStand, LegalFrom, Legal}
-use Rattle.round_state.specs.declared.HeldPromise.{HeldPromise}
 use Rattle.group.proofs.Sending.{ToAll}
 use Rattle.group.proofs.Handlers.{Any, TwoAtMost, each_in, EndsUncommitted, Keeps, proposing_holds, call_holds}
 
@@ -40,7 +40,7 @@ MessageToAll o = ToAll o.destination
 
 -- a call that sends to all others and commits nothing
 abbrev CallToAll : Reply → Type 0
-CallToAll reply = TwoAtMost MessageToAll reply.messages × (reply.commit ≡ NoCommit)
+CallToAll reply = TwoAtMost MessageToAll reply.messages × (reply.commit ≡ None)
 
 -- no message comes, and so nothing is asked of one
 keeps : (a : Asked) → Keeps a Any Any Any (λ round. ⊥) (λ round v. ⊥) Any MessageToAll
@@ -69,7 +69,7 @@ propose_to_all shard v =
     a : Asked
     a = asked_of shard.settings
 
-    go : (s : Rounds) (ms : Messages) (held : HeldPromise) (n : Next) → EndsUncommitted MessageToAll ms held n → CallToAll (finish_at shard a true s ms n).reply
+    go : (s : Rounds) (ms : Messages) (held : Option RoundV) (n : Next) → EndsUncommitted MessageToAll ms held n → CallToAll (finish_at shard a true s ms n).reply
     go s ms held Stays q = (q.0, refl)
     go s ms held Continues q = absurd q
     go s ms held (Commits v) q = absurd q
@@ -126,6 +126,6 @@ run_to_all shards past q (c ∷ cs) l =
     run_to_all (after_call lowest_best shards c) (entry_of lowest_best shards c ∷ past) (z, call_to_all past q (shards c.member) c.member z c.call l.1, q) cs l.2
 
 -- In a group of one no legal list of calls commits.
-pub group_of_one : (s : Settings) → s.process_count ≡ 1 → (cs : List MemberCall) → Legal s cs → (e : Entry) → In e (entries s cs) → e.reply.commit ≡ NoCommit
+pub group_of_one : (s : Settings) → s.process_count ≡ 1 → (cs : List MemberCall) → Legal s cs → (e : Entry) → In e (entries s cs) → e.reply.commit ≡ None
 group_of_one s alone cs legal e h =
     (entry_to_all (entries s cs) (run_to_all (begun s) [] tt cs (subst (λ (n : ℕ). LegalFrom n ours (begun s) [] cs) alone legal)) e h).1.1

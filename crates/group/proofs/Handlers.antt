@@ -2,6 +2,8 @@
 -- message that is met where a handler sends one, hold of what every proposal and every Prepare and Accept leave. Besides, two messages at most are
 -- sent, none where nothing is held (so `held_rv` of nothing is not met: "the Rust unwraps"), and no handler ends with `Continues`.
 -- Assumes nothing.
+use Rattle.std.specs.Prelude.{Option, None, Some, Result, Ok, Err, is_some}
+use Rattle.message.specs.Outcomes.{Outcome}
 use mathlib.Core.Path.{◌≡◌, refl, sym, subst}
 use mathlib.Core.Logic.{◌⊎◌, inl, inr}
 use mathlib.Core.Bool.{Bool, true, false, cond, not, ◌&&◌, ◌||◌}
@@ -15,13 +17,6 @@ use Rattle.message.specs.Promises.{is_process, accept_round_of}
 use Rattle.message.specs.Rounds.{before}
 use Rattle.message.specs.declared.ConsensusMsg.{ConsensusMsg}
 use Rattle.message.specs.declared.ConsensusMsg.TheVariants.{Prepare, Accept, ForwardRequest, Commit, ReadRequest, ReadResponse}
-use Rattle.message.specs.declared.OptionalProcess.{OptionalProcess}
-use Rattle.message.specs.declared.OptionalProcess.TheVariants.{NoProcess, Process}
-use Rattle.message.specs.declared.OptionalRound.TheVariants.{NoRound, Round}
-use Rattle.message.specs.declared.OptionalValue.{OptionalValue}
-use Rattle.message.specs.declared.OptionalValue.TheVariants.{NoValue, Value}
-use Rattle.message.specs.declared.Outcome.{Outcome}
-use Rattle.message.specs.declared.Outcome.TheVariants.{Done, Refused}
 use Rattle.message.specs.declared.PFMode.{PFMode}
 use Rattle.message.specs.declared.PFMode.TheVariants.{Paxos, MultiPaxos, MultiPaxos3P, EPaxos, Pando, SwiftPaxos}
 use Rattle.message.specs.declared.PaxosRound.{PaxosRound}
@@ -30,21 +25,13 @@ use Rattle.message.specs.declared.Refusal.{Refusal}
 use Rattle.message.specs.declared.Refusal.TheVariants.{NumberTooLarge}
 use Rattle.message.specs.declared.RoundV.{RoundV}
 use Rattle.message.specs.declared.RoundV.TheVariants.{FastV, PaxosV}
-use Rattle.round_state.specs.Paxos.{is_held, get_v, held_after_promise, is_prepared, paxos_can_commit, with_held, goto_round, receive_promise, paxos_propose_v, accept_fits, after_accept, receive_accept, accept_own, self_accept, adopt_from_epaxos}
-use Rattle.round_state.specs.declared.HeldPromise.{HeldPromise}
-use Rattle.round_state.specs.declared.HeldPromise.TheVariants.{NothingHeld, Held}
+use Rattle.round_state.specs.Paxos.{get_v, held_after_promise, is_prepared, paxos_can_commit, with_held, goto_round, receive_promise, paxos_propose_v, accept_fits, after_accept, receive_accept, accept_own, self_accept, adopt_from_epaxos}
 use Rattle.round_state.specs.declared.Member.{Member}
 use Rattle.round_state.specs.declared.PaxosState.{PaxosState}
-use Rattle.round_state.specs.declared.PaxosStep.{PaxosStep}
 use Rattle.fast_state.specs.Adopt.{Choice, epaxos_try_adopt_after}
 use Rattle.fast_state.specs.Fast.{answers_of, unchanged, epaxos_answered, epaxos_can_commit, swift_answered}
-use Rattle.fast_state.specs.declared.Adoption.{Adoption}
-use Rattle.fast_state.specs.declared.Adoption.TheVariants.{NoAdoption, Adopt, AdoptionRefused}
 use Rattle.fast_state.specs.declared.FastAnswers.{FastAnswers}
 use Rattle.fast_state.specs.declared.FastChange.{FastChange}
-use Rattle.fast_state.specs.declared.FastStep.{FastStep}
-use Rattle.read_tracker.specs.declared.Opened.{Opened}
-use Rattle.read_tracker.specs.declared.Opened.TheVariants.{Refused as NotOpened, Id}
 use Rattle.accept.specs.Accept.{tells_committer, is_committer, accept_to, committer_hears, answer_accept, commit_message, tells_commit, commit_messages, try_commit, answered, follower, accepted, after_accepted, accepting}
 use Rattle.enter.specs.Enter.{can_propose, source_taken, in_round, is_older, from_live, enter}
 use Rattle.epaxos_path.specs.EPaxos.{requester_of, adopting, epaxos_adopt, epaxos_decide, after_epaxos_answer, epaxos_answer}
@@ -61,12 +48,10 @@ use Rattle.steps.specs.declared.Heard.{Heard}
 use Rattle.steps.specs.declared.Messages.{Messages}
 use Rattle.steps.specs.declared.Next.{Next}
 use Rattle.steps.specs.declared.Next.TheVariants.{Stays, Continues, Commits, Refuses}
-use Rattle.steps.specs.declared.OptionalMessage.{OptionalMessage}
-use Rattle.steps.specs.declared.OptionalMessage.TheVariants.{NoMessage, Send}
 use Rattle.steps.specs.declared.Outgoing.{Outgoing}
 use Rattle.steps.specs.declared.Rounds.{Rounds}
 use Rattle.steps.specs.declared.RoundsStep.{RoundsStep}
-use Rattle.swift_path.specs.Swift.{swift_commits, after_swift_answer, swift_answer, swift_client_prepare, after_client_accept, client_accept, leader_answered, from_leader, accept_answered, after_accept_answer, swift_accept, swift_client_accept, after_replica_answer, swift_answered_accept}
+use Rattle.swift_path.specs.Swift.{swift_commits, after_step, after_swift_answer, swift_answer, swift_client_prepare, after_client_accept, client_accept, leader_answered, from_leader, accept_answered, after_accept_answer, swift_accept, swift_client_accept, after_replica_answer, swift_answered_accept}
 use Rattle.delivery.specs.Admit.{admit}
 use Rattle.delivery.specs.Limits.{is_number, is_slot}
 use Rattle.delivery.specs.declared.Delivery.{Delivery}
@@ -81,6 +66,7 @@ use Rattle.consensus.specs.declared.Shard.{Shard}
 use Rattle.basics.specs.Lists.{In}
 use Rattle.agreement.proofs.Tests.{by_test, and_both, neqb→ne}
 use Rattle.group.specs.Claim.{listed, messages_of}
+use Rattle.group.proofs.Changes.{change_left}
 
 -- nothing is asked
 abbrev pub Any : {A : Type 0} → A → Type 0
@@ -88,34 +74,34 @@ Any x = Unit {0}
 
 -- ---- what is held
 
-abbrev pub Holds : HeldPromise → Type 0
-Holds NothingHeld = ⊥
-Holds (Held rv) = Unit {0}
+abbrev pub Holds : Option RoundV → Type 0
+Holds None = ⊥
+Holds (Some rv) = Unit {0}
 
-holds_of : (held : HeldPromise) → T (is_held held) → Holds held
-holds_of NothingHeld t = t
-holds_of (Held rv) t = tt
+holds_of : (held : Option RoundV) → T (is_some held) → Holds held
+holds_of None t = t
+holds_of (Some rv) t = tt
 
-pub promise_held : (held : HeldPromise) (rv : RoundV) → Holds (held_after_promise held rv)
+pub promise_held : (held : Option RoundV) (rv : RoundV) → Holds (held_after_promise held rv)
 unfolding held_after_promise
-promise_held NothingHeld rv = tt
-promise_held (Held old) rv = of-both Holds (before (accept_round_of old) (accept_round_of rv)) tt tt
+promise_held None rv = tt
+promise_held (Some old) rv = of-both Holds (before (accept_round_of old) (accept_round_of rv)) tt tt
 
 -- ---- what is sent: two messages at most, each with the property
 
 module _ (O : Outgoing → Type 0) where
-  abbrev EachOf : OptionalMessage → Type 0
-  EachOf NoMessage = Unit {0}
-  EachOf (Send o) = O o
+  abbrev EachOf : Option Outgoing → Type 0
+  EachOf None = Unit {0}
+  EachOf (Some o) = O o
 
-  abbrev UpToOne : OptionalMessage → OptionalMessage → OptionalMessage → Type 0
-  UpToOne x NoMessage NoMessage = EachOf x
-  UpToOne x NoMessage (Send o) = ⊥
-  UpToOne x (Send o) z = ⊥
+  abbrev UpToOne : Option Outgoing → Option Outgoing → Option Outgoing → Type 0
+  UpToOne x None None = EachOf x
+  UpToOne x None (Some o) = ⊥
+  UpToOne x (Some o) z = ⊥
 
-  abbrev pub UpToTwo : OptionalMessage → OptionalMessage → OptionalMessage → Type 0
-  UpToTwo x y NoMessage = EachOf x × EachOf y
-  UpToTwo x y (Send o) = ⊥
+  abbrev pub UpToTwo : Option Outgoing → Option Outgoing → Option Outgoing → Type 0
+  UpToTwo x y None = EachOf x × EachOf y
+  UpToTwo x y (Some o) = ⊥
 
   abbrev OneAtMost : Messages → Type 0
   OneAtMost ms = UpToOne ms.first ms.second ms.third
@@ -126,19 +112,19 @@ module _ (O : Outgoing → Type 0) where
   two_of_one : (ms : Messages) → OneAtMost ms → TwoAtMost ms
   two_of_one ms u = go ms.second ms.third u
     where
-      go : (y z : OptionalMessage) → UpToOne ms.first y z → UpToTwo ms.first y z
-      go NoMessage NoMessage u = (u, tt)
-      go NoMessage (Send o) u = absurd u
-      go (Send o) z u = absurd u
+      go : (y z : Option Outgoing) → UpToOne ms.first y z → UpToTwo ms.first y z
+      go None None u = (u, tt)
+      go None (Some o) u = absurd u
+      go (Some o) z u = absurd u
 
   also_sends : (ms : Messages) (m : Outgoing) → OneAtMost ms → O m → TwoAtMost (also ms m)
   also_sends ms m u w = go ms.first ms.second ms.third u
     where
-      go : (x y z : OptionalMessage) → UpToOne x y z → TwoAtMost (also_at x y z m)
-      go NoMessage NoMessage NoMessage u = (w, tt)
-      go (Send o) NoMessage NoMessage u = (u, w)
-      go x NoMessage (Send o) u = absurd u
-      go x (Send o) z u = absurd u
+      go : (x y z : Option Outgoing) → UpToOne x y z → TwoAtMost (also_at x y z m)
+      go None None None u = (w, tt)
+      go (Some o) None None u = (u, w)
+      go x None (Some o) u = absurd u
+      go x (Some o) z u = absurd u
 
   pub each_in : (ms : Messages) (o : Outgoing) → TwoAtMost ms → In o (messages_of ms) → O o
   each_in ms o u h = go ms.first ms.second ms.third u h
@@ -146,46 +132,46 @@ module _ (O : Outgoing → Type 0) where
       same : (x : Outgoing) → O x → o ≡ x → O o
       same x w e = subst O (sym e) w
 
-      go : (x y z : OptionalMessage) → UpToTwo x y z → In o (listed x (listed y (listed z []))) → O o
-      go NoMessage NoMessage NoMessage u h = absurd h
-      go NoMessage (Send y) NoMessage u (inl e) = same y u.1 e
-      go NoMessage (Send y) NoMessage u (inr h) = absurd h
-      go (Send x) NoMessage NoMessage u (inl e) = same x u.0 e
-      go (Send x) NoMessage NoMessage u (inr h) = absurd h
-      go (Send x) (Send y) NoMessage u (inl e) = same x u.0 e
-      go (Send x) (Send y) NoMessage u (inr (inl e)) = same y u.1 e
-      go (Send x) (Send y) NoMessage u (inr (inr h)) = absurd h
-      go x y (Send z) u h = absurd u
+      go : (x y z : Option Outgoing) → UpToTwo x y z → In o (listed x (listed y (listed z []))) → O o
+      go None None None u h = absurd h
+      go None (Some y) None u (inl e) = same y u.1 e
+      go None (Some y) None u (inr h) = absurd h
+      go (Some x) None None u (inl e) = same x u.0 e
+      go (Some x) None None u (inr h) = absurd h
+      go (Some x) (Some y) None u (inl e) = same x u.0 e
+      go (Some x) (Some y) None u (inr (inl e)) = same y u.1 e
+      go (Some x) (Some y) None u (inr (inr h)) = absurd h
+      go x y (Some z) u h = absurd u
 
   -- none is sent, or something is held
-  abbrev pub Sends : Messages → HeldPromise → Type 0
+  abbrev pub Sends : Messages → Option RoundV → Type 0
   Sends ms held = TwoAtMost ms × ((ms ≡ no_messages) ⊎ Holds held)
 
   -- the end of a step that may go on, where the condition holds; what is refused sends nothing
-  abbrev EndsOr : (Messages → HeldPromise → Type 0) → Messages → HeldPromise → Next → Type 0
+  abbrev EndsOr : (Messages → Option RoundV → Type 0) → Messages → Option RoundV → Next → Type 0
   EndsOr If ms held Stays = Sends ms held
   EndsOr If ms held Continues = If ms held
   EndsOr If ms held (Commits v) = Sends ms held
   EndsOr If ms held (Refuses why) = Unit {0}
 
-  abbrev Never : Messages → HeldPromise → Type 0
+  abbrev Never : Messages → Option RoundV → Type 0
   Never ms held = ⊥
 
-  abbrev Always : Messages → HeldPromise → Type 0
+  abbrev Always : Messages → Option RoundV → Type 0
   Always ms held = Unit {0}
 
   -- a step that is over
-  abbrev pub Ends : Messages → HeldPromise → Next → Type 0
+  abbrev pub Ends : Messages → Option RoundV → Next → Type 0
   Ends = EndsOr Never
 
   -- and commits nothing
-  abbrev pub EndsUncommitted : Messages → HeldPromise → Next → Type 0
+  abbrev pub EndsUncommitted : Messages → Option RoundV → Next → Type 0
   EndsUncommitted ms held Stays = Sends ms held
   EndsUncommitted ms held Continues = ⊥
   EndsUncommitted ms held (Commits v) = ⊥
   EndsUncommitted ms held (Refuses why) = Unit {0}
 
-  pub ends : (ms : Messages) (held : HeldPromise) (n : Next) → EndsUncommitted ms held n → Ends ms held n
+  pub ends : (ms : Messages) (held : Option RoundV) (n : Next) → EndsUncommitted ms held n → Ends ms held n
   ends ms held Stays q = q
   ends ms held Continues q = q
   ends ms held (Commits v) q = absurd q
@@ -212,27 +198,27 @@ module _ (a : Asked) (Source : ℕ → Type 0) (Enters : PaxosRound → Type 0) 
   pub record Keeps : Type 0 where
     pub own_source : Source own
     pub own_fast : (v : ℕ) → Promise (FastV own v)
-    pub enters : (round : PaxosRound) (core : Core) → Enters round → K core → K (with_paxos (goto_round (Round round) core.paxos) core)
-    pub promises : (src : ℕ) (rv : RoundV) (core : Core) → Source src → Promise rv → K core → K (with_paxos (receive_promise me src rv core.paxos).state core)
+    pub enters : (round : PaxosRound) (core : Core) → Enters round → K core → K (with_paxos (goto_round (Some round) core.paxos) core)
+    pub promises : (src : ℕ) (rv : RoundV) (core : Core) → Source src → Promise rv → K core → K (with_paxos (receive_promise me src rv core.paxos) core)
     pub accepts : (src : ℕ) (round : PaxosRound) (v : ℕ) (core : Core) → Source src → Enters round → K core → K (with_paxos (after_accept me src round v core.paxos) core)
-    pub adopts : (v : ℕ) (core : Core) → T (not (has_accepted core)) → K core → K (with_paxos (with_held (Held (PaxosV NoRound v)) core.paxos) core)
+    pub adopts : (v : ℕ) (core : Core) → T (not (has_accepted core)) → K core → K (with_paxos (with_held (Some (PaxosV None v)) core.paxos) core)
     pub leaves : (core : Core) → K core → K (left_fast_path core)
     pub prepare_to : (round : PaxosRound) (core : Core) (p : ℕ) → Prepares round → (p ≡ own → ⊥) → O (sends a core (One p) (Prepare core.slot round (held_rv core.paxos.max_rv)))
     pub accept_to_all : (round : PaxosRound) (core : Core) → Prepares round → O (sends a core to_all (Accept core.slot round (held_v core.paxos.max_rv)))
-    pub accept_to_lem : (round : PaxosRound) (v : ℕ) (core : Core) (p : ℕ) → Accepts round v → K core → core.paxos.max_rv ≡ Held (PaxosV (Round round) v) → (p ≡ own → ⊥)
+    pub accept_to_lem : (round : PaxosRound) (v : ℕ) (core : Core) (p : ℕ) → Accepts round v → K core → core.paxos.max_rv ≡ Some (PaxosV (Some round) v) → (p ≡ own → ⊥)
         → O (accept_to a core round p)
-    pub commit_to_all : (core : Core) (requester : OptionalProcess) → O (commit_message a core requester)
+    pub commit_to_all : (core : Core) (requester : Option ℕ) → O (commit_message a core requester)
     pub propose_prepare_lem : (round : PaxosRound) (rv : RoundV) (core : Core) → O (sends a core to_all (Prepare core.slot round rv))
-    pub propose_accept_lem : (v : ℕ) (core : Core) → T (may_propose a core) → Promise (PaxosV NoRound v) → K core → O (sends a core to_all (Accept core.slot (proposal_round a core) v))
+    pub propose_accept_lem : (v : ℕ) (core : Core) → T (may_propose a core) → Promise (PaxosV None v) → K core → O (sends a core to_all (Accept core.slot (proposal_round a core) v))
 
   module _ (keeps : Keeps) where
-    abbrev StepEndsOr : (Messages → HeldPromise → Type 0) → CoreStep → Type 0
+    abbrev StepEndsOr : (Messages → Option RoundV → Type 0) → CoreStep → Type 0
     StepEndsOr If step = K step.core × EndsOr O If step.messages step.core.paxos.max_rv step.next
 
     abbrev pub StepEnds : CoreStep → Type 0
     StepEnds = StepEndsOr (Never O)
 
-    then_ends : (If : Messages → HeldPromise → Type 0) (step : CoreStep) (rest : Core → CoreStep) → StepEndsOr If step
+    then_ends : (If : Messages → Option RoundV → Type 0) (step : CoreStep) (rest : Core → CoreStep) → StepEndsOr If step
         → (If step.messages step.core.paxos.max_rv → StepEnds (rest step.core)) → StepEnds (and_then step rest)
     then_ends If step rest q r = go step.next q.1
       where
@@ -245,23 +231,20 @@ module _ (a : Asked) (Source : ℕ → Type 0) (Enters : PaxosRound → Type 0) 
 
     -- ---- steps of the round state: a state that is taken is held to both
 
-    abbrev TakenBy : (PaxosState → Type 0) → PaxosState → Outcome → Type 0
-    TakenBy Q s Done = Q s
-    TakenBy Q s (Refused why) = Unit {0}
+    abbrev TakenBy : (PaxosState → Type 0) → Result PaxosState Refusal → Type 0
+    TakenBy Q (Ok s) = Q s
+    TakenBy Q (Err why) = Unit {0}
 
-    abbrev Taken : (HeldPromise → Type 0) → Core → PaxosState → Outcome → Type 0
-    Taken H core s o = TakenBy (λ x. K (with_paxos x core) × H x.max_rv) s o
-
-    abbrev After : (HeldPromise → Type 0) → Core → PaxosStep → Type 0
-    After H core step = Taken H core step.state step.outcome
+    abbrev After : (Option RoundV → Type 0) → Core → Result PaxosState Refusal → Type 0
+    After H core step = TakenBy (λ s. K (with_paxos s core) × H s.max_rv) step
 
     propose_after : (rv : RoundV) (core : Core) → Promise rv → K core → After Holds core (paxos_propose_v me rv core.paxos)
     unfolding paxos_propose_v receive_promise
     propose_after rv core p k =
-        of-both (After Holds core) (is_held core.paxos.max_rv) tt
+        of-both (After Holds core) (is_some core.paxos.max_rv) tt
         (of-both (After Holds core) (is_empty core.paxos.prepared_set) (keeps.promises own rv core keeps.own_source p k, promise_held core.paxos.max_rv rv) tt)
 
-    accept_after : (H : HeldPromise → Type 0) (src : ℕ) (round : PaxosRound) (v : ℕ) (core : Core) → H (Held (PaxosV (Round round) v)) → Source src → Enters round → K core
+    accept_after : (H : Option RoundV → Type 0) (src : ℕ) (round : PaxosRound) (v : ℕ) (core : Core) → H (Some (PaxosV (Some round) v)) → Source src → Enters round → K core
         → After H core (receive_accept me src round v core.paxos)
     unfolding receive_accept
     accept_after H src round v core h s e k = of-both (After H core) (accept_fits core.paxos.max_rv round v) (keeps.accepts src round v core s e k, h) tt
@@ -270,30 +253,30 @@ module _ (a : Asked) (Source : ℕ → Type 0) (Enters : PaxosRound → Type 0) 
     unfolding self_accept accept_own
     self_after round core e k = of-both (After Holds core) (is_empty core.paxos.accepted_set) (go (get_v core.paxos.max_rv)) tt
       where
-        go : (v : OptionalValue) → After Holds core (accept_own me round core.paxos v)
-        go NoValue = tt
-        go (Value v) = accept_after Holds own round v core tt keeps.own_source e k
+        go : (v : Option ℕ) → After Holds core (accept_own me round core.paxos v)
+        go None = tt
+        go (Some v) = accept_after Holds own round v core tt keeps.own_source e k
 
     off_keeps : (core : Core) → K core → K (off_fast_path a core)
     off_keeps core k = of-both K (is_swift_paxos a.mode) k (keeps.leaves core k)
 
-    off_holds : (H : HeldPromise → Type 0) (core : Core) → H core.paxos.max_rv → H (off_fast_path a core).paxos.max_rv
+    off_holds : (H : Option RoundV → Type 0) (core : Core) → H core.paxos.max_rv → H (off_fast_path a core).paxos.max_rv
     off_holds H core q = of-both (λ (c : Core). H c.paxos.max_rv) (is_swift_paxos a.mode) q q
 
-    own_accept_ends : (round : PaxosRound) (core : Core) (s : PaxosState) (o : Outcome) → Prepares round → K core → Taken Holds core s o → StepEnds (after_own_accept a round core s o)
+    own_accept_ends : (round : PaxosRound) (core : Core) (step : Result PaxosState Refusal) → Prepares round → K core → After Holds core step → StepEnds (after_own_accept a round core step)
     unfolding broadcast_accept
-    own_accept_ends round core s Done t k q =
+    own_accept_ends round core (Ok s) t k q =
         (off_keeps (with_paxos s core) q.0, ((keeps.accept_to_all round (with_paxos s core) t, tt), inr (off_holds Holds (with_paxos s core) q.1)))
-    own_accept_ends round core s (Refused why) t k q = (k, tt)
+    own_accept_ends round core (Err why) t k q = (k, tt)
 
     phase_ends : (round : PaxosRound) (core : Core) → Prepares round → Enters round → K core → StepEnds (accept_phase a round core)
     unfolding accept_phase
-    phase_ends round core t e k = own_accept_ends round core (self_accept me round core.paxos).state (self_accept me round core.paxos).outcome t k (self_after round core e k)
+    phase_ends round core t e k = own_accept_ends round core (self_accept me round core.paxos) t k (self_after round core e k)
 
     -- ---- messages
 
     module _ (h : Heard) (counts : T (source_taken a h) → Source h.src) where
-      abbrev Entered : ℕ → PaxosRound → Core → Messages → HeldPromise → Type 0
+      abbrev Entered : ℕ → PaxosRound → Core → Messages → Option RoundV → Type 0
       Entered slot round core ms held = T (can_propose a) × T (not (is_older slot round core)) × T (source_taken a h)
 
       enter_ends : (slot : ℕ) (round : PaxosRound) (core : Core) → Enters round → K core → StepEndsOr (Entered slot round core) (enter a h slot round core)
@@ -301,7 +284,7 @@ module _ (a : Asked) (Source : ℕ → Type 0) (Enters : PaxosRound → Type 0) 
       enter_ends slot round core e k =
           by_test End (can_propose a) _ _
           (λ t. by_test End (is_older slot round core) _ _ (λ u. (k, silent))
-          (λ u. by_test End (source_taken a h) _ _ (λ w. (of-both K (before core.paxos.round (Round round)) (keeps.enters round core e k) k, (t, u, w))) (λ w. (k, tt))))
+          (λ u. by_test End (source_taken a h) _ _ (λ w. (of-both K (before core.paxos.round (Some round)) (keeps.enters round core e k) k, (t, u, w))) (λ w. (k, tt))))
           (λ t. (k, silent))
         where
           End : CoreStep → Type 0
@@ -309,17 +292,17 @@ module _ (a : Asked) (Source : ℕ → Type 0) (Enters : PaxosRound → Type 0) 
 
       prepared_ends : (round : PaxosRound) (rv : RoundV) (core : Core) → Promise rv → Prepares round → K core → StepEndsOr (Always O) (prepared a h round rv core)
       unfolding prepared hold_first preparing answer_prepare
-      prepared_ends round rv core p w k = go (hold_first a rv core.paxos).state (hold_first a rv core.paxos).outcome first
+      prepared_ends round rv core p w k = go (hold_first a rv core.paxos) first
         where
           first : After Holds core (hold_first a rv core.paxos)
-          first = by_test (After Holds core) (is_held core.paxos.max_rv) _ _ (λ t. (k, holds_of core.paxos.max_rv t)) (λ t. propose_after rv core p k)
+          first = by_test (After Holds core) (is_some core.paxos.max_rv) _ _ (λ t. (k, holds_of core.paxos.max_rv t)) (λ t. propose_after rv core p k)
 
-          go : (s : PaxosState) (o : Outcome) → Taken Holds core s o → StepEndsOr (Always O) (after_held a h round core s o)
-          go s Done q =
+          go : (step : Result PaxosState Refusal) → After Holds core step → StepEndsOr (Always O) (after_held a h round core step)
+          go (Ok s) q =
               by_test (StepEndsOr (Always O)) (eqb h.delegate own) _ _ (λ t. (q.0, tt))
               (λ t. of-both (StepEndsOr (Always O)) (answers_nothing a h round (with_paxos s core)) (q.0, silent)
               (of-both (StepEndsOr (Always O)) (may_answer h round) (q.0, ((keeps.prepare_to round (with_paxos s core) h.delegate w (neqb→ne h.delegate own t), tt), inr q.1)) (q.0, tt)))
-          go s (Refused why) q = (k, tt)
+          go (Err why) q = (k, tt)
 
       promise_keeps : (rv : RoundV) (core : Core) → T (source_taken a h) → Promise rv → K core → K (with_promise a h rv core)
       promise_keeps rv core t p k = keeps.promises h.src rv core (counts t) p k
@@ -332,7 +315,7 @@ module _ (a : Asked) (Source : ℕ → Type 0) (Enters : PaxosRound → Type 0) 
 
       -- ---- accepts; a Commit may come to one message at most
 
-      try_ends : (If : Messages → HeldPromise → Type 0) (round : PaxosRound) (v : ℕ) (core : Core) (ms : Messages) → OneAtMost O ms → CoreHolds core → K core
+      try_ends : (If : Messages → Option RoundV → Type 0) (round : PaxosRound) (v : ℕ) (core : Core) (ms : Messages) → OneAtMost O ms → CoreHolds core → K core
           → StepEndsOr If (try_commit a h round v core ms)
       unfolding try_commit commit_messages
       try_ends If round v core ms u q k =
@@ -343,10 +326,10 @@ module _ (a : Asked) (Source : ℕ → Type 0) (Enters : PaxosRound → Type 0) 
           (k, (two_of_one O ms u, inr q))
 
       -- a step that goes on is of SwiftPaxos, sends one message at most, and holds something
-      abbrev GoesOn : Messages → HeldPromise → Type 0
+      abbrev GoesOn : Messages → Option RoundV → Type 0
       GoesOn ms held = T (is_swift_paxos a.mode) × OneAtMost O ms × Holds held
 
-      module _ (round : PaxosRound) (v : ℕ) (taken : Accepts round v) (core : Core) (k : K core) (e : core.paxos.max_rv ≡ Held (PaxosV (Round round) v)) where
+      module _ (round : PaxosRound) (v : ℕ) (taken : Accepts round v) (core : Core) (k : K core) (e : core.paxos.max_rv ≡ Some (PaxosV (Some round) v)) where
         held : CoreHolds core
         held = subst Holds (sym e) tt
 
@@ -360,17 +343,17 @@ module _ (a : Asked) (Source : ℕ → Type 0) (Enters : PaxosRound → Type 0) 
           another p t = neqb→ne p own (and_both (not (eqb p round.leader)) (not (eqb p own)) (and_both (tells_committer a.mode) _ t).1).1
 
           -- to the committer and the leader
-          answer_sends : (p : OptionalProcess) → TwoAtMost O (answer_accept a round core p)
+          answer_sends : (p : Option ℕ) → TwoAtMost O (answer_accept a round core p)
           unfolding answer_accept
-          answer_sends NoProcess = (to_leader_lem, tt)
-          answer_sends (Process p) =
+          answer_sends None = (to_leader_lem, tt)
+          answer_sends (Some p) =
               by_test (TwoAtMost O) (committer_hears a round p) _ _ (λ t. (keeps.accept_to_lem round v core p taken k e (another p t), to_leader_lem)) (λ t. (to_leader_lem, tt))
 
           -- to the leader alone where oneself is the committer
-          own_answer_sends : (p : OptionalProcess) → T (is_process p own) → OneAtMost O (answer_accept a round core p)
+          own_answer_sends : (p : Option ℕ) → T (is_process p own) → OneAtMost O (answer_accept a round core p)
           unfolding answer_accept
-          own_answer_sends NoProcess t = absurd t
-          own_answer_sends (Process p) t = by_test (OneAtMost O) (committer_hears a round p) _ _ (λ u. absurd (another p u (eqb→eq p own t))) (λ u. to_leader_lem)
+          own_answer_sends None t = absurd t
+          own_answer_sends (Some p) t = by_test (OneAtMost O) (committer_hears a round p) _ _ (λ u. absurd (another p u (eqb→eq p own t))) (λ u. to_leader_lem)
 
           follower_ends : StepEndsOr GoesOn (follower a h round v core)
           unfolding follower answered is_committer
@@ -391,26 +374,26 @@ module _ (a : Asked) (Source : ℕ → Type 0) (Enters : PaxosRound → Type 0) 
             (λ t. follower_ends (λ d. neqb→ne own round.leader t (sym d)))
 
       module _ (round : PaxosRound) (v : ℕ) (core : Core) (source : Source h.src) (e : Enters round) (k : K core) where
-        abbrev IsAccepted : HeldPromise → Type 0
-        IsAccepted held = held ≡ Held (PaxosV (Round round) v)
+        abbrev IsAccepted : Option RoundV → Type 0
+        IsAccepted held = held ≡ Some (PaxosV (Some round) v)
 
         accepting_ends : Accepts round v → StepEndsOr GoesOn (accepting a h round v core)
         unfolding accepting
         accepting_ends taken =
-            go (receive_accept me h.src round v core.paxos).state (receive_accept me h.src round v core.paxos).outcome (accept_after IsAccepted h.src round v core refl source e k)
+            go (receive_accept me h.src round v core.paxos) (accept_after IsAccepted h.src round v core refl source e k)
           where
-            go : (s : PaxosState) (o : Outcome) → Taken IsAccepted core s o → StepEndsOr GoesOn (after_accepted a h round v core s o)
-            go s Done q = accepted_ends round v taken (off_fast_path a (with_paxos s core)) (off_keeps (with_paxos s core) q.0) (off_holds IsAccepted (with_paxos s core) q.1)
-            go s (Refused why) q = (k, tt)
+            go : (step : Result PaxosState Refusal) → After IsAccepted core step → StepEndsOr GoesOn (after_accepted a h round v core step)
+            go (Ok s) q = accepted_ends round v taken (off_fast_path a (with_paxos s core)) (off_keeps (with_paxos s core) q.0) (off_holds IsAccepted (with_paxos s core) q.1)
+            go (Err why) q = (k, tt)
 
         client_accept_ends : StepEnds (client_accept a h round v core)
         unfolding client_accept
         client_accept_ends =
-            go (receive_accept me h.src round v core.paxos).state (receive_accept me h.src round v core.paxos).outcome (accept_after Holds h.src round v core tt source e k)
+            go (receive_accept me h.src round v core.paxos) (accept_after Holds h.src round v core tt source e k)
           where
-            go : (s : PaxosState) (o : Outcome) → Taken Holds core s o → StepEnds (after_client_accept a v core s o)
-            go s Done q = of-both StepEnds (paxos_can_commit me s) (q.0, silent) (q.0, silent)
-            go s (Refused why) q = (k, tt)
+            go : (step : Result PaxosState Refusal) → After Holds core step → StepEnds (after_client_accept a v core step)
+            go (Ok s) q = of-both StepEnds (paxos_can_commit me s) (q.0, silent) (q.0, silent)
+            go (Err why) q = (k, tt)
 
       -- ---- the classic modes
 
@@ -433,7 +416,7 @@ module _ (a : Asked) (Source : ℕ → Type 0) (Enters : PaxosRound → Type 0) 
           inside : StepEndsOr (Entered slot round core) (enter a h slot round core)
           inside = enter_ends slot round core c.0 k
 
-          first : Entered slot round core no_messages NothingHeld → StepEndsOr (Always O) (prepared a h round rv (enter a h slot round core).core)
+          first : Entered slot round core no_messages None → StepEndsOr (Always O) (prepared a h round rv (enter a h slot round core).core)
           first t = prepared_ends round rv (enter a h slot round core).core c.1 c.2 inside.0
       classic_ends classic (Accept slot round v) core c k =
           then_ends (Entered slot round core) (enter a h slot round core) (accepting a h round v) inside
@@ -457,14 +440,14 @@ module _ (a : Asked) (Source : ℕ → Type 0) (Enters : PaxosRound → Type 0) 
 
       -- ---- EPaxos and SwiftPaxos
 
-      adopt_ends : (round : PaxosRound) (core : Core) (x : Adoption) → T (not (has_accepted core)) → Prepares round → Enters round → K core → StepEnds (epaxos_adopt a round core x)
+      adopt_ends : (round : PaxosRound) (core : Core) (x : Result (Option ℕ) Refusal) → T (not (has_accepted core)) → Prepares round → Enters round → K core → StepEnds (epaxos_adopt a round core x)
       unfolding adopting
-      adopt_ends round core NoAdoption fresh t e k = (k, silent)
-      adopt_ends round core (Adopt v) fresh t e k =
+      adopt_ends round core (Ok None) fresh t e k = (k, silent)
+      adopt_ends round core (Ok (Some v)) fresh t e k =
           of-both StepEnds (is_prepared me core.paxos)
-          (own_accept_ends round core (adopt_from_epaxos me round v core.paxos).state (adopt_from_epaxos me round v core.paxos).outcome t k
-          (self_after round (with_paxos (with_held (Held (PaxosV NoRound v)) core.paxos) core) e (keeps.adopts v core fresh k))) (k, tt)
-      adopt_ends round core (AdoptionRefused why) fresh t e k = (k, tt)
+          (own_accept_ends round core (adopt_from_epaxos me round v core.paxos) t k
+          (self_after round (with_paxos (with_held (Some (PaxosV None v)) core.paxos) core) e (keeps.adopts v core fresh k))) (k, tt)
+      adopt_ends round core (Err why) fresh t e k = (k, tt)
 
       -- a promise that is counted is held; in EPaxos only replicas take part
       promise_holds : (rv : RoundV) (core : Core) → T (can_propose a) → T (not (is_swift_paxos a.mode)) → CoreHolds (fast_promised a h rv core)
@@ -487,12 +470,12 @@ module _ (a : Asked) (Source : ℕ → Type 0) (Enters : PaxosRound → Type 0) 
 
       -- F is the property of what changes in the fast half
       module _ (choose : Choice) (answers : FastAnswers) (values epaxos_scores swift_scores : List ℕ) (F : FastChange → Type 0) (same : F (unchanged answers))
-          (by-epaxos : (p v : ℕ) → Promise (FastV p v) → F (epaxos_answered me h.src p v answers epaxos_scores).change)
-          (by-swift : (p v : ℕ) (leader : Bool) → Promise (FastV p v) → F (swift_answered me h.src p v a.quorum leader answers swift_scores).change) where
+          (by-epaxos : (p v : ℕ) → Promise (FastV p v) → F (change_left answers (epaxos_answered me h.src p v answers epaxos_scores)))
+          (by-swift : (p v : ℕ) (leader : Bool) → Promise (FastV p v) → F (change_left answers (swift_answered me h.src p v a.quorum leader answers swift_scores))) where
         abbrev ChangeEnds : ChangeStep → Type 0
         ChangeEnds step = (K step.core × Ends O step.messages step.core.paxos.max_rv step.next) × F step.change
 
-        then_changes : (If : Messages → HeldPromise → Type 0) (step : CoreStep) (rest : Core → ChangeStep) → StepEndsOr If step
+        then_changes : (If : Messages → Option RoundV → Type 0) (step : CoreStep) (rest : Core → ChangeStep) → StepEndsOr If step
             → (If step.messages step.core.paxos.max_rv → ChangeEnds (rest step.core)) → ChangeEnds (and_then_change answers step rest)
         then_changes If step rest q r = go step.next q.1
           where
@@ -506,34 +489,31 @@ module _ (a : Asked) (Source : ℕ → Type 0) (Enters : PaxosRound → Type 0) 
         epaxos_ends : (round : PaxosRound) (rv : RoundV) (core : Core) → Promise rv → Prepares round → Enters round → T (not (has_accepted core)) → CoreHolds core → K core
             → ChangeEnds (epaxos_answer choose a h round rv core answers values epaxos_scores)
         unfolding epaxos_answer epaxos_decide
-        epaxos_ends round (FastV p v) core w t e fresh q k = go answer.change answer.outcome (by-epaxos p v w)
+        epaxos_ends round (FastV p v) core w t e fresh q k = go (epaxos_answered me h.src p v answers epaxos_scores) (by-epaxos p v w)
           where
-            answer : FastStep
-            answer = epaxos_answered me h.src p v answers epaxos_scores
-
-            go : (change : FastChange) (o : Outcome) → F change → ChangeEnds (after_epaxos_answer choose a h round v core values epaxos_scores change o)
-            go change Done f = (
+            go : (step : Result FastChange Refusal) → F (change_left answers step) → ChangeEnds (after_epaxos_answer choose a h round v core answers values epaxos_scores step)
+            go (Ok change) f = (
               of-both StepEnds (epaxos_can_commit me change.answers) (k, ((keeps.commit_to_all core (requester_of h v (held_v core.paxos.max_rv)), tt), inr q))
                   (adopt_ends round core (epaxos_try_adopt_after choose me change values epaxos_scores) fresh t e k),
               f,
             )
-            go change (Refused why) f = ((k, tt), f)
+            go (Err why) f = ((k, tt), f)
         epaxos_ends round (PaxosV at v) core w t e fresh q k = ((k, tt), same)
 
         swift_prepare_ends : (round : PaxosRound) (rv : RoundV) (core : Core) → Promise rv → K core → ChangeEnds (swift_client_prepare a h round rv core answers swift_scores)
         unfolding swift_client_prepare swift_answer
         swift_prepare_ends round rv core w k = of-both ChangeEnds (is_process h.committer own) (by_promise rv w) ((k, silent), same)
           where
-            go : (v : ℕ) (left : FastAnswers) (o : Outcome) → StepEnds (after_swift_answer a v core left o)
-            go v left Done = of-both StepEnds (swift_commits a left) (k, silent) (k, silent)
-            go v left (Refused why) = (k, tt)
+            go : (v : ℕ) (step : Result FastChange Refusal) → F (change_left answers step) → ChangeEnds (after_step core answers (after_swift_answer a v core) step)
+            go v (Ok change) f = (of-both StepEnds (swift_commits a change.answers) (k, silent) (k, silent), f)
+            go v (Err why) f = ((k, tt), f)
 
             by_promise : (rv : RoundV) → Promise rv → ChangeEnds (swift_answer a h round rv core answers swift_scores)
             by_promise (FastV p v) w =
-                of-both ChangeEnds (eqb h.src round.leader) ((k, tt), same) (go v _ (swift_answered me h.src p v a.quorum false answers swift_scores).outcome, by-swift p v false w)
+                of-both ChangeEnds (eqb h.src round.leader) ((k, tt), same) (go v (swift_answered me h.src p v a.quorum false answers swift_scores) (by-swift p v false w))
             by_promise (PaxosV at v) w = ((k, tt), same)
 
-        leader_keeps : (v : ℕ) → F (leader_answered a h v answers swift_scores).change
+        leader_keeps : (v : ℕ) → F (change_left answers (leader_answered a h v answers swift_scores))
         unfolding leader_answered
         leader_keeps v = by-swift own v true (keeps.own_fast v)
 
@@ -541,21 +521,19 @@ module _ (a : Asked) (Source : ℕ → Type 0) (Enters : PaxosRound → Type 0) 
           swift_accept_ends : ChangeEnds (swift_client_accept a h round v core answers swift_scores)
           unfolding swift_client_accept swift_accept accept_answered
           swift_accept_ends =
-              of-both ChangeEnds (is_process h.committer own) (
-                go (accept_answered a h round v answers swift_scores).change.answers (accept_answered a h round v answers swift_scores).outcome,
-                of-both (λ (x : FastStep). F x.change) (from_leader h round) (leader_keeps v) same,
-              )
+              of-both ChangeEnds (is_process h.committer own)
+              (go (accept_answered a h round v answers swift_scores) (of-both (λ (x : Result FastChange Refusal). F (change_left answers x)) (from_leader h round) (leader_keeps v) same))
               ((k, silent), same)
             where
-              go : (left : FastAnswers) (o : Outcome) → StepEnds (after_accept_answer a h round v core left o)
-              go left Done = of-both StepEnds (from_leader h round && swift_commits a left) (k, silent) (client_accept_ends round v core source e k)
-              go left (Refused why) = (k, tt)
+              go : (step : Result FastChange Refusal) → F (change_left answers step) → ChangeEnds (after_step core answers (after_accept_answer a h round v core) step)
+              go (Ok change) f = (of-both StepEnds (from_leader h round && swift_commits a change.answers) (k, silent) (client_accept_ends round v core source e k), f)
+              go (Err why) f = ((k, tt), f)
 
           replica_accept_ends : Accepts round v → ChangeEnds (replica_accept a h round v core answers swift_scores)
           unfolding replica_accept swift_answered_accept
           replica_accept_ends taken =
               then_changes GoesOn step (λ c. swift_answered_accept a h round v c step.messages answers swift_scores) stepped
-              (λ q. (go (leader_answered a h v answers swift_scores).change.answers (leader_answered a h v answers swift_scores).outcome q.1 q.2, leader_keeps v))
+              (λ q. go (leader_answered a h v answers swift_scores) (leader_keeps v) q.1 q.2)
             where
               step : CoreStep
               step = accepting a h round v core
@@ -563,10 +541,13 @@ module _ (a : Asked) (Source : ℕ → Type 0) (Enters : PaxosRound → Type 0) 
               stepped : StepEndsOr GoesOn step
               stepped = accepting_ends round v core source e k taken
 
-              go : (left : FastAnswers) (o : Outcome) → OneAtMost O step.messages → CoreHolds step.core → StepEnds (after_replica_answer a h round v step.core step.messages left o)
-              go left Done u q =
-                  of-both StepEnds (swift_commits a left) (stepped.0, (two_of_one O step.messages u, inr q)) (try_ends (Never O) round v step.core step.messages u q stepped.0)
-              go left (Refused why) u q = (stepped.0, tt)
+              go : (x : Result FastChange Refusal) → F (change_left answers x) → OneAtMost O step.messages → CoreHolds step.core
+                  → ChangeEnds (after_step step.core answers (after_replica_answer a h round v step.core step.messages) x)
+              go (Ok change) f u q = (
+                of-both StepEnds (swift_commits a change.answers) (stepped.0, (two_of_one O step.messages u, inr q)) (try_ends (Never O) round v step.core step.messages u q stepped.0),
+                f,
+              )
+              go (Err why) f u q = ((stepped.0, tt), f)
 
         fast_gather_ends : (round : PaxosRound) (rv : RoundV) (core : Core) → T (can_propose a) → T (source_taken a h) → Enters round → Promise rv → Prepares round → K core
             → ChangeEnds (fast_gather choose a h round rv core answers values epaxos_scores swift_scores)
@@ -621,8 +602,8 @@ module _ (a : Asked) (Source : ℕ → Type 0) (Enters : PaxosRound → Type 0) 
 
       -- What holds of every step that ends so holds of what a message leaves.
       pub processed_holds : (P : RoundsStep → Type 0) (choose : Choice) (s : Rounds) (F : FastChange → Type 0) → F (unchanged (answers_of s.fast))
-          → ((p v : ℕ) → Promise (FastV p v) → F (epaxos_answered me h.src p v (answers_of s.fast) s.fast.epaxos_proposer_scores).change)
-          → ((p v : ℕ) (leader : Bool) → Promise (FastV p v) → F (swift_answered me h.src p v a.quorum leader (answers_of s.fast) s.fast.swift_proposer_scores).change)
+          → ((p v : ℕ) → Promise (FastV p v) → F (change_left (answers_of s.fast) (epaxos_answered me h.src p v (answers_of s.fast) s.fast.epaxos_proposer_scores)))
+          → ((p v : ℕ) (leader : Bool) → Promise (FastV p v) → F (change_left (answers_of s.fast) (swift_answered me h.src p v a.quorum leader (answers_of s.fast) s.fast.swift_proposer_scores)))
           → ((step : ChangeStep) → T (has_fast_path a.mode) → (K step.core × Ends O step.messages step.core.paxos.max_rv step.next) × F step.change → P (change_rounds s.fast step))
           → ((step : CoreStep) → T (not (has_fast_path a.mode)) → StepEnds step → P (on_rounds s.fast step))
           → (m : ConsensusMsg) → Comes s.core m → K s.core → P (processed choose a h m s)
@@ -636,9 +617,9 @@ module _ (a : Asked) (Source : ℕ → Type 0) (Enters : PaxosRound → Type 0) 
     abbrev StepUncommitted : CoreStep → Type 0
     StepUncommitted step = K step.core × EndsUncommitted O step.messages step.core.paxos.max_rv step.next
 
-    proposed_ends : (msg : ConsensusMsg) (core : Core) (s : PaxosState) (o : Outcome) → O (sends a core to_all msg) → K core → Taken Holds core s o → StepUncommitted (proposed a msg core s o)
-    proposed_ends msg core s Done w k q = (q.0, ((w, tt), inr q.1))
-    proposed_ends msg core s (Refused why) w k q = (k, tt)
+    proposed_ends : (msg : ConsensusMsg) (core : Core) (step : Result PaxosState Refusal) → O (sends a core to_all msg) → K core → After Holds core step → StepUncommitted (proposed a msg core step)
+    proposed_ends msg core (Ok s) w k q = (q.0, ((w, tt), inr q.1))
+    proposed_ends msg core (Err why) w k q = (k, tt)
 
     -- a proposal is made in a round that may be entered
     module _ (enters : (core : Core) → T (may_propose a core) → Enters (proposal_round a core)) (core : Core) (k : K core) where
@@ -648,34 +629,29 @@ module _ (a : Asked) (Source : ℕ → Type 0) (Enters : PaxosRound → Type 0) 
       propose_prepare_ends : (rv : RoundV) → Promise rv → T (may_propose a core) → StepUncommitted (propose_prepare a round rv core)
       unfolding propose_prepare
       propose_prepare_ends rv p t =
-          proposed_ends (Prepare core.slot round rv) core step.state step.outcome (keeps.propose_prepare_lem round rv core) k
-          (propose_after rv (with_paxos (goto_round (Round round) core.paxos) core) p (keeps.enters round core (enters core t) k))
-        where
-          step : PaxosStep
-          step = paxos_propose_v me rv (goto_round (Round round) core.paxos)
+          proposed_ends (Prepare core.slot round rv) core (paxos_propose_v me rv (goto_round (Some round) core.paxos)) (keeps.propose_prepare_lem round rv core) k
+          (propose_after rv (with_paxos (goto_round (Some round) core.paxos) core) p (keeps.enters round core (enters core t) k))
 
-      propose_accept_ends : (v : ℕ) → Promise (PaxosV NoRound v) → T (may_propose a core) → StepUncommitted (propose_accept a round v core)
+      propose_accept_ends : (v : ℕ) → Promise (PaxosV None v) → T (may_propose a core) → StepUncommitted (propose_accept a round v core)
       unfolding propose_accept
       propose_accept_ends v p t =
-          go step.state step.outcome (propose_after (PaxosV NoRound v) (with_paxos (goto_round (Round round) core.paxos) core) p (keeps.enters round core (enters core t) k))
+          go (paxos_propose_v me (PaxosV None v) (goto_round (Some round) core.paxos))
+          (propose_after (PaxosV None v) (with_paxos (goto_round (Some round) core.paxos) core) p (keeps.enters round core (enters core t) k))
         where
-          step : PaxosStep
-          step = paxos_propose_v me (PaxosV NoRound v) (goto_round (Round round) core.paxos)
-
-          go : (s : PaxosState) (o : Outcome) → Taken Holds core s o → StepUncommitted (after_own_promise a round v core s o)
-          go s Done q =
-              proposed_ends (Accept core.slot round v) core (self_accept me round s).state (self_accept me round s).outcome (keeps.propose_accept_lem v core t p k) k
+          go : (step : Result PaxosState Refusal) → After Holds core step → StepUncommitted (after_own_promise a round v core step)
+          go (Ok s) q =
+              proposed_ends (Accept core.slot round v) core (self_accept me round s) (keeps.propose_accept_lem v core t p k) k
               (self_after round (with_paxos s core) (enters core t) q.0)
-          go s (Refused why) q = (k, tt)
+          go (Err why) q = (k, tt)
 
-      propose_classic_ends : (v : ℕ) → Promise (PaxosV NoRound v) → StepUncommitted (propose_classic a v core)
+      propose_classic_ends : (v : ℕ) → Promise (PaxosV None v) → StepUncommitted (propose_classic a v core)
       unfolding propose_classic
       propose_classic_ends v p =
           by_test StepUncommitted (may_propose a core) _ _
-          (λ t. of-both StepUncommitted (is_multi_paxos a.mode) (propose_accept_ends v p t) (propose_prepare_ends (PaxosV NoRound v) p t)) (λ t. (k, tt))
+          (λ t. of-both StepUncommitted (is_multi_paxos a.mode) (propose_accept_ends v p t) (propose_prepare_ends (PaxosV None v) p t)) (λ t. (k, tt))
 
-      module _ (answers : FastAnswers) (epaxos_scores swift_scores : List ℕ) (F : FastChange → Type 0) (same : F (unchanged answers)) (v : ℕ) (p : Promise (PaxosV NoRound v))
-          (by-own : F (own_answer a v answers epaxos_scores swift_scores).change) where
+      module _ (answers : FastAnswers) (epaxos_scores swift_scores : List ℕ) (F : FastChange → Type 0) (same : F (unchanged answers)) (v : ℕ) (p : Promise (PaxosV None v))
+          (by-own : F (change_left answers (own_answer a v answers epaxos_scores swift_scores))) where
         abbrev ChangeUncommitted : ChangeStep → Type 0
         ChangeUncommitted step = (K step.core × EndsUncommitted O step.messages step.core.paxos.max_rv step.next) × F step.change
 
@@ -684,15 +660,15 @@ module _ (a : Asked) (Source : ℕ → Type 0) (Enters : PaxosRound → Type 0) 
         propose_change_ends =
             by_test ChangeUncommitted (may_propose a core) _ _
             (λ t. of-both ChangeUncommitted (leads_from_start a) (propose_accept_ends v p t, same)
-            (go t (own_answer a v answers epaxos_scores swift_scores).change (own_answer a v answers epaxos_scores swift_scores).outcome by-own)) (λ t. ((k, tt), same))
+            (go t (own_answer a v answers epaxos_scores swift_scores) by-own)) (λ t. ((k, tt), same))
           where
-            go : T (may_propose a core) → (change : FastChange) (o : Outcome) → F change → ChangeUncommitted (after_own_answer a round v core change o)
-            go t change Done f = (propose_prepare_ends (FastV own v) (keeps.own_fast v) t, f)
-            go t change (Refused why) f = ((k, tt), f)
+            go : T (may_propose a core) → (step : Result FastChange Refusal) → F (change_left answers step) → ChangeUncommitted (after_own_answer a round v core answers step)
+            go t (Ok change) f = (propose_prepare_ends (FastV own v) (keeps.own_fast v) t, f)
+            go t (Err why) f = ((k, tt), f)
 
     -- And of what a proposal leaves, which commits nothing.
-    pub proposing_holds : (P : RoundsStep → Type 0) → ((core : Core) → T (may_propose a core) → Enters (proposal_round a core)) → (v : ℕ) → Promise (PaxosV NoRound v) → (s : Rounds) (F : FastChange → Type 0)
-        → F (unchanged (answers_of s.fast)) → F (own_answer a v (answers_of s.fast) s.fast.epaxos_proposer_scores s.fast.swift_proposer_scores).change
+    pub proposing_holds : (P : RoundsStep → Type 0) → ((core : Core) → T (may_propose a core) → Enters (proposal_round a core)) → (v : ℕ) → Promise (PaxosV None v) → (s : Rounds) (F : FastChange → Type 0)
+        → F (unchanged (answers_of s.fast)) → F (change_left (answers_of s.fast) (own_answer a v (answers_of s.fast) s.fast.epaxos_proposer_scores s.fast.swift_proposer_scores))
         → ((step : ChangeStep) → T (has_fast_path a.mode) → (K step.core × EndsUncommitted O step.messages step.core.paxos.max_rv step.next) × F step.change → P (change_rounds s.fast step))
         → ((step : CoreStep) → T (not (has_fast_path a.mode)) → StepUncommitted step → P (on_rounds s.fast step)) → K s.core → P (proposing a v s)
     unfolding proposing propose_fast
@@ -704,18 +680,18 @@ module _ (a : Asked) (Source : ℕ → Type 0) (Enters : PaxosRound → Type 0) 
 -- Every call is refused, or a proposal, a new read or a message is handled.
 pub call_holds : (choose : Choice) (shard : Shard) (P : Call → Answer → Type 0) → ((c : Call) (why : Refusal) → P c (refused why shard))
     → ((v : ℕ) → P (Propose v) (finish shard (asked_of shard.settings) true (proposing (asked_of shard.settings) v shard.state.rounds)))
-    → ((tag arrival : ℕ) (id : ReadId) → P (StartRead tag arrival) (after_insert shard (read_inserted shard tag arrival) (Id id)))
+    → ((tag arrival : ℕ) (id : ReadId) → P (StartRead tag arrival) (after_insert shard (read_inserted shard tag arrival) (Ok id)))
     → ((d : Delivery) → P (Receive d) (handle choose shard d d.message.msg)) → (c : Call) → P c (call_with choose shard c)
 unfolding call_with unless_spent dispatch propose read start_read receive
 call_holds choose shard P refuses proposes reads receives c = made shard.made
   where
-    opened : (tag arrival : ℕ) (o : Opened) → P (StartRead tag arrival) (after_insert shard (read_inserted shard tag arrival) o)
-    opened tag arrival (NotOpened why) = refuses (StartRead tag arrival) why
-    opened tag arrival (Id id) = reads tag arrival id
+    opened : (tag arrival : ℕ) (o : Result ReadId Refusal) → P (StartRead tag arrival) (after_insert shard (read_inserted shard tag arrival) o)
+    opened tag arrival (Err why) = refuses (StartRead tag arrival) why
+    opened tag arrival (Ok id) = reads tag arrival id
 
     received : (d : Delivery) (o : Outcome) → P (Receive d) (admitted choose shard d o)
-    received d Done = receives d
-    received d (Refused why) = refuses (Receive d) why
+    received d (Ok tt) = receives d
+    received d (Err why) = refuses (Receive d) why
 
     dispatched : (c : Call) → P c (dispatch choose shard c)
     dispatched (Propose v) = of-both (P (Propose v)) (is_number v) (proposes v) (refuses (Propose v) NumberTooLarge)
@@ -724,5 +700,5 @@ call_holds choose shard P refuses proposes reads receives c = made shard.made
     dispatched (Receive d) = received d (admit shard.settings.process_count shard.settings.my_pid shard.state.rounds.core d)
 
     made : (o : Outcome) → P c (if_made choose shard c o)
-    made Done = of-both (P c) (leb 9223372036854775807 shard.state.rounds.core.slot) (refuses c NumberTooLarge) (dispatched c)
-    made (Refused why) = refuses c why
+    made (Ok tt) = of-both (P c) (leb 9223372036854775807 shard.state.rounds.core.slot) (refuses c NumberTooLarge) (dispatched c)
+    made (Err why) = refuses c why

@@ -2,6 +2,10 @@
 -- is as new, the open reads are in order, the prepared and accepted sets hold live replicas (but for SwiftPaxos), and the numbers that calls add to or subtract from
 -- have room.
 -- Assumes nothing.
+use Rattle.std.specs.Prelude.{Option, None, Some, Result, Ok, Err, is_some}
+use Rattle.message.specs.Outcomes.{Outcome}
+use Rattle.calls.specs.Commits.{committed_slot}
+use Rattle.calls.specs.declared.CommittedSlot.{CommittedSlot}
 use mathlib.Core.Path.{◌≡◌, refl, sym, ap, subst, ◌∙◌}
 use mathlib.Core.Logic.{◌⊎◌, inl, inr}
 use mathlib.Core.Bool.{Bool, true, false, cond, not, ◌&&◌, ◌||◌}
@@ -17,16 +21,10 @@ use Rattle.sets.specs.Sets.{contains, size, Within}
 use Rattle.tables.specs.Tables.{look_up}
 use Rattle.message.specs.Modes.{has_fast_path, is_swift_paxos}
 use Rattle.message.specs.Promises.{accept_round_of}
-use Rattle.message.specs.Rounds.{increment, round_equal, next_leader_round, starting_round, equal, unwrap_or_default, is_round}
+use Rattle.message.specs.Rounds.{increment, round_equal, next_leader_round, starting_round, equal, unwrap_or_default}
 use Rattle.message.proofs.NextLeader.{increment_next}
 use Rattle.message.specs.declared.ConsensusMsg.{ConsensusMsg}
 use Rattle.message.specs.declared.ConsensusMsg.TheVariants.{Prepare, Accept, ForwardRequest, Commit, ReadRequest, ReadResponse}
-use Rattle.message.specs.declared.OptionalProcess.{OptionalProcess}
-use Rattle.message.specs.declared.OptionalProcess.TheVariants.{NoProcess, Process}
-use Rattle.message.specs.declared.OptionalRound.{OptionalRound}
-use Rattle.message.specs.declared.OptionalRound.TheVariants.{NoRound, Round}
-use Rattle.message.specs.declared.Outcome.{Outcome}
-use Rattle.message.specs.declared.Outcome.TheVariants.{Done, Refused}
 use Rattle.message.specs.declared.PFMode.{PFMode}
 use Rattle.message.specs.declared.PFMode.TheVariants.{Paxos, MultiPaxos, MultiPaxos3P, EPaxos, Pando, SwiftPaxos}
 use Rattle.message.specs.declared.ReadId.{ReadId}
@@ -39,21 +37,18 @@ use Rattle.settings.specs.Questions.{is_replica, is_live_replica, quorums_of, st
 use Rattle.settings.specs.Settings.{within_limits}
 use Rattle.settings.specs.declared.Settings.{Settings}
 use Rattle.settings.proofs.Limits.{within_counts, within_members}
-use Rattle.round_state.specs.Paxos.{is_held, get_last_accepted_round}
-use Rattle.round_state.specs.declared.HeldPromise.{HeldPromise}
-use Rattle.round_state.specs.declared.HeldPromise.TheVariants.{NothingHeld, Held}
+use Rattle.round_state.specs.Paxos.{get_last_accepted_round}
 use Rattle.fast_state.specs.Adopt.{Choice}
 use Rattle.fast_state.specs.Fast.{no_answers}
 use Rattle.fast_state.specs.declared.FastState.{FastState}
 use Rattle.read_tracker.specs.Reads.{read_id, new_read, open_places, open_reads, inserted, insert, after_response, after_commit, has_quorum}
 use Rattle.read_tracker.specs.declared.Inserted.{Inserted}
 use Rattle.read_tracker.specs.declared.OpenRead.{OpenRead}
-use Rattle.read_tracker.specs.declared.Opened.{Opened}
-use Rattle.read_tracker.specs.declared.Opened.TheVariants.{Refused as NotOpened, Id}
 use Rattle.read_tracker.specs.declared.ReadTable.{ReadTable}
 use Rattle.read_tracker.specs.declared.ReadTracker.{ReadTracker}
 use Rattle.read_tracker.specs.declared.ServedRead.{ServedRead}
-use Rattle.serving.specs.Serving.{has_id, kept_by_ready, served_by_ready, kept_by_commit, served_by_commit, at_front, tracked, receive_ready, commit_slot as serve_reads}
+use Rattle.places.specs.Places.{at_front}
+use Rattle.serving.specs.Serving.{has_id, kept_by_ready, served_by_ready, kept_by_commit, served_by_commit, tracked, receive_ready, commit_slot as serve_reads}
 use Rattle.serving.specs.declared.Tracked.{Tracked}
 use Rattle.serving.proofs.IdOrder.{Rising, served_ids, InOrder, new_in_order, commit_slot_in_order, receive_ready_in_order, insert_in_order}
 use Rattle.serving.proofs.NothingLost.{parted_length, commit_loses_nothing, ready_loses_nothing}
@@ -68,13 +63,11 @@ use Rattle.steps.specs.declared.Next.TheVariants.{Stays, Continues, Commits, Ref
 use Rattle.steps.specs.declared.Rounds.{Rounds}
 use Rattle.steps.specs.declared.RoundsStep.{RoundsStep}
 use Rattle.delivery.specs.Admit.{ready, admit}
-use Rattle.delivery.specs.Limits.{is_number, is_slot, round_numbers, rv_numbers, msg_numbers, value_numbers, process_numbers, numbers_fit, rv_processes, msg_processes, requester_below, processes_fit}
+use Rattle.delivery.specs.Limits.{is_number, is_slot, round_numbers, rv_numbers, msg_numbers, number_given, numbers_fit, rv_processes, msg_processes, requester_below, processes_fit}
 use Rattle.delivery.specs.declared.Delivery.{Delivery}
 use Rattle.calls.specs.Asked.{asked_of, heard_of}
 use Rattle.calls.specs.declared.Call.{Call}
 use Rattle.calls.specs.declared.Call.TheVariants.{Propose, StartRead, Receive}
-use Rattle.calls.specs.declared.OptionalCommit.{OptionalCommit}
-use Rattle.calls.specs.declared.OptionalCommit.TheVariants.{NoCommit, Committed}
 use Rattle.consensus.specs.Answers.{committed, finish_at, finish}
 use Rattle.consensus.specs.Call.{new_core, new_shard, proposing, propose, read, admitted, receive, dispatch, unless_spent, if_made, call_with}
 use Rattle.consensus.specs.Handle.{on_commit, on_read_request, on_read_response, after_insert, read_inserted, start_read, processed, process_message, handle}
@@ -223,20 +216,20 @@ start_led Leads Pando l led = tt
 start_led Leads SwiftPaxos l led = tt
 
 -- a proposal is made in the starting round, and its round is of group 0 or 1
-start_group : (r : OptionalRound) (mode : PFMode) (l : ℕ) → T (equal r (starting_round mode l)) → (unwrap_or_default r).round_group ≡ 0
+start_group : (r : Option PaxosRound) (mode : PFMode) (l : ℕ) → T (equal r (starting_round mode l)) → (unwrap_or_default r).round_group ≡ 0
 unfolding round_equal
-start_group NoRound mode l t = refl
-start_group (Round r) Paxos l t = absurd t
-start_group (Round r) MultiPaxos l t = eqb→eq _ _ (and_both (eqb r.round_group (next_leader_round (record { round_group = 0; leader = 0 }) l).round_group) _ t).0 ∙ group_of_start l
-start_group (Round r) MultiPaxos3P l t = eqb→eq _ _ (and_both (eqb r.round_group (next_leader_round (record { round_group = 0; leader = 0 }) l).round_group) _ t).0 ∙ group_of_start l
-start_group (Round r) EPaxos l t = absurd t
-start_group (Round r) Pando l t = absurd t
-start_group (Round r) SwiftPaxos l t = absurd t
+start_group None mode l t = refl
+start_group (Some r) Paxos l t = absurd t
+start_group (Some r) MultiPaxos l t = eqb→eq _ _ (and_both (eqb r.round_group (next_leader_round (record { round_group = 0; leader = 0 }) l).round_group) _ t).0 ∙ group_of_start l
+start_group (Some r) MultiPaxos3P l t = eqb→eq _ _ (and_both (eqb r.round_group (next_leader_round (record { round_group = 0; leader = 0 }) l).round_group) _ t).0 ∙ group_of_start l
+start_group (Some r) EPaxos l t = absurd t
+start_group (Some r) Pando l t = absurd t
+start_group (Some r) SwiftPaxos l t = absurd t
 
 proposal_group : (s : Settings) (core : Core) → T (may_propose (asked_of s) core) → (proposal_round (asked_of s) core).round_group ≤ 1
 unfolding may_propose next_leader_round
 proposal_group s core t =
-    let zero = start_group core.paxos.round s.mode s.first_leader (and_both (can_propose (asked_of s)) _ (and_both (can_propose (asked_of s) && equal core.paxos.round (starting_round_of s)) _ (free (is_held core.paxos.max_rv) _ t)).0).1 in
+    let zero = start_group core.paxos.round s.mode s.first_leader (and_both (can_propose (asked_of s)) _ (and_both (can_propose (asked_of s) && equal core.paxos.round (starting_round_of s)) _ (free (is_some core.paxos.max_rv) _ t)).0).1 in
     let next = increment_next (unwrap_or_default core.paxos.round).round_group (omega arith) in
     of-both (λ (n : ℕ). n ≤ 1) (leb (unwrap_or_default core.paxos.round).leader (electing (asked_of s))) (omega arith) (omega arith)
   where
@@ -252,17 +245,17 @@ proposal_leader s limits core =
     of-both (λ (p : ℕ). p < 64) (is_swift_paxos s.mode) (omega arith) (omega arith)
 
 -- the numbers of an admitted message
-pub admit_cond : (b : Bool) (o : Outcome) (why : Refusal) → cond b o (Refused why) ≡ Done → (b ≡ true) × (o ≡ Done)
+pub admit_cond : (b : Bool) (o : Outcome) (why : Refusal) → cond b o (Err why) ≡ Ok tt → (b ≡ true) × (o ≡ Ok tt)
 admit_cond b o why e = go b refl e
   where
-    go : (t : Bool) → b ≡ t → cond t o (Refused why) ≡ Done → (b ≡ true) × (o ≡ Done)
+    go : (t : Bool) → b ≡ t → cond t o (Err why) ≡ Ok tt → (b ≡ true) × (o ≡ Ok tt)
     go true d f = (d, f)
     go false d f = let z : ◌≡◌ {A = Bool} true false = ap is_done (sym f) in absurd (not_both refl z)
 
-pub numbers_of : (count own : ℕ) (core : Core) (d : Delivery) → admit count own core d ≡ Done → (numbers_fit d ≡ true) × (processes_fit count d ≡ true)
+pub numbers_of : (count own : ℕ) (core : Core) (d : Delivery) → admit count own core d ≡ Ok tt → (numbers_fit d ≡ true) × (processes_fit count d ≡ true)
 unfolding admit
 numbers_of count own core d e =
-    let n = admit_cond (numbers_fit d) (cond (processes_fit count d) (ready own core d) (Refused NoSuchProcess)) NumberTooLarge e in
+    let n = admit_cond (numbers_fit d) (cond (processes_fit count d) (ready own core d) (Err NoSuchProcess)) NumberTooLarge e in
     (n.0, (admit_cond (processes_fit count d) (ready own core d) NoSuchProcess n.1).0)
 
 pub source_below : (n : ℕ) (d : Delivery) → processes_fit n d ≡ true → (ltb d.message.src n ≡ true) × (msg_processes n d.message.msg ≡ true)
@@ -277,9 +270,9 @@ pub message_numbers : (d : Delivery) → numbers_fit d ≡ true → msg_numbers 
 unfolding numbers_fit
 message_numbers d e =
     and_left (msg_numbers d.message.msg) (is_number d.message.src)
-    (and_left (msg_numbers d.message.msg && is_number d.message.src) (value_numbers d.message.last_v)
-    (and_left (msg_numbers d.message.msg && is_number d.message.src && value_numbers d.message.last_v) (process_numbers d.said.requester)
-    (and_left (msg_numbers d.message.msg && is_number d.message.src && value_numbers d.message.last_v && process_numbers d.said.requester) (process_numbers d.held_requester) e)))
+    (and_left (msg_numbers d.message.msg && is_number d.message.src) (number_given d.message.last_v)
+    (and_left (msg_numbers d.message.msg && is_number d.message.src && number_given d.message.last_v) (number_given d.said.requester)
+    (and_left (msg_numbers d.message.msg && is_number d.message.src && number_given d.message.last_v && number_given d.said.requester) (number_given d.held_requester) e)))
 
 proposer_below : (n : ℕ) → n ≤ 64 → (rv : RoundV) → rv_processes n rv ≡ true → ProposerFits rv
 unfolding rv_processes
@@ -291,8 +284,8 @@ module _ (Leads : ℕ → Type 0) (n : ℕ) (few : n ≤ 64) (may-lead : (p : �
   accepted_led : (rv : RoundV) → rv_processes n rv ≡ true → LeaderIn Leads (accept_round_of rv)
   unfolding rv_processes
   accepted_led (FastV p v) e = tt
-  accepted_led (PaxosV NoRound v) e = tt
-  accepted_led (PaxosV (Round r) v) e = may-lead r.leader (ltb-true r.leader n e)
+  accepted_led (PaxosV None v) e = tt
+  accepted_led (PaxosV (Some r) v) e = may-lead r.leader (ltb-true r.leader n e)
 
   round_fits : (round : PaxosRound) → round_numbers round ≡ true → ltb round.leader n ≡ true → RoundFits Leads round
   unfolding round_numbers
@@ -320,10 +313,10 @@ CountedIn s p = (p < s.process_count) × (is_swift_paxos s.mode ≡ false → co
 
 -- who leads rounds, where the shard is made
 abbrev pub LeadsIn : Outcome → ℕ → Type 0
-LeadsIn made p = made ≡ Done → p < 64
+LeadsIn made p = made ≡ Ok tt → p < 64
 
 pub record Lasts (shard : Shard) : Type 0 where
-  pub made_within : shard.made ≡ Done → within_limits shard.settings ≡ true
+  pub made_within : shard.made ≡ Ok tt → within_limits shard.settings ≡ true
   pub slot_fits : shard.state.rounds.core.slot ≤ 9223372036854775807
   pub sets_fit : StateFits (CountedIn shard.settings) (LeadsIn shard.made) shard.state.rounds.core.paxos
   pub fast_fits : FastFits shard.state.rounds.fast
@@ -336,13 +329,13 @@ pub record Cleared (shard : Shard) : Type 0 where
   pub fast_new : shard.state.rounds.fast ≡ no_answers
   pub on_fast_path_lem : shard.state.rounds.core.slot_left_fast_path ≡ false
 
-abbrev pub ClearedBy : OptionalCommit → Shard → Type 0
-ClearedBy NoCommit shard = Unit {0}
-ClearedBy (Committed slot v fast) shard = Cleared shard
+abbrev pub ClearedBy : Option CommittedSlot → Shard → Type 0
+ClearedBy None shard = Unit {0}
+ClearedBy (Some commit) shard = Cleared shard
 
-abbrev pub OfSlot : ℕ → OptionalCommit → Type 0
-OfSlot own NoCommit = Unit {0}
-OfSlot own (Committed slot v fast) = slot ≡ own
+abbrev pub OfSlot : ℕ → Option CommittedSlot → Type 0
+OfSlot own None = Unit {0}
+OfSlot own (Some commit) = commit.slot ≡ own
 
 -- the reads that a call serves stand first in the table of served reads, as many as its reply says
 abbrev pub served_by : Answer → List ServedRead
@@ -385,8 +378,8 @@ begun_lasts s =
       reads_fit = record { in_order = new_in_order; low_counts = tt; ids_fit = omega arith };
     }
   where
-    made : (t : Bool) → within_limits s ≡ t → cond t Done (Refused SettingsOutsideLimits) ≡ Done → within_limits s ≡ true
-    made t w e = w ∙ (admit_cond t Done SettingsOutsideLimits e).0
+    made : (t : Bool) → within_limits s ≡ t → ◌≡◌ {A = Outcome} (cond t (Ok tt) (Err SettingsOutsideLimits)) (Ok tt) → within_limits s ≡ true
+    made t w e = w ∙ (admit_cond t (Ok tt) SettingsOutsideLimits e).0
 
 module _ (choose : Choice) (shard : Shard) (k : Lasts shard) where
   abbrev s : Settings
@@ -395,15 +388,15 @@ module _ (choose : Choice) (shard : Shard) (k : Lasts shard) where
   abbrev asked : Asked
   asked = asked_of s
 
-  same_lasts : (r : Answer) → r.shard ≡ shard → ◌≡◌ {A = OptionalCommit × ℕ} (r.reply.commit, r.reply.served_count) (NoCommit, 0) → CallLasts shard r
+  same_lasts : (r : Answer) → r.shard ≡ shard → ◌≡◌ {A = Option CommittedSlot × ℕ} (r.reply.commit, r.reply.served_count) (None, 0) → CallLasts shard r
   same_lasts r e both =
-      let f : r.reply.commit ≡ NoCommit = ap (λ (x : OptionalCommit × ℕ). x.0) both in
-      let none : r.reply.served_count ≡ 0 = ap (λ (x : OptionalCommit × ℕ). x.1) both in
+      let f : r.reply.commit ≡ None = ap (λ (x : Option CommittedSlot × ℕ). x.0) both in
+      let none : r.reply.served_count ≡ 0 = ap (λ (x : Option CommittedSlot × ℕ). x.1) both in
       record {
         lasts = subst Lasts (sym e) k;
-        cleared = subst (λ (c : OptionalCommit). ClearedBy c r.shard) (sym f) tt;
+        cleared = subst (λ (c : Option CommittedSlot). ClearedBy c r.shard) (sym f) tt;
         same_settings = ap (λ (x : Shard). x.settings) e;
-        slot_moves = ap (λ (x : Shard). x.state.rounds.core.slot) e ∙ sym (ap (λ (c : OptionalCommit). plus_commit c shard.state.rounds.core.slot) f);
+        slot_moves = ap (λ (x : Shard). x.state.rounds.core.slot) e ∙ sym (ap (λ (c : Option CommittedSlot). plus_commit c shard.state.rounds.core.slot) f);
         of_own_slot = subst (OfSlot shard.state.rounds.core.slot) (sym f) tt;
         served_rising = subst (λ (n : ℕ). Rising 0 (served_ids (take n r.shard.state.table.served)) shard.state.rounds.core.tracker.next_id) (sym none) (omega arith);
       }
@@ -483,9 +476,9 @@ module _ (choose : Choice) (shard : Shard) (k : Lasts shard) where
     unfolding read start_read
     read_lasts tag arrival = of-both (CallLasts shard) (is_number tag && is_slot arrival) (go (read_inserted shard tag arrival).opened) (same_lasts _ refl refl)
       where
-        go : (o : Opened) → CallLasts shard (after_insert shard (read_inserted shard tag arrival) o)
-        go (NotOpened why) = same_lasts _ refl refl
-        go (Id id) =
+        go : (o : Result ReadId Refusal) → CallLasts shard (after_insert shard (read_inserted shard tag arrival) o)
+        go (Err why) = same_lasts _ refl refl
+        go (Ok id) =
             record {
               lasts =
                   record {
@@ -494,7 +487,7 @@ module _ (choose : Choice) (shard : Shard) (k : Lasts shard) where
                     sets_fit = k.sets_fit;
                     fast_fits = k.fast_fits;
                     fast_as_new = k.fast_as_new;
-                    reads_fit = insert_reads_fit shard.state.rounds.core.tracker shard.state.table tag arrival (not (is_held shard.state.rounds.core.paxos.max_rv)) k.reads_fit;
+                    reads_fit = insert_reads_fit shard.state.rounds.core.tracker shard.state.table tag arrival (not (is_some shard.state.rounds.core.paxos.max_rv)) k.reads_fit;
                   };
               cleared = tt;
               same_settings = refl;
@@ -560,18 +553,18 @@ module _ (choose : Choice) (shard : Shard) (k : Lasts shard) where
     dispatch_lasts (Receive d) = go (admit s.process_count s.my_pid shard.state.rounds.core d) refl
       where
         go : (o : Outcome) → admit s.process_count s.my_pid shard.state.rounds.core d ≡ o → CallLasts shard (admitted choose shard d o)
-        go Done e = let n = numbers_of s.process_count s.my_pid shard.state.rounds.core d e in handle_lasts d n.0 n.1 d.message.msg
-        go (Refused why) e = same_lasts _ refl refl
+        go (Ok tt) e = let n = numbers_of s.process_count s.my_pid shard.state.rounds.core d e in handle_lasts d n.0 n.1 d.message.msg
+        go (Err why) e = same_lasts _ refl refl
 
   pub call_lasts : (c : Call) → CallLasts shard (call_with choose shard c)
   unfolding call_with unless_spent
   call_lasts c = go shard.made refl
     where
       go : (o : Outcome) → shard.made ≡ o → CallLasts shard (if_made choose shard c o)
-      go Done e =
+      go (Ok tt) e =
           by_test (CallLasts shard) (leb 9223372036854775807 shard.state.rounds.core.slot) _ _ (λ t. same_lasts _ refl refl)
           (λ t. dispatch_lasts (k.made_within e) (leb-false 9223372036854775807 shard.state.rounds.core.slot (not-true (leb 9223372036854775807 shard.state.rounds.core.slot) t)) c)
-      go (Refused why) e = same_lasts _ refl refl
+      go (Err why) e = same_lasts _ refl refl
 
 -- ---- sums and differences
 
@@ -588,9 +581,9 @@ pub record Room (shard : Shard) : Type 0 where
 
 -- ---- process numbers of an admitted message: each has its place in the tables and sets, which have 64
 
-abbrev PlaceOf : OptionalProcess → Type 0
-PlaceOf NoProcess = Unit {0}
-PlaceOf (Process p) = p < 64
+abbrev PlaceOf : Option ℕ → Type 0
+PlaceOf None = Unit {0}
+PlaceOf (Some p) = p < 64
 
 abbrev PlaceIn : ConsensusMsg → Type 0
 PlaceIn (Prepare slot round rv) = (round.leader < 64) × ProposerFits rv
@@ -611,10 +604,10 @@ module _ (n : ℕ) (few : n ≤ 64) where
   place_below : (p : ℕ) → ltb p n ≡ true → p < 64
   place_below p e = let l = ltb-true p n e in omega arith
 
-  place_of : (p : OptionalProcess) → requester_below n p ≡ true → PlaceOf p
+  place_of : (p : Option ℕ) → requester_below n p ≡ true → PlaceOf p
   unfolding requester_below
-  place_of NoProcess e = tt
-  place_of (Process p) e = place_below p e
+  place_of None e = tt
+  place_of (Some p) e = place_below p e
 
   place_in : (m : ConsensusMsg) → msg_processes n m ≡ true → PlaceIn m
   unfolding msg_processes
@@ -694,8 +687,8 @@ module _ (choices : Choices) (s : Settings) (cs : List MemberCall) (i : ℕ) whe
   fast_half_as_new classic = ok.fast_as_new (ap (λ (x : Settings). has_fast_path x.mode) same ∙ classic)
 
   -- "A commit clears everything", in every mode.
-  pub commit_clears : (choose : Choice) (c : Call) (slot v : ℕ) (mark : Bool) → (call_with choose left c).reply.commit ≡ Committed slot v mark → Cleared (call_with choose left c).shard
-  commit_clears choose c slot v mark e = subst (λ (x : OptionalCommit). ClearedBy x (call_with choose left c).shard) e (call_lasts choose left ok c).cleared
+  pub commit_clears : (choose : Choice) (c : Call) (slot v : ℕ) (mark : Bool) → (call_with choose left c).reply.commit ≡ committed_slot slot v mark → Cleared (call_with choose left c).shard
+  commit_clears choose c slot v mark e = subst (λ (x : Option CommittedSlot). ClearedBy x (call_with choose left c).shard) e (call_lasts choose left ok c).cleared
 
   -- The open reads stand in id order, at most 128, each id above the one before it and all below the next one.
   pub reads_in_order : InOrder left.state.rounds.core.tracker left.state.table
@@ -718,17 +711,17 @@ module _ (choices : Choices) (s : Settings) (cs : List MemberCall) (i : ℕ) whe
   sets_hold_live_replicas e = (λ p m. (counted.only_prepared p m).1 e, λ p m. (counted.only_accepted p m).1 e)
 
   -- Promises are counted only while something is held: so a Prepare that finds nothing held finds none counted, as `paxos_propose_v` asserts.
-  pub promises_while_held : is_held left.state.rounds.core.paxos.max_rv ≡ false → left.state.rounds.core.paxos.prepared_set ≡ 0
+  pub promises_while_held : is_some left.state.rounds.core.paxos.max_rv ≡ false → left.state.rounds.core.paxos.prepared_set ≡ 0
   promises_while_held e = go core.paxos.max_rv e counted.prepared_held
     where
-      go : (held : HeldPromise) → is_held held ≡ false → Holds held ⊎ (core.paxos.prepared_set ≡ 0) → core.paxos.prepared_set ≡ 0
+      go : (held : Option RoundV) → is_some held ≡ false → Holds held ⊎ (core.paxos.prepared_set ≡ 0) → core.paxos.prepared_set ≡ 0
       go held e (inr n) = n
-      go NothingHeld e (inl h) = absurd h
-      go (Held rv) e (inl h) = absurd (not_both refl e)
+      go None e (inl h) = absurd h
+      go (Some rv) e (inl h) = absurd (not_both refl e)
 
   -- Accepts are counted only while something accepted is held: so the leader in SwiftPaxos and the delegate in EPaxos that find nothing accepted
   -- find none counted, as `self_accept` asserts.
-  pub accepts_while_accepted : is_round (get_last_accepted_round left.state.rounds.core.paxos.max_rv) ≡ false → left.state.rounds.core.paxos.accepted_set ≡ 0
+  pub accepts_while_accepted : is_some (get_last_accepted_round left.state.rounds.core.paxos.max_rv) ≡ false → left.state.rounds.core.paxos.accepted_set ≡ 0
   accepts_while_accepted e = none_accepted (get_last_accepted_round core.paxos.max_rv) (subst (λ (b : Bool). T (not b)) (sym e) tt) counted.accepted_held
 
   -- The numbers that calls add to or subtract from have room. That these are all of them is read off the definitions, and no law: `increment`
@@ -753,9 +746,9 @@ module _ (choices : Choices) (s : Settings) (cs : List MemberCall) (i : ℕ) whe
       answers : size fast.fast_answer_set ≤ 64
       answers = size_bound fast.fast_answer_set
 
-      group : (r : OptionalRound) → GroupFits r → increment (unwrap_or_default r).round_group ≡ (unwrap_or_default r).round_group + 1
-      group NoRound g = increment_next 0 (omega arith)
-      group (Round r) g = increment_next r.round_group (omega arith)
+      group : (r : Option PaxosRound) → GroupFits r → increment (unwrap_or_default r).round_group ≡ (unwrap_or_default r).round_group + 1
+      group None g = increment_next 0 (omega arith)
+      group (Some r) g = increment_next r.round_group (omega arith)
 
       count : (l : List OpenRead) → LowCounts l → (r : OpenRead) → In r l → increment r.ready_count ≡ r.ready_count + 1
       count [] low r m = absurd m
@@ -763,7 +756,7 @@ module _ (choices : Choices) (s : Settings) (cs : List MemberCall) (i : ℕ) whe
       count (x ∷ xs) low r (inr m) = count xs low.1 r m
 
   -- The own number and the processes that an admitted message names are below 64: each has its place in the tables.
-  pub handled_in_tables : (d : Delivery) → left.made ≡ Done → admit left.settings.process_count left.settings.my_pid core d ≡ Done → InTables left.settings.my_pid d
+  pub handled_in_tables : (d : Delivery) → left.made ≡ Ok tt → admit left.settings.process_count left.settings.my_pid core d ≡ Ok tt → InTables left.settings.my_pid d
   handled_in_tables d made e =
       in_tables left.settings.process_count (few_processes left.settings (ok.made_within made)) left.settings.my_pid (own_below left.settings (ok.made_within made)) d
       (numbers_of left.settings.process_count left.settings.my_pid core d e).1

@@ -5,6 +5,7 @@ pub mod Accepting
 pub mod Proposing
 pub mod Answering
 pub mod FastPath
+pub mod Changes
 pub mod Handlers
 pub mod StepBounds
 pub mod Invariants

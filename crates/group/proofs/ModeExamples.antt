@@ -2,6 +2,7 @@
 -- read is opened and served. In MultiPaxos3P member 2, the committer, counts the accepts and commits by itself; in Pando member 1, the delegate,
 -- gathers the promises.
 -- Assumes nothing.
+use Rattle.std.specs.Prelude.{Option, None, Some}
 use mathlib.Core.Path.{◌≡◌, refl}
 use mathlib.Core.Bool.{true, false}
 use mathlib.Core.List.{List, [], ◌∷◌, ◌++◌}
@@ -14,10 +15,6 @@ use Rattle.tables.specs.Tables.{look_up, every}
 use Rattle.message.specs.Rounds.{increment, round_of, next_leader_round, round_before, round_equal}
 use Rattle.message.specs.declared.ConsensusMsg.{ConsensusMsg}
 use Rattle.message.specs.declared.ConsensusMsg.TheVariants.{Prepare, Accept, Commit, ReadRequest, ReadResponse}
-use Rattle.message.specs.declared.OptionalProcess.TheVariants.{Process}
-use Rattle.message.specs.declared.OptionalRound.TheVariants.{NoRound}
-use Rattle.message.specs.declared.OptionalValue.{OptionalValue}
-use Rattle.message.specs.declared.OptionalValue.TheVariants.{NoValue, Value}
 use Rattle.message.specs.declared.PFMode.TheVariants.{MultiPaxos, MultiPaxos3P, Pando}
 use Rattle.message.specs.declared.RoundV.TheVariants.{PaxosV}
 use Rattle.settings.specs.Settings.{counts_fit, members_fit, committers_fit, mode_fits, within_limits}
@@ -25,7 +22,8 @@ use Rattle.settings.specs.Questions.{committer_for, committer_in, delegate_in}
 use Rattle.settings.specs.declared.Settings.{Settings}
 use Rattle.read_tracker.specs.Reads.{read_id, insert as insert_read, after_response, after_commit}
 use Rattle.read_tracker.specs.declared.ServedRead.{ServedRead}
-use Rattle.serving.specs.Serving.{kept_by_ready, served_by_ready, kept_by_commit, served_by_commit, at_front, receive_ready, commit_slot as serve_reads}
+use Rattle.places.specs.Places.{at_front}
+use Rattle.serving.specs.Serving.{kept_by_ready, served_by_ready, kept_by_commit, served_by_commit, receive_ready, commit_slot as serve_reads}
 use Rattle.round_state.specs.Paxos.{with_sender, with_own, held_after_promise, receive_promise, paxos_propose_v, accept_fits, receive_accept, accept_own, self_accept}
 use Rattle.accept.specs.Accept.{is_committer, committer_hears, answer_accept, tells_commit, commit_messages, try_commit, answered, follower, accepted, accepting}
 use Rattle.paxos_family.specs.Commit.{commit_slot}
@@ -38,7 +36,7 @@ use Rattle.consensus.specs.Answers.{committed}
 use Rattle.consensus.specs.Call.{new_shard, call_of, proposing, propose, read, receive, dispatch, unless_spent, call_with}
 use Rattle.calls.specs.Asked.{gatherer_in}
 use Rattle.consensus.specs.Handle.{on_commit, on_read_request, on_read_response, start_read, processed, process_message, handle}
-use Rattle.delivery.specs.Limits.{round_numbers, rv_numbers, msg_numbers, value_numbers, process_numbers, numbers_fit, rv_processes, msg_processes, requester_below, processes_fit}
+use Rattle.delivery.specs.Limits.{round_numbers, rv_numbers, msg_numbers, number_given, numbers_fit, rv_processes, msg_processes, requester_below, processes_fit}
 use Rattle.calls.specs.declared.Call.TheVariants.{StartRead}
 use Rattle.fast_state.specs.Adopt.{lowest_best}
 use Rattle.consensus.specs.declared.Answer.{Answer}
@@ -88,18 +86,18 @@ pub record Shown (s : Settings) (calls : List MemberCall) (listed : List MemberC
 abbrev led : List MemberCall
 led =
     proposes 0 10
-    ∷ hears 1 0 NoValue (Accept 0 (round_of 0 0) 10)
-    ∷ hears 0 1 NoValue (Accept 0 (round_of 0 0) 10)
-    ∷ hears 1 0 NoValue (Commit 0 10)
-    ∷ hears 2 0 NoValue (Commit 0 10)
+    ∷ hears 1 0 None (Accept 0 (round_of 0 0) 10)
+    ∷ hears 0 1 None (Accept 0 (round_of 0 0) 10)
+    ∷ hears 1 0 None (Commit 0 10)
+    ∷ hears 2 0 None (Commit 0 10)
     ∷ opens 2 7 0
-    ∷ hears 0 2 (Value 10) (ReadRequest (read_id 0))
-    ∷ hears 2 0 NoValue (ReadResponse (read_id 0) 1)
+    ∷ hears 0 2 (Some 10) (ReadRequest (read_id 0))
+    ∷ hears 2 0 None (ReadResponse (read_id 0) 1)
     ∷ proposes 0 20
-    ∷ hears 2 0 (Value 10) (Accept 1 (round_of 0 0) 20)
-    ∷ hears 0 2 (Value 10) (Accept 1 (round_of 0 0) 20)
-    ∷ hears 1 0 (Value 10) (Commit 1 20)
-    ∷ hears 2 0 (Value 10) (Commit 1 20)
+    ∷ hears 2 0 (Some 10) (Accept 1 (round_of 0 0) 20)
+    ∷ hears 0 2 (Some 10) (Accept 1 (round_of 0 0) 20)
+    ∷ hears 1 0 (Some 10) (Commit 1 20)
+    ∷ hears 2 0 (Some 10) (Commit 1 20)
     ∷ []
 
 abbrev led_commits : List MemberCommit
@@ -111,8 +109,8 @@ led_commits =
 abbrev with_committer : Settings
 with_committer = three_with MultiPaxos3P true 2
 
-abbrev hears1 : ℕ → ℕ → OptionalValue → ConsensusMsg → MemberCall
-hears1 = hears_for (Process 1)
+abbrev hears1 : ℕ → ℕ → Option ℕ → ConsensusMsg → MemberCall
+hears1 = hears_for (Some 1)
 
 -- slot 0: member 0 proposes 10, member 1 accepts it and tells the committer, who accepts it too, commits it and tells the others
 -- slot 1: member 0 proposes 20, member 1 accepts it, and so opens a read without an answer of its own; the committer responds to the read,
@@ -120,18 +118,18 @@ hears1 = hears_for (Process 1)
 abbrev committed_by_third : List MemberCall
 committed_by_third =
     proposes 0 10
-    ∷ hears1 1 0 NoValue (Accept 0 (round_of 0 0) 10)
-    ∷ hears1 2 1 NoValue (Accept 0 (round_of 0 0) 10)
-    ∷ hears1 0 2 NoValue (Commit 0 10)
-    ∷ hears1 1 2 NoValue (Commit 0 10)
+    ∷ hears1 1 0 None (Accept 0 (round_of 0 0) 10)
+    ∷ hears1 2 1 None (Accept 0 (round_of 0 0) 10)
+    ∷ hears1 0 2 None (Commit 0 10)
+    ∷ hears1 1 2 None (Commit 0 10)
     ∷ proposes 0 20
-    ∷ hears1 1 0 (Value 10) (Accept 1 (round_of 0 0) 20)
+    ∷ hears1 1 0 (Some 10) (Accept 1 (round_of 0 0) 20)
     ∷ opens 1 8 1
-    ∷ hears1 2 1 (Value 10) (ReadRequest (read_id 0))
-    ∷ hears1 1 2 NoValue (ReadResponse (read_id 0) 1)
-    ∷ hears1 2 0 (Value 10) (Accept 1 (round_of 0 0) 20)
-    ∷ hears1 0 2 (Value 10) (Commit 1 20)
-    ∷ hears1 1 2 (Value 10) (Commit 1 20)
+    ∷ hears1 2 1 (Some 10) (ReadRequest (read_id 0))
+    ∷ hears1 1 2 None (ReadResponse (read_id 0) 1)
+    ∷ hears1 2 0 (Some 10) (Accept 1 (round_of 0 0) 20)
+    ∷ hears1 0 2 (Some 10) (Commit 1 20)
+    ∷ hears1 1 2 (Some 10) (Commit 1 20)
     ∷ []
 
 abbrev committed_by_third_commits : List MemberCommit
@@ -150,19 +148,19 @@ with_delegate = three_with Pando false 1
 abbrev delegated : List MemberCall
 delegated =
     proposes 0 10
-    ∷ hears 2 0 NoValue (Prepare 0 (round_of 0 0) (PaxosV NoRound 10))
-    ∷ hears 1 2 NoValue (Prepare 0 (round_of 0 0) (PaxosV NoRound 10))
-    ∷ hears 0 1 NoValue (Accept 0 (round_of 0 0) 10)
-    ∷ hears 1 0 NoValue (Commit 0 10)
-    ∷ hears 2 0 NoValue (Commit 0 10)
+    ∷ hears 2 0 None (Prepare 0 (round_of 0 0) (PaxosV None 10))
+    ∷ hears 1 2 None (Prepare 0 (round_of 0 0) (PaxosV None 10))
+    ∷ hears 0 1 None (Accept 0 (round_of 0 0) 10)
+    ∷ hears 1 0 None (Commit 0 10)
+    ∷ hears 2 0 None (Commit 0 10)
     ∷ proposes 2 20
-    ∷ hears 1 2 (Value 10) (Prepare 1 (round_of 0 2) (PaxosV NoRound 20))
+    ∷ hears 1 2 (Some 10) (Prepare 1 (round_of 0 2) (PaxosV None 20))
     ∷ opens 0 9 1
-    ∷ hears 1 0 (Value 10) (ReadRequest (read_id 0))
-    ∷ hears 2 1 (Value 10) (Accept 1 (round_of 0 2) 20)
-    ∷ hears 0 2 (Value 10) (Commit 1 20)
-    ∷ hears 1 2 (Value 10) (Commit 1 20)
-    ∷ hears 0 1 NoValue (ReadResponse (read_id 0) 2)
+    ∷ hears 1 0 (Some 10) (ReadRequest (read_id 0))
+    ∷ hears 2 1 (Some 10) (Accept 1 (round_of 0 2) 20)
+    ∷ hears 0 2 (Some 10) (Commit 1 20)
+    ∷ hears 1 2 (Some 10) (Commit 1 20)
+    ∷ hears 0 1 None (ReadResponse (read_id 0) 2)
     ∷ []
 
 abbrev delegated_commits : List MemberCommit
@@ -174,7 +172,7 @@ delegated_commits =
 pub examples_shown : Shown (three MultiPaxos) led led_commits (serves 2 7 1 ∷ [])
     × Shown with_committer committed_by_third committed_by_third_commits (serves 1 8 1 ∷ [])
     × Shown with_delegate delegated delegated_commits (serves 0 9 1 ∷ [])
-unfolding entries_from LegalFrom served_from new_shard call_with unless_spent dispatch propose read receive admit numbers_fit processes_fit ready other_last_value value_awaited round_numbers rv_numbers msg_numbers value_numbers process_numbers rv_processes msg_processes requester_below handle on_commit on_read_request on_read_response start_read insert_read after_response after_commit kept_by_ready served_by_ready kept_by_commit served_by_commit at_front receive_ready serve_reads committed process_message processed gatherer_in proposing propose_classic may_propose electing propose_prepare propose_accept process_classic on_prepare on_accept in_prepare enter from_live is_older in_round prepared hold_first preparing answers_nothing answer_prepare gather becomes_prepared accept_phase broadcast_accept accepting accepted follower answered try_commit commit_messages tells_commit is_committer committer_hears answer_accept commit_slot paxos_propose_v receive_promise held_after_promise receive_accept accept_fits accept_own self_accept with_sender with_own next_leader_round round_before round_equal increment delegate_in committer_in committer_for look_up every within_limits counts_fit members_fit committers_fit mode_fits contains count size insert
+unfolding entries_from LegalFrom served_from new_shard call_with unless_spent dispatch propose read receive admit numbers_fit processes_fit ready other_last_value value_awaited round_numbers rv_numbers msg_numbers number_given rv_processes msg_processes requester_below handle on_commit on_read_request on_read_response start_read insert_read after_response after_commit kept_by_ready served_by_ready kept_by_commit served_by_commit at_front receive_ready serve_reads committed process_message processed gatherer_in proposing propose_classic may_propose electing propose_prepare propose_accept process_classic on_prepare on_accept in_prepare enter from_live is_older in_round prepared hold_first preparing answers_nothing answer_prepare gather becomes_prepared accept_phase broadcast_accept accepting accepted follower answered try_commit commit_messages tells_commit is_committer committer_hears answer_accept commit_slot paxos_propose_v receive_promise held_after_promise receive_accept accept_fits accept_own self_accept with_sender with_own next_leader_round round_before round_equal increment delegate_in committer_in committer_for look_up every within_limits counts_fit members_fit committers_fit mode_fits contains count size insert
 examples_shown = (
   record {
     legal =

@@ -1,5 +1,6 @@
 -- Handling a Prepare in the classic modes is the model's `on_prepare`.
 -- Assumes nothing.
+use Rattle.std.specs.Prelude.{Option, None, Some, is_some, Result, Ok, Err}
 use mathlib.Core.Path.{◌≡◌, refl, sym, ap, ap₂, subst, ◌∙◌}
 use mathlib.Core.Logic.{◌⊎◌, inl, inr}
 use mathlib.Core.Bool.{Bool, true, false, cond, not, ◌&&◌, ◌||◌}
@@ -14,16 +15,12 @@ use Rattle.message.specs.Modes.{is_swift_paxos}
 use Rattle.message.specs.Promises.{value_of, accept_round_of}
 use Rattle.message.specs.Rounds.{before, equal}
 use Rattle.message.specs.declared.ConsensusMsg.TheVariants.{Prepare, Accept}
-use Rattle.message.specs.declared.OptionalRound.{OptionalRound}
-use Rattle.message.specs.declared.OptionalRound.TheVariants.{Round}
-use Rattle.message.specs.declared.OptionalValue.TheVariants.{Value}
 use Rattle.message.specs.declared.PaxosRound.{PaxosRound}
+use Rattle.message.specs.declared.Refusal.{Refusal}
 use Rattle.message.specs.declared.Refusal.TheVariants.{Panic, AcceptUnlikeHeld}
 use Rattle.message.specs.declared.RoundV.{RoundV}
-use Rattle.round_state.specs.Paxos.{get_v, get_last_accepted_round, is_held, taken, refused, held_after_promise, receive_promise, paxos_propose_v, counted, accept_fits, after_accept, receive_accept, accept_own, self_accept}
-use Rattle.round_state.specs.declared.HeldPromise.{HeldPromise}
-use Rattle.round_state.specs.declared.HeldPromise.TheVariants.{NothingHeld, Held}
-use Rattle.round_state.specs.declared.PaxosStep.{PaxosStep}
+use Rattle.round_state.specs.Paxos.{get_v, get_last_accepted_round, held_after_promise, receive_promise, paxos_propose_v, accept_fits, after_accept, receive_accept, accept_own, self_accept}
+use Rattle.round_state.specs.declared.PaxosState.{PaxosState}
 use Rattle.settings.specs.Questions.{quorums_of, delegate_of}
 use Rattle.settings.specs.declared.Settings.{Settings}
 use Rattle.calls.specs.Asked.{asked_of}
@@ -49,12 +46,12 @@ abbrev pub asked_by : Settings → ℕ → Asked
 asked_by s i = asked_of (member_settings s i)
 
 -- the view with another promise held and another set prepared
-abbrev with_held : Answers → Core → HeldPromise → (ℕ → Bool) → View
+abbrev with_held : Answers → Core → Option RoundV → (ℕ → Bool) → View
 with_held ans core held f =
     record {
       slot = core.slot;
       round = round_number core.paxos.round;
-      holds = is_held held;
+      holds = is_some held;
       held_round = round_number (get_last_accepted_round held);
       held_proposer = proposer_of (held_rv held);
       held_value = held_v held;
@@ -64,25 +61,25 @@ with_held ans core held f =
     }
 
 -- a promise replaces what is held where its accept round is later
-promise_cond : (held : HeldPromise) (rv : RoundV) → is_held held ≡ true
-    → held_after_promise held rv ≡ cond (before (get_last_accepted_round held) (accept_round_of rv)) (Held rv) held
+promise_cond : (held : Option RoundV) (rv : RoundV) → is_some held ≡ true
+    → held_after_promise held rv ≡ cond (before (get_last_accepted_round held) (accept_round_of rv)) (Some rv) held
 unfolding held_after_promise
-promise_cond NothingHeld rv e = absurd (not_both e refl)
-promise_cond (Held old) rv e = refl
+promise_cond None rv e = absurd (not_both e refl)
+promise_cond (Some old) rv e = refl
 
-value_held_lem : (held : HeldPromise) → is_held held ≡ true → get_v held ≡ Value (held_v held)
-value_held_lem NothingHeld e = absurd (not_both e refl)
-value_held_lem (Held rv) e = refl
+value_held_lem : (held : Option RoundV) → is_some held ≡ true → get_v held ≡ Some (held_v held)
+value_held_lem None e = absurd (not_both e refl)
+value_held_lem (Some rv) e = refl
 
-pub nothing_held_lem : (held : HeldPromise) → is_held held ≡ false → held ≡ NothingHeld
-nothing_held_lem NothingHeld e = refl
-nothing_held_lem (Held rv) e = absurd (not_both refl e)
+pub nothing_held_lem : (held : Option RoundV) → is_some held ≡ false → held ≡ None
+nothing_held_lem None e = refl
+nothing_held_lem (Some rv) e = absurd (not_both refl e)
 
 -- the promise that is held reports what the view holds
-report : (held : HeldPromise) → is_held held ≡ true
+report : (held : Option RoundV) → is_some held ≡ true
     → round_number (accept_round_of (held_rv held)) ≡ round_number (get_last_accepted_round held)
-report NothingHeld e = absurd (not_both e refl)
-report (Held rv) e = refl
+report None e = absurd (not_both e refl)
+report (Some rv) e = refl
 
 not_leb : (a b : ℕ) → not (leb a b) ≡ ltb b a
 not_leb a b = go (leb a b) refl
@@ -98,33 +95,33 @@ follows_both {S} {ans} {step} {t} {r} {o} e d f = subst (λ (x : CoreStep). Foll
 -- ---- the first promise that is held, and one's own accept
 
 module _ (ans : Answers) (s : Settings) (i : ℕ) (alive : contains s.alive_replicas i ≡ true) (small : i < 64) where
-  pub first_view : (core : Core) (rv : RoundV) → is_held core.paxos.max_rv ≡ false
-      → view_of ans (with_paxos (receive_promise (asked_by s i).member i rv core.paxos).state core)
+  pub first_view : (core : Core) (rv : RoundV) → is_some core.paxos.max_rv ≡ false
+      → view_of ans (with_paxos (receive_promise (asked_by s i).member i rv core.paxos) core)
       ≡ prepared_by i (adopted (round_number (accept_round_of rv)) (proposer_of rv) (value_of rv) (view_of ans core))
   unfolding receive_promise held_after_promise
   first_view core rv none =
-      ap₂ (with_held ans core) (ap (λ (m : HeldPromise). held_after_promise m rv) (nothing_held_lem core.paxos.max_rv none))
+      ap₂ (with_held ans core) (ap (λ (m : Option RoundV). held_after_promise m rv) (nothing_held_lem core.paxos.max_rv none))
       (counted_add (asked_by s i).member i core.paxos.prepared_set alive small small ∙ add_again i (contains core.paxos.prepared_set))
 
-  first_leaders : (core : Core) (rv : RoundV) → Leaders core → is_held core.paxos.max_rv ≡ false → LeaderFits (accept_round_of rv)
-      → Leaders (with_paxos (receive_promise (asked_by s i).member i rv core.paxos).state core)
+  first_leaders : (core : Core) (rv : RoundV) → Leaders core → is_some core.paxos.max_rv ≡ false → LeaderFits (accept_round_of rv)
+      → Leaders (with_paxos (receive_promise (asked_by s i).member i rv core.paxos) core)
   unfolding receive_promise held_after_promise
   first_leaders core rv ok none fits =
       record {
         in_round_lem = ok.in_round_lem;
-        in_held = subst (λ (m : HeldPromise). LeaderFits (get_last_accepted_round (held_after_promise m rv))) (sym (nothing_held_lem core.paxos.max_rv none)) fits;
+        in_held = subst (λ (m : Option RoundV). LeaderFits (get_last_accepted_round (held_after_promise m rv))) (sym (nothing_held_lem core.paxos.max_rv none)) fits;
       }
 
-  pub first_held : (core : Core) (rv : RoundV) → is_held core.paxos.max_rv ≡ false
-      → is_held (receive_promise (asked_by s i).member i rv core.paxos).state.max_rv ≡ true
+  pub first_held : (core : Core) (rv : RoundV) → is_some core.paxos.max_rv ≡ false
+      → is_some (receive_promise (asked_by s i).member i rv core.paxos).max_rv ≡ true
   unfolding receive_promise held_after_promise
-  first_held core rv none = ap (λ (m : HeldPromise). is_held (held_after_promise m rv)) (nothing_held_lem core.paxos.max_rv none)
+  first_held core rv none = ap (λ (m : Option RoundV). is_some (held_after_promise m rv)) (nothing_held_lem core.paxos.max_rv none)
 
-  first_round : (core : Core) (rv : RoundV) → (receive_promise (asked_by s i).member i rv core.paxos).state.round ≡ core.paxos.round
+  first_round : (core : Core) (rv : RoundV) → (receive_promise (asked_by s i).member i rv core.paxos).round ≡ core.paxos.round
   unfolding receive_promise
   first_round core rv = refl
 
-  pub own_accept_view : (round : PaxosRound) (core : Core) (v : ℕ) → core.paxos.round ≡ Round round
+  pub own_accept_view : (round : PaxosRound) (core : Core) (v : ℕ) → core.paxos.round ≡ Some round
       → view_of ans (with_paxos (after_accept (asked_by s i).member i round v core.paxos) core) ≡ voted i v (view_of ans core)
   own_accept_view round core v at =
       ap₂
@@ -146,16 +143,16 @@ module _ (ans : Answers) (s : Settings) (i : ℕ) (alive : contains s.alive_repl
 module _ (ans : Answers) (s : Settings) (i : ℕ) (no-swift : is_swift_paxos s.mode ≡ false) (alive : contains s.alive_replicas i ≡ true) (small : i < 64) (h : Heard) (src-small : h.src < 64) (round : PaxosRound) (below : round.leader < 64) (host : Host) where
   -- ---- the accept phase
 
-  own_accept_state : (core : Core) → is_held core.paxos.max_rv ≡ true → is_empty core.paxos.accepted_set ≡ true
+  own_accept_state : (core : Core) → is_some core.paxos.max_rv ≡ true → is_empty core.paxos.accepted_set ≡ true
       → self_accept (asked_by s i).member round core.paxos
       ≡ receive_accept (asked_by s i).member i round (held_v core.paxos.max_rv) core.paxos
   unfolding self_accept accept_own
   own_accept_state core held empty = simp (empty, value_held_lem core.paxos.max_rv held)
 
-  phase_of : (core : Core) (step : PaxosStep) → self_accept (asked_by s i).member round core.paxos ≡ step
-      → accept_phase (asked_by s i) round core ≡ after_own_accept (asked_by s i) round core step.state step.outcome
+  phase_of : (core : Core) (step : Result PaxosState Refusal) → self_accept (asked_by s i).member round core.paxos ≡ step
+      → accept_phase (asked_by s i) round core ≡ after_own_accept (asked_by s i) round core step
   unfolding accept_phase
-  phase_of core step e = ap (λ (t : PaxosStep). after_own_accept (asked_by s i) round core t.state t.outcome) e
+  phase_of core step e = ap (after_own_accept (asked_by s i) round core) e
 
   -- the value that the delegate picks
   abbrev picked : View → Outcome
@@ -166,7 +163,7 @@ module _ (ans : Answers) (s : Settings) (i : ℕ) (no-swift : is_swift_paxos s.m
   unfolding broadcast_accept
   broadcast_classic core = simp no-swift
 
-  broadcast_follows : (core : Core) → core.paxos.round ≡ Round round
+  broadcast_follows : (core : Core) → core.paxos.round ≡ Some round
       → Follows (setup_of s) ans (broadcast_accept (asked_by s i) round (with_paxos (after_accept (asked_by s i).member i round (held_v core.paxos.max_rv) core.paxos) core))
       (picked (view_of ans core))
   broadcast_follows core at =
@@ -178,36 +175,36 @@ module _ (ans : Answers) (s : Settings) (i : ℕ) (no-swift : is_swift_paxos s.m
             (ap round_number (sym at));
       })
 
-  self_accept_full : (core : Core) → is_empty core.paxos.accepted_set ≡ false → self_accept (asked_by s i).member round core.paxos ≡ refused AcceptUnlikeHeld core.paxos
+  self_accept_full : (core : Core) → is_empty core.paxos.accepted_set ≡ false → self_accept (asked_by s i).member round core.paxos ≡ Err AcceptUnlikeHeld
   unfolding self_accept
   self_accept_full core e = simp e
 
-  self_accept_fits : (core : Core) → is_held core.paxos.max_rv ≡ true → is_empty core.paxos.accepted_set ≡ true
+  self_accept_fits : (core : Core) → is_some core.paxos.max_rv ≡ true → is_empty core.paxos.accepted_set ≡ true
       → self_accept (asked_by s i).member round core.paxos
       ≡ cond (accept_fits core.paxos.max_rv round (held_v core.paxos.max_rv))
-      (taken (after_accept (asked_by s i).member i round (held_v core.paxos.max_rv) core.paxos))
-      (refused AcceptUnlikeHeld core.paxos)
+      (Ok (after_accept (asked_by s i).member i round (held_v core.paxos.max_rv) core.paxos))
+      (Err AcceptUnlikeHeld)
   unfolding receive_accept
   self_accept_fits core held e = own_accept_state core held e
 
   -- the accept phase: the delegate accepts what it holds, unless something is accepted already
-  phase_follows : (core : Core) → core.paxos.round ≡ Round round → is_held core.paxos.max_rv ≡ true → (x0 : View)
+  phase_follows : (core : Core) → core.paxos.round ≡ Some round → is_some core.paxos.max_rv ≡ true → (x0 : View)
       → Follows (setup_of s) ans (accept_phase (asked_by s i) round core) (cond ((view_of ans core).accepted i) (refuse x0) (picked (view_of ans core)))
   phase_follows core at held x0 = go (either (is_empty core.paxos.accepted_set)) (either (accept_fits core.paxos.max_rv round (held_v core.paxos.max_rv)))
     where
-      by_step : (step : PaxosStep) → self_accept (asked_by s i).member round core.paxos ≡ step
-          → Follows (setup_of s) ans (after_own_accept (asked_by s i) round core step.state step.outcome) (cond ((view_of ans core).accepted i) (refuse x0) (picked (view_of ans core)))
+      by_step : (step : Result PaxosState Refusal) → self_accept (asked_by s i).member round core.paxos ≡ step
+          → Follows (setup_of s) ans (after_own_accept (asked_by s i) round core step) (cond ((view_of ans core).accepted i) (refuse x0) (picked (view_of ans core)))
           → Follows (setup_of s) ans (accept_phase (asked_by s i) round core) (cond ((view_of ans core).accepted i) (refuse x0) (picked (view_of ans core)))
       by_step step e f = subst (λ (t : CoreStep). Follows (setup_of s) ans t (cond ((view_of ans core).accepted i) (refuse x0) (picked (view_of ans core)))) (sym (phase_of core step e)) f
 
       go : (is_empty core.paxos.accepted_set ≡ true) ⊎ (is_empty core.paxos.accepted_set ≡ false)
           → (accept_fits core.paxos.max_rv round (held_v core.paxos.max_rv) ≡ true) ⊎ (accept_fits core.paxos.max_rv round (held_v core.paxos.max_rv) ≡ false)
           → Follows (setup_of s) ans (accept_phase (asked_by s i) round core) (cond ((view_of ans core).accepted i) (refuse x0) (picked (view_of ans core)))
-      go (inr e) f = by_step (refused AcceptUnlikeHeld core.paxos) (self_accept_full core e) (record { seen_as = tt })
-      go (inl e) (inr f) = by_step (refused AcceptUnlikeHeld core.paxos) (self_accept_fits core held e ∙ simp f) (record { seen_as = tt })
+      go (inr e) f = by_step (Err AcceptUnlikeHeld) (self_accept_full core e) (record { seen_as = tt })
+      go (inl e) (inr f) = by_step (Err AcceptUnlikeHeld) (self_accept_fits core held e ∙ simp f) (record { seen_as = tt })
       go (inl e) (inl f) =
           let none : core.paxos.accepted_set ≡ 0 = eqb-true core.paxos.accepted_set 0 e in
-          by_step (taken (after_accept (asked_by s i).member i round (held_v core.paxos.max_rv) core.paxos)) (self_accept_fits core held e ∙ simp f)
+          by_step (Ok (after_accept (asked_by s i).member i round (held_v core.paxos.max_rv) core.paxos)) (self_accept_fits core held e ∙ simp f)
           (subst
           (λ (t : Bool).
           Follows (setup_of s) ans (broadcast_accept (asked_by s i) round (with_paxos (after_accept (asked_by s i).member i round (held_v core.paxos.max_rv) core.paxos) core))
@@ -217,8 +214,8 @@ module _ (ans : Answers) (s : Settings) (i : ℕ) (no-swift : is_swift_paxos s.m
 
   -- ---- the promise counted
 
-  pub promise_view : (core : Core) (rv : RoundV) → Leaders core → is_held core.paxos.max_rv ≡ true → LeaderFits (accept_round_of rv)
-      → view_of ans (with_paxos (receive_promise (asked_by s i).member h.src rv core.paxos).state core)
+  pub promise_view : (core : Core) (rv : RoundV) → Leaders core → is_some core.paxos.max_rv ≡ true → LeaderFits (accept_round_of rv)
+      → view_of ans (with_paxos (receive_promise (asked_by s i).member h.src rv core.paxos) core)
       ≡ model.counted (setup_of s) i h.src (round_number (accept_round_of rv)) (proposer_of rv) (value_of rv) (view_of ans core)
   unfolding receive_promise model.counted
   promise_view core rv ok held fits =
@@ -230,7 +227,7 @@ module _ (ans : Answers) (s : Settings) (i : ℕ) (no-swift : is_swift_paxos s.m
       (before_number (get_last_accepted_round core.paxos.max_rv) (accept_round_of rv) ok.in_held fits)
     where
       go : (t : Bool)
-          → with_held ans core (cond t (Held rv) core.paxos.max_rv) (add i (add h.src (contains core.paxos.prepared_set)))
+          → with_held ans core (cond t (Some rv) core.paxos.max_rv) (add i (add h.src (contains core.paxos.prepared_set)))
           ≡ prepared_by i (prepared_by h.src (cond t (adopted (round_number (accept_round_of rv)) (proposer_of rv) (value_of rv) (view_of ans core)) (view_of ans core)))
       go true = refl
       go false = refl
@@ -253,14 +250,14 @@ module _ (ans : Answers) (s : Settings) (i : ℕ) (no-swift : is_swift_paxos s.m
   unfolding model.picks
   picks_waits core rv x0 e = let d = completes_model core rv ∙ e in simp d
 
-  held_promised : (held : HeldPromise) (rv : RoundV) → is_held held ≡ true → is_held (held_after_promise held rv) ≡ true
-  held_promised held rv e = ap is_held (promise_cond held rv e) ∙ go (before (get_last_accepted_round held) (accept_round_of rv))
+  held_promised : (held : Option RoundV) (rv : RoundV) → is_some held ≡ true → is_some (held_after_promise held rv) ≡ true
+  held_promised held rv e = ap is_some (promise_cond held rv e) ∙ go (before (get_last_accepted_round held) (accept_round_of rv))
     where
-      go : (t : Bool) → is_held (cond t (Held rv) held) ≡ true
+      go : (t : Bool) → is_some (cond t (Some rv) held) ≡ true
       go true = refl
       go false = e
 
-  pub gather_follows : (core : Core) (rv : RoundV) → Leaders core → core.paxos.round ≡ Round round → is_held core.paxos.max_rv ≡ true → LeaderFits (accept_round_of rv) → (x0 : View)
+  pub gather_follows : (core : Core) (rv : RoundV) → Leaders core → core.paxos.round ≡ Some round → is_some core.paxos.max_rv ≡ true → LeaderFits (accept_round_of rv) → (x0 : View)
       → Follows (setup_of s) ans (gather (asked_by s i) h round rv core)
       (model.picks (setup_of s) i x0 (view_of ans core) (model.counted (setup_of s) i h.src (round_number (accept_round_of rv)) (proposer_of rv) (value_of rv) (view_of ans core)))
   unfolding receive_promise
@@ -280,15 +277,15 @@ module _ (ans : Answers) (s : Settings) (i : ℕ) (no-swift : is_swift_paxos s.m
 
   -- ---- the answer to a Prepare
 
-  delegate_number : (core : Core) → core.paxos.round ≡ Round round → h.delegate ≡ delegate_of s s.mode round.leader
+  delegate_number : (core : Core) → core.paxos.round ≡ Some round → h.delegate ≡ delegate_of s s.mode round.leader
       → (setup_of s).voters.delegate (view_of ans core).round ≡ h.delegate
-  delegate_number core at d = ap (λ (r : OptionalRound). delegate_of s s.mode (leader_of (round_number r))) at ∙ ap (delegate_of s s.mode) (leader_of_lem round below) ∙ sym d
+  delegate_number core at d = ap (λ (r : Option PaxosRound). delegate_of s s.mode (leader_of (round_number r))) at ∙ ap (delegate_of s s.mode) (leader_of_lem round below) ∙ sym d
 
-  answers_nothing_lem : (core : Core) → Leaders core → core.paxos.round ≡ Round round
+  answers_nothing_lem : (core : Core) → Leaders core → core.paxos.round ≡ Some round
       → answers_nothing (asked_by s i) h round core ≡ eqb (view_of ans core).held_round (view_of ans core).round
   unfolding answers_nothing
   answers_nothing_lem core ok at =
-      ap (λ (t : Bool). (t && eqb h.delegate round.leader) || equal (get_last_accepted_round core.paxos.max_rv) (Round round)) no-swift
+      ap (λ (t : Bool). (t && eqb h.delegate round.leader) || equal (get_last_accepted_round core.paxos.max_rv) (Some round)) no-swift
       ∙ ap (equal (get_last_accepted_round core.paxos.max_rv)) (sym at)
       ∙ equal_number (get_last_accepted_round core.paxos.max_rv) core.paxos.round ok.in_held ok.in_round_lem
 
@@ -330,16 +327,16 @@ module _ (ans : Answers) (s : Settings) (i : ℕ) (no-swift : is_swift_paxos s.m
   unfolding model.promised
   model_answer core rv x0 e n = simp (e, n)
 
-  prepared_held : (core : Core) (rv : RoundV) → is_held core.paxos.max_rv ≡ true → prepared (asked_by s i) h round rv core ≡ preparing (asked_by s i) h round core
+  prepared_held : (core : Core) (rv : RoundV) → is_some core.paxos.max_rv ≡ true → prepared (asked_by s i) h round rv core ≡ preparing (asked_by s i) h round core
   unfolding prepared hold_first
   prepared_held core rv e = simp e
 
-  prepared_first : (core : Core) (rv : RoundV) → is_held core.paxos.max_rv ≡ false → is_empty core.paxos.prepared_set ≡ true
-      → prepared (asked_by s i) h round rv core ≡ preparing (asked_by s i) h round (with_paxos (receive_promise (asked_by s i).member i rv core.paxos).state core)
+  prepared_first : (core : Core) (rv : RoundV) → is_some core.paxos.max_rv ≡ false → is_empty core.paxos.prepared_set ≡ true
+      → prepared (asked_by s i) h round rv core ≡ preparing (asked_by s i) h round (with_paxos (receive_promise (asked_by s i).member i rv core.paxos) core)
   unfolding prepared hold_first paxos_propose_v
   prepared_first core rv e n = simp (e, n)
 
-  prepared_refused : (core : Core) (rv : RoundV) → is_held core.paxos.max_rv ≡ false → is_empty core.paxos.prepared_set ≡ false
+  prepared_refused : (core : Core) (rv : RoundV) → is_some core.paxos.max_rv ≡ false → is_empty core.paxos.prepared_set ≡ false
       → prepared (asked_by s i) h round rv core ≡ refuses Panic core
   unfolding prepared hold_first paxos_propose_v
   prepared_refused core rv e n = simp (e, n)
@@ -347,10 +344,10 @@ module _ (ans : Answers) (s : Settings) (i : ℕ) (no-swift : is_swift_paxos s.m
   -- what the delegate makes of the promise, as the model does: `rest` is what the handler makes of it
   module _ (X : Type 0) (lift : CoreStep → X) (Fits : X → Outcome → Type 0) (lifted : (step : CoreStep) (r : Outcome) → Follows (setup_of s) ans step r → Fits (lift step) r)
       (rv : RoundV) (fits : LeaderFits (accept_round_of rv)) (delegate_of_lem : h.delegate ≡ delegate_of s s.mode round.leader) (x0 : View) (rest : Core → X)
-      (rest-follows : (core : Core) → Leaders core → core.paxos.round ≡ Round round → is_held core.paxos.max_rv ≡ true
+      (rest-follows : (core : Core) → Leaders core → core.paxos.round ≡ Some round → is_some core.paxos.max_rv ≡ true
       → Fits (rest core) (model.gathers (setup_of s) i h.src (proposer_of rv) (value_of rv) host x0 (view_of ans core)
       (model.counted (setup_of s) i h.src (round_number (accept_round_of rv)) (proposer_of rv) (value_of rv) (view_of ans core)))) where
-    preparing_follows : (core : Core) → Leaders core → core.paxos.round ≡ Round round → is_held core.paxos.max_rv ≡ true
+    preparing_follows : (core : Core) → Leaders core → core.paxos.round ≡ Some round → is_some core.paxos.max_rv ≡ true
         → Fits (then_in lift (preparing (asked_by s i) h round core) rest) (promised_by core rv x0)
     preparing_follows core ok at held = go (either (eqb h.delegate i)) (either (answers_nothing (asked_by s i) h round core)) (either (eqb h.delegate h.src || not (eqb h.delegate round.leader)))
       where
@@ -398,14 +395,14 @@ module _ (ans : Answers) (s : Settings) (i : ℕ) (no-swift : is_swift_paxos s.m
 
     -- ---- a Prepare in the round of the core
 
-    pub in_prepare_follows : (core : Core) → Leaders core → core.paxos.round ≡ Round round
+    pub in_prepare_follows : (core : Core) → Leaders core → core.paxos.round ≡ Some round
         → Fits (then_in lift (prepared (asked_by s i) h round rv core) rest)
         (model.promised (setup_of s) i h.src (round_number (accept_round_of rv)) (proposer_of rv) (value_of rv) host x0
         (cond (view_of ans core).holds (view_of ans core) (prepared_by i (adopted (round_number (accept_round_of rv)) (proposer_of rv) (value_of rv) (view_of ans core)))))
-    in_prepare_follows core ok at = go (either (is_held core.paxos.max_rv)) (either (is_empty core.paxos.prepared_set))
+    in_prepare_follows core ok at = go (either (is_some core.paxos.max_rv)) (either (is_empty core.paxos.prepared_set))
       where
         first : Core
-        first = with_paxos (receive_promise (asked_by s i).member i rv core.paxos).state core
+        first = with_paxos (receive_promise (asked_by s i).member i rv core.paxos) core
 
         goal : View → Outcome
         goal x = model.promised (setup_of s) i h.src (round_number (accept_round_of rv)) (proposer_of rv) (value_of rv) host x0 x
@@ -413,17 +410,17 @@ module _ (ans : Answers) (s : Settings) (i : ℕ) (no-swift : is_swift_paxos s.m
         view : Bool → View
         view t = cond t (view_of ans core) (prepared_by i (adopted (round_number (accept_round_of rv)) (proposer_of rv) (value_of rv) (view_of ans core)))
 
-        put : (t : CoreStep) (r : Outcome) → prepared (asked_by s i) h round rv core ≡ t → goal (view (is_held core.paxos.max_rv)) ≡ r → Fits (then_in lift t rest) r
-            → Fits (then_in lift (prepared (asked_by s i) h round rv core) rest) (goal (view (is_held core.paxos.max_rv)))
-        put t r e d f = subst (λ (z : CoreStep). Fits (then_in lift z rest) (goal (view (is_held core.paxos.max_rv)))) (sym e) (subst (Fits (then_in lift t rest)) (sym d) f)
+        put : (t : CoreStep) (r : Outcome) → prepared (asked_by s i) h round rv core ≡ t → goal (view (is_some core.paxos.max_rv)) ≡ r → Fits (then_in lift t rest) r
+            → Fits (then_in lift (prepared (asked_by s i) h round rv core) rest) (goal (view (is_some core.paxos.max_rv)))
+        put t r e d f = subst (λ (z : CoreStep). Fits (then_in lift z rest) (goal (view (is_some core.paxos.max_rv)))) (sym e) (subst (Fits (then_in lift t rest)) (sym d) f)
 
-        go : (is_held core.paxos.max_rv ≡ true) ⊎ (is_held core.paxos.max_rv ≡ false)
+        go : (is_some core.paxos.max_rv ≡ true) ⊎ (is_some core.paxos.max_rv ≡ false)
             → (is_empty core.paxos.prepared_set ≡ true) ⊎ (is_empty core.paxos.prepared_set ≡ false)
-            → Fits (then_in lift (prepared (asked_by s i) h round rv core) rest) (goal (view (is_held core.paxos.max_rv)))
+            → Fits (then_in lift (prepared (asked_by s i) h round rv core) rest) (goal (view (is_some core.paxos.max_rv)))
         go (inl e) n = put (preparing (asked_by s i) h round core) (goal (view_of ans core)) (prepared_held core rv e) (ap (λ (t : Bool). goal (view t)) e) (preparing_follows core ok at e)
         go (inr e) (inr n) =
-            put (refuses Panic core) (goal (view (is_held core.paxos.max_rv))) (prepared_refused core rv e n) refl
-            (lifted (refuses Panic core) (goal (view (is_held core.paxos.max_rv))) (record { seen_as = tt }))
+            put (refuses Panic core) (goal (view (is_some core.paxos.max_rv))) (prepared_refused core rv e n) refl
+            (lifted (refuses Panic core) (goal (view (is_some core.paxos.max_rv))) (record { seen_as = tt }))
         go (inr e) (inl n) =
             put (preparing (asked_by s i) h round first) (goal (view_of ans first)) (prepared_first core rv e n)
             (ap (λ (t : Bool). goal (view t)) e ∙ ap goal (sym (first_view ans s i alive small core rv e)))
@@ -438,7 +435,7 @@ module _ (ans : Answers) (s : Settings) (i : ℕ) (no-swift : is_swift_paxos s.m
 pub on_prepare_follows : (ans : Answers) (s : Settings) (i : ℕ) → is_swift_paxos s.mode ≡ false → is_e_paxos s.mode ≡ false → i < 64 → (h : Heard) → h.src < 64 → (slot : ℕ) (round : PaxosRound) → round.leader < 64 → (rv : RoundV) → LeaderFits (accept_round_of rv)
     → h.source_live ≡ contains s.alive_replicas h.src → h.delegate ≡ delegate_of s s.mode round.leader → (core : Core) → Leaders core → slot ≤ core.slot → (host : Host)
     → Follows (setup_of s) ans (on_prepare (asked_by s i) h slot round rv core)
-    (model.on_prepare (setup_of s) i (view_of ans core) h.src slot (round_number (Round round)) (round_number (accept_round_of rv)) (proposer_of rv) (value_of rv) host)
+    (model.on_prepare (setup_of s) i (view_of ans core) h.src slot (round_number (Some round)) (round_number (accept_round_of rv)) (proposer_of rv) (value_of rv) host)
 unfolding on_prepare model.on_prepare in_prepare
 on_prepare_follows ans s i no-swift slow small h src slot round below rv fits live d core ok le host =
     enter_follows ans s i no-swift core h slot round CoreStep (λ t. t) (Follows (setup_of s) ans) (λ step r f. f) ok below live le (in_prepare (asked_by s i) h round rv) _

@@ -1,5 +1,6 @@
 -- A proposal in the classic modes is the model's `on_propose`.
 -- Assumes nothing.
+use Rattle.std.specs.Prelude.{Option, None, Some, is_some, Ok}
 use mathlib.Core.Path.{◌≡◌, refl, sym, ap, ap₂, subst, ◌∙◌}
 use mathlib.Core.Logic.{◌⊎◌, inl, inr}
 use mathlib.Core.Bool.{Bool, true, false, cond, not, ◌&&◌, ◌||◌}
@@ -15,17 +16,13 @@ use Rattle.message.specs.Modes.{is_multi_paxos, is_swift_paxos}
 use Rattle.message.specs.Rounds.{increment, default_round, next_leader_round, starting_round, equal, unwrap_or_default}
 use Rattle.message.proofs.Order.{equal_rounds}
 use Rattle.message.specs.declared.ConsensusMsg.TheVariants.{Prepare, Accept}
-use Rattle.message.specs.declared.OptionalRound.{OptionalRound}
-use Rattle.message.specs.declared.OptionalRound.TheVariants.{NoRound, Round}
 use Rattle.message.specs.declared.PFMode.{PFMode}
 use Rattle.message.specs.declared.PFMode.TheVariants.{Paxos, MultiPaxos, MultiPaxos3P, EPaxos, Pando, SwiftPaxos}
 use Rattle.message.specs.declared.PaxosRound.{PaxosRound}
 use Rattle.message.specs.declared.RoundV.{RoundV}
 use Rattle.message.specs.declared.RoundV.TheVariants.{PaxosV}
-use Rattle.round_state.specs.Paxos.{is_held, taken, goto_round, held_after_promise, receive_promise, paxos_propose_v, accept_fits, after_accept, receive_accept, accept_own, self_accept}
-use Rattle.round_state.specs.declared.HeldPromise.TheVariants.{NothingHeld}
+use Rattle.round_state.specs.Paxos.{goto_round, held_after_promise, receive_promise, paxos_propose_v, accept_fits, after_accept, receive_accept, accept_own, self_accept}
 use Rattle.round_state.specs.declared.PaxosState.{PaxosState}
-use Rattle.round_state.specs.declared.PaxosStep.{PaxosStep}
 use Rattle.settings.specs.Questions.{delegate_of, starting_round_of, delegate_in}
 use Rattle.settings.specs.declared.Settings.{Settings}
 use Rattle.propose.specs.Propose.{not_allowed, electing, proposal_round, may_propose, proposed, propose_prepare, after_own_promise, propose_accept, propose_classic}
@@ -40,7 +37,7 @@ use Rattle.group.proofs.Preparing.{asked_by, nothing_held_lem, follows_both, fir
 -- ---- what the modes give
 
 -- without a leader from the start there is no starting round
-no_start_lem : (m : PFMode) (l : ℕ) → is_multi_paxos m ≡ false → starting_round m l ≡ NoRound
+no_start_lem : (m : PFMode) (l : ℕ) → is_multi_paxos m ≡ false → starting_round m l ≡ None
 no_start_lem Paxos l e = refl
 no_start_lem MultiPaxos l e = absurd (not_both refl e)
 no_start_lem MultiPaxos3P l e = absurd (not_both refl e)
@@ -49,7 +46,7 @@ no_start_lem Pando l e = refl
 no_start_lem SwiftPaxos l e = refl
 
 -- with one, the leader gathers
-leader_gathers : (s : Settings) (m : PFMode) (l : ℕ) → is_multi_paxos m ≡ true → delegate_of s m l ≡ l
+pub leader_gathers : (s : Settings) (m : PFMode) (l : ℕ) → is_multi_paxos m ≡ true → delegate_of s m l ≡ l
 unfolding delegate_in
 leader_gathers s Paxos l e = absurd (not_both e refl)
 leader_gathers s MultiPaxos l e = refl
@@ -59,7 +56,7 @@ leader_gathers s Pando l e = absurd (not_both e refl)
 leader_gathers s SwiftPaxos l e = absurd (not_both e refl)
 
 -- the own round of a process
-own_round_lem : (i : ℕ) → round_number (Round (next_leader_round default_round i)) ≡ suc i
+own_round_lem : (i : ℕ) → round_number (Some (next_leader_round default_round i)) ≡ suc i
 unfolding next_leader_round
 own_round_lem i = ap (λ (t : Bool). suc (cond t 0 (increment 0) * 64 + i)) (leb-zero i) ∙ omega arith
 
@@ -74,14 +71,14 @@ module _ (ans : Answers) (s : Settings) (i : ℕ) (no-swift : is_swift_paxos s.m
 
   -- what a proposal that is allowed has
   pub record Allowed : Type 0 where
-    pub nothing : is_held core.paxos.max_rv ≡ false
+    pub nothing : is_some core.paxos.max_rv ≡ false
     pub alive : contains s.alive_replicas i ≡ true
     pub starts : core.paxos.round ≡ starting_round_of s
-    pub led : is_multi_paxos s.mode ≡ true → Round (proposal_round (asked_by s i) core) ≡ starting_round_of s
+    pub led : is_multi_paxos s.mode ≡ true → Some (proposal_round (asked_by s i) core) ≡ starting_round_of s
 
   pub allowed : may_propose (asked_by s i) core ≡ true → Allowed
   unfolding may_propose
-  allowed e = go (is_held core.paxos.max_rv) refl e
+  allowed e = go (is_some core.paxos.max_rv) refl e
     where
       A : Bool
       A = contains s.alive_replicas i || is_swift_paxos s.mode
@@ -90,7 +87,7 @@ module _ (ans : Answers) (s : Settings) (i : ℕ) (no-swift : is_swift_paxos s.m
       B = equal core.paxos.round (starting_round_of s)
 
       C : Bool
-      C = not (is_multi_paxos s.mode) || equal (Round (proposal_round (asked_by s i) core)) (starting_round_of s)
+      C = not (is_multi_paxos s.mode) || equal (Some (proposal_round (asked_by s i) core)) (starting_round_of s)
 
       live : A ≡ true → contains s.alive_replicas i ≡ true
       live a = pick (or_cases (contains s.alive_replicas i) (is_swift_paxos s.mode) a)
@@ -99,15 +96,15 @@ module _ (ans : Answers) (s : Settings) (i : ℕ) (no-swift : is_swift_paxos s.m
           pick (inl l) = l
           pick (inr l) = absurd (not_both l no-swift)
 
-      leads : C ≡ true → is_multi_paxos s.mode ≡ true → Round (proposal_round (asked_by s i) core) ≡ starting_round_of s
-      leads c m = pick (or_cases (not (is_multi_paxos s.mode)) (equal (Round (proposal_round (asked_by s i) core)) (starting_round_of s)) c)
+      leads : C ≡ true → is_multi_paxos s.mode ≡ true → Some (proposal_round (asked_by s i) core) ≡ starting_round_of s
+      leads c m = pick (or_cases (not (is_multi_paxos s.mode)) (equal (Some (proposal_round (asked_by s i) core)) (starting_round_of s)) c)
         where
-          pick : (not (is_multi_paxos s.mode) ≡ true) ⊎ (equal (Round (proposal_round (asked_by s i) core)) (starting_round_of s) ≡ true)
-              → Round (proposal_round (asked_by s i) core) ≡ starting_round_of s
+          pick : (not (is_multi_paxos s.mode) ≡ true) ⊎ (equal (Some (proposal_round (asked_by s i) core)) (starting_round_of s) ≡ true)
+              → Some (proposal_round (asked_by s i) core) ≡ starting_round_of s
           pick (inl l) = absurd (not_both l (ap not m))
-          pick (inr l) = equal_rounds (Round (proposal_round (asked_by s i) core)) (starting_round_of s) l
+          pick (inr l) = equal_rounds (Some (proposal_round (asked_by s i) core)) (starting_round_of s) l
 
-      go : (t : Bool) → is_held core.paxos.max_rv ≡ t → cond t false (A && B && C) ≡ true → Allowed
+      go : (t : Bool) → is_some core.paxos.max_rv ≡ t → cond t false (A && B && C) ≡ true → Allowed
       go true h t = absurd (not_both t refl)
       go false h t =
           record {
@@ -120,51 +117,51 @@ module _ (ans : Answers) (s : Settings) (i : ℕ) (no-swift : is_swift_paxos s.m
   -- ---- the two proposals
 
   module _ (may : Allowed) where
-    none : core.paxos.max_rv ≡ NothingHeld
+    none : core.paxos.max_rv ≡ None
     none = nothing_held_lem core.paxos.max_rv may.nothing
 
     -- one's own promise, in the round r
     abbrev pub promised : PaxosRound → RoundV → PaxosState
-    promised r rv = (receive_promise (asked_by s i).member i rv (goto_round (Round r) core.paxos)).state
+    promised r rv = (receive_promise (asked_by s i).member i rv (goto_round (Some r) core.paxos))
 
-    propose_promise : (r : PaxosRound) (rv : RoundV) → paxos_propose_v (asked_by s i).member rv (goto_round (Round r) core.paxos) ≡ taken (promised r rv)
+    propose_promise : (r : PaxosRound) (rv : RoundV) → paxos_propose_v (asked_by s i).member rv (goto_round (Some r) core.paxos) ≡ Ok (promised r rv)
     unfolding paxos_propose_v
     propose_promise r rv = simp may.nothing
 
     pub prepare_step : (r : PaxosRound) (rv : RoundV)
         → propose_prepare (asked_by s i) r rv core ≡ stays (with_paxos (promised r rv) core) (one_message (sends (asked_by s i) core to_all (Prepare core.slot r rv)))
     unfolding propose_prepare
-    prepare_step r rv = ap (λ (t : PaxosStep). proposed (asked_by s i) (Prepare core.slot r rv) core t.state t.outcome) (propose_promise r rv)
+    prepare_step r rv = ap (proposed (asked_by s i) (Prepare core.slot r rv) core) (propose_promise r rv)
 
-    self_accept_lem : (r : PaxosRound) → self_accept (asked_by s i).member r (promised r (PaxosV NoRound v)) ≡ taken (after_accept (asked_by s i).member i r v (promised r (PaxosV NoRound v)))
+    self_accept_lem : (r : PaxosRound) → self_accept (asked_by s i).member r (promised r (PaxosV None v)) ≡ Ok (after_accept (asked_by s i).member i r v (promised r (PaxosV None v)))
     unfolding self_accept accept_own receive_accept accept_fits receive_promise held_after_promise
     self_accept_lem r = simp none
 
     accept_step : (r : PaxosRound)
         → propose_accept (asked_by s i) r v core
-        ≡ stays (with_paxos (after_accept (asked_by s i).member i r v (promised r (PaxosV NoRound v))) core) (one_message (sends (asked_by s i) core to_all (Accept core.slot r v)))
+        ≡ stays (with_paxos (after_accept (asked_by s i).member i r v (promised r (PaxosV None v))) core) (one_message (sends (asked_by s i) core to_all (Accept core.slot r v)))
     unfolding propose_accept
     accept_step r =
-        ap (λ (t : PaxosStep). after_own_promise (asked_by s i) r v core t.state t.outcome) (propose_promise r (PaxosV NoRound v))
-        ∙ ap (λ (t : PaxosStep). proposed (asked_by s i) (Accept core.slot r v) core t.state t.outcome) (self_accept_lem r)
+        ap (after_own_promise (asked_by s i) r v core) (propose_promise r (PaxosV None v))
+        ∙ ap (proposed (asked_by s i) (Accept core.slot r v) core) (self_accept_lem r)
 
     -- ---- their views
 
     pub promised_view : (r : PaxosRound) (rv : RoundV) → view_of ans (with_paxos (promised r rv) core)
-        ≡ prepared_by i (adopted (round_number (accept_round_of rv)) (proposer_of rv) (value_of rv) (joined (round_number (Round r)) (view_of ans core)))
+        ≡ prepared_by i (adopted (round_number (accept_round_of rv)) (proposer_of rv) (value_of rv) (joined (round_number (Some r)) (view_of ans core)))
     promised_view r rv =
-        first_view ans s i may.alive small (with_paxos (goto_round (Round r) core.paxos) core) rv may.nothing
-        ∙ ap (λ (x : View). prepared_by i (adopted (round_number (accept_round_of rv)) (proposer_of rv) (value_of rv) x)) (goto_view ans (Round r) core)
+        first_view ans s i may.alive small (with_paxos (goto_round (Some r) core.paxos) core) rv may.nothing
+        ∙ ap (λ (x : View). prepared_by i (adopted (round_number (accept_round_of rv)) (proposer_of rv) (value_of rv) x)) (goto_view ans (Some r) core)
 
-    promised_round : (r : PaxosRound) → (promised r (PaxosV NoRound v)).round ≡ Round r
+    promised_round : (r : PaxosRound) → (promised r (PaxosV None v)).round ≡ Some r
     unfolding receive_promise
     promised_round r = refl
 
     accepted_view_lem : (r : PaxosRound)
-        → view_of ans (with_paxos (after_accept (asked_by s i).member i r v (promised r (PaxosV NoRound v))) core)
-        ≡ voted i v (prepared_by i (adopted 0 0 v (joined (round_number (Round r)) (view_of ans core))))
+        → view_of ans (with_paxos (after_accept (asked_by s i).member i r v (promised r (PaxosV None v))) core)
+        ≡ voted i v (prepared_by i (adopted 0 0 v (joined (round_number (Some r)) (view_of ans core))))
     accepted_view_lem r =
-        own_accept_view ans s i may.alive small r (with_paxos (promised r (PaxosV NoRound v)) core) v (promised_round r) ∙ ap (voted i v) (promised_view r (PaxosV NoRound v))
+        own_accept_view ans s i may.alive small r (with_paxos (promised r (PaxosV None v)) core) v (promised_round r) ∙ ap (voted i v) (promised_view r (PaxosV None v))
 
     -- ---- the model's proposal
 
@@ -190,7 +187,7 @@ module _ (ans : Answers) (s : Settings) (i : ℕ) (no-swift : is_swift_paxos s.m
     round = proposal_round (asked_by s i) core
 
     -- in MultiPaxos the proposal's round is that of the core, and oneself leads it
-    led_round : is_multi_paxos s.mode ≡ true → (view_of ans core).round ≡ round_number (Round round)
+    led_round : is_multi_paxos s.mode ≡ true → (view_of ans core).round ≡ round_number (Some round)
     led_round m = ap round_number (may.starts ∙ sym (may.led m))
 
     led_own : is_multi_paxos s.mode ≡ true → eqb i ((setup_of s).voters.delegate (view_of ans core).round) ≡ true
@@ -202,35 +199,35 @@ module _ (ans : Answers) (s : Settings) (i : ℕ) (no-swift : is_swift_paxos s.m
         own = next_leader (unwrap_or_default core.paxos.round) (electing (asked_by s i)) ∙ electing_own
 
     -- elsewhere it is the first round of oneself
-    pub first_own : is_multi_paxos s.mode ≡ false → round_number (Round round) ≡ suc i
+    pub first_own : is_multi_paxos s.mode ≡ false → round_number (Some round) ≡ suc i
     first_own m =
-        ap₂ (λ (r : OptionalRound) (p : ℕ). round_number (Round (next_leader_round (unwrap_or_default r) p))) (may.starts ∙ no_start_lem s.mode s.first_leader m) electing_own
+        ap₂ (λ (r : Option PaxosRound) (p : ℕ). round_number (Some (next_leader_round (unwrap_or_default r) p))) (may.starts ∙ no_start_lem s.mode s.first_leader m) electing_own
         ∙ own_round_lem i
 
-    allowed_follows : is_e_paxos s.mode ≡ false → Follows (setup_of s) ans (cond (is_multi_paxos s.mode) (propose_accept (asked_by s i) round v core) (propose_prepare (asked_by s i) round (PaxosV NoRound v) core))
+    allowed_follows : is_e_paxos s.mode ≡ false → Follows (setup_of s) ans (cond (is_multi_paxos s.mode) (propose_accept (asked_by s i) round v core) (propose_prepare (asked_by s i) round (PaxosV None v) core))
         (model.on_propose (setup_of s) i (view_of ans core) v)
     allowed_follows slow = go (either (is_multi_paxos s.mode))
       where
         go : (is_multi_paxos s.mode ≡ true) ⊎ (is_multi_paxos s.mode ≡ false)
-            → Follows (setup_of s) ans (cond (is_multi_paxos s.mode) (propose_accept (asked_by s i) round v core) (propose_prepare (asked_by s i) round (PaxosV NoRound v) core))
+            → Follows (setup_of s) ans (cond (is_multi_paxos s.mode) (propose_accept (asked_by s i) round v core) (propose_prepare (asked_by s i) round (PaxosV None v) core))
             (model.on_propose (setup_of s) i (view_of ans core) v)
         go (inl m) =
-            follows_both (ap (λ (t : Bool). cond t (propose_accept (asked_by s i) round v core) (propose_prepare (asked_by s i) round (PaxosV NoRound v) core)) m ∙ accept_step round)
+            follows_both (ap (λ (t : Bool). cond t (propose_accept (asked_by s i) round v core) (propose_prepare (asked_by s i) round (PaxosV None v) core)) m ∙ accept_step round)
             (model_led m (led_own m))
             (record {
               seen_as =
-                  ap (λ (x : View). say x (record { destination = model.all; message = model.accept core.slot (round_number (Round round)) v } ∷ [])) (accepted_view_lem round)
+                  ap (λ (x : View). say x (record { destination = model.all; message = model.accept core.slot (round_number (Some round)) v } ∷ [])) (accepted_view_lem round)
                   ∙ ap
                   (λ (r : ℕ).
                   say (voted i v (prepared_by i (adopted 0 0 v (joined r (view_of ans core))))) (record { destination = model.all; message = model.accept core.slot r v } ∷ []))
                   (sym (led_round m));
             })
         go (inr m) =
-            follows_both (ap (λ (t : Bool). cond t (propose_accept (asked_by s i) round v core) (propose_prepare (asked_by s i) round (PaxosV NoRound v) core)) m ∙ prepare_step round (PaxosV NoRound v))
+            follows_both (ap (λ (t : Bool). cond t (propose_accept (asked_by s i) round v core) (propose_prepare (asked_by s i) round (PaxosV None v) core)) m ∙ prepare_step round (PaxosV None v))
             (model_own m slow)
             (record {
               seen_as =
-                  ap (λ (x : View). say x (record { destination = model.all; message = model.prepare core.slot (round_number (Round round)) 0 0 v } ∷ [])) (promised_view round (PaxosV NoRound v))
+                  ap (λ (x : View). say x (record { destination = model.all; message = model.prepare core.slot (round_number (Some round)) 0 0 v } ∷ [])) (promised_view round (PaxosV None v))
                   ∙ ap
                   (λ (r : ℕ).
                   say (prepared_by i (adopted 0 0 v (joined r (view_of ans core)))) (record { destination = model.all; message = model.prepare core.slot r 0 0 v } ∷ []))
@@ -239,7 +236,7 @@ module _ (ans : Answers) (s : Settings) (i : ℕ) (no-swift : is_swift_paxos s.m
 
   propose_allowed : may_propose (asked_by s i) core ≡ true
       → propose_classic (asked_by s i) v core
-      ≡ cond (is_multi_paxos s.mode) (propose_accept (asked_by s i) (proposal_round (asked_by s i) core) v core) (propose_prepare (asked_by s i) (proposal_round (asked_by s i) core) (PaxosV NoRound v) core)
+      ≡ cond (is_multi_paxos s.mode) (propose_accept (asked_by s i) (proposal_round (asked_by s i) core) v core) (propose_prepare (asked_by s i) (proposal_round (asked_by s i) core) (PaxosV None v) core)
   unfolding propose_classic
   propose_allowed e = simp e
 

@@ -1,6 +1,7 @@
 -- What a call sends, of every shard, in every mode, legal or not: at most two messages ("Out: at most three messages"), each with the own
 -- number as its source, none to oneself ("destination, or all, never the sender; for Commit the first destination"), and a Commit to all.
 -- Assumes nothing.
+use Rattle.std.specs.Prelude.{Option, None, Some}
 use mathlib.Core.Path.{◌≡◌, refl}
 use mathlib.Core.Bool.{Bool, true}
 use mathlib.Core.List.{[]}
@@ -10,8 +11,6 @@ use lib.ListN.{length}
 use lib.Dec.{eqb, ltb}
 use Rattle.message.specs.declared.ConsensusMsg.{ConsensusMsg}
 use Rattle.message.specs.declared.ConsensusMsg.TheVariants.{Prepare, Accept, ForwardRequest, Commit, ReadRequest, ReadResponse}
-use Rattle.message.specs.declared.OptionalProcess.{OptionalProcess}
-use Rattle.message.specs.declared.OptionalProcess.TheVariants.{NoProcess, Process}
 use Rattle.fast_state.specs.Adopt.{Choice}
 use Rattle.steps.specs.Steps.{first_served}
 use Rattle.steps.specs.declared.Asked.{Asked}
@@ -22,8 +21,6 @@ use Rattle.steps.specs.declared.Heard.{Heard}
 use Rattle.steps.specs.declared.Messages.{Messages}
 use Rattle.steps.specs.declared.Next.{Next}
 use Rattle.steps.specs.declared.Next.TheVariants.{Stays, Continues, Commits, Refuses}
-use Rattle.steps.specs.declared.OptionalMessage.{OptionalMessage}
-use Rattle.steps.specs.declared.OptionalMessage.TheVariants.{NoMessage, Send}
 use Rattle.steps.specs.declared.Outgoing.{Outgoing}
 use Rattle.steps.specs.declared.Rounds.{Rounds}
 use Rattle.steps.specs.declared.RoundsStep.{RoundsStep}
@@ -44,9 +41,9 @@ use Rattle.group.proofs.Handlers.{Any, UpToTwo, TwoAtMost, each_in, Ends, ends, 
 -- ---- a message that a member may send
 
 -- the process is another
-abbrev Other : ℕ → OptionalProcess → Type 0
-Other own NoProcess = Unit {0}
-Other own (Process p) = p ≡ own → ⊥
+abbrev Other : ℕ → Option ℕ → Type 0
+Other own None = Unit {0}
+Other own (Some p) = p ≡ own → ⊥
 
 -- "never the sender"
 abbrev pub NotTo : ℕ → Destination → Type 0
@@ -95,9 +92,9 @@ module _ (a : Asked) where
   abbrev own : ℕ
   own = a.member.my_pid
 
-  first_other : (p : OptionalProcess) → Other own (first_served a p)
-  first_other NoProcess = tt
-  first_other (Process p) = by_test (Other own) (eqb p own) NoProcess (Process p) (λ t. tt) (neqb→ne p own)
+  first_other : (p : Option ℕ) → Other own (first_served a p)
+  first_other None = tt
+  first_other (Some p) = by_test (Other own) (eqb p own) None (Some p) (λ t. tt) (neqb→ne p own)
 
   keeps : Keeps a Any Any Any Any (λ round. Any) Any (FromOwn own)
   keeps =
@@ -190,12 +187,12 @@ module _ (choose : Choice) (shard : Shard) where
       ms : Messages
       ms = (call_with choose shard c).reply.messages
 
-      go : (x y z : OptionalMessage) → UpToTwo (FromOwn number) x y z → length (listed x (listed y (listed z []))) ≤ 2
-      go NoMessage NoMessage NoMessage u = omega arith
-      go NoMessage (Send o) NoMessage u = omega arith
-      go (Send o) NoMessage NoMessage u = omega arith
-      go (Send o) (Send p) NoMessage u = omega arith
-      go x y (Send o) u = absurd u
+      go : (x y z : Option Outgoing) → UpToTwo (FromOwn number) x y z → length (listed x (listed y (listed z []))) ≤ 2
+      go None None None u = omega arith
+      go None (Some o) None u = omega arith
+      go (Some o) None None u = omega arith
+      go (Some o) (Some p) None u = omega arith
+      go x y (Some o) u = absurd u
 
   -- Each is from the own number, and goes to others; a Commit goes to all.
   pub sent_from_own : (c : Call) (o : Outgoing) → In o (messages_of (call_with choose shard c).reply.messages) → FromOwn number o

@@ -1,6 +1,8 @@
 -- A member's slot in the shard is the number of its commits, and each commit is of its member's slot: in every mode, with every settings and
 -- after every list of calls, legal or not.
 -- Assumes nothing.
+use Rattle.std.specs.Prelude.{Option}
+use Rattle.calls.specs.declared.CommittedSlot.{CommittedSlot}
 use mathlib.Core.Path.{◌≡◌, refl, sym, ap, subst, ◌∙◌}
 use mathlib.Core.Logic.{inl, inr}
 use mathlib.Core.Bool.{Bool, true, false, cond}
@@ -11,7 +13,6 @@ use Rattle.basics.proofs.Tests.{of-both}
 use Rattle.settings.specs.declared.Settings.{Settings}
 use Rattle.fast_state.specs.Adopt.{Choice}
 use Rattle.consensus.specs.Call.{new_shard, call_with}
-use Rattle.calls.specs.declared.OptionalCommit.{OptionalCommit}
 use Rattle.consensus.specs.declared.Shard.{Shard}
 use Rattle.group.specs.Claim.{member_settings, begun, Choices, later_choices, MemberCall, Entry, entry_of, after_call, entries_from, entries_with, At, plus_commit, slot_at, CommitAt}
 use Rattle.group.proofs.Invariants.{Lasts, OfSlot, CallLasts, begun_lasts, call_lasts, shards_after}
@@ -43,7 +44,7 @@ call_counted choose shards past k c =
     left : CallLasts old (call_with choose old c.call)
     left = call_lasts choose old (k.lasting c.member) c.call
 
-    commit : OptionalCommit
+    commit : Option CommittedSlot
     commit = (call_with choose old c.call).reply.commit
 
     go : (j : ℕ) (t : Bool) → (T t → j ≡ c.member)

@@ -1,6 +1,7 @@
 -- What every step of every mode keeps, for any shard within its limits: slot and open reads, whom the prepared and accepted sets hold, who leads
 -- rounds, and the bounds of the numbers that a call adds to or subtracts from.
 -- Assumes nothing.
+use Rattle.std.specs.Prelude.{Option, None, Some, Result, Ok, is_some}
 use mathlib.Core.Path.{◌≡◌, refl, sym, ap, subst, ◌∙◌}
 use mathlib.Core.Logic.{◌⊎◌, inl, inr}
 use mathlib.Core.Bool.{Bool, true, false, cond, not, ◌&&◌}
@@ -13,31 +14,25 @@ use Rattle.sets.specs.Sets.{contains, insert, size, one}
 use Rattle.sets.proofs.Laws.{contains_empty, contains_insert, contains_insert_same, insert_none, size_insert, within_insert}
 use Rattle.tables.specs.Tables.{look_up, store}
 use Rattle.message.specs.Modes.{has_fast_path, is_swift_paxos}
-use Rattle.message.specs.Rounds.{increment, before, is_round}
+use Rattle.message.specs.Rounds.{increment, before}
 use Rattle.message.proofs.NextLeader.{increment_next}
 use Rattle.message.specs.declared.ConsensusMsg.{ConsensusMsg}
 use Rattle.message.specs.declared.ConsensusMsg.TheVariants.{Prepare, Accept, ForwardRequest, Commit, ReadRequest, ReadResponse}
-use Rattle.message.specs.declared.OptionalRound.{OptionalRound}
-use Rattle.message.specs.declared.OptionalRound.TheVariants.{NoRound, Round}
-use Rattle.message.specs.declared.Outcome.TheVariants.{Done}
 use Rattle.message.specs.declared.PaxosRound.{PaxosRound}
+use Rattle.message.specs.declared.Refusal.{Refusal}
 use Rattle.message.specs.declared.RoundV.{RoundV}
 use Rattle.message.specs.declared.RoundV.TheVariants.{PaxosV}
 use Rattle.message.specs.Promises.{accept_round_of}
 use Rattle.round_state.specs.Paxos.{get_last_accepted_round, held_after_promise, with_sender, with_own, counted, with_held, goto_round, receive_promise, after_accept}
-use Rattle.round_state.specs.declared.HeldPromise.{HeldPromise}
-use Rattle.round_state.specs.declared.HeldPromise.TheVariants.{NothingHeld, Held}
 use Rattle.round_state.specs.declared.Member.{Member}
 use Rattle.round_state.specs.declared.PaxosState.{PaxosState}
-use Rattle.sets.specs.declared.OptionalSet.{OptionalSet}
 use Rattle.fast_state.specs.Adopt.{Choice}
 use Rattle.fast_state.specs.Fast.{answers_of, changed, unchanged, to_v_after, epaxos_scores_after, swift_scores_after, preaccepted_after, second_answer, is_unanswered, score_after, epaxos_counted, epaxos_answered, epaxos_propose_v, in_quorum, swift_counted, swift_recorded, swift_uncounted, swift_first, swift_answered, swift_own, swift_unanswered, swift_propose_v}
 use Rattle.fast_state.specs.declared.FastState.{FastState}
-use Rattle.fast_state.specs.declared.FastStep.{FastStep}
-use Rattle.accept.specs.Accept.{answered, accepted}
+use Rattle.fast_state.specs.declared.FastChange.{FastChange}
 use Rattle.enter.specs.Enter.{source_taken}
 use Rattle.propose.specs.Propose.{proposal_round, may_propose, own_answer}
-use Rattle.steps.specs.Steps.{stays, with_paxos, on_rounds, change_rounds}
+use Rattle.steps.specs.Steps.{with_paxos, on_rounds, change_rounds}
 use Rattle.steps.specs.declared.Asked.{Asked}
 use Rattle.steps.specs.declared.ChangeStep.{ChangeStep}
 use Rattle.steps.specs.declared.Core.{Core}
@@ -49,42 +44,43 @@ use Rattle.consensus.specs.Handle.{processed}
 use Rattle.agreement.proofs.Tests.{by_test, neqb→ne}
 use Rattle.group.proofs.View.{LeaderIn}
 use Rattle.group.proofs.Answering.{FastFits, size_bound, stored, stored_length, ProposerFits}
+use Rattle.group.proofs.Changes.{change_left}
 use Rattle.group.proofs.Handlers.{Any, Holds, promise_held, Keeps, Comes, processed_holds, proposing_holds}
 
 -- ---- rounds
 
 -- the group of a round has a number after it
-abbrev pub GroupFits : OptionalRound → Type 0
-GroupFits NoRound = Unit {0}
-GroupFits (Round r) = r.round_group ≤ 9223372036854775807
+abbrev pub GroupFits : Option PaxosRound → Type 0
+GroupFits None = Unit {0}
+GroupFits (Some r) = r.round_group ≤ 9223372036854775807
 
 -- and its leader is one that may lead
 abbrev pub RoundFits : (ℕ → Type 0) → PaxosRound → Type 0
-RoundFits Leads r = GroupFits (Round r) × Leads r.leader
+RoundFits Leads r = GroupFits (Some r) × Leads r.leader
 
 -- ---- what was accepted
 
-abbrev pub HasRound : OptionalRound → Type 0
-HasRound NoRound = ⊥
-HasRound (Round r) = Unit {0}
+abbrev pub HasRound : Option PaxosRound → Type 0
+HasRound None = ⊥
+HasRound (Some r) = Unit {0}
 
-later_round : (x y : OptionalRound) → T (before x y) → HasRound y
-later_round NoRound NoRound t = t
-later_round (Round r) NoRound t = t
-later_round x (Round r) t = tt
+later_round : (x y : Option PaxosRound) → T (before x y) → HasRound y
+later_round None None t = t
+later_round (Some r) None t = t
+later_round x (Some r) t = tt
 
 -- a promise replaces an accepted one only by one that was accepted later
-promise_accepted : {set : ℕ} (held : HeldPromise) (rv : RoundV) → HasRound (get_last_accepted_round held) ⊎ (set ≡ 0) → HasRound (get_last_accepted_round (held_after_promise held rv)) ⊎ (set ≡ 0)
+promise_accepted : {set : ℕ} (held : Option RoundV) (rv : RoundV) → HasRound (get_last_accepted_round held) ⊎ (set ≡ 0) → HasRound (get_last_accepted_round (held_after_promise held rv)) ⊎ (set ≡ 0)
 unfolding held_after_promise
 promise_accepted held rv (inr e) = inr e
-promise_accepted NothingHeld rv (inl h) = absurd h
-promise_accepted (Held old) rv (inl h) =
-    inl (by_test (λ (x : HeldPromise). HasRound (get_last_accepted_round x)) (before (accept_round_of old) (accept_round_of rv)) (Held rv) (Held old) (later_round (accept_round_of old) (accept_round_of rv)) (λ t. h))
+promise_accepted None rv (inl h) = absurd h
+promise_accepted (Some old) rv (inl h) =
+    inl (by_test (λ (x : Option RoundV). HasRound (get_last_accepted_round x)) (before (accept_round_of old) (accept_round_of rv)) (Some rv) (Some old) (later_round (accept_round_of old) (accept_round_of rv)) (λ t. h))
 
-pub none_accepted : {set : ℕ} (at : OptionalRound) → T (not (is_round at)) → HasRound at ⊎ (set ≡ 0) → set ≡ 0
+pub none_accepted : {set : ℕ} (at : Option PaxosRound) → T (not (is_some at)) → HasRound at ⊎ (set ≡ 0) → set ≡ 0
 none_accepted at fresh (inr e) = e
-none_accepted NoRound fresh (inl h) = absurd h
-none_accepted (Round r) fresh (inl h) = absurd fresh
+none_accepted None fresh (inl h) = absurd h
+none_accepted (Some r) fresh (inl h) = absurd fresh
 
 -- ---- sets that hold only what may be counted, and rounds that are led by who may lead
 
@@ -127,13 +123,13 @@ module _ (Counts Leads : ℕ → Type 0) where
         sender : Only (cond (eqb src me.my_pid) set (insert set src))
         sender = by_test Only (eqb src me.my_pid) set (insert set src) (λ t. only) (λ t. only_insert set src only (c (neqb→ne src me.my_pid t)))
 
-    led_after : (held : HeldPromise) (rv : RoundV) → LeaderIn Leads (get_last_accepted_round held) → LeaderIn Leads (accept_round_of rv)
+    led_after : (held : Option RoundV) (rv : RoundV) → LeaderIn Leads (get_last_accepted_round held) → LeaderIn Leads (accept_round_of rv)
         → LeaderIn Leads (get_last_accepted_round (held_after_promise held rv))
     unfolding held_after_promise
-    led_after NothingHeld rv old led = led
-    led_after (Held rv0) rv old led = of-both (λ (x : HeldPromise). LeaderIn Leads (get_last_accepted_round x)) (before (accept_round_of rv0) (accept_round_of rv)) led old
+    led_after None rv old led = led
+    led_after (Some rv0) rv old led = of-both (λ (x : Option RoundV). LeaderIn Leads (get_last_accepted_round x)) (before (accept_round_of rv0) (accept_round_of rv)) led old
 
-    promise_fits_lem : (src : ℕ) (rv : RoundV) (s : PaxosState) → CountsOther src → LeaderIn Leads (accept_round_of rv) → StateFits s → StateFits (receive_promise me src rv s).state
+    promise_fits_lem : (src : ℕ) (rv : RoundV) (s : PaxosState) → CountsOther src → LeaderIn Leads (accept_round_of rv) → StateFits s → StateFits (receive_promise me src rv s)
     unfolding receive_promise
     promise_fits_lem src rv s c led f =
         record {
@@ -158,7 +154,7 @@ module _ (Counts Leads : ℕ → Type 0) where
           held_led = led;
         }
 
-  goto_fits : (round : PaxosRound) (s : PaxosState) → RoundFits Leads round → StateFits s → StateFits (goto_round (Round round) s)
+  goto_fits : (round : PaxosRound) (s : PaxosState) → RoundFits Leads round → StateFits s → StateFits (goto_round (Some round) s)
   goto_fits round s fit f =
       record {
         only_prepared = only_empty;
@@ -171,7 +167,7 @@ module _ (Counts Leads : ℕ → Type 0) where
       }
 
   -- what is adopted takes the place of what nobody has accepted
-  adopt_fits : (v : ℕ) (s : PaxosState) → T (not (is_round (get_last_accepted_round s.max_rv))) → StateFits s → StateFits (with_held (Held (PaxosV NoRound v)) s)
+  adopt_fits : (v : ℕ) (s : PaxosState) → T (not (is_some (get_last_accepted_round s.max_rv))) → StateFits s → StateFits (with_held (Some (PaxosV None v)) s)
   adopt_fits v s fresh f =
       record {
         only_prepared = f.only_prepared;
@@ -290,8 +286,8 @@ module _ (me : Member) (src p v : ℕ) (src-small : src < 64) (p-small : p < 64)
       }
 
 module _ (me : Member) (own_small : me.my_pid < 64) (f : FastState) (ok : FastFits f) where
-  abbrev FastStepFits : FastStep → Type 0
-  FastStepFits step = FastFits (changed step.change f)
+  abbrev FastStepFits : Result FastChange Refusal → Type 0
+  FastStepFits step = FastFits (changed (change_left (answers_of f) step) f)
 
   second_fits : (src : ℕ) → FastStepFits (second_answer me src (answers_of f))
   unfolding second_answer
@@ -302,11 +298,11 @@ module _ (me : Member) (own_small : me.my_pid < 64) (f : FastState) (ok : FastFi
   epaxos_answered_fits src p v l m = go (contains f.fast_answer_set src) refl
     where
       go : (t : Bool) → contains f.fast_answer_set src ≡ t
-          → FastStepFits (cond t (second_answer me src (answers_of f)) (record { change = epaxos_counted me src p v (answers_of f) f.epaxos_proposer_scores; outcome = Done }))
+          → FastStepFits (cond t (second_answer me src (answers_of f)) (Ok (epaxos_counted me src p v (answers_of f) f.epaxos_proposer_scores)))
       go true e = second_fits src
       go false e = epaxos_counted_fits me src p v l m f ok e
 
-  swift_answered_fits : (src p v : ℕ) → src < 64 → p < 64 → (quorum : OptionalSet) (leader : Bool) → FastStepFits (swift_answered me src p v quorum leader (answers_of f) f.swift_proposer_scores)
+  swift_answered_fits : (src p v : ℕ) → src < 64 → p < 64 → (quorum : Option ℕ) (leader : Bool) → FastStepFits (swift_answered me src p v quorum leader (answers_of f) f.swift_proposer_scores)
   unfolding swift_answered swift_first swift_uncounted
   swift_answered_fits src p v l m quorum leader = go (contains f.fast_answer_set src) refl
     where
@@ -396,7 +392,7 @@ module _ (Counts Leads : ℕ → Type 0) (a : Asked) (own_counts : T a.member.re
       (λ p v leader w. swift_answered_fits me own_small s.fast ok h.src p v small w.1 a.quorum leader)
       (λ step t q. fast_fit s.fast step t q.0.0 q.1) (λ step t q. classic_fit s.fast ok step q.0) m (comes h small c s.core m fit) k
 
-  own_answer_fits : (f : FastState) → FastFits f → (v : ℕ) → FastFits (changed (own_answer a v (answers_of f) f.epaxos_proposer_scores f.swift_proposer_scores).change f)
+  own_answer_fits : (f : FastState) → FastFits f → (v : ℕ) → FastFits (changed (change_left (answers_of f) (own_answer a v (answers_of f) f.epaxos_proposer_scores f.swift_proposer_scores)) f)
   unfolding own_answer epaxos_propose_v swift_propose_v swift_own
   own_answer_fits f ok v =
       of-both Fits (is_swift_paxos a.mode)
@@ -405,8 +401,8 @@ module _ (Counts Leads : ℕ → Type 0) (a : Asked) (own_counts : T a.member.re
       (of-both Fits (is_unanswered (answers_of f) && eqb (look_up f.epaxos_proposer_scores me.my_pid) 2)
       (epaxos_answered_fits me own_small f ok me.my_pid me.my_pid v own_small own_small) (unchanged_fits f ok))
     where
-      Fits : FastStep → Type 0
-      Fits step = FastFits (changed step.change f)
+      Fits : Result FastChange Refusal → Type 0
+      Fits step = FastFits (changed (change_left (answers_of f) step) f)
 
   -- a proposal is made in the starting round alone, and so its round is of the first groups
   pub proposing_fits : ((core : Core) → T (may_propose a core) → RoundFits Leads (proposal_round a core)) → (v : ℕ) (s : Rounds) → FastFits s.fast → CoreFits s.core

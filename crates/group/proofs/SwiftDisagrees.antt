@@ -1,6 +1,7 @@
 -- In SwiftPaxos two values can be committed in one slot, so `agreement` (Agreement.antt) leaves that mode out: a legal run of seven calls, computed,
 -- of a group in which 0 and 1 are the live replicas, 0 is the leader, and 2 is the committer of all; 2 commits 10 in slot 0, and 0 commits 6 there.
 -- Assumes nothing.
+use Rattle.std.specs.Prelude.{None, Some}
 use mathlib.Core.Path.{◌≡◌, refl}
 use mathlib.Core.Bool.{true, false}
 use mathlib.Core.List.{List, [], ◌∷◌}
@@ -11,8 +12,6 @@ use Rattle.sets.specs.Sets.{contains, count, size, insert}
 use Rattle.message.specs.Rounds.{increment, round_of, next_leader_round, round_before, round_equal}
 use Rattle.message.specs.declared.ConsensusMsg.{ConsensusMsg}
 use Rattle.message.specs.declared.ConsensusMsg.TheVariants.{Prepare, Accept}
-use Rattle.message.specs.declared.OptionalProcess.TheVariants.{Process}
-use Rattle.message.specs.declared.OptionalValue.TheVariants.{NoValue}
 use Rattle.message.specs.declared.RoundV.TheVariants.{FastV}
 use Rattle.settings.specs.Settings.{counts_fit, members_fit, committers_fit, mode_fits, quorum_fits, within_limits}
 use Rattle.settings.specs.Questions.{committer_for, committer_in, delegate_in}
@@ -31,7 +30,7 @@ use Rattle.consensus.specs.Answers.{committed}
 use Rattle.consensus.specs.Call.{new_shard, proposing, propose, receive, dispatch, unless_spent, call_with}
 use Rattle.calls.specs.Asked.{gatherer_in}
 use Rattle.consensus.specs.Handle.{processed, process_message, handle}
-use Rattle.delivery.specs.Limits.{round_numbers, rv_numbers, msg_numbers, value_numbers, process_numbers, numbers_fit, rv_processes, msg_processes, requester_below, processes_fit}
+use Rattle.delivery.specs.Limits.{round_numbers, rv_numbers, msg_numbers, number_given, numbers_fit, rv_processes, msg_processes, requester_below, processes_fit}
 use Rattle.agreement.proofs.Tests.{neqb→ne}
 use Rattle.group.specs.Claim.{MemberCall, entries_from, entries, LegalFrom, Legal, CommitAt, Claim}
 use Rattle.group.proofs.Example.{proposes, hears_for, commits_of, none, commits, first}
@@ -42,10 +41,10 @@ with_committer = with_client true 2
 
 -- a message from a member to another: of 10, which 2 has requested, and of 6, which 0 has
 abbrev hears10 : ℕ → ℕ → ConsensusMsg → MemberCall
-hears10 member source = hears_for (Process 2) member source NoValue
+hears10 member source = hears_for (Some 2) member source None
 
 abbrev hears6 : ℕ → ℕ → ConsensusMsg → MemberCall
-hears6 member source = hears_for (Process 0) member source NoValue
+hears6 member source = hears_for (Some 0) member source None
 
 -- member 2 counts the leader's Accept of 6 as an answer to its own proposal of 10, and commits 10 with member 1's answer; then member 1 accepts 6 too
 abbrev calls : List MemberCall
@@ -67,7 +66,7 @@ pub record SwiftShown : Type 0 where
   pub commits_6 : CommitAt 0 6 (entries with_committer calls)
 
 pub swift_example_shown : SwiftShown
-unfolding entries_from LegalFrom new_shard call_with unless_spent dispatch propose receive admit numbers_fit processes_fit ready other_last_value value_awaited round_numbers rv_numbers msg_numbers value_numbers process_numbers rv_processes msg_processes requester_below handle committed process_message processed gatherer_in proposing propose_fast propose_change leads_from_start own_answer swift_propose_v swift_unanswered swift_own is_unanswered may_propose electing propose_prepare propose_accept process_fast process_change on_fast_prepare in_fast_prepare fast_prepared fast_gather starts_accept waits leads_round fast_promised fast_answered swift_client_prepare swift_answer swift_answered swift_first preaccepted_after leader_answer_after swift_can_commit swift_quorum on_fast_accept in_fast_accept swift_client_accept swift_accept accept_answered leader_answered client_accept replica_accept look_up every enter from_live is_older in_round prepared hold_first preparing answers_nothing answer_prepare accepting accepted follower answered try_commit is_committer committer_hears answer_accept paxos_propose_v receive_promise held_after_promise receive_accept accept_fits accept_own self_accept with_sender with_own next_leader_round round_before round_equal increment delegate_in committer_in committer_for within_limits counts_fit members_fit committers_fit mode_fits quorum_fits contains count size insert
+unfolding entries_from LegalFrom new_shard call_with unless_spent dispatch propose receive admit numbers_fit processes_fit ready other_last_value value_awaited round_numbers rv_numbers msg_numbers number_given rv_processes msg_processes requester_below handle committed process_message processed gatherer_in proposing propose_fast propose_change leads_from_start own_answer swift_propose_v swift_unanswered swift_own is_unanswered may_propose electing propose_prepare propose_accept process_fast process_change on_fast_prepare in_fast_prepare fast_prepared fast_gather starts_accept waits leads_round fast_promised fast_answered swift_client_prepare swift_answer swift_answered swift_first preaccepted_after leader_answer_after swift_can_commit swift_quorum on_fast_accept in_fast_accept swift_client_accept swift_accept accept_answered leader_answered client_accept replica_accept look_up every enter from_live is_older in_round prepared hold_first preparing answers_nothing answer_prepare accepting accepted follower answered try_commit is_committer committer_hears answer_accept paxos_propose_v receive_promise held_after_promise receive_accept accept_fits accept_own self_accept with_sender with_own next_leader_round round_before round_equal increment delegate_in committer_in committer_for within_limits counts_fit members_fit committers_fit mode_fits quorum_fits contains count size insert
 swift_example_shown = record {
   legal =
       first (lit< tt) tt

@@ -1,5 +1,6 @@
 -- Choices that take one of the best proposers: ours takes the lowest, and for each of the best there is one that takes it.
 -- Assumes nothing.
+use Rattle.std.specs.Prelude.{Option, None, Some}
 use mathlib.Core.Path.{◌≡◌, refl, ap, subst}
 use mathlib.Core.Bool.{Bool, true, false, cond, ◌&&◌}
 use Prim.Native.Nat.{ℕ, ◌≤◌, ◌<◌}
@@ -8,8 +9,6 @@ use lib.Dec.{eqb, ltb}
 use borrow.Author.Tests.{lt-ltb, ltb-true, eq-eqb, eqb-true}
 use Rattle.basics.proofs.Tests.{and_left, and_right, and_both}
 use Rattle.sets.specs.Sets.{contains}
-use Rattle.message.specs.declared.OptionalProcess.{OptionalProcess}
-use Rattle.message.specs.declared.OptionalProcess.TheVariants.{NoProcess, Process}
 use Rattle.fast_state.specs.Adopt.{Choice, best_below, lowest_best}
 use Rattle.fast_state.proofs.Adopting.{best_below_lem}
 use Rattle.fast_state.specs.declared.FastAnswers.{FastAnswers}
@@ -27,7 +26,7 @@ lowest_picks_best = record {
 -- p where it is among the best proposers, and else the lowest of these
 unfoldable pub prefer : ℕ → Choice
 prefer p f score =
-    cond (ltb p 64 && contains f.fast_proposers p && eqb (score p) (best_below f.fast_proposers score 64).score) (Process p) (lowest_best f score)
+    cond (ltb p 64 && contains f.fast_proposers p && eqb (score p) (best_below f.fast_proposers score 64).score) (Some p) (lowest_best f score)
 
 module _ (p : ℕ) (f : FastAnswers) (score : ℕ → ℕ) where
   abbrev present : Bool
@@ -44,25 +43,25 @@ module _ (p : ℕ) (f : FastAnswers) (score : ℕ → ℕ) where
       let both = and_left (ltb p 64 && present) (eqb (score p) highest) e in
       (ltb-true p 64 (and_left (ltb p 64) present both), and_right (ltb p 64) present both, eqb-true (score p) highest (and_right (ltb p 64 && present) (eqb (score p) highest) e))
 
-  prefer_proposer : (q : ℕ) (t : Bool) → is_best ≡ t → cond t (Process p) (lowest_best f score) ≡ Process q → (q < 64) × (contains f.fast_proposers q ≡ true)
+  prefer_proposer : (q : ℕ) (t : Bool) → is_best ≡ t → cond t (Some p) (lowest_best f score) ≡ Some q → (q < 64) × (contains f.fast_proposers q ≡ true)
   prefer_proposer q true d e =
       let k = best_is d in let same : p ≡ q = cc in subst (λ (j : ℕ). (j < 64) × (contains f.fast_proposers j ≡ true)) same (k.0, k.1)
   prefer_proposer q false d e = lowest_picks_best.proposer f score q e
 
-  prefer_best : (q r : ℕ) (t : Bool) → is_best ≡ t → cond t (Process p) (lowest_best f score) ≡ Process q → r < 64 → contains f.fast_proposers r ≡ true → score r ≤ score q
+  prefer_best : (q r : ℕ) (t : Bool) → is_best ≡ t → cond t (Some p) (lowest_best f score) ≡ Some q → r < 64 → contains f.fast_proposers r ≡ true → score r ≤ score q
   prefer_best q r true d e l c =
       let high = (best_below_lem f.fast_proposers score 64).none_higher r (score r) l (c, refl) in
       let top = (best_is d).2 in let same : p ≡ q = cc in let z : score p ≡ score q = ap score same in omega arith
   prefer_best q r false d e l c = lowest_picks_best.best f score q r e l c
 
   -- where p is one of the best, it is taken
-  pub prefer_takes : p < 64 → present ≡ true → ((q : ℕ) → q < 64 → contains f.fast_proposers q ≡ true → score q ≤ score p) → prefer p f score ≡ Process p
+  pub prefer_takes : p < 64 → present ≡ true → ((q : ℕ) → q < 64 → contains f.fast_proposers q ≡ true → score q ≤ score p) → prefer p f score ≡ Some p
   unfolding prefer
-  prefer_takes below there none_higher = ap (λ (t : Bool). cond t (Process p) (lowest_best f score)) (and_both (and_both (lt-ltb p 64 below) there) (eq-eqb (score p) highest same))
+  prefer_takes below there none_higher = ap (λ (t : Bool). cond t (Some p) (lowest_best f score)) (and_both (and_both (lt-ltb p 64 below) there) (eq-eqb (score p) highest same))
     where
-      reached : (o : OptionalProcess) → lowest_best f score ≡ o → highest ≤ score p
-      reached NoProcess e = let none = (best_below_lem f.fast_proposers score 64).nobody e in omega arith
-      reached (Process q) e =
+      reached : (o : Option ℕ) → lowest_best f score ≡ o → highest ≤ score p
+      reached None e = let none = (best_below_lem f.fast_proposers score 64).nobody e in omega arith
+      reached (Some q) e =
           let k = (best_below_lem f.fast_proposers score 64).chosen q e in
           let le = none_higher q k.1 k.0.0 in let z = k.0.1 in omega arith
 

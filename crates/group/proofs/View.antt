@@ -1,5 +1,7 @@
 -- The core of a shard seen as the model's view of a member: rounds as numbers, sets as tests, messages by their part in the agreement.
 -- Assumes nothing.
+use Rattle.std.specs.Prelude.{Option, None, Some, is_some}
+use Rattle.std.proofs.Math.Bool.{or-false}
 use mathlib.Core.Path.{◌≡◌, refl, sym, ap, ap₂, subst, fun_ext, ◌∙◌}
 use mathlib.Core.Logic.{inl, inr}
 use mathlib.Core.Bool.{Bool, true, false, cond, ◌||◌}
@@ -19,10 +21,6 @@ use Rattle.message.proofs.Order.{Earlier, round_before_lem, before_round_lem, eq
 use Rattle.message.specs.declared.ConsensusMessage.{ConsensusMessage}
 use Rattle.message.specs.declared.ConsensusMsg.{ConsensusMsg}
 use Rattle.message.specs.declared.ConsensusMsg.TheVariants.{Prepare, Accept, ForwardRequest, Commit, ReadRequest, ReadResponse}
-use Rattle.message.specs.declared.OptionalProcess.{OptionalProcess}
-use Rattle.message.specs.declared.OptionalProcess.TheVariants.{NoProcess, Process}
-use Rattle.message.specs.declared.OptionalRound.{OptionalRound}
-use Rattle.message.specs.declared.OptionalRound.TheVariants.{NoRound, Round}
 use Rattle.message.specs.declared.PaxosRound.{PaxosRound}
 use Rattle.message.specs.declared.PFMode.{PFMode}
 use Rattle.message.specs.declared.PFMode.TheVariants.{Paxos, MultiPaxos, MultiPaxos3P, EPaxos, Pando, SwiftPaxos}
@@ -30,7 +28,7 @@ use Rattle.message.specs.declared.RoundV.{RoundV}
 use Rattle.message.specs.declared.RoundV.TheVariants.{FastV, PaxosV}
 use Rattle.tables.specs.Tables.{look_up}
 use Rattle.fast_state.specs.declared.FastState.{FastState}
-use Rattle.round_state.specs.Paxos.{get_last_accepted_round, is_held}
+use Rattle.round_state.specs.Paxos.{get_last_accepted_round}
 use Rattle.settings.specs.Questions.{quorums_of, delegate_of, committer_of, starting_round_of}
 use Rattle.settings.specs.declared.Settings.{Settings}
 use Rattle.message.specs.Modes.{is_multi_paxos}
@@ -43,8 +41,6 @@ use Rattle.steps.specs.declared.Destination.TheVariants.{One, All}
 use Rattle.steps.specs.declared.Messages.{Messages}
 use Rattle.steps.specs.declared.Next.{Next}
 use Rattle.steps.specs.declared.Next.TheVariants.{Stays, Continues, Commits, Refuses}
-use Rattle.steps.specs.declared.OptionalMessage.{OptionalMessage}
-use Rattle.steps.specs.declared.OptionalMessage.TheVariants.{NoMessage, Send}
 use Rattle.steps.specs.declared.Outgoing.{Outgoing}
 use Rattle.agreement.specs.Engine.{Envelope}
 use Rattle.agreement.specs.Model.{View, Answers, Setup, Message, prepare, accept, commit, other, undecided, decided, Outcome, empty, add, advanced}
@@ -53,75 +49,71 @@ use Rattle.agreement.specs.Refinement.{meanings}
 
 -- ---- rounds as numbers
 
-abbrev pub round_number : OptionalRound → ℕ
-round_number NoRound = 0
-round_number (Round r) = suc (r.round_group * 64 + r.leader)
+abbrev pub round_number : Option PaxosRound → ℕ
+round_number None = 0
+round_number (Some r) = suc (r.round_group * 64 + r.leader)
 
 -- a leader of which something holds, where there is a round; a leader below 64
-abbrev pub LeaderIn : (ℕ → Type 0) → OptionalRound → Type 0
-LeaderIn Leads NoRound = Unit {0}
-LeaderIn Leads (Round r) = Leads r.leader
+abbrev pub LeaderIn : (ℕ → Type 0) → Option PaxosRound → Type 0
+LeaderIn Leads None = Unit {0}
+LeaderIn Leads (Some r) = Leads r.leader
 
-abbrev pub LeaderFits : OptionalRound → Type 0
+abbrev pub LeaderFits : Option PaxosRound → Type 0
 LeaderFits r = LeaderIn (λ p. p < 64) r
 
 abbrev pub leader_of : ℕ → ℕ
 leader_of n = pred n % 64
 
-pub leader_of_lem : (r : PaxosRound) → r.leader < 64 → leader_of (round_number (Round r)) ≡ r.leader
+pub leader_of_lem : (r : PaxosRound) → r.leader < 64 → leader_of (round_number (Some r)) ≡ r.leader
 leader_of_lem r h = omega arith
 
-pub before_number : (a b : OptionalRound) → LeaderFits a → LeaderFits b → before a b ≡ ltb (round_number a) (round_number b)
-before_number NoRound NoRound h k = refl
-before_number NoRound (Round b) h k = sym (lt-ltb 0 (round_number (Round b)) (zero-lt-suc (b.round_group * 64 + b.leader)))
-before_number (Round a) NoRound h k = sym (le-ltb (round_number (Round a)) 0 (omega arith))
-before_number (Round a) (Round b) h k =
-    same_test (λ e. lt-ltb (round_number (Round a)) (round_number (Round b)) (up (round_before_lem a b e)))
-    (λ e. before_round_lem a b (down (ltb-true (round_number (Round a)) (round_number (Round b)) e)))
+pub before_number : (a b : Option PaxosRound) → LeaderFits a → LeaderFits b → before a b ≡ ltb (round_number a) (round_number b)
+before_number None None h k = refl
+before_number None (Some b) h k = sym (lt-ltb 0 (round_number (Some b)) (zero-lt-suc (b.round_group * 64 + b.leader)))
+before_number (Some a) None h k = sym (le-ltb (round_number (Some a)) 0 (omega arith))
+before_number (Some a) (Some b) h k =
+    same_test (λ e. lt-ltb (round_number (Some a)) (round_number (Some b)) (up (round_before_lem a b e)))
+    (λ e. before_round_lem a b (down (ltb-true (round_number (Some a)) (round_number (Some b)) e)))
   where
-    up : Earlier a b → round_number (Round a) < round_number (Round b)
+    up : Earlier a b → round_number (Some a) < round_number (Some b)
     up (inl l) = omega arith
     up (inr l) = omega arith
 
-    down : round_number (Round a) < round_number (Round b) → Earlier a b
+    down : round_number (Some a) < round_number (Some b) → Earlier a b
     down l = go (dec_lt a.round_group b.round_group)
       where
         go : Dec (a.round_group < b.round_group) → Earlier a b
         go (yes e) = inl e
         go (no e) = inr (omega arith, omega arith)
 
-same_number : (a b : OptionalRound) → LeaderFits a → LeaderFits b → round_number a ≡ round_number b → a ≡ b
-same_number NoRound NoRound h k e = refl
-same_number NoRound (Round b) h k e = absurd (omega arith)
-same_number (Round a) NoRound h k e = absurd (omega arith)
-same_number (Round a) (Round b) h k e =
+same_number : (a b : Option PaxosRound) → LeaderFits a → LeaderFits b → round_number a ≡ round_number b → a ≡ b
+same_number None None h k e = refl
+same_number None (Some b) h k e = absurd (omega arith)
+same_number (Some a) None h k e = absurd (omega arith)
+same_number (Some a) (Some b) h k e =
     let g : a.round_group ≡ b.round_group = omega arith in
-    let l : a.leader ≡ b.leader = omega arith in ap₂ (λ (x y : ℕ). Round (record { round_group = x; leader = y })) g l
+    let l : a.leader ≡ b.leader = omega arith in ap₂ (λ (x y : ℕ). Some (record { round_group = x; leader = y })) g l
 
-pub equal_number : (a b : OptionalRound) → LeaderFits a → LeaderFits b → equal a b ≡ eqb (round_number a) (round_number b)
+pub equal_number : (a b : Option PaxosRound) → LeaderFits a → LeaderFits b → equal a b ≡ eqb (round_number a) (round_number b)
 equal_number a b h k =
     same_test (λ e. eq-eqb (round_number a) (round_number b) (ap round_number (equal_rounds a b e)))
-    (λ e. subst (λ (x : OptionalRound). equal a x ≡ true) (same_number a b h k (eqb-true (round_number a) (round_number b) e)) (rounds_equal a))
+    (λ e. subst (λ (x : Option PaxosRound). equal a x ≡ true) (same_number a b h k (eqb-true (round_number a) (round_number b) e)) (rounds_equal a))
 
 -- ---- optional processes as numbers, from 1
 
-abbrev pub process_number : OptionalProcess → ℕ
-process_number NoProcess = 0
-process_number (Process p) = suc p
+abbrev pub process_number : Option ℕ → ℕ
+process_number None = 0
+process_number (Some p) = suc p
 
-abbrev pub process_of : ℕ → OptionalProcess
-process_of zero = NoProcess
-process_of (suc p) = Process p
+abbrev pub process_of : ℕ → Option ℕ
+process_of zero = None
+process_of (suc p) = Some p
 
-pub process_of_lem : (p : OptionalProcess) → process_of (process_number p) ≡ p
-process_of_lem NoProcess = refl
-process_of_lem (Process p) = refl
+pub process_of_lem : (p : Option ℕ) → process_of (process_number p) ≡ p
+process_of_lem None = refl
+process_of_lem (Some p) = refl
 
 -- ---- sets as tests
-
-pub or_false : (a : Bool) → (a || false) ≡ a
-or_false true = refl
-or_false false = refl
 
 pub no_member : contains 0 ≡ empty
 no_member = fun_ext contains_empty
@@ -131,7 +123,7 @@ insert_add s p l = fun_ext (λ q. contains_insert s p q l ∙ swap (contains s q
   where
     swap : (a b c : Bool) → b ≡ c → (a || b) ≡ (c || a)
     swap true b c e = sym (or_right c refl)
-    swap false b c e = e ∙ sym (or_false c)
+    swap false b c e = e ∙ sym (or-false c)
 
 -- ---- messages
 
@@ -144,8 +136,8 @@ abbrev pub meaning_of : ConsensusMessage → Message
 meaning_of m = meaning_of_msg m.msg
   where
     meaning_of_msg : ConsensusMsg → Message
-    meaning_of_msg (Prepare slot round rv) = prepare slot (round_number (Round round)) (round_number (accept_round_of rv)) (proposer_of rv) (value_of rv)
-    meaning_of_msg (Accept slot round v) = accept slot (round_number (Round round)) v
+    meaning_of_msg (Prepare slot round rv) = prepare slot (round_number (Some round)) (round_number (accept_round_of rv)) (proposer_of rv) (value_of rv)
+    meaning_of_msg (Accept slot round v) = accept slot (round_number (Some round)) v
     meaning_of_msg (ForwardRequest v) = other
     meaning_of_msg (Commit slot v) = commit slot v
     meaning_of_msg (ReadRequest id) = other
@@ -171,9 +163,9 @@ destination_of d (ReadResponse id next) = reached d
 abbrev pub envelope : Outgoing → Envelope ConsensusMessage
 envelope o = record { destination = destination_of o.destination o.message.msg; message = o.message }
 
-abbrev pub envelopes_of : OptionalMessage → List (Envelope ConsensusMessage) → List (Envelope ConsensusMessage)
-envelopes_of NoMessage rest = rest
-envelopes_of (Send o) rest = envelope o ∷ rest
+abbrev pub envelopes_of : Option Outgoing → List (Envelope ConsensusMessage) → List (Envelope ConsensusMessage)
+envelopes_of None rest = rest
+envelopes_of (Some o) rest = envelope o ∷ rest
 
 -- the messages of a step, in order
 abbrev pub envelopes : Messages → List (Envelope ConsensusMessage)
@@ -197,7 +189,7 @@ view_of ans core =
     record {
       slot = core.slot;
       round = round_number core.paxos.round;
-      holds = is_held core.paxos.max_rv;
+      holds = is_some core.paxos.max_rv;
       held_round = round_number (get_last_accepted_round core.paxos.max_rv);
       held_proposer = proposer_of (held_rv core.paxos.max_rv);
       held_value = held_v core.paxos.max_rv;

@@ -1,13 +1,13 @@
 -- Group runs, and what is claimed of them (document 01, "Group runs (demand 3)"; document 02, E9). This page is the statement;
 -- proofs/Agreement.antt has the theorem. Lists of what has happened have the latest first.
 -- Assumes nothing.
-use Rattle.std.specs.Prelude.{◌≡◌, ◌⊎◌, ◌↔◌, Bool, true, cond, List, [], ◌∷◌, ℕ, suc, ◌≤◌, ◌<◌, eqb}
+use Rattle.std.specs.Prelude.{◌≡◌, ◌⊎◌, ◌↔◌, Bool, true, cond, List, [], ◌∷◌, ℕ, suc, ◌≤◌, ◌<◌, eqb, Option, None, Some, Ok}
+use Rattle.calls.specs.Commits.{committed_slot}
+use Rattle.calls.specs.declared.CommittedSlot.{CommittedSlot}
 use Rattle.sets.specs.Sets.{contains}
 use Rattle.message.specs.declared.ConsensusMessage.{ConsensusMessage}
 use Rattle.message.specs.declared.ConsensusMsg.{ConsensusMsg}
 use Rattle.message.specs.declared.ConsensusMsg.TheVariants.{Prepare, Accept, ForwardRequest, Commit, ReadRequest, ReadResponse}
-use Rattle.message.specs.declared.OptionalProcess.TheVariants.{Process}
-use Rattle.message.specs.declared.Outcome.TheVariants.{Done}
 use Rattle.message.specs.declared.PFMode.{PFMode}
 use Rattle.message.specs.declared.PFMode.TheVariants.{Paxos, MultiPaxos, MultiPaxos3P, EPaxos, Pando, SwiftPaxos}
 use Rattle.settings.specs.declared.Settings.{Settings}
@@ -16,14 +16,10 @@ use Rattle.fast_state.specs.declared.FastAnswers.{FastAnswers}
 use Rattle.steps.specs.declared.Destination.{Destination}
 use Rattle.steps.specs.declared.Destination.TheVariants.{One, All}
 use Rattle.steps.specs.declared.Messages.{Messages}
-use Rattle.steps.specs.declared.OptionalMessage.{OptionalMessage}
-use Rattle.steps.specs.declared.OptionalMessage.TheVariants.{NoMessage, Send}
 use Rattle.steps.specs.declared.Outgoing.{Outgoing}
 use Rattle.consensus.specs.Call.{new_shard, call_with}
 use Rattle.calls.specs.declared.Call.{Call}
 use Rattle.calls.specs.declared.Call.TheVariants.{Propose, StartRead, Receive}
-use Rattle.calls.specs.declared.OptionalCommit.{OptionalCommit}
-use Rattle.calls.specs.declared.OptionalCommit.TheVariants.{NoCommit, Committed}
 use Rattle.calls.specs.declared.Reply.{Reply}
 use Rattle.consensus.specs.declared.Shard.{Shard}
 use Rattle.basics.specs.Lists.{In}
@@ -96,9 +92,9 @@ entries s cs = entries_with ours s cs
 
 -- ---- legal lists
 
-abbrev pub listed : OptionalMessage → List Outgoing → List Outgoing
-listed NoMessage rest = rest
-listed (Send o) rest = o ∷ rest
+abbrev pub listed : Option Outgoing → List Outgoing → List Outgoing
+listed None rest = rest
+listed (Some o) rest = o ∷ rest
 
 abbrev pub messages_of : Messages → List Outgoing
 messages_of ms = listed ms.first (listed ms.second (listed ms.third []))
@@ -149,9 +145,9 @@ At e earlier [] = ⊥
 At e earlier (x ∷ xs) = ((e ≡ x) × (earlier ≡ xs)) ⊎ At e earlier xs
 
 -- one more, where there is a commit
-abbrev pub plus_commit : OptionalCommit → ℕ → ℕ
-plus_commit NoCommit n = n
-plus_commit (Committed slot v fast) n = suc n
+abbrev pub plus_commit : Option CommittedSlot → ℕ → ℕ
+plus_commit None n = n
+plus_commit (Some commit) n = suc n
 
 -- "A member's slot at a call is the number of commits that its earlier calls in the list handed back."
 abbrev pub slot_at : ℕ → List Entry → ℕ
@@ -161,7 +157,7 @@ slot_at member (e ∷ past) = cond (eqb member e.member) (plus_commit e.reply.co
 -- "A value counts as proposed in a slot where a proposal of it, not refused, was made to a member at that slot"
 abbrev pub Proposed : ℕ → ℕ → List Entry → Type 0
 Proposed slot v past =
-    (e : Entry) × (earlier : List Entry) × At e earlier past × (e.call ≡ Propose v) × (e.reply.outcome ≡ Done) × (slot_at e.member earlier ≡ slot)
+    (e : Entry) × (earlier : List Entry) × At e earlier past × (e.call ≡ Propose v) × (e.reply.outcome ≡ Ok tt) × (slot_at e.member earlier ≡ slot)
 
 -- a commit of the run
 pub record CommitAt (slot v : ℕ) (run : List Entry) : Type 0 where
@@ -169,7 +165,7 @@ pub record CommitAt (slot v : ℕ) (run : List Entry) : Type 0 where
   pub earlier : List Entry
   pub stands : At entry earlier run
   pub fast : Bool
-  pub commit : entry.reply.commit ≡ Committed slot v fast
+  pub commit : entry.reply.commit ≡ committed_slot slot v fast
 
 -- Any two commits are equal in slot and value exactly when they name the same slot; each value was proposed in that slot, "in the very call
 -- that commits the value or in an earlier one"; and each commit is of its member's slot.
@@ -191,5 +187,5 @@ NotSwift SwiftPaxos = ⊥
 
 -- "all this holds whichever of the best-scored proposers each adoption takes": whom the choice takes is a proposer, and none has a higher score
 pub record PicksBest (choose : Choice) : Type 0 where
-  pub proposer : (f : FastAnswers) (score : ℕ → ℕ) (p : ℕ) → choose f score ≡ Process p → (p < 64) × (contains f.fast_proposers p ≡ true)
-  pub best : (f : FastAnswers) (score : ℕ → ℕ) (p q : ℕ) → choose f score ≡ Process p → q < 64 → contains f.fast_proposers q ≡ true → score q ≤ score p
+  pub proposer : (f : FastAnswers) (score : ℕ → ℕ) (p : ℕ) → choose f score ≡ Some p → (p < 64) × (contains f.fast_proposers p ≡ true)
+  pub best : (f : FastAnswers) (score : ℕ → ℕ) (p q : ℕ) → choose f score ≡ Some p → q < 64 → contains f.fast_proposers q ≡ true → score q ≤ score p

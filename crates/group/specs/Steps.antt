@@ -1,9 +1,8 @@
 -- The steps of a run: each call of the list with the member's shard before it, from which all that the call did can be read. The entries of
 -- Claim.antt are the steps seen from outside (proofs/Steps.antt). Lists have the latest first.
 -- Assumes nothing.
-use Rattle.std.specs.Prelude.{Bool, true, false, List, [], ◌∷◌, ℕ}
-use Rattle.message.specs.declared.Outcome.{Outcome}
-use Rattle.message.specs.declared.Outcome.TheVariants.{Done, Refused}
+use Rattle.std.specs.Prelude.{Bool, true, false, List, [], ◌∷◌, ℕ, Ok, Err, Option, None, Some}
+use Rattle.message.specs.Outcomes.{Outcome}
 use Rattle.settings.specs.declared.Settings.{Settings}
 use Rattle.fast_state.specs.Adopt.{lowest_best}
 use Rattle.delivery.specs.declared.Delivery.{Delivery}
@@ -25,20 +24,16 @@ reply_of x = (call_of x.before x.call).reply
 
 -- not refused
 abbrev pub is_done : Outcome → Bool
-is_done Done = true
-is_done (Refused why) = false
+is_done (Ok tt) = true
+is_done (Err why) = false
 
 -- the message that the handlers got in a step: that of the call, where the call has one
-pub data OptionalDelivery : Type 0 where
-  NoDelivery : OptionalDelivery
-  Delivered : Delivery → OptionalDelivery
+abbrev pub heard_in : Call → Option Delivery
+heard_in (Propose v) = None
+heard_in (StartRead tag arrival) = None
+heard_in (Receive d) = Some d
 
-abbrev pub heard_in : Call → OptionalDelivery
-heard_in (Propose v) = NoDelivery
-heard_in (StartRead tag arrival) = NoDelivery
-heard_in (Receive d) = Delivered d
-
-abbrev pub heard : Step → OptionalDelivery
+abbrev pub heard : Step → Option Delivery
 heard x = heard_in x.call
 
 -- ---- the steps of a run

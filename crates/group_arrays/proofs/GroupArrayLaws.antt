@@ -1,7 +1,7 @@
 -- What a host may rely on of the arrays of a register of group settings: one that is not made stays in every number and gives its
 -- own; and the report is that of the register in the arrays.
 -- Assumes nothing.
-use mathlib.Core.Path.{◌≡◌, refl, ap, ◌∙◌}
+use mathlib.Core.Path.{◌≡◌, refl, sym, ap, ◌∙◌}
 use mathlib.Core.Bool.{Bool, true, false, cond}
 use mathlib.Core.List.{List}
 use Prim.Native.Nat.{ℕ}
@@ -15,7 +15,7 @@ use Rattle.report.specs.Report.{refusal_text, page_holding, register_page}
 use Rattle.group_register.specs.GroupRegister.{group_outcome_number, group_page}
 use Rattle.group_register.specs.declared.GroupApplied.{GroupApplied}
 use Rattle.group_register.specs.declared.GroupRegister.{GroupRegister}
-use Rattle.group_register.proofs.GroupLaws.{unmade_left}
+use Rattle.group_register.proofs.GroupLaws.{unmade_left, unmade_number}
 use Rattle.group_arrays.specs.GroupColumns.{settings_in, group_in, after_group_entry, group_report_in}
 
 -- the arrays before a call, and after it
@@ -26,7 +26,7 @@ module _ (settings ns cs ws f ms ds vs g : List ℕ) (before : HavePlaces ns cs 
   unmade_arrays_left unmade e k h =
       let left = unmade_left (settings_in settings) unmade (register_of ns cs ws f) e in (
         same_arrays ns cs ws f ms ds vs g before figures after figures' (ap (λ (x : GroupRegister × ℕ). x.0.register) h ∙ ap (λ (a : GroupApplied). a.group.register) left),
-        ap (λ (x : GroupRegister × ℕ). x.1) h ∙ ap (λ (a : GroupApplied). group_outcome_number a.outcome) left,
+        ap (λ (x : GroupRegister × ℕ). x.1) h ∙ ap (λ (a : GroupApplied). group_outcome_number a.outcome) left ∙ sym (unmade_number (settings_in settings) unmade),
       )
 
 pub report_of_group : (settings cells carriers widths figures : List ℕ)

@@ -1,2 +1,1 @@
-pub mod GroupEntries
 pub mod GroupArrayLaws

@@ -4,20 +4,23 @@
 
 ghost use Rattle.std.specs.Prelude.{◌≡◌};
 ghost use Rattle.stored_register.specs.Stored.{widened};
-ghost use Rattle.stored_arrays.specs.Columns.{stored_in};
-ghost use Rattle.register_arrays.specs.Columns.{entry_from_numbers};
-ghost use Rattle.group_register.specs.GroupRegister.{group_register, new_group_register};
-ghost use Rattle.group_arrays.specs.GroupColumns.{settings_in, group_in, after_group_entry, group_report_in};
+ghost use Rattle.stored_arrays.specs.Columns.{stored_of_columns};
+ghost use Rattle.register_arrays.specs.Columns.{SameArrays};
+ghost use Rattle.group_register.specs.GroupRegister.{group_register, new_group_register, apply_in_group};
+ghost use Rattle.group_arrays.specs.GroupColumns.{settings_in, group_of, group_applied_in, group_report_in};
 
-use group_register::RegisterSettings;
-use register::CellNumber;
+use group_register::{GroupRefusal, RegisterSettings};
+use register::{CellEntry, Entered};
+use register_arrays::Columns;
+use stored_arrays::StoredColumns;
 
 pub fn settings_in(settings: &[u64; 2]) -> RegisterSettings
     ensures { result ≡ settings_in settings.now }
 {
+    let [number, whole_mhz_from] = *settings;
     RegisterSettings {
-        number: settings[0],
-        whole_mhz_from: settings[1],
+        number,
+        whole_mhz_from,
     }
 }
 
@@ -25,56 +28,42 @@ pub fn settings_in(settings: &[u64; 2]) -> RegisterSettings
 pub fn new_group_register(
     kept: RegisterSettings,
     settings: &mut [u64; 2],
-    cells: &mut [u64; 512],
-    carriers: &mut [u64; 512],
-    widths: &mut [u64; 512],
-    figures: &mut [u64; 5],
+    columns: &mut Columns<'_>,
 )
-    ensures { group_in settings.new cells.new carriers.new widths.new figures.new ≡ new_group_register kept }
+    ensures same { SameArrays columns.old columns.new }
+    ensures begun { group_of settings.new columns.new ≡ new_group_register kept }
 {
     *settings = [kept.number, kept.whole_mhz_from];
-    register_arrays::new_register(cells, carriers, widths, figures);
+    columns.clear();
 }
 
-// An entry, and the number of what became of it: of a register that is not made, its own; 23, with the slot seen; or as in E6.
+// The register after an entry: one that is not made stays; 23, with the slot seen; or as in E6.
 pub fn apply_group_entry(
     settings: &[u64; 2],
-    cells: &mut [u64; 512],
-    carriers: &mut [u64; 512],
-    widths: &mut [u64; 512],
-    figures: &mut [u64; 5],
-    slot: u64,
-    kind: u64,
-    cell: CellNumber,
-    carrier: u64,
-    width: u64,
-) -> u64
-    ensures { (group_in settings.now cells.new carriers.new widths.new figures.new, result)
-        ≡ after_group_entry (group_in settings.now cells.old carriers.old widths.old figures.old)
-        (entry_from_numbers slot kind cell carrier width) }
+    columns: &mut Columns<'_>,
+    entry: CellEntry,
+) -> Result<Entered, GroupRefusal>
+    ensures same { SameArrays columns.old columns.new }
+    ensures applied { group_applied_in settings.now result columns.new ≡ apply_in_group (group_of settings.now columns.old) entry }
 {
     let kept = settings_in(settings);
-    let refusal = kept.refusal();
-    if refusal != 0 {
-        return refusal;
+    if !kept.is_made() {
+        return Err(GroupRefusal::Unmade);
     }
-    let entry = register_arrays::entry_from_numbers(slot, kind, cell, carrier, width);
-    if group_register::gives_odd_width(kept.whole_mhz_from, figures[0], entry) {
-        let next_slot = entry.slot + 1;
-        *figures = [next_slot, figures[1], figures[2], figures[3], figures[4]];
-        return 23;
+    if group_register::gives_odd_width(kept.whole_mhz_from, columns.figures[0], entry) {
+        columns.see(entry.slot);
+        return Err(GroupRefusal::OddWidth);
     }
-    register_arrays::apply_entry(
-        cells, carriers, widths, figures, slot, kind, cell, carrier, width,
-    )
+    columns.apply(entry).map_err(GroupRefusal::AsRegister)
 }
 
 // The report at the start of out, or the line `refused,1` of a register that is not made, zeros after it; and its length.
+#[tactic(auto, unfolding(crate::specs::GroupColumns::group_report_in))]
 pub fn put_group_page(settings: &[u64; 2], figures: &[u64; 5], out: &mut [u8; 116]) -> u64
     ensures { (out.new, result) ≡ group_report_in settings.now figures.now }
 {
     let kept = settings_in(settings);
-    if kept.refusal() == 0 {
+    if kept.is_made() {
         return register_arrays::put_page(figures, out);
     }
     let page = report::refusal();
@@ -86,28 +75,13 @@ pub fn put_group_page(settings: &[u64; 2], figures: &[u64; 5], out: &mut [u8; 11
 // The register that a stored one becomes, with the settings that it is read with.
 pub fn widen_in_group(
     kept: RegisterSettings,
-    stored_cells: &[u16; 512],
-    stored_carriers: &[u64; 512],
-    stored_widths: &[u64; 512],
-    stored_figures: &[u64; 5],
+    stored: StoredColumns<'_>,
     settings: &mut [u64; 2],
-    cells: &mut [u64; 512],
-    carriers: &mut [u64; 512],
-    widths: &mut [u64; 512],
-    figures: &mut [u64; 5],
+    columns: &mut Columns<'_>,
 )
-    ensures { group_in settings.new cells.new carriers.new widths.new figures.new
-        ≡ group_register kept (widened (stored_in stored_cells.now stored_carriers.now stored_widths.now stored_figures.now)) }
+    ensures same { SameArrays columns.old columns.new }
+    ensures widened { group_of settings.new columns.new ≡ group_register kept (widened (stored_of_columns stored.entry)) }
 {
     *settings = [kept.number, kept.whole_mhz_from];
-    stored_arrays::widen(
-        stored_cells,
-        stored_carriers,
-        stored_widths,
-        stored_figures,
-        cells,
-        carriers,
-        widths,
-        figures,
-    );
+    stored.widen(columns);
 }

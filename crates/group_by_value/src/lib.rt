@@ -5,11 +5,11 @@ ghost use Rattle.std.specs.Prelude.{◌≡◌};
 ghost use Rattle.group.specs.Claim.{member_settings};
 ghost use Rattle.group_by_value.specs.Group.{new_group, called};
 
-use calls::{Call, OptionalCommit, Reply};
+use calls::{Call, CommittedSlot, Reply};
 use consensus::Shard;
 use message::{Outcome, Refusal};
 use settings::Settings;
-use steps::{Messages, OptionalMessage};
+use steps::{Messages, Outgoing};
 
 #[derive(Clone, Copy)]
 pub struct Group {
@@ -38,10 +38,8 @@ impl Group {
     {
         let first = Shard::new(member_settings(settings, 0));
         let mut members = [first; 64];
-        let mut i: usize = 0;
-        while i < 64 {
+        for i in 0..64 {
             members[i] = Shard::new(member_settings(settings, i as u64));
-            i += 1;
         }
         Group { members }
     }
@@ -63,13 +61,13 @@ impl Group {
         GroupAnswer {
             group: self,
             reply: Reply {
-                outcome: Outcome::Refused(Refusal::NoSuchProcess),
+                outcome: Err(Refusal::NoSuchProcess),
                 messages: Messages {
-                    first: OptionalMessage::NoMessage,
-                    second: OptionalMessage::NoMessage,
-                    third: OptionalMessage::NoMessage,
+                    first: None,
+                    second: None,
+                    third: None,
                 },
-                commit: OptionalCommit::NoCommit,
+                commit: None,
                 served_count: 0,
             },
         }

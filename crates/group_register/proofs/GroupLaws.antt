@@ -19,7 +19,11 @@ use Rattle.register.specs.declared.Assignment.{Assignment}
 use Rattle.register.specs.declared.CellEntry.{CellEntry}
 use Rattle.register.specs.declared.Change.{Change}
 use Rattle.register.specs.declared.Change.TheVariants.{Assign, Release}
-use Rattle.register.specs.declared.EntryOutcome.TheVariants.{Done}
+use Rattle.std.specs.Prelude.{Result, Ok, Err}
+use Rattle.register.specs.Refusals.{entry_number}
+use Rattle.register.specs.declared.Entered.{Entered}
+use Rattle.register.specs.declared.Entered.TheVariants.{Done}
+use Rattle.register.specs.declared.EntryRefusal.{EntryRefusal}
 use Rattle.register.specs.declared.EntryRefusal.TheVariants.{NumberTooLarge, NotAssignable}
 use Rattle.register.specs.declared.Register.{Register}
 use Rattle.register.proofs.Agreement.{within_limits_lem}
@@ -28,15 +32,20 @@ use Rattle.report.specs.Report.{refusal_text, page_holding, page_with}
 use Rattle.report.proofs.Counted.{report_counted}
 use Rattle.group_register.specs.Settings.{settings_refusal, is_made}
 use Rattle.group_register.specs.WholeMhz.{in_whole_mhz, is_odd}
-use Rattle.group_register.specs.GroupRegister.{group_register, new_group_register, group_applied, group_outcome_number, change_assignable, gives_odd_width, as_register, apply_made, apply_in_group, group_page}
+use Rattle.group_register.specs.GroupRegister.{group_register, new_group_register, group_applied, group_outcome_number, in_group, change_assignable, gives_odd_width, as_register, apply_made, apply_in_group, group_page}
 use Rattle.group_register.specs.GroupTaken.{group_number_given, group_latest, group_number_for, number_in_group, is_group_taken, group_figures, group_live_count}
 use Rattle.group_register.specs.GroupHistory.{group_after, apply_all_in_group, AllBefore, NoneTakenOf}
 use Rattle.group_register.specs.declared.GroupApplied.{GroupApplied}
-use Rattle.group_register.specs.declared.GroupOutcome.{GroupOutcome}
-use Rattle.group_register.specs.declared.GroupOutcome.TheVariants.{Unmade, OddWidth, AsRegister}
+use Rattle.group_register.specs.declared.GroupRefusal.{GroupRefusal}
+use Rattle.group_register.specs.declared.GroupRefusal.TheVariants.{Unmade, OddWidth}
 use Rattle.group_register.specs.declared.GroupRegister.{GroupRegister}
 use Rattle.group_register.specs.declared.RegisterSettings.{RegisterSettings}
 use Rattle.group_register.proofs.Mapped.{without_width, odd_within_limits, bound_entry, bound_entries, above_bound, number_plain, number_odd, odd_not_taken, taken_kept, is_taken_bound, latest_bound, figures_bound, live_count_bound, later_bound}
+
+-- an outcome of E6 has the number that it has there
+in_group_number : (o : Result Entered EntryRefusal) → group_outcome_number (in_group o) ≡ entry_number o
+in_group_number (Ok entered) = refl
+in_group_number (Err why) = refl
 
 -- ---- one entry, to any register
 limits_agree : (c : Change) → change_assignable c ≡ change_within_limits c
@@ -93,16 +102,16 @@ module _ (s : RegisterSettings) (r : Register) (e : CellEntry) where
       go true false b t p q = refl
       go false a b t p q = absurd (not_both p refl)
 
-  odd_applied : odd_within_limits from e ≡ true → apply_made s r e ≡ slot_first s r e.slot (group_applied s (slot_seen e.slot r) OddWidth)
+  odd_applied : odd_within_limits from e ≡ true → apply_made s r e ≡ slot_first s r e.slot (group_applied s (slot_seen e.slot r) (Err OddWidth))
   unfolding apply_made apply
   odd_applied h =
-      ap (λ (t : Bool). cond t (group_applied s (slot_seen e.slot r) OddWidth) (as_register s (apply r e))) (odd_gives h)
+      ap (λ (t : Bool). cond t (group_applied s (slot_seen e.slot r) (Err OddWidth)) (as_register s (apply r e))) (odd_gives h)
       ∙ go (ltb 9223372036854775806 e.slot) (ltb e.slot r.next_slot)
     where
       go : (t u : Bool)
-          → cond (not t && not u) (group_applied s (slot_seen e.slot r) OddWidth)
+          → cond (not t && not u) (group_applied s (slot_seen e.slot r) (Err OddWidth))
           (as_register s (cond t (refused NumberTooLarge r) (cond u (older r) (apply_change e.change e.cell (slot_seen e.slot r)))))
-          ≡ cond t (as_register s (refused NumberTooLarge r)) (cond u (as_register s (older r)) (group_applied s (slot_seen e.slot r) OddWidth))
+          ≡ cond t (as_register s (refused NumberTooLarge r)) (cond u (as_register s (older r)) (group_applied s (slot_seen e.slot r) (Err OddWidth)))
       go true u = refl
       go false true = refl
       go false false = refl
@@ -123,7 +132,7 @@ module _ (s : RegisterSettings) (r : Register) (e : CellEntry) where
   entry_mapped = go (odd_within_limits from e) refl
     where
       both : (t u : Bool)
-          → (cond t (as_register s (refused NumberTooLarge r)) (cond u (as_register s (older r)) (group_applied s (slot_seen e.slot r) OddWidth))).group
+          → (cond t (as_register s (refused NumberTooLarge r)) (cond u (as_register s (older r)) (group_applied s (slot_seen e.slot r) (Err OddWidth)))).group
           ≡ (cond t (as_register s (refused NumberTooLarge r)) (cond u (as_register s (older r)) (as_register s (refused NotAssignable (slot_seen e.slot r))))).group
       both true u = refl
       both false true = refl
@@ -204,20 +213,21 @@ module _ (s : RegisterSettings) (made : is_made s ≡ true) where
               twice false = refl
 
           both : (t u : Bool)
-              → group_outcome_number (cond t (as_register s (refused NumberTooLarge r)) (cond u (as_register s (older r)) (group_applied s (slot_seen e.slot r) OddWidth))).outcome
+              → group_outcome_number (cond t (as_register s (refused NumberTooLarge r)) (cond u (as_register s (older r)) (group_applied s (slot_seen e.slot r) (Err OddWidth)))).outcome
               ≡ cond t 2 (cond u 64 23)
           both true u = refl
           both false true = refl
           both false false = refl
       go false h =
           ap (λ (a : GroupApplied). group_outcome_number a.outcome) (plain_applied s r e h)
+          ∙ in_group_number (apply (register_after mapped) e).outcome
           ∙ E6.number_given_lem mapped e
           ∙ ap (λ (l : ℕ → Latest). number_given l mapped e) (latest_bound slot before)
           ∙ number_plain slot (group_latest slot before) before e h
 
   -- ---- an entry is done exactly where the entries say that it is taken
   module _ (before : List CellEntry) (e : CellEntry) where
-    pub done_where_taken : is_group_taken slot before e ≡ true → (apply_in_group (group_after s before) e).outcome ≡ AsRegister Done
+    pub done_where_taken : is_group_taken slot before e ≡ true → (apply_in_group (group_after s before) e).outcome ≡ Ok Done
     done_where_taken took =
         let mapped = bound_entries slot before in
         let kept = taken_kept slot (group_latest slot before) before e took in
@@ -225,10 +235,10 @@ module _ (s : RegisterSettings) (made : is_made s ≡ true) where
         let e6 = E6.done_where_taken mapped (bound_entry slot e) (is_taken_bound slot before e ∙ took) in
         ap (λ (g : GroupRegister). (apply_in_group g e).outcome) (after_mapped before)
         ∙ ap (λ (a : GroupApplied). a.outcome) (applied_made (register_after mapped) e ∙ plain_applied s (register_after mapped) e plain)
-        ∙ ap AsRegister (sym (ap (λ (x : CellEntry). (apply (register_after mapped) x).outcome) kept) ∙ e6)
+        ∙ ap in_group (sym (ap (λ (x : CellEntry). (apply (register_after mapped) x).outcome) kept) ∙ e6)
 
-    pub taken_where_done : (apply_in_group (group_after s before) e).outcome ≡ AsRegister Done → is_group_taken slot before e ≡ true
-    taken_where_done h = sym (ap (λ (k : ℕ). eqb k 0) (number_made before e)) ∙ ap (λ (o : GroupOutcome). eqb (group_outcome_number o) 0) h
+    pub taken_where_done : (apply_in_group (group_after s before) e).outcome ≡ Ok Done → is_group_taken slot before e ≡ true
+    taken_where_done h = sym (ap (λ (k : ℕ). eqb k 0) (number_made before e)) ∙ ap (λ (o : Result Entered GroupRefusal). eqb (group_outcome_number o) 0) h
 
   -- ---- "Each figure is counted from the committed entries alone", "made equals the other three together"
   pub figures_counted : (es : List CellEntry) → (group_after s es).register.figures ≡ group_figures slot es
@@ -285,8 +295,16 @@ module _ (s : RegisterSettings) (made : is_made s ≡ true) where
   early_as_before es h = register_after_lem es ∙ ap register_after (early_bound es h)
 
 -- ---- a register that is not made: every call gives its number, and nothing changes
+pub unmade_number : (s : RegisterSettings) → is_made s ≡ false → settings_refusal s ≡ 1
+unfolding settings_refusal
+unmade_number s h = go (eqb s.number 0) refl
+  where
+    go : (t : Bool) → eqb s.number 0 ≡ t → ◌≡◌ {A = ℕ} (cond t 0 1) 1
+    go true e = absurd (not_both (simp e) h)
+    go false e = refl
+
 module _ (s : RegisterSettings) (unmade : is_made s ≡ false) where
-  pub unmade_left : (r : Register) (e : CellEntry) → apply_in_group (group_register s r) e ≡ group_applied s r (Unmade (settings_refusal s))
+  pub unmade_left : (r : Register) (e : CellEntry) → apply_in_group (group_register s r) e ≡ group_applied s r (Err Unmade)
   unfolding apply_in_group
   unmade_left r e = simp unmade
 
@@ -320,6 +338,7 @@ module _ (s : RegisterSettings) where
       go false h =
           ap (λ (g : GroupRegister). group_outcome_number (apply_in_group g e).outcome) (unmade_after s h before)
           ∙ ap (λ (a : GroupApplied). group_outcome_number a.outcome) (unmade_left s h new_register e)
+          ∙ sym (unmade_number s h)
 
   -- "All offices hold the same slot, so registers still agree."
   pub equal_registers : (one other : List CellEntry) → later_entries one ≡ later_entries other → group_after s one ≡ group_after s other

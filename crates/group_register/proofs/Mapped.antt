@@ -4,10 +4,10 @@
 use mathlib.Core.Path.{◌≡◌, refl, sym, ap, ap₂, fun_ext, ◌∙◌}
 use mathlib.Core.Bool.{Bool, true, false, cond, ◌&&◌, not}
 use mathlib.Core.List.{List, [], ◌∷◌, map}
-use Prim.Native.Nat.{ℕ, suc}
-use lib.Dec.{leb, eqb}
+use Prim.Native.Nat.{ℕ}
+use lib.Dec.{eqb}
 use Rattle.basics.proofs.Tests.{not_both, fails, and_left, and_right}
-use Rattle.register.specs.Taken.{Latest, never, is, is_assigned, slot_within_limit, above, is_later, later_entries, change_within_limits, is_assignment, is_release, among, cells_named, count_in, assigned_cells, number_given, is_taken_given, latest, is_taken, tally, makes, supersedes, releases, figures_of, live_count}
+use Rattle.register.specs.Taken.{Latest, is, is_assigned, slot_within_limit, above, is_later, later_entries, change_within_limits, is_assignment, is_release, cells_named, count_in, number_given, is_taken_given, latest, is_taken, tally, makes, supersedes, releases, figures_of, live_count}
 use Rattle.register.specs.declared.CellEntry.{CellEntry}
 use Rattle.register.specs.declared.Change.TheVariants.{Assign}
 use Rattle.register.specs.declared.Figures.{Figures}

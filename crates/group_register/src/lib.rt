@@ -3,15 +3,15 @@
 #![tactic(auto)]
 
 ghost use Rattle.std.specs.Prelude.{◌≡◌};
-ghost use Rattle.group_register.specs.Settings.{settings_from, settings_refusal};
+ghost use Rattle.group_register.specs.Settings.{settings_from, is_made};
 ghost use Rattle.group_register.specs.WholeMhz.{is_odd};
-ghost use Rattle.group_register.specs.GroupRegister.{new_group_register, group_outcome_number, change_assignable, gives_odd_width, apply_made, apply_in_group, group_page};
+ghost use Rattle.group_register.specs.GroupRegister.{new_group_register, group_refusal_number, group_outcome_number, in_group, change_assignable, gives_odd_width, apply_made, apply_in_group, group_page};
 
-use register::{CellEntry, Change, EntryOutcome, Register};
+use register::{CellEntry, Change, Entered, EntryRefusal, Register};
 use report::ReportPage;
 
 // What a register keeps of the group settings that it was begun from: their number, 0 where it is made of them, and the slot from which widths are in
-// whole MHz.
+// whole MHz. The number stays one (C interface): a host's arrays hold it, and any number may stand there.
 #[derive(Clone, Copy)]
 pub struct RegisterSettings {
     pub number: u64,
@@ -24,22 +24,23 @@ pub struct GroupRegister {
     pub register: Register,
 }
 
-// What became of an entry: the register is not made, and gives the number of its settings; 23, the width is not in whole MHz; or as in E6.
-#[derive(Clone, Copy)]
-pub enum GroupOutcome {
-    Unmade(u64),
+// Why an entry is refused: the register is not made, which gives the number of its settings; 23, the width is not in whole MHz; or as in E6.
+#[derive(Clone, Copy, PartialEq, Eq, Debug)]
+pub enum GroupRefusal {
+    Unmade,
     OddWidth,
-    AsRegister(EntryOutcome),
+    AsRegister(EntryRefusal),
 }
 
 #[derive(Clone, Copy)]
 pub struct GroupApplied {
     pub group: GroupRegister,
-    pub outcome: GroupOutcome,
+    pub outcome: Result<Entered, GroupRefusal>,
 }
 
 impl RegisterSettings {
     // From the slot alone, where a host has no other settings.
+    #[tactic(auto, unfolding(crate::specs::Settings::settings_from))]
     pub fn from_slot(slot: u64) -> RegisterSettings
         ensures { result ≡ settings_from slot }
     {
@@ -55,27 +56,35 @@ impl RegisterSettings {
         }
     }
 
-    // The number that every call on the register gives before anything else; 0 where it is made.
-    pub fn refusal(self) -> u64
-        ensures { result ≡ settings_refusal self }
+    // Whether the register is made; where it is not, every call on it gives 1 before anything else.
+    #[tactic(auto, unfolding(crate::specs::Settings::settings_refusal))]
+    pub fn is_made(self) -> bool
+        ensures { result ≡ is_made self }
     {
-        if self.number == 0 {
-            return 0;
-        }
-        1
+        self.number == 0
     }
 }
 
-impl GroupOutcome {
-    // Document 02's number, and where it gives none 0, done, or 64, older.
+impl GroupRefusal {
+    // Document 02's number.
     pub fn number(self) -> u64
-        ensures { result ≡ group_outcome_number self }
+        ensures { result ≡ group_refusal_number self }
     {
         match self {
-            GroupOutcome::Unmade(number) => number,
-            GroupOutcome::OddWidth => 23,
-            GroupOutcome::AsRegister(outcome) => outcome.number(),
+            GroupRefusal::Unmade => 1,
+            GroupRefusal::OddWidth => 23,
+            GroupRefusal::AsRegister(why) => why.number(),
         }
+    }
+}
+
+// Document 02's number for what became of an entry, and where it gives none 0, done, or 64, older.
+pub fn group_outcome_number(outcome: Result<Entered, GroupRefusal>) -> u64
+    ensures { result ≡ group_outcome_number outcome }
+{
+    match outcome {
+        Ok(entered) => register::entry_number(Ok(entered)),
+        Err(why) => why.number(),
     }
 }
 
@@ -92,17 +101,17 @@ impl GroupRegister {
 }
 
 // Whether an assignment of this slot has a width that is not in whole MHz, where it must be.
+#[tactic(auto, unfolding(crate::specs::WholeMhz::is_odd))]
 pub fn is_odd(whole_mhz_from: u64, entry: CellEntry) -> bool
     ensures { result ≡ is_odd whole_mhz_from entry }
 {
-    if whole_mhz_from <= entry.slot {
-        let change = entry.change;
-        return match change {
-            Change::Assign(assignment) => assignment.width % 1000 != 0,
-            Change::Release => false,
-        };
+    if whole_mhz_from > entry.slot {
+        return false;
     }
-    false
+    match entry.change {
+        Change::Assign(assignment) => assignment.width % 1000 != 0,
+        Change::Release => false,
+    }
 }
 
 // Whether an assignment is within E6's limits; a release is.
@@ -116,23 +125,18 @@ fn change_assignable(change: Change) -> bool
 }
 
 // Whether an entry is refused with 23, by the slot from which widths are in whole MHz and the next slot.
+#[tactic(auto, unfolding(crate::specs::GroupRegister::gives_odd_width))]
 pub fn gives_odd_width(whole_mhz_from: u64, next_slot: u64, entry: CellEntry) -> bool
     ensures { result ≡ gives_odd_width whole_mhz_from next_slot entry }
 {
-    if is_odd(whole_mhz_from, entry) {
-        if entry.slot > 9223372036854775806 {
-            return false;
-        }
-        if entry.slot < next_slot {
-            return false;
-        }
-        let change = entry.change;
-        return change_assignable(change);
-    }
-    false
+    is_odd(whole_mhz_from, entry)
+        && entry.slot <= 9223372036854775806
+        && next_slot <= entry.slot
+        && change_assignable(entry.change)
 }
 
 // An entry to a register that is made.
+#[tactic(auto, unfolding(crate::specs::GroupRegister::apply_made))]
 fn apply_made(settings: RegisterSettings, mut register: Register, entry: CellEntry) -> GroupApplied
     ensures { result ≡ apply_made settings register entry }
 {
@@ -140,45 +144,40 @@ fn apply_made(settings: RegisterSettings, mut register: Register, entry: CellEnt
         register.next_slot = entry.slot + 1;
         return GroupApplied {
             group: GroupRegister { settings, register },
-            outcome: GroupOutcome::OddWidth,
+            outcome: Err(GroupRefusal::OddWidth),
         };
     }
     let applied = register::apply(register, entry);
-    let after = applied.register;
-    let outcome = applied.outcome;
     GroupApplied {
         group: GroupRegister {
             settings,
-            register: after,
+            register: applied.register,
         },
-        outcome: GroupOutcome::AsRegister(outcome),
+        outcome: applied.outcome.map_err(GroupRefusal::AsRegister),
     }
 }
 
 // The register after an entry: one that is not made gives its number and stays.
+#[tactic(auto, unfolding(crate::specs::GroupRegister::apply_in_group))]
 pub fn apply(group: GroupRegister, entry: CellEntry) -> GroupApplied
     ensures { result ≡ apply_in_group group entry }
 {
-    let settings = group.settings;
-    let register = group.register;
-    let number = settings.refusal();
-    if number == 0 {
-        return apply_made(settings, register, entry);
+    if group.settings.is_made() {
+        return apply_made(group.settings, group.register, entry);
     }
     GroupApplied {
         group,
-        outcome: GroupOutcome::Unmade(number),
+        outcome: Err(GroupRefusal::Unmade),
     }
 }
 
 // The report, or the one line `refused,1` of a register that is not made.
+#[tactic(auto, unfolding(crate::specs::GroupRegister::group_page))]
 pub fn page(group: GroupRegister) -> ReportPage
     ensures { result ≡ group_page group }
 {
-    let settings = group.settings;
-    if settings.refusal() == 0 {
-        let register = group.register;
-        return report::report(register);
+    if group.settings.is_made() {
+        return report::report(group.register);
     }
     report::refusal()
 }

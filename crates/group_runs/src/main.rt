@@ -3,19 +3,28 @@
 // Where document 02 says on which answer the leader commits (E14), its commits are counted by the answers that it has heard.
 #![tactic(auto)]
 
-use calls::{Call, OptionalCommit, Reply};
+use calls::{Call, CommittedSlot, Reply};
 use delivery::{Delivery, Said};
 use group_by_value::Group;
-use message::{ConsensusMessage, ConsensusMsg, OptionalProcess, Outcome, PFMode, Refusal};
+use message::{ConsensusMessage, ConsensusMsg, Outcome, PFMode};
 use network::{Network, Parcel};
 use run_checks::{Log, next_random};
-use sets::OptionalSet;
 use settings::Settings;
-use steps::{Messages, OptionalMessage};
+use std::{fmt, io};
+use steps::Messages;
 
 const RUNS: u64 = 1000;
 
 const TURNS: u64 = 100;
+
+// The modes that are run, each under its name and from a seed of its own.
+const MODES: [(&str, PFMode, u64); 5] = [
+    ("Paxos", PFMode::Paxos, 1),
+    ("MultiPaxos", PFMode::MultiPaxos, 2),
+    ("MultiPaxos3P", PFMode::MultiPaxos3P, 3),
+    ("Pando", PFMode::Pando, 4),
+    ("EPaxos", PFMode::EPaxos, 5),
+];
 
 // What is counted in the runs of a mode. Places 1 to 12 of refusals count the refusals of these numbers. Place n of on_answers counts the
 // leader's commits on the n-th answer, and otherwise those that do not come on the answer of majority less one.
@@ -45,7 +54,7 @@ struct Habits {
 
 // What there is of a run besides the group: the generator's last number, the members that have stopped, those whose answers the leader has
 // heard in its slot, the messages under way, the log and the counts.
-#[derive(Clone, Copy)]
+#[derive(Drop)]
 struct World {
     habits: Habits,
     random: u64,
@@ -58,71 +67,56 @@ struct World {
     counts: Counts,
 }
 
-// The next call, if there is one.
-#[derive(Clone, Copy)]
-enum Chosen {
-    Nothing,
-    OnMember(u64, Call),
-}
-
-#[derive(Clone, Copy)]
-struct Turn {
-    world: World,
-    chosen: Chosen,
-}
+// The next call, and the member that it is made to.
+type NextCall = (u64, Call);
 
 // The remainder, and 0 where there is none.
-fn digit(x: u64, n: u64) -> u64 {
-    if n == 0 {
-        return 0;
+fn remainder(x: u64, n: u64) -> u64 {
+    x.checked_rem(n).unwrap_or(0)
+}
+
+// One more in the place n of a table, where it has that place.
+fn count_in(table: &mut [u64; 64], n: u64) {
+    if let Some(count) = table.get_mut(n as usize) {
+        *count = count.saturating_add(1);
     }
-    x % n
 }
 
 // A number below n for each process, from the generator.
 fn random_table(seed: u64, n: u64) -> [u64; 64] {
-    let mut table = [0u64; 64];
+    let mut table = [0; 64];
     let mut x = seed;
-    let mut p: usize = 0;
-    while p < 64 {
+    for entry in &mut table[..64] {
         x = next_random(x);
-        table[p] = digit(x / 8, n);
-        p += 1;
+        *entry = remainder(x / 8, n);
     }
     table
 }
 
-// The first count processes, or one less where spare is 0.
+// The first count processes, or all of them but the first where spare is 0.
 fn first_processes(count: u64, spare: u64) -> u64 {
-    let mut set: u64 = 0;
-    let mut p: u64 = 0;
-    while p < count {
-        set = sets::insert(set, p);
-        p += 1;
-    }
-    if spare == 0 {
-        return set & 18446744073709551614;
-    }
-    set
+    let first = if spare == 0 { 1 } else { 0 };
+    (first..count).fold(0, |set, p| sets::insert(set, p))
 }
 
 // How many processes there are: 3 to 5 in three runs of four, and else 1 to 9.
 fn processes_of(x: u64) -> u64 {
     if x % 4 == 0 {
-        return x / 4 % 9 + 1;
+        x / 4 % 9 + 1
+    } else {
+        x / 4 % 3 + 3
     }
-    x / 4 % 3 + 3
 }
 
 // How many of n processes are replicas: all in most runs, and in a few none, which is outside the limits.
 fn replicas_of(n: u64, x: u64) -> u64 {
     if x % 64 == 1 {
-        return 0;
+        0
+    } else if x % 4 == 0 {
+        remainder(x / 4, n).saturating_add(1)
+    } else {
+        n
     }
-    if x % 4 == 0 {
-        return message::increment(digit(x / 4, n));
-    }
-    n
 }
 
 // The settings of a run.
@@ -136,9 +130,9 @@ fn random_settings(mode: PFMode, seed: u64) -> Settings {
         replica_count,
         my_pid: 0,
         alive_replicas: first_processes(replica_count, b / 4096 % 8),
-        first_leader: digit(b / 65536, replica_count),
+        first_leader: remainder(b / 65536, replica_count),
         mode,
-        quorum: OptionalSet::NoSet,
+        quorum: None,
         has_committers: a / 4096 % 2 == 0,
         committers: random_table(a, process_count),
         delegates: random_table(b, process_count),
@@ -146,22 +140,23 @@ fn random_settings(mode: PFMode, seed: u64) -> Settings {
 }
 
 // What the host names as a requester: none, a process, and seldom a number that is no process.
-fn random_requester(x: u64, n: u64) -> OptionalProcess {
+fn random_requester(x: u64, n: u64) -> Option<u64> {
     if x % 4 == 0 {
-        return OptionalProcess::NoProcess;
+        None
+    } else if x / 4 % 64 == 0 {
+        Some(n)
+    } else {
+        Some(remainder(x / 256, n))
     }
-    if x / 4 % 64 == 0 {
-        return OptionalProcess::Process(n);
-    }
-    OptionalProcess::Process(digit(x / 256, n))
 }
 
 // A value: one of a thousand, and seldom a number that is too large.
 fn random_value(x: u64) -> u64 {
     if x % 64 == 0 {
-        return 9223372036854775808;
+        9223372036854775808
+    } else {
+        x / 64 % 1000
     }
-    x / 64 % 1000
 }
 
 fn random_habits(x: u64) -> Habits {
@@ -175,6 +170,21 @@ fn random_habits(x: u64) -> Habits {
     }
 }
 
+// A line's counts, each after a comma: the refusals by number, and the leader's commits by the answers that they came on.
+impl fmt::Display for Counts {
+    fn fmt<W: fmt::Write>(&self, f: &mut fmt::Formatter<W>) -> fmt::Result {
+        write!(
+            f,
+            ",{},{},{},{}",
+            self.runs, self.calls, self.commits, self.failed
+        )?;
+        for n in self.refusals[1..13].iter().chain(&self.on_answers[1..5]) {
+            write!(f, ",{n}")?;
+        }
+        write!(f, ",{}", self.otherwise)
+    }
+}
+
 impl Counts {
     fn new() -> Counts {
         Counts {
@@ -182,178 +192,72 @@ impl Counts {
             calls: 0,
             commits: 0,
             failed: 0,
-            refusals: [0u64; 64],
-            on_answers: [0u64; 64],
+            refusals: [0; 64],
+            on_answers: [0; 64],
             otherwise: 0,
         }
     }
 
-    fn with_outcome(mut self, outcome: Outcome) -> Counts {
-        self.calls = message::increment(self.calls);
-        match outcome {
-            Outcome::Done => self,
-            Outcome::Refused(why) => self.with_refusal(why),
+    fn add_call(&mut self, outcome: Outcome, commit: Option<CommittedSlot>) {
+        self.calls = self.calls.saturating_add(1);
+        if let Err(why) = outcome {
+            count_in(&mut self.refusals, why.number());
         }
-    }
-
-    fn with_refusal(mut self, why: Refusal) -> Counts {
-        let n = why.number();
-        let old = self.refusals;
-        let refusals = tables::store(old, n, message::increment(tables::look_up(old, n)));
-        self.refusals = refusals;
-        self
+        if commit.is_some() {
+            self.commits = self.commits.saturating_add(1);
+        }
     }
 
     // A commit of the leader that has heard so many answers.
-    fn with_leader_commit(mut self, majority: u64, answers: u64) -> Counts {
-        let old = self.on_answers;
-        let on_answers = tables::store(
-            old,
-            answers,
-            message::increment(tables::look_up(old, answers)),
-        );
-        self.on_answers = on_answers;
-        if message::increment(answers) == majority {
-            return self;
+    fn add_leader_commit(&mut self, majority: u64, answers: u64) {
+        count_in(&mut self.on_answers, answers);
+        if answers.saturating_add(1) != majority {
+            self.otherwise = self.otherwise.saturating_add(1);
         }
-        self.otherwise = message::increment(self.otherwise);
-        self
     }
 
-    fn with_run(mut self, passes: bool) -> Counts {
-        self.runs = message::increment(self.runs);
-        if passes {
-            return self;
+    fn add_run(&mut self, passes: bool) {
+        self.runs = self.runs.saturating_add(1);
+        if !passes {
+            self.failed = self.failed.saturating_add(1);
         }
-        self.failed = message::increment(self.failed);
-        self
     }
 }
 
-fn sent(network: Network, n: u64, message: OptionalMessage) -> Network {
-    match message {
-        OptionalMessage::NoMessage => network,
-        OptionalMessage::Send(outgoing) => network.sent(n, outgoing),
-    }
-}
-
-fn all_sent(network: Network, n: u64, messages: Messages) -> Network {
-    let first = messages.first;
-    let second = messages.second;
-    let third = messages.third;
-    sent(sent(sent(network, n, first), n, second), n, third)
-}
-
-fn is_done(outcome: Outcome) -> bool {
-    match outcome {
-        Outcome::Done => true,
-        Outcome::Refused(_) => false,
-    }
-}
-
-// The log with the proposal that the call made, if it made one and was not refused.
-fn with_proposal(log: Log, member: u64, call: Call, outcome: Outcome) -> Log {
-    match call {
-        Call::Propose(v) => {
-            if is_done(outcome) {
-                return log.proposed(member, v);
-            }
-            log
+fn all_sent(mut network: Network, n: u64, messages: Messages) -> Network {
+    for message in [messages.first, messages.second, messages.third] {
+        if let Some(outgoing) = message {
+            network = network.sent(n, outgoing);
         }
-        Call::StartRead {
-            tag: _,
-            arrival_slot: _,
-        } => log,
-        Call::Receive(_) => log,
     }
-}
-
-fn with_commit(log: Log, member: u64, commit: OptionalCommit) -> Log {
-    match commit {
-        OptionalCommit::NoCommit => log,
-        OptionalCommit::Committed { slot, v, fast: _ } => log.committed(member, slot, v),
-    }
-}
-
-fn commits_in(commit: OptionalCommit, commits: u64) -> u64 {
-    match commit {
-        OptionalCommit::NoCommit => commits,
-        OptionalCommit::Committed {
-            slot: _,
-            v: _,
-            fast: _,
-        } => message::increment(commits),
-    }
+    network
 }
 
 // The terms of E14: MultiPaxos or MultiPaxos3P, no committers, a majority of at least two, and a leader that is a live replica.
-fn has_terms(settings: Settings) -> bool {
-    let mode = settings.mode;
-    if settings.has_committers {
-        return false;
-    }
-    if settings.quorums().majority < 2 {
-        return false;
-    }
-    if mode.is_multi_paxos() {
-        return settings.is_live_replica(settings.first_leader);
-    }
-    false
+fn has_terms(settings: &Settings) -> bool {
+    !settings.has_committers
+        && settings.quorums().majority >= 2
+        && settings.mode.is_multi_paxos()
+        && settings.is_live_replica(settings.first_leader)
 }
 
-// Who sent an Accept of the slot; of another message 64, which is no process.
-fn accept_source(slot: u64, msg: ConsensusMsg, src: u64) -> u64 {
-    match msg {
-        ConsensusMsg::Prepare {
-            slot: _,
-            round: _,
-            rv: _,
-        } => 64,
-        ConsensusMsg::Accept {
-            slot: named,
-            round: _,
-            v: _,
-        } => {
-            if named == slot {
-                return src;
-            }
-            64
-        }
-        ConsensusMsg::ForwardRequest { v: _ } => 64,
-        ConsensusMsg::Commit { slot: _, v: _ } => 64,
-        ConsensusMsg::ReadRequest { id: _ } => 64,
-        ConsensusMsg::ReadResponse {
-            id: _,
-            next_readable_slot: _,
-        } => 64,
+// Those whose answers were heard, with the one that a message brings: an Accept of the slot from a live replica other than the leader.
+fn with_answer(settings: &Settings, heard: u64, slot: u64, message: ConsensusMessage) -> u64 {
+    let source = message.src;
+    match message.msg {
+        ConsensusMsg::Accept { slot: named, .. }
+            if named == slot
+                && source != settings.first_leader
+                && settings.is_live_replica(source) => { sets::insert(heard, source) }
+        _ => heard,
     }
-}
-
-// Those whose answers were heard, with the one that a message brings: the answer of a live replica other than the leader.
-fn with_answer(settings: Settings, heard: u64, slot: u64, message: ConsensusMessage) -> u64 {
-    let msg = message.msg;
-    let source = accept_source(slot, msg, message.src);
-    if source == settings.first_leader {
-        return heard;
-    }
-    if settings.is_live_replica(source) {
-        return sets::insert(heard, source);
-    }
-    heard
 }
 
 // The same after a call of the leader that was not refused.
-fn heard_in(settings: Settings, heard: u64, slot: u64, call: Call) -> u64 {
+fn heard_in(settings: &Settings, heard: u64, slot: u64, call: Call) -> u64 {
     match call {
-        Call::Propose(_) => heard,
-        Call::StartRead {
-            tag: _,
-            arrival_slot: _,
-        } => heard,
-        Call::Receive(delivery) => {
-            let message = delivery.message;
-            with_answer(settings, heard, slot, message)
-        }
+        Call::Receive(delivery) => with_answer(settings, heard, slot, delivery.message),
+        _ => heard,
     }
 }
 
@@ -373,24 +277,22 @@ impl World {
     }
 
     // Who proposes: the first leader, any member, or the one that was called last, which may be at a slot that is new to it.
-    fn proposer(self, settings: Settings, x: u64) -> u64 {
-        if x % 4 == 0 {
-            return settings.first_leader;
+    fn proposer(&self, settings: &Settings, x: u64) -> u64 {
+        match x % 4 {
+            0 => settings.first_leader,
+            1 => self.last_called,
+            _ => remainder(x / 4, settings.process_count),
         }
-        if x % 4 == 1 {
-            return self.last_called;
-        }
-        digit(x / 4, settings.process_count)
     }
 
-    fn proposal(self, settings: Settings, x: u64) -> Chosen {
+    fn proposal(&self, settings: &Settings, x: u64) -> Option<NextCall> {
         let member = self.proposer(settings, x % 1024);
         let v = random_value(x / 1024);
         self.unless_stopped(settings, member, Call::Propose(v))
     }
 
-    fn read(self, settings: Settings, x: u64) -> Chosen {
-        let member = digit(x % 64, settings.process_count);
+    fn read(&self, settings: &Settings, x: u64) -> Option<NextCall> {
+        let member = remainder(x % 64, settings.process_count);
         let call = Call::StartRead {
             tag: x / 64 % 1024,
             arrival_slot: random_value(x / 65536) % 8,
@@ -398,19 +300,19 @@ impl World {
         self.unless_stopped(settings, member, call)
     }
 
-    fn requester(self, x: u64, n: u64) -> OptionalProcess {
+    fn requester(&self, x: u64, n: u64) -> Option<u64> {
         if self.habits.steady {
-            return OptionalProcess::Process(digit(self.habits.requester, n));
+            Some(remainder(self.habits.requester, n))
+        } else {
+            random_requester(x, n)
         }
-        random_requester(x, n)
     }
 
     // A delivery of a message, with what the host says.
-    fn delivery(self, settings: Settings, parcel: Parcel, x: u64) -> Chosen {
+    fn delivery(&self, settings: &Settings, parcel: Parcel, x: u64) -> Option<NextCall> {
         let n = settings.process_count;
-        let message = parcel.message;
         let delivery = Delivery {
-            message,
+            message: parcel.message,
             said: Said {
                 value_held: x % 16 > 0,
                 requester: self.requester(x / 64, n),
@@ -421,204 +323,129 @@ impl World {
         self.unless_stopped(settings, parcel.member, Call::Receive(delivery))
     }
 
-    fn unless_stopped(self, settings: Settings, member: u64, call: Call) -> Chosen {
-        if member >= settings.process_count {
-            return Chosen::Nothing;
+    fn unless_stopped(&self, settings: &Settings, member: u64, call: Call) -> Option<NextCall> {
+        if member < settings.process_count && !sets::contains(self.stopped, member) {
+            Some((member, call))
+        } else {
+            None
         }
-        if sets::contains(self.stopped, member) {
-            return Chosen::Nothing;
-        }
-        Chosen::OnMember(member, call)
     }
 
     // The place of the message that comes next.
-    fn next_place(self, x: u64) -> u64 {
+    fn next_place(&self, x: u64) -> u64 {
         let count = self.network.count;
-        let recent = self.habits.recent;
         if x % 4 == 0 {
-            return digit(x / 4, count);
+            return remainder(x / 4, count);
         }
-        let back = digit(x / 4, recent);
+        let back = remainder(x / 4, self.habits.recent);
         if back < count {
             return count - 1 - back;
         }
-        digit(x / 4, count)
+        remainder(x / 4, count)
     }
 
     // After a delivery: the message is kept, so that it may come again, in one of eight cases.
-    fn delivered(mut self, place: u64, x: u64) -> World {
-        if x % 8 == 0 {
-            return self;
+    fn delivered(&mut self, place: u64, x: u64) {
+        if x % 8 != 0 {
+            self.network = self.network.without(place);
         }
-        let old = self.network;
-        let network = old.without(place);
-        self.network = network;
-        self
     }
 
-    fn stop(mut self, settings: Settings, x: u64) -> World {
-        self.stopped = sets::insert(self.stopped, digit(x, settings.process_count));
-        self
+    fn stop(&mut self, settings: &Settings, x: u64) {
+        self.stopped = sets::insert(self.stopped, remainder(x, settings.process_count));
     }
 
     // Whether the message goes from one side of the group to the other.
-    fn crosses(self, parcel: Parcel) -> bool {
-        if sets::contains(self.side, parcel.message.src) {
-            return !sets::contains(self.side, parcel.member);
-        }
-        sets::contains(self.side, parcel.member)
+    fn crosses(&self, parcel: &Parcel) -> bool {
+        sets::contains(self.side, parcel.message.src) != sets::contains(self.side, parcel.member)
     }
 
     // A turn in which a message under way is lost or delivered, or, where it goes to the other side of the group, mostly waits.
-    fn message_turn(self, settings: Settings, lost: bool, x: u64, said: u64) -> Turn {
+    fn message_turn(
+        &mut self,
+        settings: &Settings,
+        lost: bool,
+        x: u64,
+        said: u64,
+    ) -> Option<NextCall> {
         let place = self.next_place(x);
-        let network = self.network;
-        let parcel = network.at(place);
+        let parcel = self.network.at(place);
         if lost {
-            return Turn {
-                world: self.delivered(place, 1),
-                chosen: Chosen::Nothing,
-            };
+            self.delivered(place, 1);
+            return None;
         }
-        if x / 1048576 % 8 > 0 {
-            if self.crosses(parcel) {
-                return Turn {
-                    world: self,
-                    chosen: Chosen::Nothing,
-                };
-            }
+        if x / 1048576 % 8 > 0 && self.crosses(&parcel) {
+            return None;
         }
-        Turn {
-            world: self.delivered(place, x / 4096),
-            chosen: self.delivery(settings, parcel, said),
-        }
-    }
-
-    // The sides of the group change.
-    fn parted(mut self, x: u64) -> World {
-        self.side = x;
-        self
+        self.delivered(place, x / 4096);
+        self.delivery(settings, parcel, said)
     }
 
     // One turn: a proposal, a member that stops, other sides, a new read, or a message.
-    fn turn(mut self, settings: Settings, number: u64) -> Turn {
+    fn turn(&mut self, settings: &Settings, number: u64) -> Option<NextCall> {
         let a = next_random(self.random);
         let b = next_random(a);
         self.random = b;
         let kind = a / 8 % 256;
-        if number < self.habits.first_proposals {
-            return Turn {
-                world: self,
-                chosen: self.proposal(settings, b / 8),
-            };
+        if number < self.habits.first_proposals || kind < self.habits.proposals {
+            return self.proposal(settings, b / 8);
         }
-        if kind < self.habits.proposals {
-            return Turn {
-                world: self,
-                chosen: self.proposal(settings, b / 8),
-            };
+        match kind {
+            255 => {
+                self.stop(settings, b / 8);
+                None
+            }
+            243..=254 => {
+                // the sides of the group change
+                self.side = b / 8;
+                None
+            }
+            239..=242 => self.read(settings, b / 8),
+            _ if self.network.count == 0 => None,
+            _ => self.message_turn(settings, kind > self.habits.delivered, a / 2048, b / 8),
         }
-        if kind == 255 {
-            return Turn {
-                world: self.stop(settings, b / 8),
-                chosen: Chosen::Nothing,
-            };
-        }
-        if kind > 242 {
-            return Turn {
-                world: self.parted(b / 8),
-                chosen: Chosen::Nothing,
-            };
-        }
-        if kind > 238 {
-            return Turn {
-                world: self,
-                chosen: self.read(settings, b / 8),
-            };
-        }
-        if self.network.count == 0 {
-            return Turn {
-                world: self,
-                chosen: Chosen::Nothing,
-            };
-        }
-        self.message_turn(settings, kind > self.habits.delivered, a / 2048, b / 8)
     }
 
     // A call of the leader: a commit is counted by the answers that it has heard, and a new slot begins without any.
     fn led(
-        mut self,
-        settings: Settings,
+        &mut self,
+        settings: &Settings,
         call: Call,
         outcome: Outcome,
-        commit: OptionalCommit,
-    ) -> World {
-        if !is_done(outcome) {
-            return self;
+        commit: Option<CommittedSlot>,
+    ) {
+        if outcome.is_err() {
+            return;
         }
-        let log = self.log;
-        let heard = heard_in(
-            settings,
-            self.heard,
-            log.slot_of(settings.first_leader),
-            call,
-        );
-        self.heard = heard;
-        self.counted(settings, heard, commit)
-    }
-
-    fn counted(mut self, settings: Settings, heard: u64, commit: OptionalCommit) -> World {
-        match commit {
-            OptionalCommit::NoCommit => self,
-            OptionalCommit::Committed {
-                slot: _,
-                v: _,
-                fast: _,
-            } => {
-                let old = self.counts;
-                let counts = old.with_leader_commit(settings.quorums().majority, sets::size(heard));
-                self.counts = counts;
-                self.heard = 0;
-                self
-            }
+        let slot = self.log.slot_of(settings.first_leader);
+        self.heard = heard_in(settings, self.heard, slot, call);
+        if commit.is_some() {
+            self.counts
+                .add_leader_commit(settings.quorums().majority, sets::size(self.heard));
+            self.heard = 0;
         }
     }
 
     // What the call handed back goes into the log, the counts and the network.
-    fn logged(mut self, n: u64, member: u64, call: Call, reply: Reply) -> World {
-        let outcome = reply.outcome;
-        let commit = reply.commit;
-        let messages = reply.messages;
-        let old_log = self.log;
-        let old_network = self.network;
-        let old_counts = self.counts;
-        let log = with_commit(
-            with_proposal(old_log, member, call, outcome),
-            member,
-            commit,
-        );
-        let network = all_sent(old_network, n, messages);
-        let mut counts = old_counts.with_outcome(outcome);
-        counts.commits = commits_in(commit, counts.commits);
+    fn logged(&mut self, n: u64, member: u64, call: Call, reply: Reply) {
+        if let Call::Propose(v) = call
+            && reply.outcome.is_ok()
+        {
+            self.log.proposed(member, v);
+        }
+        if let Some(CommittedSlot { slot, v, .. }) = reply.commit {
+            self.log.committed(member, slot, v);
+        }
+        self.network = all_sent(self.network, n, reply.messages);
+        self.counts.add_call(reply.outcome, reply.commit);
         self.last_called = member;
-        self.log = log;
-        self.network = network;
-        self.counts = counts;
-        self
     }
 
-    fn answered(self, settings: Settings, member: u64, call: Call, reply: Reply) -> World {
-        let n = settings.process_count;
-        if member == settings.first_leader {
-            if has_terms(settings) {
-                let outcome = reply.outcome;
-                let commit = reply.commit;
-                return self
-                    .led(settings, call, outcome, commit)
-                    .logged(n, member, call, reply);
-            }
+    fn answered(&mut self, settings: &Settings, member: u64, call: Call, reply: Reply) {
+        if member == settings.first_leader && has_terms(settings) {
+            self.led(settings, call, reply.outcome, reply.commit);
         }
-        self.logged(n, member, call, reply)
+        self.logged(settings.process_count, member, call, reply);
     }
 }
 
@@ -626,77 +453,34 @@ impl World {
 fn run(settings: Settings, seed: u64, counts: Counts) -> Counts {
     let mut group = Group::new(settings);
     let mut world = World::new(seed, counts);
-    let mut i: u64 = 0;
-    while i < TURNS {
-        let turn = world.turn(settings, i);
-        let chosen = turn.chosen;
-        world = turn.world;
-        match chosen {
-            Chosen::Nothing => {}
-            Chosen::OnMember(member, call) => {
-                let answer = group.call(member, call);
-                let reply = answer.reply;
-                group = answer.group;
-                world = world.answered(settings, member, call, reply);
-            }
+    for i in 0..TURNS {
+        if let Some((member, call)) = world.turn(&settings, i) {
+            let answer = group.call(member, call);
+            group = answer.group;
+            world.answered(&settings, member, call, answer.reply);
         }
-        i += 1;
     }
-    let log = world.log;
-    let after = world.counts;
-    after.with_run(log.passes())
+    let passes = world.log.passes();
+    world.counts.add_run(passes);
+    world.counts
 }
 
 fn runs(mode: PFMode, first_seed: u64) -> Counts {
     let mut counts = Counts::new();
     let mut seed = first_seed;
-    let mut i: u64 = 0;
-    while i < RUNS {
+    for _ in 0..RUNS {
         seed = next_random(next_random(next_random(seed)));
         counts = run(random_settings(mode, seed), seed, counts);
-        i += 1;
     }
     counts
 }
 
-fn field(n: u64) {
-    io::write_all(1, b",");
-    io::print_decimal(1, n);
-}
-
-// The places of a table from 1 on, up to the end.
-fn fields(table: [u64; 64], end: u64) {
-    let mut n: u64 = 1;
-    while n < end {
-        field(tables::look_up(table, n));
-        n += 1;
-    }
-}
-
-// A line of the table: the mode, its counts, the refusals by number, and the leader's commits by the answers that they came on.
-fn line(name: &[u8], mode: PFMode, seed: u64) {
-    let counts = runs(mode, seed);
-    let refusals = counts.refusals;
-    let on_answers = counts.on_answers;
-    io::write_all(1, name);
-    field(counts.runs);
-    field(counts.calls);
-    field(counts.commits);
-    field(counts.failed);
-    fields(refusals, 13);
-    fields(on_answers, 5);
-    field(counts.otherwise);
-    io::write_all(1, b"\n");
-}
-
-fn main() {
-    io::write_all(
-        1,
-        b"mode,runs,calls,commits,failed,1,2,3,4,5,6,7,8,9,10,11,12,on 1,on 2,on 3,on 4,otherwise\n",
+// Where standard output is closed the runs are made all the same, and their lines are lost.
+fn main(rt: HostRuntime) {
+    let _ = println!(rt;
+        "mode,runs,calls,commits,failed,1,2,3,4,5,6,7,8,9,10,11,12,on 1,on 2,on 3,on 4,otherwise"
     );
-    line(b"Paxos", PFMode::Paxos, 1);
-    line(b"MultiPaxos", PFMode::MultiPaxos, 2);
-    line(b"MultiPaxos3P", PFMode::MultiPaxos3P, 3);
-    line(b"Pando", PFMode::Pando, 4);
-    line(b"EPaxos", PFMode::EPaxos, 5);
+    for (name, mode, seed) in MODES {
+        let _ = println!(rt; "{name}{}", runs(mode, seed));
+    }
 }

@@ -1,8 +1,7 @@
 -- The settings of a group above the engine's, and their number (document 01, "Group settings" and row 1 of its table of refusals; document 02, E13).
 -- Assumes nothing.
-use Rattle.std.specs.Prelude.{◌≡◌, true, false, cond, ◌&&◌, ◌⊎◌, ℕ, ◌≤◌, ◌<◌, leb}
-use Rattle.message.specs.declared.Outcome.{Outcome}
-use Rattle.message.specs.declared.Outcome.TheVariants.{Done, Refused}
+use Rattle.std.specs.Prelude.{◌≡◌, true, false, cond, ◌&&◌, ◌⊎◌, ℕ, ◌≤◌, ◌<◌, leb, Ok, Err}
+use Rattle.message.specs.Outcomes.{Outcome}
 use Rattle.message.specs.declared.Refusal.TheVariants.{SettingsOutsideLimits}
 use Rattle.settings.specs.Settings.{within_limits}
 use Rattle.flat.specs.Encode.{encoded_outcome}
@@ -12,7 +11,7 @@ use Rattle.group_settings.specs.declared.GroupSettings.{GroupSettings}
 
 -- "settings outside the limits above" give 1, and so does a slot of whole MHz above 2^63−2 ("one above 2^63−2 gives 1")
 unfoldable pub settings_outcome : GroupSettings → Outcome
-settings_outcome g = cond (within_limits g.settings && leb g.whole_mhz_from 9223372036854775806) Done (Refused SettingsOutsideLimits)
+settings_outcome g = cond (within_limits g.settings && leb g.whole_mhz_from 9223372036854775806) (Ok tt) (Err SettingsOutsideLimits)
 
 -- 0, or the number of the refusal
 abbrev pub settings_number : GroupSettings → ℕ

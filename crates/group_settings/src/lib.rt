@@ -26,17 +26,18 @@ pub struct FlatGroupSettings {
 
 impl GroupSettings {
     // Whether a shard or a register can be made of them, and else why not.
+    #[tactic(auto, unfolding(crate::specs::GroupSettings::settings_outcome))]
     pub fn outcome(self) -> Outcome
         ensures { result ≡ settings_outcome self }
     {
         let settings = self.settings;
         if !settings.within_limits() {
-            return Outcome::Refused(Refusal::SettingsOutsideLimits);
+            return Err(Refusal::SettingsOutsideLimits);
         }
         if self.whole_mhz_from <= 9223372036854775806 {
-            return Outcome::Done;
+            return Ok(());
         }
-        Outcome::Refused(Refusal::SettingsOutsideLimits)
+        Err(Refusal::SettingsOutsideLimits)
     }
 
     // The same as a number: 0, or that of the refusal.
@@ -58,6 +59,7 @@ pub fn decode_group_settings(f: FlatGroupSettings) -> GroupSettings
 }
 
 // The number of settings in numbers. A mode that there is not is outside the limits too.
+#[tactic(auto, unfolding(crate::specs::GroupSettings::flat_settings_number))]
 pub fn flat_number(f: FlatGroupSettings) -> u64
     ensures { result ≡ flat_settings_number f }
 {

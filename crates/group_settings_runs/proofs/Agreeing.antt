@@ -1,5 +1,8 @@
 -- Demand 3 of a group that is begun from group settings: its shards are those that the claim begins with, or none is made, and then there is no commit.
 -- Assumes nothing.
+use Rattle.std.specs.Prelude.{Option, None, Ok, Err}
+use Rattle.message.specs.Outcomes.{Outcome}
+use Rattle.calls.specs.declared.CommittedSlot.{CommittedSlot}
 use mathlib.Core.Path.{◌≡◌, refl, sym, ap, subst, fun_ext, ◌∙◌}
 use mathlib.Core.Logic.{◌⊎◌, inl, inr}
 use mathlib.Core.Bool.{Bool, true, false, cond, ◌&&◌}
@@ -8,14 +11,10 @@ use Prim.Native.Nat.{ℕ}
 use native.Mathlib.Omega.{arith}
 use lib.Dec.{eqb, leb}
 use Rattle.basics.proofs.Tests.{either, of-both}
-use Rattle.message.specs.declared.Outcome.{Outcome}
-use Rattle.message.specs.declared.Outcome.TheVariants.{Done, Refused}
 use Rattle.message.specs.declared.Refusal.{Refusal}
 use Rattle.message.specs.declared.Refusal.TheVariants.{SettingsOutsideLimits}
 use Rattle.fast_state.specs.Adopt.{Choice}
 use Rattle.settings.specs.Settings.{within_limits}
-use Rattle.calls.specs.declared.OptionalCommit.{OptionalCommit}
-use Rattle.calls.specs.declared.OptionalCommit.TheVariants.{NoCommit, Committed}
 use Rattle.consensus.specs.Call.{new_shard, new_state}
 use Rattle.consensus.specs.declared.Answer.{Answer}
 use Rattle.consensus.specs.declared.Shard.{Shard}
@@ -25,19 +24,23 @@ use Rattle.group.proofs.Agreement.{agreement_ties}
 use Rattle.group_settings.specs.GroupSettings.{settings_outcome}
 use Rattle.group_settings.specs.declared.GroupSettings.{GroupSettings}
 use Rattle.group_shard.specs.Begin.{begin_shard}
-use Rattle.group_settings_runs.specs.Groups.{member_group_settings, begun_from, group_entries, GroupLegal}
+use Rattle.group_settings_runs.specs.Groups.{begun_from, group_entries, GroupLegal}
 
 abbrev Unmade : Shard → Type 0
-Unmade shard = (why : Refusal) × (shard.made ≡ Refused why)
+Unmade shard = (why : Refusal) × (shard.made ≡ Err why)
 
 -- ---- the shards at the start
 
-in_time : (t u : Bool) → u ≡ true → cond (t && u) Done (Refused SettingsOutsideLimits) ≡ cond t Done (Refused SettingsOutsideLimits)
-in_time true u e = ap (λ (x : Bool). cond x Done (Refused SettingsOutsideLimits)) e
+-- what the settings lead to, by whether they are within the limits
+abbrev outcome_for : Bool → Outcome
+outcome_for within = cond within (Ok tt) (Err SettingsOutsideLimits)
+
+in_time : (t u : Bool) → u ≡ true → outcome_for (t && u) ≡ outcome_for t
+in_time true u e = ap outcome_for e
 in_time false u e = refl
 
-too_late : (t u : Bool) → u ≡ false → cond (t && u) Done (Refused SettingsOutsideLimits) ≡ Refused SettingsOutsideLimits
-too_late true u e = ap (λ (x : Bool). cond x Done (Refused SettingsOutsideLimits)) e
+too_late : (t u : Bool) → u ≡ false → outcome_for (t && u) ≡ Err SettingsOutsideLimits
+too_late true u e = ap outcome_for e
 too_late false u e = refl
 
 -- Those of the claim, or none is made.
@@ -60,7 +63,7 @@ begun_or_unmade g = go (either (leb g.whole_mhz_from 9223372036854775806))
 
 abbrev NoCommits : List Entry → Type 0
 NoCommits [] = Unit {0}
-NoCommits (e ∷ es) = (e.reply.commit ≡ NoCommit) × NoCommits es
+NoCommits (e ∷ es) = (e.reply.commit ≡ None) × NoCommits es
 
 unmade_after : (choose : Choice) (shards : ℕ → Shard) → ((i : ℕ) → Unmade (shards i)) → (c : MemberCall) (j : ℕ) → Unmade (after_call choose shards c j)
 unmade_after choose shards all c j =
@@ -82,7 +85,7 @@ none_stands slot v run none c = go run none c.stands
     go : (es : List Entry) → NoCommits es → At c.entry c.earlier es → ⊥
     go [] n stands = stands
     go (e ∷ es) (n, ns) (inl (same, _)) =
-        let z : ◌≡◌ {A = ℕ} 0 1 = ap (λ (o : OptionalCommit). plus_commit o 0) (sym n ∙ ap (λ (x : Entry). x.reply.commit) (sym same) ∙ c.commit) in omega arith
+        let z : ◌≡◌ {A = ℕ} 0 1 = ap (λ (o : Option CommittedSlot). plus_commit o 0) (sym n ∙ ap (λ (x : Entry). x.reply.commit) (sym same) ∙ c.commit) in omega arith
     go (e ∷ es) (n, ns) (inr later) = go es ns later
 
 none_claim : (run : List Entry) → NoCommits run → Claim run

@@ -1,6 +1,8 @@
 -- A shard begun from group settings is made exactly where no cause holds in them, whatever calls come behind; else it stays as it began, and every call gives the
 -- number of the first cause.
 -- Assumes nothing.
+use Rattle.std.specs.Prelude.{Ok, Err}
+use Rattle.message.specs.Outcomes.{Outcome}
 use mathlib.Core.Path.{◌≡◌, refl, sym, ap, subst, ◌∙◌}
 use mathlib.Core.Logic.{◌⊎◌, inl, inr}
 use mathlib.Core.Bool.{Bool, true, false, cond, ◌&&◌}
@@ -10,8 +12,6 @@ use native.Mathlib.Omega.{arith}
 use lib.Dec.{ltb, leb}
 use borrow.Author.Tests.{leb-true, leb-false, lt-ltb, le-ltb}
 use Rattle.message.specs.Refusals.{refusal_number}
-use Rattle.message.specs.declared.Outcome.{Outcome}
-use Rattle.message.specs.declared.Outcome.TheVariants.{Done, Refused}
 use Rattle.message.specs.declared.Refusal.{Refusal}
 use Rattle.message.specs.declared.Refusal.TheVariants.{SettingsOutsideLimits}
 use Rattle.fast_state.specs.Adopt.{lowest_best}
@@ -48,7 +48,7 @@ first_behind (row ∷ rows) rest n (e, none) f = inr (e, first_behind rows rest 
 -- ---- the mark by the causes
 
 abbrev Marked : GroupSettings → Outcome → Type 0
-Marked g made = ((made ≡ Done) × NoneHolds (group_causes g)) ⊎ ((why : Refusal) × (made ≡ Refused why) × FirstHolds (group_causes g) (refusal_number why))
+Marked g made = ((made ≡ Ok tt) × NoneHolds (group_causes g)) ⊎ ((why : Refusal) × (made ≡ Err why) × FirstHolds (group_causes g) (refusal_number why))
 
 marked : (g : GroupSettings) → Marked g (settings_outcome g)
 unfolding settings_outcome new_shard
@@ -63,8 +63,8 @@ marked g = go (within_limits g.settings) (leb g.whole_mhz_from 92233720368547758
     late : List Row
     late = gives 1 (ltb 9223372036854775806 g.whole_mhz_from) ∷ []
 
-    go : (t u : Bool) → leb g.whole_mhz_from 9223372036854775806 ≡ u → MadeBySettings g.settings (cond t Done (Refused SettingsOutsideLimits))
-        → Marked g (cond (t && u) Done (Refused SettingsOutsideLimits))
+    go : (t u : Bool) → leb g.whole_mhz_from 9223372036854775806 ≡ u → MadeBySettings g.settings (cond t (Ok tt) (Err SettingsOutsideLimits))
+        → Marked g (cond (t && u) (Ok tt) (Err SettingsOutsideLimits))
     go true true f (inl (e, none)) = inl (refl, none_behind rows late none (le-ltb 9223372036854775806 slot (leb-true slot 9223372036854775806 f), tt))
     go true false f (inl (e, none)) = inr (SettingsOutsideLimits, refl, first_behind rows late 1 none (inl (lt-ltb 9223372036854775806 slot (leb-false slot 9223372036854775806 f), refl)))
     go true u f (inr (e, first)) = absurd (let z : ◌≡◌ {A = ℕ} 0 1 = ap number_of e in omega arith)
@@ -73,7 +73,7 @@ marked g = go (within_limits g.settings) (leb g.whole_mhz_from 92233720368547758
 
 -- ---- through any list of calls
 
-unmade_stays : (shard : Shard) (why : Refusal) → shard.made ≡ Refused why → (cs : List Call) → after_calls shard cs ≡ shard
+unmade_stays : (shard : Shard) (why : Refusal) → shard.made ≡ Err why → (cs : List Call) → after_calls shard cs ≡ shard
 unfolding after_calls
 unmade_stays shard why e [] = refl
 unmade_stays shard why e (c ∷ cs) =

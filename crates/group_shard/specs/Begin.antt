@@ -1,8 +1,7 @@
 -- How a shard begins from the settings of its group, and for which causes it is not made (document 01, row 1 of the table of refusals; document 02, E13).
 -- Assumes nothing.
-use Rattle.std.specs.Prelude.{◌≡◌, ◌⊎◌, List, [], ◌∷◌, ltb}
+use Rattle.std.specs.Prelude.{◌≡◌, ◌⊎◌, List, [], ◌∷◌, ltb, Ok}
 use Rattle.message.specs.Refusals.{refusal_number}
-use Rattle.message.specs.declared.Outcome.TheVariants.{Done}
 use Rattle.message.specs.declared.Refusal.{Refusal}
 use Rattle.calls.specs.declared.Call.{Call}
 use Rattle.consensus.specs.Call.{new_state, call_of}
@@ -23,5 +22,5 @@ group_causes g = then (settings_causes g.settings) (gives 1 (ltb 922337203685477
 -- A shard begun from these settings, at any later time: it is made, and no cause holds in them; or it is as it began, and all its calls give the number of the first cause.
 abbrev pub OfGroupSettings : GroupSettings → Shard → Type 0
 OfGroupSettings g shard =
-    (NoneHolds (group_causes g) × (shard.made ≡ Done))
+    (NoneHolds (group_causes g) × (shard.made ≡ Ok tt))
     ⊎ ((why : Refusal) × FirstHolds (group_causes g) (refusal_number why) × (shard ≡ begin_shard g) × ((c : Call) → call_of shard c ≡ number_alone why shard))

@@ -9,6 +9,7 @@ use group_settings::GroupSettings;
 
 // The new shard of the engine's settings, with the mark of the group's. Hosts begin a shard in no other way, so that none has a shard whose group settings
 // nobody looked at.
+#[tactic(auto, unfolding(crate::specs::Begin::begin_shard, consensus::specs::Call::new_shard))]
 pub fn begin_shard(group: GroupSettings) -> Shard
     ensures { result ≡ begin_shard group }
 {

@@ -1,13 +1,13 @@
 -- A call on a flat form is the call on the shard that it stands for: the flat form afterwards stands for the new shard, the reply is the call's, and after a
 -- refusal the flat form is as it was, number for number. A flat form that begins stands for a new shard.
 -- Assumes nothing.
+use Rattle.std.specs.Prelude.{Ok, Err}
+use Rattle.message.specs.Outcomes.{Outcome}
 use mathlib.Core.Path.{◌≡◌, refl, sym, ap, ap₂, ◌∙◌}
-use mathlib.Core.Logic.{◌⊎◌, inl, inr}
+use mathlib.Core.Logic.{inl, inr}
 use mathlib.Core.Bool.{Bool, true, false, cond}
 use lib.Dec.{leb}
 use Rattle.basics.proofs.Tests.{not_both}
-use Rattle.message.specs.declared.Outcome.{Outcome}
-use Rattle.message.specs.declared.Outcome.TheVariants.{Done, Refused}
 use Rattle.message.specs.declared.Refusal.{Refusal}
 use Rattle.message.specs.declared.Refusal.TheVariants.{SettingsOutsideLimits}
 use Rattle.fast_state.specs.Adopt.{lowest_best}
@@ -43,25 +43,25 @@ pub new_stands : (s : FlatSettings) → leb s.mode 5 ≡ true → decoded_shard 
 unfolding flat_new new_shard decoded_made flat_made encoded_outcome
 new_stands s known = ap₂ (λ (o : Outcome) (t : State). record { made = o; settings = decoded_settings s; state = t }) (go (within_limits (decoded_settings s))) (state_encoded _)
   where
-    go : (t : Bool) → decoded_made (flat_made (cond t Done (Refused SettingsOutsideLimits)) s.mode) s.mode ≡ cond t Done (Refused SettingsOutsideLimits)
+    go : (t : Bool) → decoded_made (flat_made (cond t (Ok tt) (Err SettingsOutsideLimits)) s.mode) s.mode ≡ cond t (Ok tt) (Err SettingsOutsideLimits)
     go true = simp known
     go false = simp known
 
 -- in another mode it is not made
-pub unknown_mode_unmade : (s : FlatSettings) → leb s.mode 5 ≡ false → (decoded_shard (flat_new s)).made ≡ Refused SettingsOutsideLimits
+pub unknown_mode_unmade : (s : FlatSettings) → leb s.mode 5 ≡ false → (decoded_shard (flat_new s)).made ≡ Err SettingsOutsideLimits
 unfolding flat_new decoded_made
 unknown_mode_unmade s unknown = simp unknown
 
 -- ---- refusals
 
 abbrev is_done : Outcome → Bool
-is_done Done = true
-is_done (Refused why) = false
+is_done (Ok tt) = true
+is_done (Err why) = false
 
-not_refused : {o : Outcome} {why : Refusal} → o ≡ Done → o ≡ Refused why → ⊥
+not_refused : {o : Outcome} {why : Refusal} → o ≡ Ok tt → o ≡ Err why → ⊥
 not_refused p q = not_both (ap is_done p) (ap is_done q)
 
-pub refusal_leaves : (shard : Shard) (c : Call) (why : Refusal) → (call_of shard c).reply.outcome ≡ Refused why → (call_of shard c).shard ≡ shard
+pub refusal_leaves : (shard : Shard) (c : Call) (why : Refusal) → (call_of shard c).reply.outcome ≡ Err why → (call_of shard c).shard ≡ shard
 refusal_leaves shard c why e = go (by_first_cause lowest_best shard c)
   where
     go : ByFirstCause lowest_best shard c (call_of shard c) → (call_of shard c).shard ≡ shard
@@ -78,17 +78,17 @@ module _ (f : FlatShard) (c : FlatCall) where
   pub record StandsFor (x : FlatAnswer) : Type 0 where
     pub shard_is : decoded_shard x.shard ≡ (called f c).shard
     pub reply_is : x.reply ≡ encoded_reply (called f c).reply
-    pub left : (why : Refusal) → (called f c).reply.outcome ≡ Refused why → x.shard ≡ f
+    pub left : (why : Refusal) → (called f c).reply.outcome ≡ Err why → x.shard ≡ f
 
   pub flat_is_call : StandsFor (flat_call f c)
   unfolding flat_call flat_answer
   flat_is_call = go (called f c).reply.outcome refl
     where
       go : (o : Outcome) → (called f c).reply.outcome ≡ o → StandsFor (flat_answer f (called f c) o)
-      go Done e =
+      go (Ok tt) e =
           record {
             shard_is = ap (with_state (decoded_shard f)) (state_encoded (called f c).shard.state) ∙ state_alone (decoded_shard f) _;
             reply_is = refl;
             left = λ why q. absurd (not_refused e q);
           }
-      go (Refused why) e = record { shard_is = sym (refusal_leaves (decoded_shard f) _ why e); reply_is = refl; left = λ w q. refl }
+      go (Err why) e = record { shard_is = sym (refusal_leaves (decoded_shard f) _ why e); reply_is = refl; left = λ w q. refl }

@@ -1,8 +1,7 @@
 -- How the flat form of a shard begins, and a call on it by value. What is refused leaves the flat form as it was, number for number.
 -- Assumes nothing.
-use Rattle.std.specs.Prelude.{cond, ℕ, leb}
-use Rattle.message.specs.declared.Outcome.{Outcome}
-use Rattle.message.specs.declared.Outcome.TheVariants.{Done, Refused}
+use Rattle.std.specs.Prelude.{cond, ℕ, leb, Ok, Err}
+use Rattle.message.specs.Outcomes.{Outcome}
 use Rattle.consensus.specs.Call.{new_shard, call_of}
 use Rattle.consensus.specs.declared.Answer.{Answer}
 use Rattle.flat.specs.Encode.{encoded_outcome, encoded_reply}
@@ -15,9 +14,9 @@ use Rattle.host.specs.declared.FlatShard.{FlatShard}
 
 -- the call's answer, in the flat form of the shard that was called
 unfoldable pub flat_answer : FlatShard → Answer → Outcome → FlatAnswer
-flat_answer f a Done =
+flat_answer f a (Ok tt) =
     record { shard = record { made = f.made; settings = f.settings; state = encoded_state a.shard.state }; reply = encoded_reply a.reply }
-flat_answer f a (Refused why) = record { shard = f; reply = encoded_reply a.reply }
+flat_answer f a (Err why) = record { shard = f; reply = encoded_reply a.reply }
 
 -- the call on the shard that the flat form stands for
 abbrev pub called : FlatShard → FlatCall → Answer

@@ -69,6 +69,7 @@ fn decode_shard(f: FlatShard) -> Shard
 }
 
 // A refusal leaves the flat form as it was, number for number.
+#[tactic(auto, unfolding(crate::specs::Calls::flat_answer))]
 fn flat_answer(f: FlatShard, a: Answer, outcome: Outcome) -> FlatAnswer
     ensures { result ≡ flat_answer f a outcome }
 {
@@ -77,7 +78,7 @@ fn flat_answer(f: FlatShard, a: Answer, outcome: Outcome) -> FlatAnswer
     let state = next.state;
     let reply = a.reply;
     match outcome {
-        Outcome::Done => {
+        Ok(()) => {
             let shard = FlatShard {
                 made: f.made,
                 settings,
@@ -88,7 +89,7 @@ fn flat_answer(f: FlatShard, a: Answer, outcome: Outcome) -> FlatAnswer
                 reply: flat::encode_reply(reply),
             }
         }
-        Outcome::Refused(_) => FlatAnswer {
+        Err(_) => FlatAnswer {
             shard: f,
             reply: flat::encode_reply(reply),
         },
@@ -96,6 +97,7 @@ fn flat_answer(f: FlatShard, a: Answer, outcome: Outcome) -> FlatAnswer
 }
 
 // A call, whole.
+#[tactic(auto, unfolding(crate::specs::Calls::flat_call))]
 pub fn chanbook_shard_call(shard: FlatShard, call: FlatCall) -> FlatAnswer
     ensures { result ≡ flat_call shard call }
 {
@@ -107,6 +109,7 @@ pub fn chanbook_shard_call(shard: FlatShard, call: FlatCall) -> FlatAnswer
     flat_answer(shard, a, outcome)
 }
 
+#[tactic(auto, unfolding(crate::specs::Calls::flat_made))]
 fn flat_made(made: Outcome, mode: u64) -> u64
     ensures { result ≡ flat_made made mode }
 {
@@ -117,6 +120,7 @@ fn flat_made(made: Outcome, mode: u64) -> u64
 }
 
 // A shard as it begins. Settings outside the limits give one that is not made.
+#[tactic(auto, unfolding(crate::specs::Calls::flat_new))]
 pub fn chanbook_shard_new(settings: FlatSettings) -> FlatShard
     ensures { result ≡ flat_new settings }
 {

@@ -1,33 +1,25 @@
 -- The starred instances of document 01, as rows of one table. A row has what a definition gives and what the document says that it gives.
 -- One theorem, `every_row_holds` (proofs/Starred.antt), says that the two are equal in every row.
 -- Assumes nothing.
-use Rattle.std.specs.Prelude.{◌≡◌, true, false, List, [], ◌∷◌, ℕ, replicate}
+use Rattle.std.specs.Prelude.{◌≡◌, true, false, List, [], ◌∷◌, ℕ, replicate, Option, None, Some, Result, Ok, Err}
+use Rattle.message.specs.declared.Refusal.{Refusal}
 use Rattle.sets.specs.Sets.{size}
 use Rattle.tables.specs.Tables.{look_up}
 use Rattle.quorum.specs.Quorum.{row_of}
 use Rattle.message.specs.declared.ConsensusMsg.{ConsensusMsg}
 use Rattle.message.specs.declared.ConsensusMsg.TheVariants.{Prepare, Commit, ReadRequest, ReadResponse}
-use Rattle.message.specs.declared.OptionalProcess.TheVariants.{NoProcess}
-use Rattle.message.specs.declared.OptionalRound.TheVariants.{NoRound, Round}
-use Rattle.message.specs.declared.OptionalValue.TheVariants.{NoValue}
 use Rattle.message.specs.declared.PFMode.TheVariants.{Paxos}
 use Rattle.message.specs.Rounds.{round_of, before, next_leader_round}
-use Rattle.sets.specs.declared.OptionalSet.TheVariants.{NoSet}
-use Rattle.message.specs.declared.Outcome.TheVariants.{Done, Refused}
 use Rattle.message.specs.declared.Refusal.TheVariants.{AcceptUnlikeHeld}
 use Rattle.message.specs.declared.RoundV.{RoundV}
 use Rattle.message.specs.declared.RoundV.TheVariants.{PaxosV}
 use Rattle.message.specs.Refusals.{refusal_number}
-use Rattle.fast_state.specs.declared.Adoption.{Adoption}
-use Rattle.fast_state.specs.declared.Adoption.TheVariants.{Adopt}
 use Rattle.fast_state.specs.declared.FastChange.{FastChange}
 use Rattle.fast_state.specs.declared.FastState.{FastState}
-use Rattle.round_state.specs.declared.HeldPromise.TheVariants.{Held}
 use Rattle.round_state.specs.declared.Member.{Member}
 use Rattle.round_state.specs.declared.PaxosState.{PaxosState}
-use Rattle.round_state.specs.declared.PaxosStep.{PaxosStep}
-use Rattle.round_state.specs.Paxos.{receive_promise, receive_accept}
-use Rattle.fast_state.specs.Fast.{answers_of, changed, no_answers, epaxos_answered, epaxos_propose_v}
+use Rattle.round_state.specs.Paxos.{receive_promise, receive_accept, state_left}
+use Rattle.fast_state.specs.Fast.{answers_of, unchanged, changed, no_answers, epaxos_answered, epaxos_propose_v}
 use Rattle.fast_state.specs.Adopt.{lowest_best, epaxos_try_adopt_after}
 use Rattle.fast_state.specs.RoundState.{new_round_state}
 use Rattle.read_tracker.specs.declared.Inserted.{Inserted}
@@ -36,8 +28,8 @@ use Rattle.serving.specs.Serving.{receive_ready, commit_slot}
 use Rattle.settings.specs.declared.Settings.{Settings}
 use Rattle.steps.specs.Steps.{no_messages, one_message, to_all}
 use Rattle.consensus.specs.Call.{new_shard, call_of}
+use Rattle.calls.specs.Commits.{committed_slot}
 use Rattle.calls.specs.declared.Call.TheVariants.{Propose, StartRead, Receive}
-use Rattle.calls.specs.declared.OptionalCommit.TheVariants.{NoCommit, Committed}
 use Rattle.calls.specs.declared.Reply.{Reply}
 use Rattle.consensus.specs.declared.Shard.{Shard}
 
@@ -63,10 +55,10 @@ five_replicas = row (row_of 5) (record { majority = 3; epaxos = 3; fast = 4 })
 
 -- none < (0,4) < (1,0)
 abbrev pub none_first : Row
-none_first = row (before NoRound (Round (round_of 0 4))) true
+none_first = row (before None (Some (round_of 0 4))) true
 
 abbrev pub group_first : Row
-group_first = row (before (Round (round_of 0 4)) (Round (round_of 1 0))) true
+group_first = row (before (Some (round_of 0 4)) (Some (round_of 1 0))) true
 
 -- (2,3) next for 3 is (2,3), for 1 is (3,1)
 abbrev pub next_for_leader : Row
@@ -81,37 +73,44 @@ abbrev pub replica : ℕ → Member
 replica p = record { my_pid = p; replica = true; quorums = row_of 5 }
 
 abbrev pub nothing_heard : PaxosState
-nothing_heard = (new_round_state NoRound).paxos
+nothing_heard = (new_round_state None).paxos
 
 abbrev pub promised : ℕ → RoundV → PaxosState → PaxosState
-promised src rv s = (receive_promise (replica 0) src rv s).state
+promised src rv s = receive_promise (replica 0) src rv s
 
 -- Promises value 7 no round, then 9 of (0,1), then 5 no round: 9 is held
 abbrev pub highest_held : Row
 highest_held =
-    row (promised 3 (PaxosV NoRound 5) (promised 2 (PaxosV (Round (round_of 0 1)) 9) (promised 1 (PaxosV NoRound 7) nothing_heard))).max_rv
-    (Held (PaxosV (Round (round_of 0 1)) 9))
+    row (promised 3 (PaxosV None 5) (promised 2 (PaxosV (Some (round_of 0 1)) 9) (promised 1 (PaxosV None 7) nothing_heard))).max_rv
+    (Some (PaxosV (Some (round_of 0 1)) 9))
 
 -- Replica 0 hears accept (0,2) value 9 twice from 1: count 2
-abbrev pub heard_accept : ℕ → PaxosState → PaxosStep
+abbrev pub heard_accept : ℕ → PaxosState → Result PaxosState Refusal
 heard_accept v s = receive_accept (replica 0) 1 (round_of 0 2) v s
 
+abbrev pub after_heard : ℕ → PaxosState → PaxosState
+after_heard v s = state_left s (heard_accept v s)
+
 abbrev pub accepted_twice : PaxosState
-accepted_twice = (heard_accept 9 (heard_accept 9 nothing_heard).state).state
+accepted_twice = after_heard 9 (after_heard 9 nothing_heard)
 
 abbrev pub counted_once : Row
 counted_once = row (size accepted_twice.accepted_set) 2
 
 -- Then value 8: refusal 9
 abbrev pub other_value : Row
-other_value = row (heard_accept 8 accepted_twice).outcome (Refused AcceptUnlikeHeld)
+other_value = row (heard_accept 8 accepted_twice) (Err AcceptUnlikeHeld)
 
 abbrev pub other_value_number : Row
 other_value_number = row (refusal_number AcceptUnlikeHeld) 9
 
 -- EPaxos, five: 4 proposes 40; 1 answers proposer 0, value 10
+abbrev pub change_left : FastState → Result FastChange Refusal → FastChange
+change_left f (Ok change) = change
+change_left f (Err why) = unchanged (answers_of f)
+
 abbrev pub answers : ℕ → ℕ → ℕ → FastState → FastChange
-answers src proposer v f = (epaxos_answered (replica 4) src proposer v (answers_of f) f.epaxos_proposer_scores).change
+answers src proposer v f = change_left f (epaxos_answered (replica 4) src proposer v (answers_of f) f.epaxos_proposer_scores)
 
 abbrev pub answered : ℕ → ℕ → ℕ → FastState → FastState
 answered src proposer v f = changed (answers src proposer v f) f
@@ -119,16 +118,16 @@ answered src proposer v f = changed (answers src proposer v f) f
 abbrev pub proposed : FastState
 proposed =
     answered 1 0 10
-    (changed (epaxos_propose_v (replica 4) 40 (answers_of no_answers) no_answers.epaxos_proposer_scores).change no_answers)
+    (changed (change_left no_answers (epaxos_propose_v (replica 4) 40 (answers_of no_answers) no_answers.epaxos_proposer_scores)) no_answers)
 
 -- what is adopted when one more answer comes
-abbrev pub adopts : ℕ → ℕ → ℕ → Adoption
+abbrev pub adopts : ℕ → ℕ → ℕ → Result (Option ℕ) Refusal
 adopts src proposer v =
     epaxos_try_adopt_after lowest_best (replica 4) (answers src proposer v proposed) proposed.fast_proposer_to_v proposed.epaxos_proposer_scores
 
 -- 2 answers proposer 4: adopt 10 (scores 3 and 2)
 abbrev pub adopts_best : Row
-adopts_best = row (adopts 2 4 40) (Adopt 10)
+adopts_best = row (adopts 2 4 40) (Ok (Some 10))
 
 abbrev pub other_score : Row
 other_score = row (look_up (answered 2 4 40 proposed).epaxos_proposer_scores 0) 3
@@ -144,7 +143,7 @@ abbrev pub tied_other_score : Row
 tied_other_score = row (look_up (answered 3 2 20 proposed).epaxos_proposer_scores 2) 3
 
 abbrev pub adopts_lowest : Row
-adopts_lowest = row (adopts 3 2 20) (Adopt 10)
+adopts_lowest = row (adopts 3 2 20) (Ok (Some 10))
 
 -- ---- reads
 
@@ -173,7 +172,7 @@ group processes replicas live leader =
       alive_replicas = live;
       first_leader = leader;
       mode = Paxos;
-      quorum = NoSet;
+      quorum = None;
       has_committers = false;
       committers = replicate 64 0;
       delegates = replicate 64 0;
@@ -186,16 +185,16 @@ alone = new_shard (group 1 1 1 0)
 abbrev pub sends_to_all : ConsensusMsg → Reply
 sends_to_all msg =
     record {
-      outcome = Done;
-      messages = one_message (record { destination = to_all; message = record { msg = msg; src = 0; last_v = NoValue } });
-      commit = NoCommit;
+      outcome = Ok tt;
+      messages = one_message (record { destination = to_all; message = record { msg = msg; src = 0; last_v = None } });
+      commit = None;
       served_count = 0;
     }
 
 -- The first half of the instance: the proposal sends Prepare. The second half, "never commits", is `group_of_one` (crates/group/proofs/GroupOfOne.antt),
 -- since no finite row can say it.
 abbrev pub alone_proposes : Row
-alone_proposes = row (call_of alone (Propose 10)).reply (sends_to_all (Prepare 0 (round_of 0 0) (PaxosV NoRound 10)))
+alone_proposes = row (call_of alone (Propose 10)).reply (sends_to_all (Prepare 0 (round_of 0 0) (PaxosV None 10)))
 
 -- a new read is asked of all others, and waits
 abbrev pub alone_reads : Row
@@ -210,19 +209,19 @@ after_read msg =
     (call_of (call_of (new_shard (group 2 1 1 0)) (StartRead 7 0)).shard
     (Receive
     (record {
-      message = record { msg = msg; src = 1; last_v = NoValue };
-      said = record { value_held = true; requester = NoProcess; fast = true };
-      held_requester = NoProcess;
+      message = record { msg = msg; src = 1; last_v = None };
+      said = record { value_held = true; requester = None; fast = true };
+      held_requester = None;
     }))
     ).reply
 
 abbrev pub response_after_read : Row
 response_after_read =
-    row (after_read (ReadResponse (read_id 0) 0)) (record { outcome = Done; messages = no_messages; commit = NoCommit; served_count = 1 })
+    row (after_read (ReadResponse (read_id 0) 0)) (record { outcome = Ok tt; messages = no_messages; commit = None; served_count = 1 })
 
 abbrev pub commit_after_read : Row
 commit_after_read =
-    row (after_read (Commit 0 10)) (record { outcome = Done; messages = no_messages; commit = Committed 0 10 false; served_count = 1 })
+    row (after_read (Commit 0 10)) (record { outcome = Ok tt; messages = no_messages; commit = committed_slot 0 10 false; served_count = 1 })
 
 -- ---- the table
 

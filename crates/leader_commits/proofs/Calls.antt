@@ -1,5 +1,8 @@
 -- What a call on the leader's shard does, in a group that is led in its starting round: the engine's call, seen as the model's.
 -- Assumes nothing.
+use Rattle.std.specs.Prelude.{Some, Ok, Err}
+use Rattle.std.proofs.lemmas.Bool.{and_right as right_fails}
+use Rattle.message.specs.Outcomes.{Outcome}
 use mathlib.Core.Path.{◌≡◌, refl, sym, ap, subst, ◌∙◌}
 use mathlib.Core.Logic.{◌⊎◌, inl, inr}
 use mathlib.Core.Bool.{Bool, true, false, cond, not, ◌&&◌}
@@ -14,15 +17,12 @@ use Rattle.message.specs.Rounds.{starting_round, next_leader_round, default_roun
 use Rattle.message.proofs.NextLeader.{next_leader_own}
 use Rattle.message.specs.declared.ConsensusMsg.{ConsensusMsg}
 use Rattle.message.specs.declared.ConsensusMsg.TheVariants.{Prepare, Accept, ForwardRequest, Commit, ReadRequest, ReadResponse}
-use Rattle.message.specs.declared.OptionalRound.TheVariants.{Round}
-use Rattle.message.specs.declared.Outcome.{Outcome}
-use Rattle.message.specs.declared.Outcome.TheVariants.{Done, Refused}
 use Rattle.message.specs.declared.PFMode.{PFMode}
 use Rattle.message.specs.declared.PFMode.TheVariants.{Paxos, MultiPaxos, MultiPaxos3P, EPaxos, Pando, SwiftPaxos}
 use Rattle.message.specs.declared.PaxosRound.{PaxosRound}
 use Rattle.message.specs.declared.Refusal.{Refusal}
 use Rattle.sets.proofs.Laws.{fits_members}
-use Rattle.settings.specs.Questions.{is_live_replica, delegate_in, delegate_of, committer_in, committer_of, starting_round_of}
+use Rattle.settings.specs.Questions.{is_live_replica, committer_in, committer_of, starting_round_of}
 use Rattle.settings.specs.Settings.{within_limits}
 use Rattle.settings.specs.declared.Settings.{Settings}
 use Rattle.settings.proofs.Limits.{within_counts, within_members}
@@ -33,13 +33,13 @@ use Rattle.calls.specs.declared.Call.TheVariants.{Propose, StartRead, Receive}
 use Rattle.consensus.specs.Answers.{refused}
 use Rattle.consensus.specs.Call.{if_made, call_with, call_of}
 use Rattle.consensus.specs.declared.Shard.{Shard}
-use Rattle.agreement.specs.Engine.{proposes as proposal}
 use Rattle.agreement.specs.Model.{View, Message, prepare, accept, commit, other, Host, undecided, refuse, quiet, on_accept, on_propose, on_message}
 use Rattle.agreement.specs.Model as model
-use Rattle.agreement.specs.Refinement.{propose, outcome, AsModel}
+use Rattle.agreement.specs.Refinement.{outcome, AsModel}
 use Rattle.group.specs.Claim.{member_settings, NotSwift}
-use Rattle.group.specs.Steps.{Step, reply_of, is_done, Delivered, heard_in, heard}
+use Rattle.group.specs.Steps.{Step, reply_of, is_done, heard_in, heard}
 use Rattle.group.proofs.Calls.{kind_of, not_swift, seen_answer, view_shard, Valid, valid_within, call_ok}
+use Rattle.group.proofs.Proposing.{leader_gathers}
 use Rattle.group.proofs.Ties.{lowest_picks_best}
 use Rattle.group.proofs.View.{round_number, leader_of, leader_of_lem, process_number, process_of, meaning_of, meaning_is, setup_of}
 use Rattle.leader_commits.specs.Answers.{is_accept_of, is_answer, hears}
@@ -58,15 +58,6 @@ leader_starts EPaxos l e h = absurd (not_both e refl)
 leader_starts Pando l e h = absurd (not_both e refl)
 leader_starts SwiftPaxos l e h = absurd (not_both e refl)
 
-delegates_itself : (s : Settings) (m : PFMode) (l : ℕ) → is_multi_paxos m ≡ true → delegate_of s m l ≡ l
-unfolding delegate_in
-delegates_itself s Paxos l e = refl
-delegates_itself s MultiPaxos l e = refl
-delegates_itself s MultiPaxos3P l e = refl
-delegates_itself s EPaxos l e = refl
-delegates_itself s Pando l e = absurd (not_both e refl)
-delegates_itself s SwiftPaxos l e = refl
-
 pub claimed_mode : (m : PFMode) → is_multi_paxos m ≡ true → NotSwift m
 claimed_mode Paxos e = tt
 claimed_mode MultiPaxos e = tt
@@ -81,7 +72,7 @@ led_setup s multi none small =
     record {
       starts_led_lem = multi;
       leads = leader_starts s.mode s.first_leader multi small;
-      gathers = delegates_itself s s.mode (leader_of (round_number (starting_round_of s))) multi ∙ leader_starts s.mode s.first_leader multi small;
+      gathers = leader_gathers s s.mode (leader_of (round_number (starting_round_of s))) multi ∙ leader_starts s.mode s.first_leader multi small;
       no_committer = λ q. ap process_number (none_for q);
     }
   where
@@ -109,8 +100,8 @@ unfolding call_with
 made_or_refused s i shard valid c = go shard.made refl
   where
     go : (o : Outcome) → shard.made ≡ o → ((why : Refusal) × (call_of shard c ≡ refused why shard)) ⊎ (within_limits (member_settings s i) ≡ true)
-    go Done e = inr (valid_within s i shard valid e)
-    go (Refused why) e = inl (why, ap (if_made lowest_best shard c) e)
+    go (Ok tt) e = inr (valid_within s i shard valid e)
+    go (Err why) e = inl (why, ap (if_made lowest_best shard c) e)
 
 -- ---- a step, seen as the model's
 
@@ -124,16 +115,12 @@ view_before x = view_shard x.before
 -- proposal taken; or it is a proposal that is taken; or it is an accept of the leader's slot that is taken.
 pub data Does (s : Settings) (x : Step) : Type 0 where
   rests : (seen_in x).view ≡ view_before x → (seen_in x).decision ≡ undecided → ((t : ℕ) → (view_before x).slot ≤ t → hears s t x ≡ false)
-      → ((v : ℕ) → x.call ≡ Propose v → (reply_of x).outcome ≡ Done → ⊥) → Does s x
+      → ((v : ℕ) → x.call ≡ Propose v → (reply_of x).outcome ≡ Ok tt → ⊥) → Does s x
   proposes : (v : ℕ) → x.call ≡ Propose v → Proposing s.first_leader (view_before x) v (seen_in x) → Does s x
-  accepts : (d : Delivery) (slot : ℕ) (round : PaxosRound) (v : ℕ) → heard x ≡ Delivered d → d.message.msg ≡ Accept slot round v
+  accepts : (d : Delivery) (slot : ℕ) (round : PaxosRound) (v : ℕ) → heard x ≡ Some d → d.message.msg ≡ Accept slot round v
       → Accepting (setup_of s) s.first_leader (view_before x) d.message.src slot v (seen_in x) → Numbers s → Does s x
 
 -- ---- tests
-
-pub and_fails : (a : Bool) {b : Bool} → b ≡ false → (a && b) ≡ false
-and_fails true e = e
-and_fails false e = refl
 
 abbrev is_propose : Call → Bool
 is_propose (Propose v) = true
@@ -155,7 +142,7 @@ module _ (s : Settings) (x : Step) where
   pub when_refused : seen_in x ≡ refuse (view_before x) → Does s x
   when_refused r =
       rests (ap (λ (o : model.Outcome). o.view) r) (ap (λ (o : model.Outcome). o.decision) r)
-      (λ t le. and_fails (is_answer s t (heard x) && eqb x.member s.first_leader) not_done)
+      (λ t le. right_fails (is_answer s t (heard x) && eqb x.member s.first_leader) _ not_done)
       (λ v e done. not_both (ap is_done done) not_done)
     where
       not_done : is_done (reply_of x).outcome ≡ false
@@ -221,7 +208,7 @@ module _ (s : Settings) (multi : is_multi_paxos s.mode ≡ true) (none : s.has_c
         go (inr r) = when_quiet s x (Receive d) e refl r.1 r.2 (λ t le. no_answer t k f (no-accept t))
 
     -- an accept of the starting round
-    by_accept : (slot : ℕ) (round : PaxosRound) (v : ℕ) → d.message.msg ≡ Accept slot round v → round_number (Round round) ≡ start → Does s x
+    by_accept : (slot : ℕ) (round : PaxosRound) (v : ℕ) → d.message.msg ≡ Accept slot round v → round_number (Some round) ≡ start → Does s x
     unfolding outcome on_message
     by_accept slot round v f first = go m
       where

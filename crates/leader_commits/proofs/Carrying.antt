@@ -1,6 +1,8 @@
 -- What a call leaves of the last value, and what the Accepts that it sends carry, in the modes without a fast path and where no Prepare comes: the own
 -- slot and last value, and the round and value of the proposal, or of the Accept that is answered.
 -- Assumes nothing.
+use Rattle.std.specs.Prelude.{Option, None, Some, is_some}
+use Rattle.calls.specs.declared.CommittedSlot.{CommittedSlot}
 use mathlib.Core.Path.{◌≡◌, refl, sym, subst}
 use mathlib.Core.Bool.{Bool, true, false, cond, not, ◌&&◌, ◌||◌}
 use Prim.Native.Nat.{ℕ, ◌≤◌}
@@ -12,9 +14,6 @@ use Rattle.message.specs.Rounds.{before, equal}
 use Rattle.message.proofs.Order.{equal_rounds}
 use Rattle.message.specs.declared.ConsensusMsg.{ConsensusMsg}
 use Rattle.message.specs.declared.ConsensusMsg.TheVariants.{Prepare, Accept, ForwardRequest, Commit, ReadRequest, ReadResponse}
-use Rattle.message.specs.declared.OptionalRound.TheVariants.{Round}
-use Rattle.message.specs.declared.OptionalValue.{OptionalValue}
-use Rattle.message.specs.declared.OptionalValue.TheVariants.{Value}
 use Rattle.message.specs.declared.PaxosRound.{PaxosRound}
 use Rattle.message.specs.declared.PFMode.{PFMode}
 use Rattle.message.specs.declared.PFMode.TheVariants.{Paxos, MultiPaxos, MultiPaxos3P, EPaxos, Pando, SwiftPaxos}
@@ -23,10 +22,9 @@ use Rattle.message.specs.declared.Refusal.TheVariants.{ValueNotHeld, Panic}
 use Rattle.message.specs.declared.RoundV.{RoundV}
 use Rattle.message.specs.declared.RoundV.TheVariants.{FastV, PaxosV}
 use Rattle.settings.specs.Questions.{starting_round_of}
-use Rattle.round_state.specs.Paxos.{is_held}
 use Rattle.enter.specs.Enter.{can_propose, is_older}
 use Rattle.paxos_family.specs.Commit.{commit_slot}
-use Rattle.propose.specs.Propose.{proposal_round, may_propose, proposed}
+use Rattle.propose.specs.Propose.{proposal_round, may_propose}
 use Rattle.steps.specs.Steps.{no_messages, one_message, held_v, on_rounds}
 use Rattle.steps.specs.declared.Asked.{Asked}
 use Rattle.steps.specs.declared.Core.{Core}
@@ -38,8 +36,6 @@ use Rattle.delivery.specs.declared.Delivery.{Delivery}
 use Rattle.calls.specs.Asked.{asked_of, heard_of}
 use Rattle.calls.specs.declared.Call.{Call}
 use Rattle.calls.specs.declared.Call.TheVariants.{Propose, StartRead, Receive}
-use Rattle.calls.specs.declared.OptionalCommit.{OptionalCommit}
-use Rattle.calls.specs.declared.OptionalCommit.TheVariants.{NoCommit, Committed}
 use Rattle.consensus.specs.Answers.{refused, sent, nothing, committed, finish_at, finish}
 use Rattle.consensus.specs.Call.{proposing, call_of}
 use Rattle.core_calls.specs.CoreCall.{read_answer}
@@ -48,14 +44,13 @@ use Rattle.consensus.specs.declared.Answer.{Answer}
 use Rattle.consensus.specs.declared.Shard.{Shard}
 use Rattle.fast_state.specs.Adopt.{lowest_best}
 use Rattle.agreement.proofs.Tests.{nor_both, is_true}
-use Rattle.round_state.specs.declared.HeldPromise.{HeldPromise}
 use Rattle.group.proofs.Handlers.{Any, TwoAtMost, Ends, ends, Keeps, Comes, processed_holds, proposing_holds, call_holds}
 
 -- ---- the steps of a call
 
 -- n and u are the slot and the last value before it, Q says for which round and value an Accept may be sent
-module _ (n : ℕ) (u : OptionalValue) (Q : PaxosRound → ℕ → Type 0) where
-  abbrev pub CarriesIn : OptionalValue → ConsensusMsg → Type 0
+module _ (n : ℕ) (u : Option ℕ) (Q : PaxosRound → ℕ → Type 0) where
+  abbrev pub CarriesIn : Option ℕ → ConsensusMsg → Type 0
   CarriesIn last (Prepare slot round rv) = Unit {0}
   CarriesIn last (Accept slot round v) = (slot ≡ n) × (last ≡ u) × Q round v
   CarriesIn last (ForwardRequest v) = Unit {0}
@@ -82,7 +77,7 @@ no_fast_path SwiftPaxos e = absurd (not_both e refl)
 -- for which round and value a call sends an Accept: those of the proposal, which is made in the starting round, or of the Accept that it answers, which is
 -- not of an older slot
 abbrev pub AskedFor : Shard → Call → PaxosRound → ℕ → Type 0
-AskedFor shard (Propose w) round v = (Round round ≡ starting_round_of shard.settings) × (w ≡ v)
+AskedFor shard (Propose w) round v = (Some round ≡ starting_round_of shard.settings) × (w ≡ v)
 AskedFor shard (StartRead tag arrival) round v = ⊥
 AskedFor shard (Receive d) round v = (slot : ℕ) × (d.message.msg ≡ Accept slot round v) × (shard.state.rounds.core.slot ≤ slot)
 
@@ -90,9 +85,9 @@ abbrev pub Carries : Shard → Call → Outgoing → Type 0
 Carries shard c o =
     CarriesIn shard.state.rounds.core.slot shard.state.rounds.core.last_v (AskedFor shard c) o.message.last_v o.message.msg
 
-abbrev pub last_after : OptionalCommit → OptionalValue → OptionalValue
-last_after NoCommit last = last
-last_after (Committed slot v fast) last = Value v
+abbrev pub last_after : Option CommittedSlot → Option ℕ → Option ℕ
+last_after None last = last
+last_after (Some commit) last = Some commit.v
 
 pub record CallCarries (shard : Shard) (c : Call) (r : Answer) : Type 0 where
   pub same_made : r.shard.made ≡ shard.made
@@ -138,11 +133,11 @@ module _ (shard : Shard) (multi : is_multi_paxos shard.settings.mode ≡ true) w
   Proposes c (PaxosV at v) = c ≡ Propose v
 
   -- a proposal is of the starting round
-  starts : (c : Core) → T (may_propose asked c) → Round (proposal_round asked c) ≡ asked.starting_round
+  starts : (c : Core) → T (may_propose asked c) → Some (proposal_round asked c) ≡ asked.starting_round
   unfolding may_propose
-  starts c t = equal_rounds (Round (proposal_round asked c)) asked.starting_round
-      (in_start (is_held c.paxos.max_rv) (can_propose asked && equal c.paxos.round asked.starting_round)
-      (equal (Round (proposal_round asked c)) asked.starting_round) (is_true (may_propose asked c) t))
+  starts c t = equal_rounds (Some (proposal_round asked c)) asked.starting_round
+      (in_start (is_some c.paxos.max_rv) (can_propose asked && equal c.paxos.round asked.starting_round)
+      (equal (Some (proposal_round asked c)) asked.starting_round) (is_true (may_propose asked c) t))
     where
       in_start : (held some : Bool) (same : Bool) → cond held false (some && (not (is_multi_paxos asked.mode) || same)) ≡ true → same ≡ true
       in_start true some same e = absurd (not_both e refl)
@@ -161,7 +156,7 @@ module _ (shard : Shard) (multi : is_multi_paxos shard.settings.mode ≡ true) w
         leaves = λ d k. k;
         prepare_to = λ round d p w other. tt;
         accept_to_all = λ round d w. absurd w;
-        accept_to_lem = λ round v d p w k e other. (k.0, k.1, subst (λ (x : HeldPromise). AskedFor shard c round (held_v x)) (sym e) w);
+        accept_to_lem = λ round v d p w k e other. (k.0, k.1, subst (λ (x : Option RoundV). AskedFor shard c round (held_v x)) (sym e) w);
         commit_to_all = λ d requester. tt;
         propose_prepare_lem = λ round rv d. tt;
         propose_accept_lem = λ v d t p k. (k.0, k.1, subst (λ (x : Call). AskedFor shard x (proposal_round asked d) v) (sym p) (starts d t, refl));
@@ -184,7 +179,7 @@ module _ (shard : Shard) (multi : is_multi_paxos shard.settings.mode ≡ true) w
     unfolding is_older
     comes (Prepare slot round rv) e = absurd (no_prepare slot round rv e)
     comes (Accept slot round v) e =
-        (tt, λ t. (slot, e, ltb-false slot core.slot (not-true (ltb slot core.slot) (is_true (not (ltb slot core.slot)) (nor_both (ltb slot core.slot) (before (Round round) core.paxos.round) t).0))))
+        (tt, λ t. (slot, e, ltb-false slot core.slot (not-true (ltb slot core.slot) (is_true (not (ltb slot core.slot)) (nor_both (ltb slot core.slot) (before (Some round) core.paxos.round) t).0))))
     comes (ForwardRequest v) e = tt
     comes (Commit slot v) e = tt
     comes (ReadRequest id) e = tt

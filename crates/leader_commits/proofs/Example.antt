@@ -1,6 +1,7 @@
 -- Runs of three and of five members in MultiPaxos mode, computed: they are legal, and the leader commits on exactly the answer that the theorem says, not
 -- on a repeated one. So the theorem is about something.
 -- Assumes nothing.
+use Rattle.std.specs.Prelude.{None, Some}
 use mathlib.Core.Path.{◌≡◌, refl, sym, subst}
 use mathlib.Core.Bool.{false}
 use mathlib.Core.List.{List, [], ◌∷◌}
@@ -9,10 +10,8 @@ use native.Mathlib.Omega.{arith}
 use lib.Dec.{lit<}
 use lib.ListN.{replicate}
 use Rattle.sets.specs.Sets.{contains, count, size, insert}
-use Rattle.sets.specs.declared.OptionalSet.TheVariants.{NoSet}
 use Rattle.message.specs.Rounds.{increment, round_of, next_leader_round, round_before, round_equal}
 use Rattle.message.specs.declared.ConsensusMsg.TheVariants.{Accept, Commit}
-use Rattle.message.specs.declared.OptionalValue.TheVariants.{NoValue, Value}
 use Rattle.message.specs.declared.PFMode.TheVariants.{MultiPaxos}
 use Rattle.settings.specs.Settings.{counts_fit, members_fit, committers_fit, mode_fits, within_limits}
 use Rattle.settings.specs.Questions.{committer_for, committer_in, delegate_in}
@@ -29,7 +28,7 @@ use Rattle.consensus.specs.FirstCause.{any_from, joined}
 use Rattle.consensus.specs.Call.{new_shard, proposing, propose, receive, dispatch, unless_spent, call_with}
 use Rattle.calls.specs.Asked.{gatherer_in}
 use Rattle.consensus.specs.Handle.{on_commit, processed, process_message, handle}
-use Rattle.delivery.specs.Limits.{round_numbers, rv_numbers, msg_numbers, value_numbers, process_numbers, numbers_fit, rv_processes, msg_processes, requester_below, processes_fit}
+use Rattle.delivery.specs.Limits.{round_numbers, rv_numbers, msg_numbers, number_given, numbers_fit, rv_processes, msg_processes, requester_below, processes_fit}
 use Rattle.agreement.proofs.Tests.{neqb→ne}
 use Rattle.group.specs.Claim.{MemberCall, entries_from, entries, LegalFrom, Legal, At}
 use Rattle.group.specs.Steps.{Step, heard, steps_from, steps}
@@ -47,7 +46,7 @@ five =
       alive_replicas = 31;
       first_leader = 0;
       mode = MultiPaxos;
-      quorum = NoSet;
+      quorum = None;
       has_committers = false;
       committers = replicate 64 0;
       delegates = replicate 64 0;
@@ -58,23 +57,23 @@ five =
 abbrev calls_of_three : List MemberCall
 calls_of_three =
     proposes 0 10
-    ∷ hears 1 0 NoValue (Accept 0 (round_of 0 0) 10)
-    ∷ hears 2 0 NoValue (Accept 0 (round_of 0 0) 10)
-    ∷ hears 0 1 NoValue (Accept 0 (round_of 0 0) 10)
-    ∷ hears 0 2 NoValue (Accept 0 (round_of 0 0) 10)
-    ∷ hears 2 0 NoValue (Commit 0 10)
+    ∷ hears 1 0 None (Accept 0 (round_of 0 0) 10)
+    ∷ hears 2 0 None (Accept 0 (round_of 0 0) 10)
+    ∷ hears 0 1 None (Accept 0 (round_of 0 0) 10)
+    ∷ hears 0 2 None (Accept 0 (round_of 0 0) 10)
+    ∷ hears 2 0 None (Commit 0 10)
     ∷ proposes 0 20
-    ∷ hears 2 0 (Value 10) (Accept 1 (round_of 0 0) 20)
-    ∷ hears 0 2 (Value 10) (Accept 1 (round_of 0 0) 20)
+    ∷ hears 2 0 (Some 10) (Accept 1 (round_of 0 0) 20)
+    ∷ hears 0 2 (Some 10) (Accept 1 (round_of 0 0) 20)
     ∷ []
 
 pub three_commits : commits_of (entries (three MultiPaxos) calls_of_three)
     ≡ (commits 0 1 20 false ∷ none 2 ∷ none 0 ∷ commits 2 0 10 false ∷ none 0 ∷ commits 0 0 10 false ∷ none 2 ∷ none 1 ∷ none 0 ∷ [])
-unfolding entries_from new_shard call_with unless_spent dispatch propose receive admit numbers_fit processes_fit ready other_last_value value_awaited round_numbers rv_numbers msg_numbers value_numbers process_numbers rv_processes msg_processes requester_below handle on_commit committed process_message processed gatherer_in proposing propose_classic may_propose electing propose_accept process_classic on_accept enter from_live is_older in_round accepting accepted follower answered try_commit is_committer commit_slot paxos_propose_v receive_promise held_after_promise receive_accept accept_fits accept_own self_accept with_sender with_own next_leader_round round_before round_equal increment delegate_in within_limits counts_fit members_fit committers_fit mode_fits contains count size insert
+unfolding entries_from new_shard call_with unless_spent dispatch propose receive admit numbers_fit processes_fit ready other_last_value value_awaited round_numbers rv_numbers msg_numbers number_given rv_processes msg_processes requester_below handle on_commit committed process_message processed gatherer_in proposing propose_classic may_propose electing propose_accept process_classic on_accept enter from_live is_older in_round accepting accepted follower answered try_commit is_committer commit_slot paxos_propose_v receive_promise held_after_promise receive_accept accept_fits accept_own self_accept with_sender with_own next_leader_round round_before round_equal increment delegate_in within_limits counts_fit members_fit committers_fit mode_fits contains count size insert
 three_commits = refl
 
 pub three_legal : Legal (three MultiPaxos) calls_of_three
-unfolding LegalFrom new_shard call_with unless_spent dispatch propose receive admit numbers_fit processes_fit ready other_last_value value_awaited round_numbers rv_numbers msg_numbers value_numbers process_numbers rv_processes msg_processes requester_below handle on_commit committed process_message processed gatherer_in proposing propose_classic may_propose electing propose_accept process_classic on_accept enter from_live is_older in_round accepting accepted follower answered try_commit commit_messages tells_commit is_committer answer_accept commit_slot paxos_propose_v receive_promise held_after_promise receive_accept accept_fits accept_own self_accept with_sender with_own next_leader_round round_before round_equal increment delegate_in committer_in committer_for within_limits counts_fit members_fit committers_fit mode_fits contains count size insert
+unfolding LegalFrom new_shard call_with unless_spent dispatch propose receive admit numbers_fit processes_fit ready other_last_value value_awaited round_numbers rv_numbers msg_numbers number_given rv_processes msg_processes requester_below handle on_commit committed process_message processed gatherer_in proposing propose_classic may_propose electing propose_accept process_classic on_accept enter from_live is_older in_round accepting accepted follower answered try_commit commit_messages tells_commit is_committer answer_accept commit_slot paxos_propose_v receive_promise held_after_promise receive_accept accept_fits accept_own self_accept with_sender with_own next_leader_round round_before round_equal increment delegate_in committer_in committer_for within_limits counts_fit members_fit committers_fit mode_fits contains count size insert
 three_legal =
     first (lit< tt) tt
     (first (lit< tt) (_, _, inl refl, refl, inl refl, refl, neqb→ne 0 1 tt)
@@ -90,19 +89,19 @@ three_legal =
 abbrev calls_of_five : List MemberCall
 calls_of_five =
     proposes 0 10
-    ∷ hears 1 0 NoValue (Accept 0 (round_of 0 0) 10)
-    ∷ hears 2 0 NoValue (Accept 0 (round_of 0 0) 10)
-    ∷ hears 0 1 NoValue (Accept 0 (round_of 0 0) 10)
-    ∷ hears 0 1 NoValue (Accept 0 (round_of 0 0) 10)
-    ∷ hears 0 2 NoValue (Accept 0 (round_of 0 0) 10)
+    ∷ hears 1 0 None (Accept 0 (round_of 0 0) 10)
+    ∷ hears 2 0 None (Accept 0 (round_of 0 0) 10)
+    ∷ hears 0 1 None (Accept 0 (round_of 0 0) 10)
+    ∷ hears 0 1 None (Accept 0 (round_of 0 0) 10)
+    ∷ hears 0 2 None (Accept 0 (round_of 0 0) 10)
     ∷ []
 
 pub five_commits : commits_of (entries five calls_of_five) ≡ (commits 0 0 10 false ∷ none 0 ∷ none 0 ∷ none 2 ∷ none 1 ∷ none 0 ∷ [])
-unfolding entries_from new_shard call_with unless_spent dispatch propose receive admit numbers_fit processes_fit ready other_last_value value_awaited round_numbers rv_numbers msg_numbers value_numbers process_numbers rv_processes msg_processes requester_below handle committed process_message processed gatherer_in proposing propose_classic may_propose electing propose_accept process_classic on_accept enter from_live is_older in_round accepting accepted follower answered try_commit is_committer commit_slot paxos_propose_v receive_promise held_after_promise receive_accept accept_fits accept_own self_accept with_sender with_own next_leader_round round_before round_equal increment delegate_in within_limits counts_fit members_fit committers_fit mode_fits contains count size insert
+unfolding entries_from new_shard call_with unless_spent dispatch propose receive admit numbers_fit processes_fit ready other_last_value value_awaited round_numbers rv_numbers msg_numbers number_given rv_processes msg_processes requester_below handle committed process_message processed gatherer_in proposing propose_classic may_propose electing propose_accept process_classic on_accept enter from_live is_older in_round accepting accepted follower answered try_commit is_committer commit_slot paxos_propose_v receive_promise held_after_promise receive_accept accept_fits accept_own self_accept with_sender with_own next_leader_round round_before round_equal increment delegate_in within_limits counts_fit members_fit committers_fit mode_fits contains count size insert
 five_commits = refl
 
 pub five_legal : Legal five calls_of_five
-unfolding LegalFrom new_shard call_with unless_spent dispatch propose receive admit numbers_fit processes_fit ready other_last_value value_awaited round_numbers rv_numbers msg_numbers value_numbers process_numbers rv_processes msg_processes requester_below handle committed process_message processed gatherer_in proposing propose_classic may_propose electing propose_accept process_classic on_accept enter from_live is_older in_round accepting accepted follower answered try_commit commit_messages tells_commit is_committer answer_accept commit_slot paxos_propose_v receive_promise held_after_promise receive_accept accept_fits accept_own self_accept with_sender with_own next_leader_round round_before round_equal increment delegate_in committer_in committer_for within_limits counts_fit members_fit committers_fit mode_fits contains count size insert
+unfolding LegalFrom new_shard call_with unless_spent dispatch propose receive admit numbers_fit processes_fit ready other_last_value value_awaited round_numbers rv_numbers msg_numbers number_given rv_processes msg_processes requester_below handle committed process_message processed gatherer_in proposing propose_classic may_propose electing propose_accept process_classic on_accept enter from_live is_older in_round accepting accepted follower answered try_commit commit_messages tells_commit is_committer answer_accept commit_slot paxos_propose_v receive_promise held_after_promise receive_accept accept_fits accept_own self_accept with_sender with_own next_leader_round round_before round_equal increment delegate_in committer_in committer_for within_limits counts_fit members_fit committers_fit mode_fits contains count size insert
 five_legal =
     first (lit< tt) tt
     (first (lit< tt) (_, _, inl refl, refl, inl refl, refl, neqb→ne 0 1 tt)
@@ -131,7 +130,7 @@ five_sound x (inr (inr (inr (inr (inr (inr k)))))) came = absurd k
 
 -- the last step: before it one answer has come, with it two, which is majority less one; so the theorem says that the leader commits 10
 pub five_by_theorem : (x : Step) × (past : List Step) × At x past (steps five calls_of_five) × (answers_came five 0 past ≡ 1) × (answers_came five 0 (x ∷ past) ≡ 2) × Commits x 0 10
-unfolding steps_from sources new_shard call_with unless_spent dispatch propose receive admit numbers_fit processes_fit ready other_last_value value_awaited round_numbers rv_numbers msg_numbers value_numbers process_numbers rv_processes msg_processes requester_below handle committed process_message processed gatherer_in proposing propose_classic may_propose electing propose_accept process_classic on_accept enter from_live is_older in_round accepting accepted follower answered try_commit is_committer commit_slot paxos_propose_v receive_promise held_after_promise receive_accept accept_fits accept_own self_accept with_sender with_own next_leader_round round_before round_equal increment delegate_in within_limits counts_fit members_fit committers_fit mode_fits contains count size insert
+unfolding steps_from sources new_shard call_with unless_spent dispatch propose receive admit numbers_fit processes_fit ready other_last_value value_awaited round_numbers rv_numbers msg_numbers number_given rv_processes msg_processes requester_below handle committed process_message processed gatherer_in proposing propose_classic may_propose electing propose_accept process_classic on_accept enter from_live is_older in_round accepting accepted follower answered try_commit is_committer commit_slot paxos_propose_v receive_promise held_after_promise receive_accept accept_fits accept_own self_accept with_sender with_own next_leader_round round_before round_equal increment delegate_in within_limits counts_fit members_fit committers_fit mode_fits contains count size insert
 five_by_theorem = (
   _,
   _,

@@ -1,5 +1,6 @@
 -- The sets of those that the leader has heard: they grow by one answer at a time, and the leader is not in them.
 -- Assumes nothing.
+use Rattle.std.specs.Prelude.{Option, None, Some}
 use mathlib.Core.Path.{◌≡◌, refl, sym, ap, ◌∙◌}
 use mathlib.Core.Logic.{◌⊎◌, inl, inr}
 use mathlib.Core.Bool.{Bool, true, false, not, ◌&&◌, ◌||◌}
@@ -18,7 +19,7 @@ use Rattle.settings.specs.Questions.{is_live_replica}
 use Rattle.settings.specs.declared.Settings.{Settings}
 use Rattle.delivery.specs.declared.Delivery.{Delivery}
 use Rattle.agreement.specs.Model.{add}
-use Rattle.group.specs.Steps.{Step, reply_of, is_done, OptionalDelivery, NoDelivery, Delivered, heard}
+use Rattle.group.specs.Steps.{Step, reply_of, is_done, heard}
 use Rattle.leader_commits.specs.Answers.{is_accept_of, is_answer, source_of, comes, hears, sources}
 
 -- ---- one step more
@@ -59,21 +60,21 @@ grows_by_one test x past = go (either (test x))
 
 -- ---- the leader is not counted
 
-other_source : (s : Settings) (t : ℕ) (o : OptionalDelivery) → is_answer s t o ≡ true → source_of o ≡ s.first_leader → ⊥
-other_source s t NoDelivery e = absurd (not_both e refl)
-other_source s t (Delivered d) e =
+other_source : (s : Settings) (t : ℕ) (o : Option Delivery) → is_answer s t o ≡ true → source_of o ≡ s.first_leader → ⊥
+other_source s t None e = absurd (not_both e refl)
+other_source s t (Some d) e =
     eqb-false d.message.src s.first_leader
     (not-true (eqb d.message.src s.first_leader)
     (and_right (is_live_replica s d.message.src) (not (eqb d.message.src s.first_leader))
     (and_right (is_accept_of t d.message.msg) (is_live_replica s d.message.src && not (eqb d.message.src s.first_leader)) e)))
 
 -- an answer is an accept, of a live replica
-pub is_accept : (s : Settings) (t : ℕ) (d : Delivery) → is_answer s t (Delivered d) ≡ true → is_accept_of t d.message.msg ≡ true
+pub is_accept : (s : Settings) (t : ℕ) (d : Delivery) → is_answer s t (Some d) ≡ true → is_accept_of t d.message.msg ≡ true
 is_accept s t d e = and_left (is_accept_of t d.message.msg) (is_live_replica s d.message.src && not (eqb d.message.src s.first_leader)) e
 
-pub live_source : (s : Settings) (t : ℕ) (o : OptionalDelivery) → is_answer s t o ≡ true → is_live_replica s (source_of o) ≡ true
-live_source s t NoDelivery e = absurd (not_both e refl)
-live_source s t (Delivered d) e =
+pub live_source : (s : Settings) (t : ℕ) (o : Option Delivery) → is_answer s t o ≡ true → is_live_replica s (source_of o) ≡ true
+live_source s t None e = absurd (not_both e refl)
+live_source s t (Some d) e =
     and_left (is_live_replica s d.message.src) (not (eqb d.message.src s.first_leader))
     (and_right (is_accept_of t d.message.msg) (is_live_replica s d.message.src && not (eqb d.message.src s.first_leader)) e)
 

@@ -1,6 +1,8 @@
 -- Of the causes for which a leader refuses an answer only the host's are left, where the answer is of its slot and round and has the value that it holds and
 -- its last value.
 -- Assumes nothing.
+use Rattle.std.specs.Prelude.{Option, None, Some, Ok}
+use Rattle.std.proofs.Math.Bool.{or-false}
 use mathlib.Core.Path.{◌≡◌, refl, sym, ap, ap₂, ◌∙◌}
 use mathlib.Core.Bool.{Bool, true, false, cond, not, ◌&&◌, ◌||◌}
 use mathlib.Core.List.{List, [], ◌∷◌}
@@ -15,10 +17,6 @@ use Rattle.message.specs.Modes.{is_multi_paxos, is_swift_paxos}
 use Rattle.message.specs.Rounds.{before, round_of}
 use Rattle.message.proofs.Order.{optional_rounds_ordered}
 use Rattle.message.specs.declared.ConsensusMsg.TheVariants.{Accept}
-use Rattle.message.specs.declared.OptionalRound.TheVariants.{Round}
-use Rattle.message.specs.declared.OptionalValue.{OptionalValue}
-use Rattle.message.specs.declared.OptionalValue.TheVariants.{NoValue, Value}
-use Rattle.message.specs.declared.Outcome.TheVariants.{Done}
 use Rattle.message.specs.declared.PaxosRound.{PaxosRound}
 use Rattle.message.specs.declared.PFMode.{PFMode}
 use Rattle.message.specs.declared.PFMode.TheVariants.{Paxos, MultiPaxos, MultiPaxos3P, EPaxos, Pando, SwiftPaxos}
@@ -29,13 +27,12 @@ use Rattle.settings.proofs.Limits.{within_counts, within_members}
 use Rattle.fast_state.specs.Adopt.{lowest_best}
 use Rattle.delivery.specs.declared.Delivery.{Delivery}
 use Rattle.calls.specs.declared.Call.TheVariants.{Receive}
-use Rattle.consensus.specs.FirstCause.{any_above, any_from, too_large, given_value, joined, all_processes, all_numbers, given_and_different, ignored, source_not_live, leader_delegate, facts_of, handling_causes, all_causes}
+use Rattle.consensus.specs.FirstCause.{any_above, any_from, too_large, given_number, joined, all_processes, all_numbers, given_and_different, ignored, source_not_live, leader_delegate, facts_of, handling_causes, all_causes}
 use Rattle.consensus.specs.Panics.{Facts, fits_held, leads, accept_panics}
 use Rattle.consensus.specs.Rows.{Row, then, first_of}
 use Rattle.consensus.specs.declared.Shard.{Shard}
 use Rattle.state_calls.specs.declared.State.{State}
 use Rattle.group.specs.Claim.{member_settings}
-use Rattle.group.proofs.View.{or_false}
 use Rattle.leader_commits.specs.Answers.{requesters_in, host_causes}
 
 -- ---- numbers of a list
@@ -61,9 +58,9 @@ below_fits n few (m ∷ ms) e =
     or_none true e = absurd (not_both refl e)
     or_none false e = (refl, e)
 
-same_not_different : (last : OptionalValue) → given_and_different last last ≡ false
-same_not_different NoValue = refl
-same_not_different (Value v) = ap not (eq-eqb v v refl)
+same_not_different : (last : Option ℕ) → given_and_different last last ≡ false
+same_not_different None = refl
+same_not_different (Some v) = ap not (eq-eqb v v refl)
 
 -- ---- the panics of the Rust: none is met
 
@@ -100,7 +97,7 @@ module _ (s : Settings) (multi : is_multi_paxos s.mode ≡ true) (limits : withi
 
   -- the leader's shard, and the answer
   abbrev pub leader_shard : Shard
-  leader_shard = record { made = Done; settings = member_settings s s.first_leader; state = state }
+  leader_shard = record { made = Ok tt; settings = member_settings s s.first_leader; state = state }
 
   abbrev pub the_answer : Delivery
   the_answer =
@@ -111,8 +108,8 @@ module _ (s : Settings) (multi : is_multi_paxos s.mode ≡ true) (limits : withi
       }
 
   pub only_host_causes : is_live_replica s d.message.src ≡ true → state.rounds.core.slot < 9223372036854775807 → v ≤ 9223372036854775807
-      → d.message.last_v ≡ state.rounds.core.last_v → any_above 9223372036854775807 (given_value d.message.last_v) ≡ false
-      → state.rounds.core.paxos.round ≡ Round (round_of 0 s.first_leader)
+      → d.message.last_v ≡ state.rounds.core.last_v → any_above 9223372036854775807 (given_number d.message.last_v) ≡ false
+      → state.rounds.core.paxos.round ≡ Some (round_of 0 s.first_leader)
       → fits_held state.rounds.core.paxos.max_rv (round_of 0 s.first_leader) v ≡ true
       → first_of (all_causes lowest_best leader_shard (Receive the_answer)) ≡ first_of (host_causes s d)
   unfolding first_of then any_above any_from joined
@@ -135,18 +132,18 @@ module _ (s : Settings) (multi : is_multi_paxos s.mode ≡ true) (limits : withi
       large =
           let leader_small : l ≤ 9223372036854775807 = let few_processes = few in let below = leader_below in omega arith in
           let source_small : d.message.src ≤ 9223372036854775807 = let few_processes = few in let below = source_below in omega arith in
-          let after : any_above 9223372036854775807 (0 ∷ v ∷ given_value d.message.last_v) ≡ false =
+          let after : any_above 9223372036854775807 (0 ∷ v ∷ given_number d.message.last_v) ≡ false =
           simp (le-ltb 9223372036854775807 0 (omega arith), le-ltb 9223372036854775807 v fits, last_Fits) in
           let first : too_large (n ∷ []) (all_numbers the_answer) ≡ any_above 9223372036854775807
-          (joined (requesters_in d) (0 ∷ v ∷ given_value d.message.last_v)) =
+          (joined (requesters_in d) (0 ∷ v ∷ given_number d.message.last_v)) =
           simp (
             le-ltb 9223372036854775806 n (omega (arith, room)),
             le-ltb 9223372036854775807
                 d.message.src source_small,
             le-ltb 9223372036854775807 l leader_small,
           ) in
-          first ∙ above_joined 9223372036854775807 (requesters_in d) (0 ∷ v ∷ given_value d.message.last_v)
-          ∙ ap (λ (b : Bool). any_above 9223372036854775807 (requesters_in d) || b) after ∙ or_false (any_above 9223372036854775807 (requesters_in d))
+          first ∙ above_joined 9223372036854775807 (requesters_in d) (0 ∷ v ∷ given_number d.message.last_v)
+          ∙ ap (λ (b : Bool). any_above 9223372036854775807 (requesters_in d) || b) after ∙ or-false (any_above 9223372036854775807 (requesters_in d))
 
       process : any_from s.process_count (all_processes the_answer) ≡ any_from s.process_count (requesters_in d)
       process = simp (lt-leb s.process_count d.message.src source_below, lt-leb s.process_count l leader_below)
@@ -161,8 +158,8 @@ module _ (s : Settings) (multi : is_multi_paxos s.mode ≡ true) (limits : withi
 
       not_ignored : ignored (member_settings s l) state.rounds n round ≡ false
       not_ignored =
-          let later : before (Round round) state.rounds.core.paxos.round ≡ false = ap
-          (before (Round round)) in_round_lem ∙ optional_rounds_ordered.irreflexive (Round round) in
+          let later : before (Some round) state.rounds.core.paxos.round ≡ false = ap
+          (before (Some round)) in_round_lem ∙ optional_rounds_ordered.irreflexive (Some round) in
           simp (live_leader, le-ltb n n (le_refl n), later)
 
       from_live_lem : source_not_live (member_settings s l) d.message.src ≡ false

@@ -10,7 +10,6 @@ use native.Mathlib.Decide.{dec_le}
 use native.Mathlib.Nat.{le_refl, lt_of_not-le}
 use native.Mathlib.Omega.{arith}
 use lib.Dec.{eqb}
-use Rattle.basics.specs.Lists.{In}
 use Rattle.basics.proofs.Tests.{either, not_both, and_left, and_right, and_both}
 use Rattle.sets.specs.Sets.{contains, insert, one, size}
 use Rattle.sets.proofs.Laws.{size_insert}
@@ -18,13 +17,12 @@ use Rattle.message.specs.declared.Refusal.{Refusal}
 use Rattle.settings.specs.Questions.{quorums_of}
 use Rattle.settings.specs.Settings.{within_limits}
 use Rattle.settings.specs.declared.Settings.{Settings}
+use Rattle.calls.specs.Commits.{committed_slot}
 use Rattle.calls.specs.declared.Call.{Call}
 use Rattle.calls.specs.declared.Call.TheVariants.{Propose, StartRead, Receive}
-use Rattle.calls.specs.declared.OptionalCommit.TheVariants.{NoCommit, Committed}
 use Rattle.consensus.specs.Answers.{refused}
 use Rattle.consensus.specs.Call.{call_of}
 use Rattle.consensus.specs.declared.Answer.{Answer}
-use Rattle.consensus.specs.declared.Shard.{Shard}
 use Rattle.agreement.specs.Model.{undecided, decided}
 use Rattle.group.specs.Claim.{member_settings, begun, ours, MemberCall, WasSent, MayStand, Legal, At, slot_at}
 use Rattle.group.specs.Steps.{Step, reply_of, is_done, heard_in, heard, step_of, steps, entries_of}
@@ -84,10 +82,10 @@ module _ (s : Settings) (x : Step) (past : List Step) (own : x.member ≡ s.firs
       go (yes h) =
           let c : (seen_in x).decision ≡ decided t w =
           (accept_commits s numbers.leader_small numbers.live_small (view_before x) x past k own d slot round w is acc a h).1 in
-          let f : (fast : Bool) × ((reply_of x).commit ≡ Committed t w fast) = commit_in (reply_of x).commit t w c in
+          let f : (fast : Bool) × ((reply_of x).commit ≡ committed_slot t w fast) = commit_in (reply_of x).commit t w c in
           record {
             not_yet = few;
-            exactly = (λ z. omega (arith, few, most, h), λ z. (f.0, f.1 ∙ ap (λ (n : ℕ). Committed t n f.0) same));
+            exactly = (λ z. omega (arith, few, most, h), λ z. (f.0, f.1 ∙ ap (λ (n : ℕ). committed_slot t n f.0) same));
             no_other = λ slot' w' z.
                 let e : decided slot' w' ≡ decided t w = sym (seen_commit x slot' w' z) ∙ c in
                 (ap slot_in e, ap value_in e ∙ same);

@@ -1,6 +1,9 @@
 -- What the leader knows in a run: where it has proposed v in its slot it holds v, as accepted in the starting round, and those that have accepted,
 -- as far as it was told, are itself and those that it has heard; these are fewer than a majority.
 -- Assumes nothing.
+use Rattle.std.specs.Prelude.{Option, None, Ok, Some, is_some}
+use Rattle.calls.specs.Commits.{committed_slot}
+use Rattle.calls.specs.declared.CommittedSlot.{CommittedSlot}
 use mathlib.Core.Path.{◌≡◌, refl, sym, ap, ap₂, subst, ◌∙◌}
 use mathlib.Core.Logic.{◌⊎◌, inl, inr}
 use mathlib.Core.Bool.{Bool, true, false, cond, not, ◌&&◌}
@@ -14,20 +17,16 @@ use Rattle.basics.proofs.Tests.{either, not_both, and_right, or_cases, of-both}
 use Rattle.sets.specs.Sets.{contains, count, size, insert}
 use Rattle.sets.proofs.Laws.{size_empty}
 use Rattle.message.specs.declared.ConsensusMsg.TheVariants.{Accept}
-use Rattle.message.specs.declared.Outcome.{Outcome}
-use Rattle.message.specs.declared.Outcome.TheVariants.{Done}
 use Rattle.message.specs.declared.PaxosRound.{PaxosRound}
 use Rattle.settings.specs.Questions.{is_live_replica, quorums_of}
 use Rattle.settings.specs.declared.Settings.{Settings}
 use Rattle.delivery.specs.declared.Delivery.{Delivery}
 use Rattle.calls.specs.declared.Call.{Call}
 use Rattle.calls.specs.declared.Call.TheVariants.{Propose, StartRead, Receive}
-use Rattle.calls.specs.declared.OptionalCommit.{OptionalCommit}
-use Rattle.calls.specs.declared.OptionalCommit.TheVariants.{NoCommit, Committed}
 use Rattle.agreement.specs.Model.{View, undecided, decided, Decision, empty, add, advanced, accepted_by, voted, enough_accepted, commits}
 use Rattle.agreement.specs.Model as model
 use Rattle.group.specs.Claim.{At, plus_commit, slot_at}
-use Rattle.group.specs.Steps.{Step, reply_of, is_done, OptionalDelivery, NoDelivery, Delivered, heard_in, heard, entries_of}
+use Rattle.group.specs.Steps.{Step, reply_of, is_done, heard_in, heard, entries_of}
 use Rattle.group.proofs.Calls.{decision_of}
 use Rattle.group.proofs.Entering.{add_again, add_other_way}
 use Rattle.group.proofs.View.{no_member, insert_add, setup_of}
@@ -58,18 +57,18 @@ abbrev pub value_in : Decision → ℕ
 value_in undecided = 0
 value_in (decided slot v) = v
 
-pub no_commit_in : (c : OptionalCommit) → decision_of c ≡ undecided → (n : ℕ) → plus_commit c n ≡ n
-no_commit_in NoCommit e n = refl
-no_commit_in (Committed slot v fast) e n = absurd (not_both refl (ap is_decided e))
+pub no_commit_in : (c : Option CommittedSlot) → decision_of c ≡ undecided → (n : ℕ) → plus_commit c n ≡ n
+no_commit_in None e n = refl
+no_commit_in (Some commit) e n = absurd (not_both refl (ap is_decided e))
 
-pub commit_in : (c : OptionalCommit) (slot v : ℕ) → decision_of c ≡ decided slot v → (fast : Bool) × (c ≡ Committed slot v fast)
-commit_in NoCommit slot v e = absurd (not_both refl (ap is_decided (sym e)))
-commit_in (Committed at w fast) slot v e = (fast, λ z. Committed (ap slot_in e z) (ap value_in e z) fast)
+pub commit_in : (c : Option CommittedSlot) (slot v : ℕ) → decision_of c ≡ decided slot v → (fast : Bool) × (c ≡ committed_slot slot v fast)
+commit_in None slot v e = absurd (not_both refl (ap is_decided (sym e)))
+commit_in (Some commit) slot v e = (commit.fast, λ z. committed_slot (ap slot_in e z) (ap value_in e z) commit.fast)
 
 -- a member's slot grows
-grows : (c : OptionalCommit) (n : ℕ) → n ≤ plus_commit c n
-grows NoCommit n = le_refl n
-grows (Committed slot v fast) n = omega arith
+grows : (c : Option CommittedSlot) (n : ℕ) → n ≤ plus_commit c n
+grows None n = le_refl n
+grows (Some commit) n = omega arith
 
 slot_grows : (i : ℕ) (x : Step) (past : List Step) → slot_at i (entries_of past) ≤ slot_at i (entries_of (x ∷ past))
 slot_grows i x past = go (eqb i x.member)
@@ -86,13 +85,9 @@ slot_before i x earlier (y ∷ past) (inr a) = le_trans (slot_before i x earlier
 
 -- ---- proposals
 
-abbrev pub is_delivered : OptionalDelivery → Bool
-is_delivered NoDelivery = false
-is_delivered (Delivered d) = true
-
 -- a proposal is the latest step or an earlier one
 pub proposed_before : (s : Settings) (t v : ℕ) (x : Step) (past : List Step) → LeaderProposed s t v (x ∷ past)
-    → ((x.member ≡ s.first_leader) × (x.call ≡ Propose v) × ((reply_of x).outcome ≡ Done)) ⊎ LeaderProposed s t v past
+    → ((x.member ≡ s.first_leader) × (x.call ≡ Propose v) × ((reply_of x).outcome ≡ Ok tt)) ⊎ LeaderProposed s t v past
 proposed_before s t v x past (z, earlier, inl a, own, is, done, slot) =
     let same = sym a.0 in
     inl (ap (λ (y : Step). y.member) same ∙ own, ap (λ (y : Step). y.call) same ∙ is, ap (λ (y : Step). (reply_of y).outcome) same ∙ done)
@@ -124,7 +119,7 @@ module _ (s : Settings) where
 
   -- a step after which it knows no more, and by which it has heard nothing and proposed nothing
   pub leading_same : (x : View) (y : Step) (past : List Step) → Leading x past → slot_at l (entries_of (y ∷ past)) ≡ slot_at l (entries_of past)
-      → ((t : ℕ) → x.slot ≤ t → hears s t y ≡ false) → ((v : ℕ) → y.member ≡ l → y.call ≡ Propose v → (reply_of y).outcome ≡ Done → ⊥) → Leading x (y ∷ past)
+      → ((t : ℕ) → x.slot ≤ t → hears s t y ≡ false) → ((v : ℕ) → y.member ≡ l → y.call ≡ Propose v → (reply_of y).outcome ≡ Ok tt → ⊥) → Leading x (y ∷ past)
   leading_same x y past k same unheard no-proposal =
       record {
         slot = k.slot ∙ sym same;
@@ -139,7 +134,7 @@ module _ (s : Settings) where
       own : sources (hears s x.slot) (y ∷ past) ≡ sources (hears s x.slot) past
       own = sources_same (hears s x.slot) y past (unheard x.slot (le_refl x.slot))
 
-      go : (v : ℕ) → ((y.member ≡ l) × (y.call ≡ Propose v) × ((reply_of y).outcome ≡ Done)) ⊎ LeaderProposed s x.slot v past
+      go : (v : ℕ) → ((y.member ≡ l) × (y.call ≡ Propose v) × ((reply_of y).outcome ≡ Ok tt)) ⊎ LeaderProposed s x.slot v past
           → (x.holds ≡ true) × (x.held_value ≡ v)
       go v (inl p) = absurd (no-proposal v p.0 p.1 p.2)
       go v (inr p) = k.holds_own v p
@@ -169,7 +164,7 @@ module _ (s : Settings) where
       none : sources (hears s x.slot) (y ∷ past) ≡ 0
       none = sources_same (hears s x.slot) y past (unheard x.slot) ∙ k.nothing_free free
 
-      go : (w : ℕ) → ((y.member ≡ l) × (y.call ≡ Propose w) × ((reply_of y).outcome ≡ Done)) ⊎ LeaderProposed s x.slot w past → v ≡ w
+      go : (w : ℕ) → ((y.member ≡ l) × (y.call ≡ Propose w) × ((reply_of y).outcome ≡ Ok tt)) ⊎ LeaderProposed s x.slot w past → v ≡ w
       go w (inl p) = ap proposed_value (sym is ∙ p.1)
       go w (inr p) = absurd (not_both (k.holds_own w p).0 free)
 
@@ -185,7 +180,7 @@ module _ (s : Settings) where
 
   module _ (small : s.first_leader < 64) (live_small : (p : ℕ) → is_live_replica s p ≡ true → p < 64)
       (x : View) (y : Step) (past : List Step) (k : Leading x past) (own : y.member ≡ s.first_leader)
-      (d : Delivery) (slot : ℕ) (round : PaxosRound) (v : ℕ) (is : heard y ≡ Delivered d) (accept : d.message.msg ≡ Accept slot round v)
+      (d : Delivery) (slot : ℕ) (round : PaxosRound) (v : ℕ) (is : heard y ≡ Some d) (accept : d.message.msg ≡ Accept slot round v)
       (a : Accepting (setup_of s) s.first_leader x d.message.src slot v (seen_in y)) where
     abbrev source : ℕ
     source = d.message.src
@@ -243,7 +238,7 @@ module _ (s : Settings) where
             ∙ ap (λ (b : ℕ). add l (contains b)) (sym heard_now)
           where
             heard_now : after ≡ insert before source
-            heard_now = sources_more (hears s x.slot) y past (hears_own ∙ ap not e) ∙ ap (λ (o : OptionalDelivery). insert before (source_of o)) is
+            heard_now = sources_more (hears s x.slot) y past (hears_own ∙ ap not e) ∙ ap (λ (o : Option Delivery). insert before (source_of o)) is
 
     enough : enough_accepted (setup_of s) accepted_view ≡ leb majority (size after + 1)
     enough = ap (leb majority) (ap (λ (f : ℕ → Bool). count f 64) accepted_now ∙ with_leader after l small (leader_not_counted s x.slot (y ∷ past)))
@@ -271,7 +266,7 @@ module _ (s : Settings) where
         (ap (λ (o : model.Outcome). o.view) a.result ∙ c.0, ap (λ (o : model.Outcome). o.decision) a.result ∙ c.1)
 
     not_proposal : (w : ℕ) → y.call ≡ Propose w → ⊥
-    not_proposal w e = not_both (ap is_delivered is) (ap (λ (c : Call). is_delivered (heard_in c)) e)
+    not_proposal w e = not_both (ap is_some is) (ap (λ (c : Call). is_some (heard_in c)) e)
 
     pub leading_waits : x.round ≡ (setup_of s).voters.start → answers_heard s x.slot (y ∷ past) + 1 < (quorums_of s).majority → Leading accepted_view (y ∷ past)
     leading_waits at h =
@@ -285,12 +280,12 @@ module _ (s : Settings) where
           holds_own = λ w p. (refl, go w (proposed_before s x.slot w y past p));
         }
       where
-        go : (w : ℕ) → ((y.member ≡ l) × (y.call ≡ Propose w) × ((reply_of y).outcome ≡ Done)) ⊎ LeaderProposed s x.slot w past → v ≡ w
+        go : (w : ℕ) → ((y.member ≡ l) × (y.call ≡ Propose w) × ((reply_of y).outcome ≡ Ok tt)) ⊎ LeaderProposed s x.slot w past → v ≡ w
         go w (inl p) = absurd (not_proposal w p.1)
         go w (inr p) = let held = k.holds_own w p in sym (fit_same x v a.fitting (k.in_start held.0 ∙ sym at)) ∙ held.1
 
-    next_slot_lem : (c : OptionalCommit) → decision_of c ≡ decided x.slot v → (n : ℕ) → plus_commit c n ≡ suc n
-    next_slot_lem c e n = let f = commit_in c x.slot v e in ap (λ (c : OptionalCommit). plus_commit c n) f.1
+    next_slot_lem : (c : Option CommittedSlot) → decision_of c ≡ decided x.slot v → (n : ℕ) → plus_commit c n ≡ suc n
+    next_slot_lem c e n = let f = commit_in c x.slot v e in ap (λ (c : Option CommittedSlot). plus_commit c n) f.1
 
     pub leading_commits : (quorums_of s).majority ≤ answers_heard s x.slot (y ∷ past) + 1
         → Leading (advanced (setup_of s).voters.start accepted_view) (y ∷ past)
@@ -311,7 +306,7 @@ module _ (s : Settings) where
         none : sources (hears s (suc x.slot)) (y ∷ past) ≡ 0
         none = nothing (suc x.slot) (le_refl (suc x.slot))
 
-        go : (w : ℕ) → ((y.member ≡ l) × (y.call ≡ Propose w) × ((reply_of y).outcome ≡ Done)) ⊎ LeaderProposed s (suc x.slot) w past → ⊥
+        go : (w : ℕ) → ((y.member ≡ l) × (y.call ≡ Propose w) × ((reply_of y).outcome ≡ Ok tt)) ⊎ LeaderProposed s (suc x.slot) w past → ⊥
         go w (inl p) = not_proposal w p.1
         go w (inr (z, earlier, at, p, q, r, e)) =
             let most : slot_at l (entries_of earlier) ≤ slot_at l (entries_of past) = slot_before l z earlier past at in

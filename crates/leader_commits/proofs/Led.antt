@@ -11,8 +11,8 @@ use lib.Dec.{T, eqb, ltb, eqb→eq}
 use borrow.Author.Tests.{ltb-true, le-ltb, eqb-true, eq-eqb, not-true}
 use Rattle.basics.proofs.Tests.{either, of-both, and_right}
 use Rattle.agreement.specs.Engine.{Kind, proposes, delivers, reads}
-use Rattle.agreement.specs.Model.{View, Setup, Message, prepare, accept, commit, other, Destination, all, Outgoing, Host, undecided, decided, Outcome, joined, adopted, prepared_by, accepted_by, voted, refuse, say, quiet, enough_accepted, enter, commits, replies, after_accept, on_accept, on_commit, on_propose, on_message}
-use Rattle.agreement.specs.Refinement.{propose, deliver, outcome, OnlyOther, AsModel}
+use Rattle.agreement.specs.Model.{View, Setup, Message, prepare, accept, commit, other, Destination, all, Outgoing, Host, undecided, Outcome, joined, adopted, prepared_by, accepted_by, voted, refuse, say, quiet, enough_accepted, enter, commits, replies, after_accept, on_accept, on_commit, on_propose, on_message}
+use Rattle.agreement.specs.Refinement.{outcome, OnlyOther, AsModel}
 use Rattle.agreement.proofs.Tests.{by_test}
 
 -- every slot starts in a round that member l leads, and there is no committer

@@ -1,26 +1,23 @@
 -- For what an answer is refused (document 02, E14: "given that the host holds the value, .. and no answer was refused"): in a run under the terms, after the
 -- leader's proposal and while it is in that slot, only for what the host adds. So where that is sound, the leader commits on the very answer.
 -- Assumes nothing.
+use Rattle.std.specs.Prelude.{Option, None, Some, Ok, Err, is_some, unwrap_or}
+use Rattle.message.specs.Outcomes.{Outcome}
+use Rattle.message.specs.declared.RoundV.{RoundV}
 use mathlib.Core.Path.{◌≡◌, refl, sym, ap, ap₂, subst, ◌∙◌}
 use mathlib.Core.Logic.{inl, inr}
-use mathlib.Core.Bool.{Bool, true, false, not, ◌&&◌, ◌||◌}
+use mathlib.Core.Bool.{Bool, true, false, ◌&&◌, ◌||◌}
 use mathlib.Core.List.{List, ◌∷◌}
 use Prim.Native.Nat.{ℕ, zero, suc, ◌≤◌, ◌<◌}
 use native.Mathlib.Omega.{arith}
-use lib.Dec.{eqb, ltb, leb}
+use lib.Dec.{eqb, ltb}
 use borrow.Author.Tests.{le-leb, le-ltb, eqb-true, eq-eqb}
 use Rattle.basics.specs.Lists.{In}
 use Rattle.basics.proofs.Tests.{not_both, and_left, and_right, and_both, or_right}
 use Rattle.message.specs.Modes.{is_multi_paxos}
 use Rattle.message.specs.Rounds.{equal, round_before, round_equal, next_leader_round, starting_round, unwrap_or_default, round_of}
 use Rattle.message.proofs.Order.{equal_rounds, rounds_equal}
-use Rattle.message.specs.declared.ConsensusMsg.TheVariants.{Accept, Commit}
-use Rattle.message.specs.declared.OptionalRound.{OptionalRound}
-use Rattle.message.specs.declared.OptionalRound.TheVariants.{NoRound, Round}
-use Rattle.message.specs.declared.OptionalValue.{OptionalValue}
-use Rattle.message.specs.declared.OptionalValue.TheVariants.{Value}
-use Rattle.message.specs.declared.Outcome.{Outcome}
-use Rattle.message.specs.declared.Outcome.TheVariants.{Done, Refused}
+use Rattle.message.specs.declared.ConsensusMsg.TheVariants.{Accept}
 use Rattle.message.specs.declared.PFMode.{PFMode}
 use Rattle.message.specs.declared.PFMode.TheVariants.{Paxos, MultiPaxos, MultiPaxos3P, EPaxos, Pando, SwiftPaxos}
 use Rattle.message.specs.declared.PaxosRound.{PaxosRound}
@@ -29,9 +26,7 @@ use Rattle.settings.specs.Questions.{starting_round_of}
 use Rattle.settings.specs.Settings.{within_limits}
 use Rattle.settings.specs.declared.Settings.{Settings}
 use Rattle.settings.proofs.Limits.{within_counts}
-use Rattle.round_state.specs.Paxos.{is_held, get_last_accepted_round}
-use Rattle.round_state.specs.declared.HeldPromise.{HeldPromise}
-use Rattle.round_state.specs.declared.HeldPromise.TheVariants.{NothingHeld, Held}
+use Rattle.round_state.specs.Paxos.{get_last_accepted_round}
 use Rattle.fast_state.specs.Adopt.{lowest_best}
 use Rattle.steps.specs.Steps.{held_v}
 use Rattle.steps.specs.declared.Core.{Core}
@@ -39,14 +34,14 @@ use Rattle.delivery.specs.declared.Delivery.{Delivery}
 use Rattle.calls.specs.declared.Call.{Call}
 use Rattle.calls.specs.declared.Call.TheVariants.{Propose, StartRead, Receive}
 use Rattle.consensus.specs.Call.{call_of}
-use Rattle.consensus.specs.FirstCause.{number_of, any_above, given_value, first_cause, all_causes}
+use Rattle.consensus.specs.FirstCause.{number_of, any_above, given_number, first_cause, all_causes}
 use Rattle.consensus.specs.Panics.{fits_held}
 use Rattle.consensus.specs.Rows.{first_of}
 use Rattle.consensus.specs.declared.Shard.{Shard}
 use Rattle.consensus.proofs.FirstCause.{number_is_first_cause}
 use Rattle.consensus.proofs.Refusals.{refusal_numbered}
-use Rattle.group.specs.Claim.{member_settings, begun, MemberCall, Entry, entries, MayStand, Legal, At, slot_at, Proposed, CommitAt, Claim}
-use Rattle.group.specs.Steps.{Step, reply_of, is_done, OptionalDelivery, NoDelivery, Delivered, heard_in, heard, steps, entry_at, entries_of}
+use Rattle.group.specs.Claim.{member_settings, begun, MemberCall, Entry, MayStand, Legal, At, slot_at, Proposed, CommitAt, Claim}
+use Rattle.group.specs.Steps.{Step, reply_of, is_done, heard_in, heard, steps, entry_at, entries_of}
 use Rattle.group.proofs.Agreement.{agreement, begun_valid}
 use Rattle.group.proofs.Calls.{Valid, valid_within, leaders_small}
 use Rattle.group.proofs.Invariants.{start_led}
@@ -57,13 +52,13 @@ use Rattle.leader_commits.proofs.Calls.{claimed_mode, numbers_within}
 use Rattle.leader_commits.proofs.Places.{in_at, at_in, at_before, at_entry, step_of}
 use Rattle.leader_commits.proofs.HostCauses.{below_fits, leader_shard, the_answer, only_host_causes}
 use Rattle.leader_commits.proofs.Hearing.{is_accept, live_source}
-use Rattle.leader_commits.proofs.Leading.{slot_before, is_delivered}
+use Rattle.leader_commits.proofs.Leading.{slot_before}
 use Rattle.leader_commits.proofs.Runs.{Invariant, Follows, leading_before, each_step}
 use Rattle.leader_commits.proofs.Sent.{LastAt, same_last, proposal_taken, AnswerSent, answer_sent}
 
 -- ---- the starting round
 
-start_is : (m : PFMode) (l : ℕ) → is_multi_paxos m ≡ true → starting_round m l ≡ Round (round_of 0 l)
+start_is : (m : PFMode) (l : ℕ) → is_multi_paxos m ≡ true → starting_round m l ≡ Some (round_of 0 l)
 unfolding next_leader_round
 start_is Paxos l e = absurd (not_both e refl)
 start_is MultiPaxos l e = simp (le-leb 0 l (omega arith))
@@ -73,41 +68,37 @@ start_is Pando l e = absurd (not_both e refl)
 start_is SwiftPaxos l e = absurd (not_both e refl)
 
 -- a round with its number is the starting round
-is_start : (s : Settings) → is_multi_paxos s.mode ≡ true → s.first_leader < 64 → (r : OptionalRound) → LeaderFits r
+is_start : (s : Settings) → is_multi_paxos s.mode ≡ true → s.first_leader < 64 → (r : Option PaxosRound) → LeaderFits r
     → round_number r ≡ (setup_of s).voters.start
-    → r ≡ Round (round_of 0 s.first_leader)
+    → r ≡ Some (round_of 0 s.first_leader)
 is_start s multi small r fits e =
     equal_rounds r (starting_round_of s)
     (equal_number r (starting_round_of s) fits (start_led (λ p. p < 64) s.mode s.first_leader small) ∙ eq-eqb (round_number r) (round_number (starting_round_of s)) e)
     ∙ start_is s.mode s.first_leader multi
 
 -- what is held as accepted in the starting round fits an accept of the same value
-held_fits : (s : Settings) → is_multi_paxos s.mode ≡ true → s.first_leader < 64 → (held : HeldPromise) (v : ℕ) → LeaderFits (get_last_accepted_round held)
+held_fits : (s : Settings) → is_multi_paxos s.mode ≡ true → s.first_leader < 64 → (held : Option RoundV) (v : ℕ) → LeaderFits (get_last_accepted_round held)
     → round_number (get_last_accepted_round held) ≡ (setup_of s).voters.start → held_v held ≡ v → fits_held held (round_of 0 s.first_leader) v ≡ true
-held_fits s multi small NothingHeld v fits e same = refl
-held_fits s multi small (Held (FastV p w)) v fits e same = refl
-held_fits s multi small (Held (PaxosV NoRound w)) v fits e same = refl
-held_fits s multi small (Held (PaxosV (Round r) w)) v fits e same =
-    or_right (round_before r (round_of 0 s.first_leader)) (and_both (equal_in (is_start s multi small (Round r) fits e)) (eq-eqb w v same))
+held_fits s multi small None v fits e same = refl
+held_fits s multi small (Some (FastV p w)) v fits e same = refl
+held_fits s multi small (Some (PaxosV None w)) v fits e same = refl
+held_fits s multi small (Some (PaxosV (Some r) w)) v fits e same =
+    or_right (round_before r (round_of 0 s.first_leader)) (and_both (equal_in (is_start s multi small (Some r) fits e)) (eq-eqb w v same))
   where
-    equal_in : Round r ≡ Round (round_of 0 s.first_leader) → round_equal r (round_of 0 s.first_leader) ≡ true
-    equal_in same = ap (equal (Round r)) (sym same) ∙ rounds_equal (Round r)
+    equal_in : Some r ≡ Some (round_of 0 s.first_leader) → round_equal r (round_of 0 s.first_leader) ≡ true
+    equal_in same = ap (equal (Some r)) (sym same) ∙ rounds_equal (Some r)
 
 -- ---- outcomes and calls
 
-abbrev delivery_or : Delivery → OptionalDelivery → Delivery
-delivery_or d NoDelivery = d
-delivery_or d (Delivered f) = f
-
 -- a call that gives no number is taken
 done_of_none : (o : Outcome) → number_of o ≡ 0 → is_done o ≡ true
-done_of_none Done e = refl
-done_of_none (Refused why) e = absurd (not_both (refusal_numbered why) (ap (ltb 0) e))
+done_of_none (Ok tt) e = refl
+done_of_none (Err why) e = absurd (not_both (refusal_numbered why) (ap (ltb 0) e))
 
-received : (c : Call) (d : Delivery) → heard_in c ≡ Delivered d → c ≡ Receive d
-received (Propose v) d e = absurd (not_both refl (ap is_delivered (sym e)))
-received (StartRead tag arrival) d e = absurd (not_both refl (ap is_delivered (sym e)))
-received (Receive f) d e = ap (λ (o : OptionalDelivery). Receive (delivery_or d o)) e
+received : (c : Call) (d : Delivery) → heard_in c ≡ Some d → c ≡ Receive d
+received (Propose v) d e = absurd (not_both refl (ap is_some (sym e)))
+received (StartRead tag arrival) d e = absurd (not_both refl (ap is_some (sym e)))
+received (Receive f) d e = ap (λ (o : Option Delivery). Receive (unwrap_or o d)) e
 
 -- ---- the theorem
 
@@ -133,27 +124,27 @@ module _ (s : Settings) (terms : Terms s) (cs : List MemberCall) (legal : Legal 
       go (e, earlier, k, is, done, slot) =
           let x = step_of e run (in_run e earlier k) in
           (proposal_taken x.0.before w
-          (subst (λ (y : Call). (call_of x.0.before y).reply.outcome ≡ Done) (ap (λ (y : Entry). y.call) (sym x.1) ∙ is)
+          (subst (λ (y : Call). (call_of x.0.before y).reply.outcome ≡ Ok tt) (ap (λ (y : Entry). y.call) (sym x.1) ∙ is)
           (ap (λ (y : Entry). y.reply.outcome) (sym x.1) ∙ done))
           ).value_fits
 
-  last_fits : (n : ℕ) (last : OptionalValue) → LastAt n last (entries_of run) → any_above 9223372036854775807 (given_value last) ≡ false
+  last_fits : (n : ℕ) (last : Option ℕ) → LastAt n last (entries_of run) → any_above 9223372036854775807 (given_number last) ≡ false
   unfolding any_above
-  last_fits zero last h = ap (λ (u : OptionalValue). any_above 9223372036854775807 (given_value u)) h
+  last_fits zero last h = ap (λ (u : Option ℕ). any_above 9223372036854775807 (given_number u)) h
   last_fits (suc n) last (w, is, c) =
-      ap (λ (u : OptionalValue). any_above 9223372036854775807 (given_value u)) is
+      ap (λ (u : Option ℕ). any_above 9223372036854775807 (given_number u)) is
       ∙ ap (λ (b : Bool). b || false) (le-ltb 9223372036854775807 w (committed_fits n w c))
 
   -- the leader's proposal was taken: its shard was made, the slot is not spent, and the value is a number
   record Proposes (t v : ℕ) : Type 0 where
-    made : (begun s s.first_leader).made ≡ Done
+    made : (begun s s.first_leader).made ≡ Ok tt
     room : t < 9223372036854775807
     fits : v ≤ 9223372036854775807
 
   proposes : (t v : ℕ) (x : Step) (past : List Step) → At x past (steps s cs) → LeaderProposed s t v past → Proposes t v
   proposes t v x past stands (z, earlier, k, own, is, done, slot) =
       let before = each_step s terms P follows cs legal z earlier (at_before x z past earlier run stands k) in
-      let taken = proposal_taken z.before v (subst (λ (c : Call). (call_of z.before c).reply.outcome ≡ Done) is done) in
+      let taken = proposal_taken z.before v (subst (λ (c : Call). (call_of z.before c).reply.outcome ≡ Ok tt) is done) in
       record {
         made = ap (λ (i : ℕ). (begun s i).made) (sym own) ∙ sym before.0 ∙ taken.made;
         room = subst (λ (n : ℕ). n < 9223372036854775807) (before.1 own ∙ slot) taken.not_spent;
@@ -169,14 +160,14 @@ module _ (s : Settings) (terms : Terms s) (cs : List MemberCall) (legal : Legal 
   -- what is known at a step of the leader that brings an answer
   module _ (t v : ℕ) (known : Proposes t v) (shards : ℕ → Shard) (past : List Step) (k : Invariant s terms shards past) (p : LeaderProposed s t v past)
       (here : slot_at l (entries_of past) ≡ t) (within : (n w : ℕ) → CommitAt n w (entries_of past) → CommitAt n w (entries_of (steps s cs)))
-      (d : Delivery) (sent : AnswerSent s past t d.message) (answer : is_answer s t (Delivered d) ≡ true) where
+      (d : Delivery) (sent : AnswerSent s past t d.message) (answer : is_answer s t (Some d) ≡ true) where
     abbrev old : Shard
     old = shards s.first_leader
 
     abbrev core : Core
     core = old.state.rounds.core
 
-    abbrev last : OptionalValue
+    abbrev last : Option ℕ
     last = d.message.last_v
 
     abbrev w : ℕ
@@ -185,7 +176,7 @@ module _ (s : Settings) (terms : Terms s) (cs : List MemberCall) (legal : Legal 
     valid : Valid s l old
     valid = k.valid l
 
-    made : old.made ≡ Done
+    made : old.made ≡ Ok tt
     made = k.made l ∙ known.made
 
     limits : within_limits (member_settings s l) ≡ true
@@ -198,7 +189,7 @@ module _ (s : Settings) (terms : Terms s) (cs : List MemberCall) (legal : Legal 
     slot = k.leading.slot ∙ here
 
     -- what the leader has proposed it holds, so the answer has its value
-    held : (u : ℕ) → LeaderProposed s t u past → (is_held core.paxos.max_rv ≡ true) × (held_v core.paxos.max_rv ≡ u)
+    held : (u : ℕ) → LeaderProposed s t u past → (is_some core.paxos.max_rv ≡ true) × (held_v core.paxos.max_rv ≡ u)
     held u q = k.leading.holds_own u (subst (λ (m : ℕ). LeaderProposed s m u past) (sym slot) q)
 
     same_value_lem : v ≡ w
@@ -211,7 +202,7 @@ module _ (s : Settings) (terms : Terms s) (cs : List MemberCall) (legal : Legal 
         (held w sent.proposed).1
 
     -- the last values, in the whole run
-    in_whole : (m : ℕ) (u : OptionalValue) → LastAt m u (entries_of past) → LastAt m u (entries_of run)
+    in_whole : (m : ℕ) (u : Option ℕ) → LastAt m u (entries_of past) → LastAt m u (entries_of run)
     in_whole zero u h = h
     in_whole (suc m) u (x, is, c) = (x, is, within m x c)
 
@@ -242,7 +233,7 @@ module _ (s : Settings) (terms : Terms s) (cs : List MemberCall) (legal : Legal 
     number_given_lem =
         number_is_first_cause lowest_best old (Receive d)
         ∙ ap₂ (λ (x : Shard) (y : Delivery). first_of (all_causes lowest_best x (Receive y))) same_shard same_answer
-        ∙ only_host_causes s terms.multi_paxos limits terms.live_leader old.state d w (live_source s t (Delivered d) answer)
+        ∙ only_host_causes s terms.multi_paxos limits terms.live_leader old.state d w (live_source s t (Some d) answer)
         (subst (λ (m : ℕ). m < 9223372036854775807) (sym slot) known.room)
         (subst (λ (u : ℕ). u ≤ 9223372036854775807) same_value_lem known.fits)
         own_last
@@ -251,7 +242,7 @@ module _ (s : Settings) (terms : Terms s) (cs : List MemberCall) (legal : Legal 
         fitting
 
   -- An answer is refused for a cause that is the host's, with the number of the first of these, and is taken where there is none.
-  pub refused_for_host : (t v : ℕ) (x : Step) (past : List Step) → AfterProposal s cs t v x past → (d : Delivery) → heard x ≡ Delivered d → comes s t x ≡ true
+  pub refused_for_host : (t v : ℕ) (x : Step) (past : List Step) → AfterProposal s cs t v x past → (d : Delivery) → heard x ≡ Some d → comes s t x ≡ true
       → number_of (reply_of x).outcome ≡ first_of (host_causes s d)
   refused_for_host t v x past after d is came =
       each_step s terms P follows cs legal x past after.stands after.leader t v (proposes t v x past after.stands after.proposed) after.proposed
@@ -266,13 +257,13 @@ module _ (s : Settings) (terms : Terms s) (cs : List MemberCall) (legal : Legal 
       })
       d
       is
-      (subst (λ (o : OptionalDelivery). is_answer s t o ≡ true) is (and_left (is_answer s t (heard x)) (eqb x.member l) came))
+      (subst (λ (o : Option Delivery). is_answer s t o ≡ true) is (and_left (is_answer s t (heard x)) (eqb x.member l) came))
     where
       P : Step → List Step → Type 0
       P x past =
           x.member ≡ l → (t v : ℕ) → Proposes t v → LeaderProposed s t v past → slot_at l (entries_of past) ≡ t
-          → ((n w : ℕ) → CommitAt n w (entries_of past) → CommitAt n w (entries_of run)) → (d : Delivery) → heard x ≡ Delivered d
-          → is_answer s t (Delivered d) ≡ true → number_of (reply_of x).outcome ≡ first_of (host_causes s d)
+          → ((n w : ℕ) → CommitAt n w (entries_of past) → CommitAt n w (entries_of run)) → (d : Delivery) → heard x ≡ Some d
+          → is_answer s t (Some d) ≡ true → number_of (reply_of x).outcome ≡ first_of (host_causes s d)
 
       follows : Follows s terms P
       follows shards past k c stands own t v known p here within d is answer =
@@ -293,9 +284,9 @@ module _ (s : Settings) (terms : Terms s) (cs : List MemberCall) (legal : Legal 
       few : s.process_count ≤ 64
       few = (within_counts (member_settings s l) (valid_within s l (begun s l) (begun_valid s l) (proposes t v x past after.stands after.proposed).made)).most_processes
 
-      go : (o : OptionalDelivery) → heard x ≡ o → HostHolds o → SoundRequesters s o → is_done (reply_of x).outcome ≡ true
-      go NoDelivery is holds sound = absurd (not_both came (ap (λ (o : OptionalDelivery). is_answer s t o && eqb x.member l) is))
-      go (Delivered d) is holds sound =
+      go : (o : Option Delivery) → heard x ≡ o → HostHolds o → SoundRequesters s o → is_done (reply_of x).outcome ≡ true
+      go None is holds sound = absurd (not_both came (ap (λ (o : Option Delivery). is_answer s t o && eqb x.member l) is))
+      go (Some d) is holds sound =
           done_of_none (reply_of x).outcome
           (refused_for_host t v x past after d is came ∙ simp (below_fits s.process_count few (requesters_in d) sound, sound, holds))
 

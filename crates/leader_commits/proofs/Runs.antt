@@ -1,6 +1,8 @@
 -- What holds along every legal run under the terms: every shard is in the starting round and has as its last value what was committed in the slot before, no
 -- Prepare was ever sent, every Accept is as Sent.antt says, only the leader sends Commits, so that none comes to it; and the leader's part (Leading.antt).
 -- Assumes nothing.
+use Rattle.std.specs.Prelude.{Option, None, Some}
+use Rattle.std.proofs.lemmas.Bool.{and_right as right_fails}
 use mathlib.Core.Path.{◌≡◌, refl, sym, ap, subst, ◌∙◌}
 use mathlib.Core.Logic.{◌⊎◌, inl, inr}
 use mathlib.Core.Bool.{Bool, true, false, cond, ◌&&◌}
@@ -15,15 +17,12 @@ use Rattle.basics.proofs.Tests.{either, not_both}
 use Rattle.message.specs.Modes.{is_multi_paxos}
 use Rattle.message.specs.declared.ConsensusMessage.{ConsensusMessage}
 use Rattle.message.specs.declared.ConsensusMsg.TheVariants.{Prepare, Commit}
-use Rattle.message.specs.declared.OptionalValue.{OptionalValue}
 use Rattle.message.specs.declared.Refusal.{Refusal}
 use Rattle.settings.specs.Questions.{quorums_of}
 use Rattle.settings.specs.Settings.{within_limits}
 use Rattle.settings.specs.declared.Settings.{Settings}
 use Rattle.fast_state.specs.Adopt.{lowest_best}
 use Rattle.steps.specs.declared.Messages.{Messages}
-use Rattle.steps.specs.declared.OptionalMessage.{OptionalMessage}
-use Rattle.steps.specs.declared.OptionalMessage.TheVariants.{NoMessage, Send}
 use Rattle.steps.specs.declared.Outgoing.{Outgoing}
 use Rattle.delivery.specs.declared.Delivery.{Delivery}
 use Rattle.calls.specs.declared.Call.{Call}
@@ -46,7 +45,7 @@ use Rattle.leader_commits.specs.Answers.{Terms, is_answer, sources, answers_hear
 use Rattle.leader_commits.proofs.Led.{FromLed, AllFromLed, Expected, Kept, as_model_kept}
 use Rattle.leader_commits.proofs.Carrying.{NoPrepare, CallCarries, call_carries}
 use Rattle.leader_commits.proofs.Sent.{LastAt, last_later, last_moves, SentAccepts, now_sent}
-use Rattle.leader_commits.proofs.Calls.{claimed_mode, led_setup, numbers_within, made_or_refused, seen_in, view_before, Does, rests, proposes, accepts, and_fails, when_refused, leader_does}
+use Rattle.leader_commits.proofs.Calls.{claimed_mode, led_setup, numbers_within, made_or_refused, seen_in, view_before, Does, rests, proposes, accepts, when_refused, leader_does}
 use Rattle.leader_commits.proofs.Leading.{slot_of_other, slot_of_own, no_commit_in, Leading, leading_same, leading_proposed, leading_waits, leading_commits, accept_waits, accept_commits}
 
 -- ---- messages
@@ -62,20 +61,20 @@ each_sent start l i o ms h k = first ms.first ms.second ms.third h k
     same : (z : Outgoing) → Led z → o ≡ z → Led o
     same z p e = subst Led (sym e) p
 
-    third : (c : OptionalMessage) → AllFromLed start l i (meanings meaning_of (envelopes_of c [])) → In o (listed c []) → Led o
-    third NoMessage h k = absurd k
-    third (Send z) h (inl e) = same z h.0 e
-    third (Send z) h (inr k) = absurd k
+    third : (c : Option Outgoing) → AllFromLed start l i (meanings meaning_of (envelopes_of c [])) → In o (listed c []) → Led o
+    third None h k = absurd k
+    third (Some z) h (inl e) = same z h.0 e
+    third (Some z) h (inr k) = absurd k
 
-    second : (b c : OptionalMessage) → AllFromLed start l i (meanings meaning_of (envelopes_of b (envelopes_of c []))) → In o (listed b (listed c [])) → Led o
-    second NoMessage c h k = third c h k
-    second (Send z) c h (inl e) = same z h.0 e
-    second (Send z) c h (inr k) = third c h.1 k
+    second : (b c : Option Outgoing) → AllFromLed start l i (meanings meaning_of (envelopes_of b (envelopes_of c []))) → In o (listed b (listed c [])) → Led o
+    second None c h k = third c h k
+    second (Some z) c h (inl e) = same z h.0 e
+    second (Some z) c h (inr k) = third c h.1 k
 
-    first : (a b c : OptionalMessage) → AllFromLed start l i (meanings meaning_of (envelopes_of a (envelopes_of b (envelopes_of c [])))) → In o (listed a (listed b (listed c []))) → Led o
-    first NoMessage b c h k = second b c h k
-    first (Send z) b c h (inl e) = same z h.0 e
-    first (Send z) b c h (inr k) = second b c h.1 k
+    first : (a b c : Option Outgoing) → AllFromLed start l i (meanings meaning_of (envelopes_of a (envelopes_of b (envelopes_of c [])))) → In o (listed a (listed b (listed c []))) → Led o
+    first None b c h k = second b c h k
+    first (Some z) b c h (inl e) = same z h.0 e
+    first (Some z) b c h (inr k) = second b c h.1 k
 
 module _ (s : Settings) (terms : Terms s) where
   abbrev l : ℕ
@@ -231,7 +230,7 @@ module _ (s : Settings) (terms : Terms s) where
     leading_other : (i ≡ l → ⊥) → Leading s (view_shard (shards l)) (step ∷ past)
     leading_other other =
         leading_same s (view_shard (shards l)) step past k.leading (slot_of_other l step past other)
-        (λ t le. ap (λ (b : Bool). b && is_done (reply_of step).outcome) (and_fails (is_answer s t (heard step)) (ne_eqb i l other)))
+        (λ t le. ap (λ (b : Bool). b && is_done (reply_of step).outcome) (right_fails (is_answer s t (heard step)) _ (ne_eqb i l other)))
         (λ v own is done. other own)
 
     carries : CallCarries old c.call (call_of old c.call)
@@ -249,7 +248,7 @@ module _ (s : Settings) (terms : Terms s) where
     last_left : LastOf (call_of old c.call).shard
     last_left =
         subst (λ (n : ℕ). LastAt n (call_of old c.call).shard.state.rounds.core.last_v (entries_of (step ∷ past))) (sym left.slot_moves)
-        (subst (λ (u : OptionalValue). LastAt (plus_commit (reply_of step).commit old.state.rounds.core.slot) u (entries_of (step ∷ past)))
+        (subst (λ (u : Option ℕ). LastAt (plus_commit (reply_of step).commit old.state.rounds.core.slot) u (entries_of (step ∷ past)))
         (sym carries.last_value)
         (last_moves (entry_at step) (entries_of past) old.state.rounds.core.slot old.state.rounds.core.last_v (k.last_value i)
         left.of_own_slot))

@@ -1,6 +1,10 @@
 -- What was sent in a run under the terms: every Accept is of the starting round, its value was proposed in its slot by the leader, and the last value
 -- that it carries is what was committed in the slot before.
 -- Assumes nothing.
+use Rattle.std.specs.Prelude.{Option, None, Some, Ok, Err}
+use Rattle.message.specs.Outcomes.{Outcome}
+use Rattle.calls.specs.Commits.{committed_slot}
+use Rattle.calls.specs.declared.CommittedSlot.{CommittedSlot}
 use mathlib.Core.Path.{◌≡◌, refl, sym, ap, subst, ◌∙◌}
 use mathlib.Core.Logic.{inl, inr}
 use mathlib.Core.Bool.{Bool, true, false, not, ◌&&◌, ◌||◌}
@@ -15,11 +19,6 @@ use Rattle.message.specs.Modes.{is_multi_paxos}
 use Rattle.message.specs.declared.ConsensusMessage.{ConsensusMessage}
 use Rattle.message.specs.declared.ConsensusMsg.{ConsensusMsg}
 use Rattle.message.specs.declared.ConsensusMsg.TheVariants.{Prepare, Accept, ForwardRequest, Commit, ReadRequest, ReadResponse}
-use Rattle.message.specs.declared.OptionalRound.TheVariants.{Round}
-use Rattle.message.specs.declared.OptionalValue.{OptionalValue}
-use Rattle.message.specs.declared.OptionalValue.TheVariants.{NoValue, Value}
-use Rattle.message.specs.declared.Outcome.{Outcome}
-use Rattle.message.specs.declared.Outcome.TheVariants.{Done, Refused}
 use Rattle.message.specs.declared.PaxosRound.{PaxosRound}
 use Rattle.settings.specs.Questions.{starting_round_of}
 use Rattle.settings.specs.declared.Settings.{Settings}
@@ -28,8 +27,6 @@ use Rattle.steps.specs.declared.Outgoing.{Outgoing}
 use Rattle.delivery.specs.declared.Delivery.{Delivery}
 use Rattle.calls.specs.declared.Call.{Call}
 use Rattle.calls.specs.declared.Call.TheVariants.{Propose, StartRead, Receive}
-use Rattle.calls.specs.declared.OptionalCommit.{OptionalCommit}
-use Rattle.calls.specs.declared.OptionalCommit.TheVariants.{NoCommit, Committed}
 use Rattle.consensus.specs.Call.{call_of}
 use Rattle.consensus.specs.FirstCause.{any_above, ahead_of, proposal_causes, admission_causes, handling_causes, unmade, all_causes, ByFirstCause}
 use Rattle.consensus.specs.Rows.{Row, gives, then, NoneHolds}
@@ -47,31 +44,31 @@ use Rattle.leader_commits.proofs.Carrying.{CarriesIn, AskedFor, Carries, last_af
 -- ---- the last value
 
 -- the last value at a slot: none at slot 0, and else what was committed in the slot before
-abbrev pub LastAt : ℕ → OptionalValue → List Entry → Type 0
-LastAt zero last run = last ≡ NoValue
-LastAt (suc n) last run = (w : ℕ) × (last ≡ Value w) × CommitAt n w run
+abbrev pub LastAt : ℕ → Option ℕ → List Entry → Type 0
+LastAt zero last run = last ≡ None
+LastAt (suc n) last run = (w : ℕ) × (last ≡ Some w) × CommitAt n w run
 
 commit_later : (e : Entry) (run : List Entry) (n w : ℕ) → CommitAt n w run → CommitAt n w (e ∷ run)
 commit_later e run n w c = record { entry = c.entry; earlier = c.earlier; stands = inr c.stands; fast = c.fast; commit = c.commit }
 
-pub last_later : (e : Entry) (run : List Entry) (n : ℕ) (last : OptionalValue) → LastAt n last run → LastAt n last (e ∷ run)
+pub last_later : (e : Entry) (run : List Entry) (n : ℕ) (last : Option ℕ) → LastAt n last run → LastAt n last (e ∷ run)
 last_later e run zero last h = h
 last_later e run (suc n) last (w, is, c) = (w, is, commit_later e run n w c)
 
 -- a call moves both on together
-pub last_moves : (e : Entry) (run : List Entry) (n : ℕ) (last : OptionalValue) → LastAt n last run → OfSlot n e.reply.commit
+pub last_moves : (e : Entry) (run : List Entry) (n : ℕ) (last : Option ℕ) → LastAt n last run → OfSlot n e.reply.commit
     → LastAt (plus_commit e.reply.commit n) (last_after e.reply.commit last) (e ∷ run)
 last_moves e run n last h own = go e.reply.commit refl own
   where
-    go : (c : OptionalCommit) → e.reply.commit ≡ c → OfSlot n c → LastAt (plus_commit c n) (last_after c last) (e ∷ run)
-    go NoCommit is own = last_later e run n last h
-    go (Committed slot v fast) is own =
-        (v, refl, record { entry = e; earlier = run; stands = inl (refl, refl); fast = fast; commit = is ∙ ap (λ (m : ℕ). Committed m v fast) own })
+    go : (c : Option CommittedSlot) → e.reply.commit ≡ c → OfSlot n c → LastAt (plus_commit c n) (last_after c last) (e ∷ run)
+    go None is own = last_later e run n last h
+    go (Some commit) is own =
+        (commit.v, refl, record { entry = e; earlier = run; stands = inl (refl, refl); fast = commit.fast; commit = is ∙ ap (λ (m : ℕ). committed_slot m commit.v commit.fast) own })
 
 -- where the claim holds a slot has one last value
-pub same_last : (run : List Entry) → Claim run → (n : ℕ) (a b : OptionalValue) → LastAt n a run → LastAt n b run → a ≡ b
+pub same_last : (run : List Entry) → Claim run → (n : ℕ) (a b : Option ℕ) → LastAt n a run → LastAt n b run → a ≡ b
 same_last run claim zero a b h k = h ∙ sym k
-same_last run claim (suc n) a b (v, is, c) (w, also-is, d) = is ∙ ap Value ((claim.agree n v n w c d).0 refl).1 ∙ sym also-is
+same_last run claim (suc n) a b (v, is, c) (w, also-is, d) = is ∙ ap Some ((claim.agree n v n w c d).0 refl).1 ∙ sym also-is
 
 -- ---- causes
 
@@ -81,7 +78,7 @@ none_behind [] rest h = h
 none_behind (row ∷ rows) rest (e, h) = none_behind rows rest h
 
 -- a call that is not refused: no cause holds
-pub taken_none : (shard : Shard) (c : Call) → (call_of shard c).reply.outcome ≡ Done → NoneHolds (all_causes lowest_best shard c)
+pub taken_none : (shard : Shard) (c : Call) → (call_of shard c).reply.outcome ≡ Ok tt → NoneHolds (all_causes lowest_best shard c)
 taken_none shard c done = go (by_first_cause lowest_best shard c)
   where
     go : ByFirstCause lowest_best shard c (call_of shard c) → NoneHolds (all_causes lowest_best shard c)
@@ -90,12 +87,12 @@ taken_none shard c done = go (by_first_cause lowest_best shard c)
 
 -- a proposal that is not refused
 pub record ProposalTaken (shard : Shard) (v : ℕ) : Type 0 where
-  pub made : shard.made ≡ Done
+  pub made : shard.made ≡ Ok tt
   pub not_spent : shard.state.rounds.core.slot < 9223372036854775807
   pub value_fits : v ≤ 9223372036854775807
   pub by_leader : is_multi_paxos shard.settings.mode ≡ true → shard.settings.my_pid ≡ shard.settings.first_leader
 
-pub proposal_taken : (shard : Shard) (v : ℕ) → (call_of shard (Propose v)).reply.outcome ≡ Done → ProposalTaken shard v
+pub proposal_taken : (shard : Shard) (v : ℕ) → (call_of shard (Propose v)).reply.outcome ≡ Ok tt → ProposalTaken shard v
 unfolding then any_above
 proposal_taken shard v done = go shard.made refl (taken_none shard (Propose v) done)
   where
@@ -103,8 +100,8 @@ proposal_taken shard v done = go shard.made refl (taken_none shard (Propose v) d
     slot = shard.state.rounds.core.slot
 
     go : (o : Outcome) → shard.made ≡ o → NoneHolds (then (unmade o) (gives 2 (leb 9223372036854775807 slot) ∷ proposal_causes shard v)) → ProposalTaken shard v
-    go (Refused why) is (no_way, rest) = absurd (not_both refl no_way)
-    go Done is (spent, (large, (part, (round, (free, (other, rest)))))) =
+    go (Err why) is (no_way, rest) = absurd (not_both refl no_way)
+    go (Ok tt) is (spent, (large, (part, (round, (free, (other, rest)))))) =
         record {
           made = is;
           not_spent = leb-false 9223372036854775807 slot spent;
@@ -122,16 +119,16 @@ proposal_taken shard v done = go shard.made refl (taken_none shard (Propose v) d
         leads multi e = not-false _ (sym (ap (λ (b : Bool). b && not (eqb shard.settings.my_pid shard.settings.first_leader)) multi) ∙ e)
 
 -- what a call sends, it sends where it is not refused
-sent_taken : (shard : Shard) (c : Call) (o : Outgoing) → In o (messages_of (call_of shard c).reply.messages) → (call_of shard c).reply.outcome ≡ Done
+sent_taken : (shard : Shard) (c : Call) (o : Outgoing) → In o (messages_of (call_of shard c).reply.messages) → (call_of shard c).reply.outcome ≡ Ok tt
 sent_taken shard c o h = go (by_first_cause lowest_best shard c)
   where
-    go : ByFirstCause lowest_best shard c (call_of shard c) → (call_of shard c).reply.outcome ≡ Done
+    go : ByFirstCause lowest_best shard c (call_of shard c) → (call_of shard c).reply.outcome ≡ Ok tt
     go (inl (e, none)) = e
     go (inr (why, e, first)) = absurd (subst (λ (r : Answer). In o (messages_of r.reply.messages)) e h)
 
 -- an Accept that is not refused is not ahead
 not_ahead : (shard : Shard) (d : Delivery) (slot : ℕ) (round : PaxosRound) (v : ℕ) → d.message.msg ≡ Accept slot round v
-    → (call_of shard (Receive d)).reply.outcome ≡ Done → slot ≤ shard.state.rounds.core.slot
+    → (call_of shard (Receive d)).reply.outcome ≡ Ok tt → slot ≤ shard.state.rounds.core.slot
 unfolding then
 not_ahead shard d slot round v is done = go (none_behind (unmade shard.made) _ (taken_none shard (Receive d) done))
   where
@@ -149,9 +146,9 @@ module _ (s : Settings) where
   l = s.first_leader
 
   -- an Accept that was sent
-  abbrev pub SentIn : List Step → OptionalValue → ConsensusMsg → Type 0
+  abbrev pub SentIn : List Step → Option ℕ → ConsensusMsg → Type 0
   SentIn past last (Prepare slot round rv) = Unit {0}
-  SentIn past last (Accept slot round v) = (Round round ≡ starting_round_of s) × LeaderProposed s slot v past × LastAt slot last (entries_of past)
+  SentIn past last (Accept slot round v) = (Some round ≡ starting_round_of s) × LeaderProposed s slot v past × LastAt slot last (entries_of past)
   SentIn past last (ForwardRequest v) = Unit {0}
   SentIn past last (Commit slot v) = Unit {0}
   SentIn past last (ReadRequest id) = Unit {0}
@@ -164,7 +161,7 @@ module _ (s : Settings) where
   proposed_later : (x : Step) (past : List Step) (t v : ℕ) → LeaderProposed s t v past → LeaderProposed s t v (x ∷ past)
   proposed_later x past t v (z, earlier, at, own, is, done, slot) = (z, earlier, inr at, own, is, done, slot)
 
-  sent_later : (x : Step) (past : List Step) (last : OptionalValue) (m : ConsensusMsg) → SentIn past last m → SentIn (x ∷ past) last m
+  sent_later : (x : Step) (past : List Step) (last : Option ℕ) (m : ConsensusMsg) → SentIn past last m → SentIn (x ∷ past) last m
   sent_later x past last (Prepare slot round rv) h = tt
   sent_later x past last (Accept slot round v) (first, proposed, carried) =
       (first, proposed_later x past slot v proposed, last_later (entry_at x) (entries_of past) slot last carried)
@@ -184,7 +181,7 @@ module _ (s : Settings) where
     pub round : PaxosRound
     pub v : ℕ
     pub is : message.msg ≡ Accept t round v
-    pub first : Round round ≡ starting_round_of s
+    pub first : Some round ≡ starting_round_of s
     pub proposed : LeaderProposed s t v past
     pub carried : LastAt t message.last_v (entries_of past)
 
@@ -225,15 +222,15 @@ module _ (s : Settings) where
     step = step_of shards c
 
     -- only the leader proposes
-    proposer : (v : ℕ) → c.call ≡ Propose v → (reply_of step).outcome ≡ Done → c.member ≡ l
+    proposer : (v : ℕ) → c.call ≡ Propose v → (reply_of step).outcome ≡ Ok tt → c.member ≡ l
     proposer v is done =
-        let taken = proposal_taken old v (subst (λ (x : Call). (call_of old x).reply.outcome ≡ Done) is done) in
+        let taken = proposal_taken old v (subst (λ (x : Call). (call_of old x).reply.outcome ≡ Ok tt) is done) in
         let own = valid.own_settings in
         ap (λ (x : Settings). x.my_pid) (sym own) ∙ taken.by_leader (ap (λ (x : Settings). is_multi_paxos x.mode) own ∙ multi)
         ∙ ap (λ (x : Settings). x.first_leader) own
 
-    asked_for : (call : Call) → c.call ≡ call → (reply_of step).outcome ≡ Done → (round : PaxosRound) (v : ℕ) → AskedFor old call round v
-        → (Round round ≡ starting_round_of s) × LeaderProposed s n v (step ∷ past)
+    asked_for : (call : Call) → c.call ≡ call → (reply_of step).outcome ≡ Ok tt → (round : PaxosRound) (v : ℕ) → AskedFor old call round v
+        → (Some round ≡ starting_round_of s) × LeaderProposed s n v (step ∷ past)
     asked_for (Propose w) is done round v (first, same) =
         let own = proposer w is done in
         (first ∙ ap starting_round_of valid.own_settings, (step, past, inl (refl, refl), own, is ∙ ap Propose same, done, sym (slots own)))
@@ -241,7 +238,7 @@ module _ (s : Settings) where
     asked_for (Receive d) is done round v (slot, accept, reaches) =
         let sent-before : SentIn past d.message.last_v (Accept slot round v) =
         subst (SentIn past d.message.last_v) accept (delivered_sent past sent d c.member (subst (MayStand (entries_of past) c.member) is stands)) in
-        let same : slot ≡ n = omega (arith, reaches, not_ahead old d slot round v accept (subst (λ (x : Call). (call_of old x).reply.outcome ≡ Done) is done)) in
+        let same : slot ≡ n = omega (arith, reaches, not_ahead old d slot round v accept (subst (λ (x : Call). (call_of old x).reply.outcome ≡ Ok tt) is done)) in
         (sent-before.0, proposed_later step past n v (subst (λ (m : ℕ). LeaderProposed s m v past) same sent-before.1))
 
     pub now_sent : SentAccepts (step ∷ past)
@@ -255,13 +252,13 @@ module _ (s : Settings) where
         carries : CallCarries old c.call (call_of old c.call)
         carries = call_carries old (ap (λ (x : Settings). is_multi_paxos x.mode) valid.own_settings ∙ multi) c.call none
 
-        by_kind : (k : ConsensusMsg) (u : OptionalValue) → CarriesIn n old.state.rounds.core.last_v (AskedFor old c.call) u k
+        by_kind : (k : ConsensusMsg) (u : Option ℕ) → CarriesIn n old.state.rounds.core.last_v (AskedFor old c.call) u k
             → SentIn (step ∷ past) u k
         by_kind (Prepare slot round rv) u h = tt
         by_kind (Accept slot round v) u (own, carried, asked) =
             let a = asked_for c.call refl (sent_taken old c.call o sent_here) round v asked in
             let now : LastAt n u (entries_of (step ∷ past)) =
-            last_later (entry_at step) (entries_of past) n u (subst (λ (x : OptionalValue). LastAt n x (entries_of past)) (sym carried) last) in (
+            last_later (entry_at step) (entries_of past) n u (subst (λ (x : Option ℕ). LastAt n x (entries_of past)) (sym carried) last) in (
               a.0,
               subst (λ (m : ℕ). LeaderProposed s m v (step ∷ past)) (sym own) a.1,
               subst

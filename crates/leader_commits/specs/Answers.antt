@@ -1,22 +1,21 @@
 -- When the leader of a MultiPaxos slot commits (document 02, E14). This page is the statement; proofs/LeaderCommits.antt has the theorem. Lists of
 -- what has happened have the latest first.
 -- Assumes nothing.
-use Rattle.std.specs.Prelude.{◌≡◌, ◌↔◌, Bool, true, false, cond, not, ◌&&◌, List, [], ◌∷◌, ℕ, ◌+◌, ◌≤◌, ◌<◌, eqb}
+use Rattle.std.specs.Prelude.{◌≡◌, ◌↔◌, Bool, true, false, cond, not, ◌&&◌, List, [], ◌∷◌, ℕ, ◌+◌, ◌≤◌, ◌<◌, eqb, Ok, Option, None, Some}
 use Rattle.basics.specs.Lists.{In}
 use Rattle.sets.specs.Sets.{insert, size}
 use Rattle.message.specs.Modes.{is_multi_paxos}
 use Rattle.message.specs.declared.ConsensusMsg.{ConsensusMsg}
 use Rattle.message.specs.declared.ConsensusMsg.TheVariants.{Prepare, Accept, ForwardRequest, Commit, ReadRequest, ReadResponse}
-use Rattle.message.specs.declared.Outcome.TheVariants.{Done}
 use Rattle.settings.specs.Questions.{is_live_replica, quorums_of}
 use Rattle.settings.specs.declared.Settings.{Settings}
 use Rattle.delivery.specs.declared.Delivery.{Delivery}
+use Rattle.calls.specs.Commits.{committed_slot}
 use Rattle.calls.specs.declared.Call.TheVariants.{Propose}
-use Rattle.calls.specs.declared.OptionalCommit.TheVariants.{Committed}
-use Rattle.consensus.specs.FirstCause.{given_process, joined, any_above, any_from}
+use Rattle.consensus.specs.FirstCause.{given_number, joined, any_above, any_from}
 use Rattle.consensus.specs.Rows.{Row, gives}
 use Rattle.group.specs.Claim.{MemberCall, At, slot_at}
-use Rattle.group.specs.Steps.{Step, reply_of, is_done, OptionalDelivery, NoDelivery, Delivered, heard, steps, entries_of}
+use Rattle.group.specs.Steps.{Step, reply_of, is_done, heard, steps, entries_of}
 
 -- ---- the terms
 
@@ -38,13 +37,13 @@ is_accept_of t (ReadRequest id) = false
 is_accept_of t (ReadResponse id next) = false
 
 -- an answer: an accept of slot t from a live replica, the leader "itself not counted"
-abbrev pub is_answer : Settings → ℕ → OptionalDelivery → Bool
-is_answer s t NoDelivery = false
-is_answer s t (Delivered d) = is_accept_of t d.message.msg && (is_live_replica s d.message.src && not (eqb d.message.src s.first_leader))
+abbrev pub is_answer : Settings → ℕ → Option Delivery → Bool
+is_answer s t None = false
+is_answer s t (Some d) = is_accept_of t d.message.msg && (is_live_replica s d.message.src && not (eqb d.message.src s.first_leader))
 
-abbrev pub source_of : OptionalDelivery → ℕ
-source_of NoDelivery = 0
-source_of (Delivered d) = d.message.src
+abbrev pub source_of : Option Delivery → ℕ
+source_of None = 0
+source_of (Some d) = d.message.src
 
 -- an answer comes to the leader
 abbrev pub comes : Settings → ℕ → Step → Bool
@@ -72,7 +71,7 @@ answers_came s t past = size (sources (comes s t) past)
 -- the leader proposed v in slot t, and was not refused
 abbrev pub LeaderProposed : Settings → ℕ → ℕ → List Step → Type 0
 LeaderProposed s t v past =
-    (x : Step) × (earlier : List Step) × At x earlier past × (x.member ≡ s.first_leader) × (x.call ≡ Propose v) × ((reply_of x).outcome ≡ Done)
+    (x : Step) × (earlier : List Step) × At x earlier past × (x.member ≡ s.first_leader) × (x.call ≡ Propose v) × ((reply_of x).outcome ≡ Ok tt)
     × (slot_at s.first_leader (entries_of earlier) ≡ t)
 
 -- x is a step of the run, of the leader, which has proposed v in its slot t before
@@ -83,7 +82,7 @@ pub record AfterProposal (s : Settings) (cs : List MemberCall) (t v : ℕ) (x : 
   pub in_slot : slot_at s.first_leader (entries_of past) ≡ t
 
 abbrev pub Commits : Step → ℕ → ℕ → Type 0
-Commits x t v = (fast : Bool) × ((reply_of x).commit ≡ Committed t v fast)
+Commits x t v = (fast : Bool) × ((reply_of x).commit ≡ committed_slot t v fast)
 
 -- ---- the claim
 
@@ -98,7 +97,7 @@ pub record CommitsOnAnswer (answers : List Step → ℕ) (s : Settings) (t v : �
 
 -- the requesters that it gives: of the answer's value, and of the value of the held promise
 abbrev pub requesters_in : Delivery → List ℕ
-requesters_in d = joined (given_process d.said.requester) (given_process d.held_requester)
+requesters_in d = joined (given_number d.said.requester) (given_number d.held_requester)
 
 -- the causes that are the host's: a requester above the number limit, one that is not below the process count, the value not held
 abbrev pub host_causes : Settings → Delivery → List Row
@@ -109,14 +108,14 @@ host_causes s d =
     ∷ []
 
 -- "given that the host holds the value"
-abbrev pub HostHolds : OptionalDelivery → Type 0
-HostHolds NoDelivery = Unit {0}
-HostHolds (Delivered d) = d.said.value_held ≡ true
+abbrev pub HostHolds : Option Delivery → Type 0
+HostHolds None = Unit {0}
+HostHolds (Some d) = d.said.value_held ≡ true
 
 -- each requester that it gives is a process
-abbrev pub SoundRequesters : Settings → OptionalDelivery → Type 0
-SoundRequesters s NoDelivery = Unit {0}
-SoundRequesters s (Delivered d) = any_from s.process_count (requesters_in d) ≡ false
+abbrev pub SoundRequesters : Settings → Option Delivery → Type 0
+SoundRequesters s None = Unit {0}
+SoundRequesters s (Some d) = any_from s.process_count (requesters_in d) ≡ false
 
 -- both with every answer of slot t that has come: the host is sound
 abbrev pub SoundAnswers : Settings → ℕ → List Step → Type 0
@@ -124,9 +123,9 @@ SoundAnswers s t past = (x : Step) → In x past → comes s t x ≡ true → Ho
 
 -- ---- the document's words
 
-abbrev pub BringsCommit : ℕ → OptionalDelivery → Type 0
-BringsCommit t NoDelivery = ⊥
-BringsCommit t (Delivered d) = (v : ℕ) × (d.message.msg ≡ Commit t v)
+abbrev pub BringsCommit : ℕ → Option Delivery → Type 0
+BringsCommit t None = ⊥
+BringsCommit t (Some d) = (v : ℕ) × (d.message.msg ≡ Commit t v)
 
 -- "no Commit for that slot came earlier"
 abbrev pub NoCommitCame : Settings → ℕ → List Step → Type 0

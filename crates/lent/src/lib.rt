@@ -7,14 +7,14 @@ ghost use Rattle.calls.specs.Decision.{decision_of};
 ghost use Rattle.consensus.specs.ByParts.{by_state, by_rounds, by_core};
 ghost use Rattle.consensus.specs.Call.{call_of};
 
-use calls::{Call, Decision, Reply};
+use calls::{Call, Reply, Taken};
 use consensus::Shard;
-use message::OptionalRound;
+use message::{PaxosRound, Refusal};
 use read_tracker::ReadTable;
 use steps::Core;
 
 // By a copy of the state: what touches the table of the reads.
-fn state_in_place(s: &mut Shard, d: Decision) -> Reply
+fn state_in_place(s: &mut Shard, d: Result<Taken, Refusal>) -> Reply
     ensures { (s.new ≡ (by_state s.old d).shard) × (result ≡ (by_state s.old d).reply) }
 {
     let c = s.state;
@@ -24,7 +24,8 @@ fn state_in_place(s: &mut Shard, d: Decision) -> Reply
 }
 
 // By a copy of the rounds where that is enough: EPaxos and SwiftPaxos.
-fn rounds_in_place(s: &mut Shard, d: Decision) -> Reply
+#[tactic(auto, unfolding(consensus::specs::ByParts::by_rounds))]
+fn rounds_in_place(s: &mut Shard, d: Result<Taken, Refusal>) -> Reply
     ensures { (s.new ≡ (by_rounds s.old d).shard) × (result ≡ (by_rounds s.old d).reply) }
 {
     let c = s.state.rounds;
@@ -37,7 +38,8 @@ fn rounds_in_place(s: &mut Shard, d: Decision) -> Reply
 }
 
 // By a copy of the core where that is enough: the usual call.
-fn core_in_place(s: &mut Shard, d: Decision) -> Reply
+#[tactic(auto, unfolding(consensus::specs::ByParts::by_core))]
+fn core_in_place(s: &mut Shard, d: Result<Taken, Refusal>) -> Reply
     ensures { (s.new ≡ (by_core s.old d).shard) × (result ≡ (by_core s.old d).reply) }
 {
     let c = s.state.rounds.core;
@@ -50,7 +52,7 @@ fn core_in_place(s: &mut Shard, d: Decision) -> Reply
 }
 
 // What is decided of the call before it is handled.
-fn decision_in_place(s: &mut Shard, call: Call) -> Decision
+fn decision_in_place(s: &mut Shard, call: Call) -> Result<Taken, Refusal>
     ensures { (s.new ≡ s.old) × (result ≡ decision_of s.old.made s.old.settings s.old.state.rounds.core call) }
 {
     let made = s.made;
@@ -60,6 +62,7 @@ fn decision_in_place(s: &mut Shard, call: Call) -> Decision
 }
 
 // A call on the shard that is lent.
+#[tactic(auto, using(consensus::proofs::ByParts::by_core_lem, consensus::proofs::ByParts::by_parts))]
 pub fn call_in_place(s: &mut Shard, call: Call) -> Reply
     ensures { (s.new ≡ (call_of s.old call).shard) × (result ≡ (call_of s.old call).reply) }
 {
@@ -73,7 +76,7 @@ fn slot_of(core: Core) -> u64
     core.slot
 }
 
-fn round_of(core: Core) -> OptionalRound
+fn round_of(core: Core) -> Option<PaxosRound>
     ensures { result ≡ core.paxos.round }
 {
     let paxos = core.paxos;
@@ -101,7 +104,7 @@ pub fn slot(s: &Shard) -> u64
 }
 
 // Its round.
-pub fn round(s: &Shard) -> OptionalRound
+pub fn round(s: &Shard) -> Option<PaxosRound>
     ensures { result ≡ s.now.state.rounds.core.paxos.round }
 {
     let c = s.state.rounds.core;

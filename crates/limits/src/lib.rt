@@ -2,9 +2,9 @@
 #![tactic(auto)]
 
 ghost use Rattle.std.specs.Prelude.{◌≡◌};
-ghost use Rattle.limits.specs.Limits.{is_number, is_slot, round_numbers, rv_numbers, msg_numbers, value_numbers, process_numbers, rv_processes, msg_processes, requester_below};
+ghost use Rattle.limits.specs.Limits.{is_number, is_slot, round_numbers, rv_numbers, msg_numbers, number_given, rv_processes, msg_processes, requester_below};
 
-use message::{ConsensusMsg, OptionalProcess, OptionalRound, OptionalValue, PaxosRound, RoundV};
+use message::{ConsensusMsg, PaxosRound, RoundV};
 
 pub fn is_number(n: u64) -> bool
     ensures { result ≡ is_number n }
@@ -19,139 +19,86 @@ pub fn is_slot(n: u64) -> bool
     n <= 9223372036854775806
 }
 
+#[tactic(auto, unfolding(crate::specs::Limits::round_numbers))]
 fn round_numbers(round: PaxosRound) -> bool
     ensures { result ≡ round_numbers round }
 {
-    if is_number(round.round_group) {
-        return is_number(round.leader);
-    }
-    false
+    is_number(round.round_group) && is_number(round.leader)
 }
 
+#[tactic(auto, unfolding(crate::specs::Limits::rv_numbers))]
 fn rv_numbers(rv: RoundV) -> bool
     ensures { result ≡ rv_numbers rv }
 {
     match rv {
-        RoundV::FastV { proposer, v } => {
-            if is_number(proposer) {
-                return is_number(v);
-            }
-            false
-        }
-        RoundV::PaxosV { accept_round, v } => match accept_round {
-            OptionalRound::NoRound => is_number(v),
-            OptionalRound::Round(round) => {
-                if round_numbers(round) {
-                    return is_number(v);
-                }
-                false
-            }
-        },
+        RoundV::FastV { proposer, v } => is_number(proposer) && is_number(v),
+        RoundV::PaxosV {
+            accept_round: None,
+            v,
+        } => is_number(v),
+        RoundV::PaxosV {
+            accept_round: Some(round),
+            v,
+        } => round_numbers(round) && is_number(v),
     }
 }
 
+#[tactic(auto, unfolding(crate::specs::Limits::msg_numbers))]
 pub fn msg_numbers(msg: ConsensusMsg) -> bool
     ensures { result ≡ msg_numbers msg }
 {
     match msg {
         ConsensusMsg::Prepare { slot, round, rv } => {
-            if is_slot(slot) {
-                if round_numbers(round) {
-                    return rv_numbers(rv);
-                }
-                return false;
-            }
-            false
+            is_slot(slot) && round_numbers(round) && rv_numbers(rv)
         }
         ConsensusMsg::Accept { slot, round, v } => {
-            if is_slot(slot) {
-                if round_numbers(round) {
-                    return is_number(v);
-                }
-                return false;
-            }
-            false
+            is_slot(slot) && round_numbers(round) && is_number(v)
         }
         ConsensusMsg::ForwardRequest { v } => is_number(v),
-        ConsensusMsg::Commit { slot, v } => {
-            if is_slot(slot) {
-                return is_number(v);
-            }
-            false
-        }
+        ConsensusMsg::Commit { slot, v } => is_slot(slot) && is_number(v),
         ConsensusMsg::ReadRequest { id } => is_number(id.0),
         ConsensusMsg::ReadResponse {
             id,
             next_readable_slot,
-        } => {
-            if is_number(id.0) {
-                return is_number(next_readable_slot);
-            }
-            false
-        }
+        } => is_number(id.0) && is_number(next_readable_slot),
     }
 }
 
-pub fn value_numbers(value: OptionalValue) -> bool
-    ensures { result ≡ value_numbers value }
+// A value or a process number, where one is given.
+#[tactic(auto, unfolding(crate::specs::Limits::number_given))]
+pub fn number_given(n: Option<u64>) -> bool
+    ensures { result ≡ number_given n }
 {
-    match value {
-        OptionalValue::NoValue => true,
-        OptionalValue::Value(v) => is_number(v),
-    }
+    n.is_none_or(is_number)
 }
 
-pub fn process_numbers(process: OptionalProcess) -> bool
-    ensures { result ≡ process_numbers process }
-{
-    match process {
-        OptionalProcess::NoProcess => true,
-        OptionalProcess::Process(p) => is_number(p),
-    }
-}
-
+#[tactic(auto, unfolding(crate::specs::Limits::rv_processes))]
 fn rv_processes(n: u64, rv: RoundV) -> bool
     ensures { result ≡ rv_processes n rv }
 {
     match rv {
-        RoundV::FastV { proposer, v: _ } => proposer < n,
-        RoundV::PaxosV { accept_round, v: _ } => match accept_round {
-            OptionalRound::NoRound => true,
-            OptionalRound::Round(round) => round.leader < n,
-        },
+        RoundV::FastV { proposer, .. } => proposer < n,
+        RoundV::PaxosV { accept_round, .. } => accept_round.is_none_or(|round| round.leader < n),
     }
 }
 
+#[tactic(auto, unfolding(crate::specs::Limits::msg_processes))]
 pub fn msg_processes(n: u64, msg: ConsensusMsg) -> bool
     ensures { result ≡ msg_processes n msg }
 {
     match msg {
-        ConsensusMsg::Prepare { slot: _, round, rv } => {
-            if round.leader < n {
-                return rv_processes(n, rv);
-            }
-            false
-        }
-        ConsensusMsg::Accept {
-            slot: _,
-            round,
-            v: _,
-        } => round.leader < n,
-        ConsensusMsg::ForwardRequest { v: _ } => true,
-        ConsensusMsg::Commit { slot: _, v: _ } => true,
-        ConsensusMsg::ReadRequest { id: _ } => true,
-        ConsensusMsg::ReadResponse {
-            id: _,
-            next_readable_slot: _,
-        } => true,
+        ConsensusMsg::Prepare { round, rv, .. } => round.leader < n && rv_processes(n, rv),
+        ConsensusMsg::Accept { round, .. } => round.leader < n,
+        ConsensusMsg::ForwardRequest { .. }
+        | ConsensusMsg::Commit { .. }
+        | ConsensusMsg::ReadRequest { .. }
+        | ConsensusMsg::ReadResponse { .. } => true,
     }
 }
 
-pub fn requester_below(n: u64, requester: OptionalProcess) -> bool
+#[tactic(auto, unfolding(crate::specs::Limits::requester_below))]
+pub fn requester_below(n: u64, requester: Option<u64>) -> bool
     ensures { result ≡ requester_below n requester }
 {
-    match requester {
-        OptionalProcess::NoProcess => true,
-        OptionalProcess::Process(p) => p < n,
-    }
+    requester.is_none_or(|p| p < n)
 }

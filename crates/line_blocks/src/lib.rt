@@ -4,12 +4,15 @@
 
 ghost use Rattle.std.specs.Prelude.{◌≡◌, ◌-◌, ◌≤◌, min, length, take};
 ghost use Rattle.io.specs.Counts.{IsPrefixLen};
+ghost use Rattle.texts.specs.Text.{with_bytes};
 ghost use Rattle.line_blocks.specs.Lines.{FirstEnd, FirstLine, moved_to_start, with_room};
 
 use std::io::Read;
+use texts::Output;
 
-// Where the answering of a block begins, and whether the line that is skipped goes on behind the block.
-#[derive(Clone, Copy)]
+// Where the answering of a block begins, and whether the line that is skipped goes on behind the block. Both are always there, so no Option or enum says
+// them plainer.
+#[derive(Clone, Copy, PartialEq, Eq, Debug)]
 pub struct Start {
     pub from: usize,
     pub skipping: bool,
@@ -20,14 +23,12 @@ pub fn line_end(input: &[u8], from: usize) -> usize
     requires { from ≤ length input.now }
     ensures { FirstEnd input.now from result }
 {
-    let mut i = from;
-    while i < input.len() {
+    for i in from..input.len() {
         if input[i] == b'\n' {
             return i;
         }
-        i += 1;
     }
-    i
+    input.len()
 }
 
 // Where the first line begins that is not skipped.
@@ -72,42 +73,28 @@ pub fn move_to_start(input: &mut [u8], used: usize, end: usize) -> usize
     requires { end ≤ length input.old }
     ensures { (result ≡ end - used) × (input.new ≡ moved_to_start used (end - used) input.old) }
 {
-    let mut from = used;
-    let mut to = 0;
-    while from < end {
-        input[to] = input[from];
-        from += 1;
-        to += 1;
-    }
-    to
+    let left = end.saturating_sub(used);
+    input.copy_within(end - left..end, 0);
+    left
 }
 
-// The number of bytes that are put. There are never more than fit, whatever the number says.
-fn bytes_put(out: &[u8], put: usize) -> usize
-    ensures { result ≡ min put (length out.now) }
+// Writes what is put, after which nothing is put, and hands back how many bytes that were. There are never more than fit, whatever the place says.
+pub fn write_output(out: &mut Output) -> usize
+    ensures count { result ≡ min out.old.at (length out.old.bytes.now) }
+    ensures nothing_put { out.new ≡ with_bytes out.old out.old.bytes.now 0 }
 {
-    if put < out.len() {
-        return put;
-    }
-    out.len()
-}
-
-// Writes what is put, and hands back how many bytes that are.
-pub fn write_output(out: &[u8], put: usize) -> usize
-    ensures { result ≡ min put (length out.now) }
-{
-    let n = bytes_put(out, put);
-    io::write_all(1, &out[..n]);
+    let text = out.text();
+    io::write_all(1, text);
+    let n = text.len();
+    out.at = 0;
     n
 }
 
-// Writes the output where there is no room for the longest answer, and hands back how much of it is put.
-pub fn with_room(out: &[u8], put: usize) -> usize
-    ensures { result ≡ with_room put }
+// Writes the output where there is no room for the longest answer.
+pub fn with_room(out: &mut Output)
+    ensures { out.new ≡ with_bytes out.old out.old.bytes.now (with_room out.old.at) }
 {
-    if put < 32768 {
-        return put;
+    if out.at >= 32768 {
+        write_output(out);
     }
-    write_output(out, put);
-    0
 }

@@ -1,14 +1,8 @@
 -- The calls of the lines of kind 3 to 10, from their numbers (docs/ORACLE.md, "Call lines").
 -- Assumes nothing.
-use Rattle.std.specs.Prelude.{cond, List, ℕ, ◌+◌, eqb, get_or}
+use Rattle.std.specs.Prelude.{cond, List, ℕ, ◌+◌, eqb, get_or, Option, None, Some}
 use Rattle.message.specs.declared.ConsensusMsg.{ConsensusMsg}
 use Rattle.message.specs.declared.ConsensusMsg.TheVariants.{Prepare, Accept, ForwardRequest, Commit, ReadRequest, ReadResponse}
-use Rattle.message.specs.declared.OptionalProcess.{OptionalProcess}
-use Rattle.message.specs.declared.OptionalProcess.TheVariants.{NoProcess, Process}
-use Rattle.message.specs.declared.OptionalRound.{OptionalRound}
-use Rattle.message.specs.declared.OptionalRound.TheVariants.{NoRound, Round}
-use Rattle.message.specs.declared.OptionalValue.{OptionalValue}
-use Rattle.message.specs.declared.OptionalValue.TheVariants.{NoValue, Value}
 use Rattle.message.specs.declared.PaxosRound.{PaxosRound}
 use Rattle.message.specs.declared.ReadId.{ReadId}
 use Rattle.message.specs.declared.RoundV.{RoundV}
@@ -24,21 +18,21 @@ at numbers i = get_or numbers i 0
 
 -- ---- `x?`: the number counts where the flag is 1
 
-unfoldable pub optional_value : ℕ → ℕ → OptionalValue
-optional_value flag v = cond (eqb flag 1) (Value v) NoValue
+unfoldable pub optional_value : ℕ → ℕ → Option ℕ
+optional_value flag v = cond (eqb flag 1) (Some v) None
 
-unfoldable pub optional_process : ℕ → ℕ → OptionalProcess
-optional_process flag p = cond (eqb flag 1) (Process p) NoProcess
+unfoldable pub optional_process : ℕ → ℕ → Option ℕ
+optional_process flag p = cond (eqb flag 1) (Some p) None
 
 abbrev pub round_of : ℕ → ℕ → PaxosRound
 round_of group leader = record { round_group = group; leader = leader }
 
-unfoldable pub optional_round : ℕ → ℕ → ℕ → OptionalRound
-optional_round flag group leader = cond (eqb flag 1) (Round (round_of group leader)) NoRound
+unfoldable pub optional_round : ℕ → ℕ → ℕ → Option PaxosRound
+optional_round flag group leader = cond (eqb flag 1) (Some (round_of group leader)) None
 
 -- PROMISE
 unfoldable pub promise_of : ℕ → ℕ → ℕ → ℕ → RoundV
-promise_of kind a b v = cond (eqb kind 0) (FastV a v) (cond (eqb kind 1) (PaxosV NoRound v) (PaxosV (optional_round 1 a b) v))
+promise_of kind a b v = cond (eqb kind 0) (FastV a v) (cond (eqb kind 1) (PaxosV None v) (PaxosV (optional_round 1 a b) v))
 
 -- ---- messages
 

@@ -1,16 +1,14 @@
 // The numbers of a line as a call (docs/ORACLE.md, "Call lines"). A number past the end of the line counts as 0, so that no function here
-// asks how long the line is; the line's fault says whether it is a call at all.
+// asks how long the line is; the line's fault says whether it is a call at all. Kinds of lines and of promises are numbers, as the format has them:
+// each is looked at in one place, and any number has an answer there.
 #![tactic(auto)]
 
-ghost use Rattle.std.specs.Prelude.{◌≡◌, ◌<◌, get_or};
-ghost use Rattle.line_calls.specs.Calls.{optional_value, optional_process, optional_round, promise_of, prepare_of, accept_of, message_of, words_place, said_at, delivery_at, call_of_numbers};
+ghost use Rattle.std.specs.Prelude.{◌≡◌, ◌<◌, ◌==◌, get_or, cond};
+ghost use Rattle.line_calls.specs.Calls.{promise_of, prepare_of, accept_of, message_of, words_place, said_at, delivery_at, call_of_numbers};
 
 use calls::Call;
 use delivery::{Delivery, Said};
-use message::{
-    ConsensusMessage, ConsensusMsg, OptionalProcess, OptionalRound, OptionalValue, PaxosRound,
-    ReadId, RoundV,
-};
+use message::{ConsensusMessage, ConsensusMsg, PaxosRound, ReadId, RoundV};
 
 pub fn number_at(numbers: &[u64], i: usize) -> u64
     ensures { result ≡ get_or numbers.now i 0 }
@@ -18,55 +16,35 @@ pub fn number_at(numbers: &[u64], i: usize) -> u64
     if i < numbers.len() { numbers[i] } else { 0 }
 }
 
-pub fn optional_value(flag: u64, v: u64) -> OptionalValue
-    ensures { result ≡ optional_value flag v }
+// `x?`: the value counts where the flag is 1.
+pub fn optional<T: Drop>(flag: u64, value: T) -> Option<T>
+    ensures { result ≡ cond (flag == 1) (Some value) None }
 {
-    if flag == 1 {
-        return OptionalValue::Value(v);
-    }
-    OptionalValue::NoValue
+    if flag == 1 { Some(value) } else { None }
 }
 
-fn optional_process(flag: u64, p: u64) -> OptionalProcess
-    ensures { result ≡ optional_process flag p }
-{
-    if flag == 1 {
-        return OptionalProcess::Process(p);
-    }
-    OptionalProcess::NoProcess
-}
-
-pub fn optional_round(flag: u64, group: u64, leader: u64) -> OptionalRound
-    ensures { result ≡ optional_round flag group leader }
-{
-    if flag == 1 {
-        return OptionalRound::Round(PaxosRound {
-            round_group: group,
-            leader,
-        });
-    }
-    OptionalRound::NoRound
-}
-
+#[tactic(auto, unfolding(crate::specs::Calls::promise_of, crate::specs::Calls::optional_round))]
 pub fn promise(kind: u64, a: u64, b: u64, v: u64) -> RoundV
     ensures { result ≡ promise_of kind a b v }
 {
-    if kind == 0 {
-        return RoundV::FastV { proposer: a, v };
-    }
-    if kind == 1 {
-        return RoundV::PaxosV {
-            accept_round: OptionalRound::NoRound,
+    match kind {
+        0 => RoundV::FastV { proposer: a, v },
+        1 => RoundV::PaxosV {
+            accept_round: None,
             v,
-        };
-    }
-    RoundV::PaxosV {
-        accept_round: optional_round(1, a, b),
-        v,
+        },
+        _ => RoundV::PaxosV {
+            accept_round: Some(PaxosRound {
+                round_group: a,
+                leader: b,
+            }),
+            v,
+        },
     }
 }
 
 // The message of a line of kind 5.
+#[tactic(auto, unfolding(crate::specs::Calls::prepare_of))]
 fn prepare_of(numbers: &[u64]) -> ConsensusMsg
     ensures { result ≡ prepare_of numbers.now }
 {
@@ -85,6 +63,7 @@ fn prepare_of(numbers: &[u64]) -> ConsensusMsg
     }
 }
 
+#[tactic(auto, unfolding(crate::specs::Calls::accept_of))]
 fn accept_of(numbers: &[u64]) -> ConsensusMsg
     ensures { result ≡ accept_of numbers.now }
 {
@@ -100,62 +79,44 @@ fn accept_of(numbers: &[u64]) -> ConsensusMsg
 }
 
 // The message of a line of kind 5 to 10.
+#[tactic(auto, unfolding(crate::specs::Calls::message_of))]
 fn message_of(numbers: &[u64]) -> ConsensusMsg
     ensures { result ≡ message_of numbers.now }
 {
-    let kind = number_at(numbers, 0);
     let fourth = number_at(numbers, 4);
     let fifth = number_at(numbers, 5);
-    if kind == 5 {
-        return prepare_of(numbers);
-    }
-    if kind == 6 {
-        return accept_of(numbers);
-    }
-    if kind == 7 {
-        return ConsensusMsg::ForwardRequest { v: fourth };
-    }
-    if kind == 8 {
-        return ConsensusMsg::Commit {
+    match number_at(numbers, 0) {
+        5 => prepare_of(numbers),
+        6 => accept_of(numbers),
+        7 => ConsensusMsg::ForwardRequest { v: fourth },
+        8 => ConsensusMsg::Commit {
             slot: fourth,
             v: fifth,
-        };
-    }
-    if kind == 9 {
-        return ConsensusMsg::ReadRequest { id: ReadId(fourth) };
-    }
-    ConsensusMsg::ReadResponse {
-        id: ReadId(fourth),
-        next_readable_slot: fifth,
+        },
+        9 => ConsensusMsg::ReadRequest { id: ReadId(fourth) },
+        _ => ConsensusMsg::ReadResponse {
+            id: ReadId(fourth),
+            next_readable_slot: fifth,
+        },
     }
 }
 
 // Where the host's words begin on a line of this kind, and 0 where the kind has none.
+#[tactic(auto, unfolding(crate::specs::Calls::words_place))]
 pub fn words_place(kind: u64) -> usize
     ensures value { result ≡ words_place kind }
     ensures upper_bound { result < 100 }
 {
-    if kind == 5 {
-        return 11;
+    match kind {
+        5 => 11,
+        6 => 8,
+        7 | 9 => 5,
+        8 | 10 => 6,
+        _ => 0,
     }
-    if kind == 6 {
-        return 8;
-    }
-    if kind == 7 {
-        return 5;
-    }
-    if kind == 8 {
-        return 6;
-    }
-    if kind == 9 {
-        return 5;
-    }
-    if kind == 10 {
-        return 6;
-    }
-    0
 }
 
+#[tactic(auto, unfolding(crate::specs::Calls::said_at, crate::specs::Calls::optional_process))]
 fn said_at(numbers: &[u64], at: usize) -> Said
     requires { at < 100 }
     ensures { result ≡ said_at numbers.now at }
@@ -166,12 +127,13 @@ fn said_at(numbers: &[u64], at: usize) -> Said
     let fast = number_at(numbers, at + 3);
     Said {
         value_held: held == 1,
-        requester: optional_process(flag, requester),
+        requester: optional(flag, requester),
         fast: fast == 1,
     }
 }
 
 // The message of a line whose host's words begin at `at`.
+#[tactic(auto, unfolding(crate::specs::Calls::delivery_at, crate::specs::Calls::optional_process, crate::specs::Calls::optional_value))]
 fn delivery_at(numbers: &[u64], at: usize) -> Delivery
     requires { at < 100 }
     ensures { result ≡ delivery_at numbers.now at }
@@ -183,28 +145,26 @@ fn delivery_at(numbers: &[u64], at: usize) -> Delivery
     let message = ConsensusMessage {
         msg: message_of(numbers),
         src: number_at(numbers, 1),
-        last_v: optional_value(last, last_v),
+        last_v: optional(last, last_v),
     };
     Delivery {
         message,
         said: said_at(numbers, at),
-        held_requester: optional_process(flag, requester),
+        held_requester: optional(flag, requester),
     }
 }
 
 // The call of a line of kind 3 to 10.
+#[tactic(auto, unfolding(crate::specs::Calls::call_of_numbers))]
 pub fn call_of(numbers: &[u64]) -> Call
     ensures { result ≡ call_of_numbers numbers.now }
 {
-    let kind = number_at(numbers, 0);
-    if kind == 3 {
-        return Call::Propose(number_at(numbers, 1));
-    }
-    if kind == 4 {
-        return Call::StartRead {
+    match number_at(numbers, 0) {
+        3 => Call::Propose(number_at(numbers, 1)),
+        4 => Call::StartRead {
             tag: number_at(numbers, 1),
             arrival_slot: number_at(numbers, 2),
-        };
+        },
+        kind => Call::Receive(delivery_at(numbers, words_place(kind))),
     }
-    Call::Receive(delivery_at(numbers, words_place(kind)))
 }

@@ -10,7 +10,7 @@ use borrow.Author.Tests.{lt-ltb, ne_eqb}
 use Rattle.io.specs.Digits.{last_digits, hex_digit_ascii}
 use Rattle.call_lines.specs.Reading.{scan_of}
 use Rattle.texts.specs.Text.{digit_count, decimal}
-use Rattle.line_fields.specs.declared.OptionalNumber.TheVariants.{Holds}
+use Rattle.std.specs.Prelude.{Some}
 use Rattle.line_fields.specs.Fields.{one_number, up_to_blank, field_from, field_end, next_field, number_field}
 use Rattle.line_fields.proofs.ReadBack.{number_read}
 
@@ -38,12 +38,12 @@ up_to_the_end n = ap up_to_blank (sym (append-nil (decimal n))) ∙ digits_passe
 
 -- ---- a field with others behind it
 
-field_holds : (line : List ℕ) (at n : ℕ) → n ≤ 18446744073709551615 → field_from line at ≡ decimal n → (number_field line at).number ≡ Holds n
+field_holds : (line : List ℕ) (at n : ℕ) → n ≤ 18446744073709551615 → field_from line at ≡ decimal n → (number_field line at).number ≡ Some n
 unfolding number_field
 field_holds line at n l e = ap (λ (bytes : List ℕ). one_number (scan_of bytes)) e ∙ number_read n l
 
 pub field_read : (line : List ℕ) (at n : ℕ) (rest : List ℕ) → n ≤ 18446744073709551615 → drop at line ≡ decimal n ++ (32 ∷ rest)
-    → (number_field line at).number ≡ Holds n
+    → (number_field line at).number ≡ Some n
 field_read line at n rest l e = field_holds line at n l (ap up_to_blank e ∙ up_to_its_blank n rest)
 
 pub behind_field : (line : List ℕ) (at n : ℕ) (rest : List ℕ) → drop at line ≡ decimal n ++ (32 ∷ rest)
@@ -60,7 +60,7 @@ behind_field line at n rest e =
 
 -- ---- the last field of a line
 
-pub last_read : (line : List ℕ) (at n : ℕ) → n ≤ 18446744073709551615 → drop at line ≡ decimal n → (number_field line at).number ≡ Holds n
+pub last_read : (line : List ℕ) (at n : ℕ) → n ≤ 18446744073709551615 → drop at line ≡ decimal n → (number_field line at).number ≡ Some n
 last_read line at n l e = field_holds line at n l (ap up_to_blank e ∙ up_to_the_end n)
 
 pub last_ends : (line : List ℕ) (at n : ℕ) → drop at line ≡ decimal n → (number_field line at).end ≡ length line

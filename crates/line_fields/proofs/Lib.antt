@@ -1,4 +1,4 @@
-mod Turns
+mod Words
 mod Places
 pub mod ReadBack
 pub mod FieldsRead

@@ -15,7 +15,7 @@ use Rattle.call_lines.specs.Reading.{start, is_full, with_digit, after_digit, af
 use Rattle.call_lines.specs.declared.Scan.{Scan}
 use Rattle.texts.specs.Text.{digit_count, decimal}
 use Rattle.line_fields.specs.Fields.{one_number}
-use Rattle.line_fields.specs.declared.OptionalNumber.TheVariants.{Holds}
+use Rattle.std.specs.Prelude.{Some}
 
 -- one number is read so far, and nothing is wrong with it
 abbrev reading : ℕ → Scan
@@ -96,6 +96,6 @@ decimal_read n l = go (digit_count 19 n) (some_digit 19 n) (enough_digits 19 n (
     go zero p h = absurd (omega arith)
     go (suc k) p h = digits_read k n h l
 
-pub number_read : (n : ℕ) → n ≤ 18446744073709551615 → one_number (scan_of (decimal n)) ≡ Holds n
+pub number_read : (n : ℕ) → n ≤ 18446744073709551615 → one_number (scan_of (decimal n)) ≡ Some n
 unfolding one_number
 number_read n l = ap one_number (decimal_read n l)

@@ -1,11 +1,9 @@
 -- The fields of a line (docs/PLANNING.md): words, and numbers in decimal. Places are counted in bytes of the line.
 -- Assumes nothing.
-use Rattle.std.specs.Prelude.{Bool, true, false, cond, ◌&&◌, List, [], ◌∷◌, ◌++◌, ℕ, zero, suc, ◌+◌, min, eqb, ltb, length, get_or, drop}
+use Rattle.std.specs.Prelude.{Bool, true, false, cond, ◌&&◌, List, [], ◌∷◌, ◌++◌, ℕ, zero, suc, ◌+◌, min, eqb, ltb, length, get_or, drop, Option, Some, None}
 use Rattle.call_lines.specs.Reading.{scan_of}
 use Rattle.call_lines.specs.declared.Scan.{Scan}
 use Rattle.texts.specs.Text.{ascii, field}
-use Rattle.line_fields.specs.declared.OptionalNumber.{OptionalNumber}
-use Rattle.line_fields.specs.declared.OptionalNumber.TheVariants.{Holds, NoNumber}
 use Rattle.line_fields.specs.declared.NumberField.{NumberField}
 
 -- ---- words
@@ -26,22 +24,22 @@ is_line word line = eqb (length line) (length word) && begins word line
 -- ---- numbers
 
 -- the number of a field that is read to its end: decimal digits alone, and a number of 64 bits
-unfoldable pub one_number : Scan → OptionalNumber
+unfoldable pub one_number : Scan → Option ℕ
 one_number s =
-    cond s.malformed NoNumber
-    (cond s.above_limit NoNumber (cond (ltb 0 s.before) NoNumber (cond s.has_digit (Holds s.value) NoNumber)))
+    cond s.malformed None
+    (cond s.above_limit None (cond (ltb 0 s.before) None (cond s.has_digit (Some s.value) None)))
 
-abbrev pub is_number : OptionalNumber → Bool
-is_number (Holds n) = true
-is_number NoNumber = false
+abbrev pub is_number : Option ℕ → Bool
+is_number (Some n) = true
+is_number None = false
 
 -- the number, and 0 where there is none
-abbrev pub value_of : OptionalNumber → ℕ
-value_of (Holds n) = n
-value_of NoNumber = 0
+abbrev pub value_of : Option ℕ → ℕ
+value_of (Some n) = n
+value_of None = 0
 
 -- the number that a line holds from a place to its end
-unfoldable pub number_from : List ℕ → ℕ → OptionalNumber
+unfoldable pub number_from : List ℕ → ℕ → Option ℕ
 number_from line at = one_number (scan_of (drop at line))
 
 -- ---- fields: 32 is the blank

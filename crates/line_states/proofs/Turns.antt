@@ -1,16 +1,13 @@
 -- One more turn of each loop: what its definition says of the first i is carried to i + 1.
 -- Assumes nothing.
 use mathlib.Core.Path.{◌≡◌}
-use mathlib.Core.Bool.{Bool, ◌&&◌}
 use mathlib.Core.List.{List}
 use Prim.Native.Nat.{ℕ, ◌+◌, ◌*◌}
 use native.Mathlib.Numerals.{add-one}
-use lib.Dec.{ltb}
 use lib.ListN.{set}
 use Rattle.tables.specs.Tables.{store}
 use Rattle.read_tracker.specs.declared.OpenRead.{OpenRead}
 use Rattle.line_calls.specs.Calls.{at}
-use Rattle.line_states.specs.Faults.{is_flag, read_flags, proposers_fit}
 use Rattle.line_states.specs.States.{entry_at, table_to, proposers_to, read_at, reads_to}
 
 pub table_next : (ns : List ℕ) (w n i : ℕ) (t : List ℕ) (x : ℕ) → t ≡ table_to ns w n i → x ≡ entry_at ns w n i → set t i x ≡ table_to ns w n (i + 1)
@@ -26,13 +23,3 @@ pub reads_next : (ns : List ℕ) (w i : ℕ) (t : List OpenRead) (x : OpenRead) 
     → set t i x ≡ reads_to ns w (i + 1)
 unfolding reads_to
 reads_next ns w i t x h e = simp (add-one, ← h, e)
-
-pub flags_next : (ns : List ℕ) (w i : ℕ) (b r : Bool) (x : ℕ) → b ≡ read_flags ns w i → x ≡ at ns (w + 5 * i) → r ≡ (b && is_flag x)
-    → r ≡ read_flags ns w (i + 1)
-unfolding read_flags
-flags_next ns w i b r x h e f = simp (add-one, ← h, f, e)
-
-pub fit_next : (ns : List ℕ) (i : ℕ) (b r : Bool) (x : ℕ) → b ≡ proposers_fit ns i → x ≡ at ns (21 + 4 * i) → r ≡ (b && ltb x 64)
-    → r ≡ proposers_fit ns (i + 1)
-unfolding proposers_fit
-fit_next ns i b r x h e f = simp (add-one, ← h, f, e)

@@ -1,9 +1,9 @@
 -- What is wrong with the numbers of a line (docs/ORACLE.md, "Answer lines": the reasons, in their order of looking).
 -- Assumes nothing.
-use Rattle.std.specs.Prelude.{Bool, true, cond, ◌&&◌, List, ℕ, zero, suc, ◌+◌, ◌*◌, min, eqb, leb, ltb, length}
+use Rattle.std.specs.Prelude.{Bool, true, cond, ◌&&◌, List, ℕ, zero, suc, ◌+◌, ◌*◌, min, eqb, leb, ltb, length, Result, Ok, Err}
 use Rattle.line_calls.specs.Calls.{at, words_place}
 use Rattle.call_lines.specs.declared.Fault.{Fault}
-use Rattle.call_lines.specs.declared.Fault.TheVariants.{NoFault, UnknownKind, WrongCount, NotFlag, NoSuchMode, NoSuchPromise, PlaceAboveLimit}
+use Rattle.call_lines.specs.declared.Fault.TheVariants.{UnknownKind, WrongCount, NotFlag, NoSuchMode, NoSuchPromise, PlaceAboveLimit}
 
 unfoldable pub is_kind : ℕ → Bool
 is_kind kind = leb 1 kind && leb kind 10
@@ -73,7 +73,7 @@ places_fit ns = cond (eqb (at ns 0) 1) (settings_places ns) (cond (eqb (at ns 0)
 
 -- ----
 
-unfoldable pub numbers_fault : List ℕ → Fault
+unfoldable pub numbers_fault : List ℕ → Result (Unit {0}) Fault
 numbers_fault ns =
     cond (is_kind (at ns 0)) (cond (eqb (expected_count ns) (length ns)) (cond (flags_fit ns) (cond (mode_fits ns) (cond (promise_fits ns)
-    (cond (places_fit ns) NoFault PlaceAboveLimit) NoSuchPromise) NoSuchMode) NotFlag) WrongCount) UnknownKind
+    (cond (places_fit ns) (Ok tt) (Err PlaceAboveLimit)) (Err NoSuchPromise)) (Err NoSuchMode)) (Err NotFlag)) (Err WrongCount)) (Err UnknownKind)

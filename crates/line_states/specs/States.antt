@@ -1,14 +1,11 @@
 -- The settings and the state of the lines of kind 1 and 2, from their numbers (docs/ORACLE.md, "Call lines").
 -- Assumes nothing.
-use Rattle.std.specs.Prelude.{cond, List, ℕ, zero, suc, ◌+◌, ◌*◌, min, eqb, ltb, set, replicate}
-use Rattle.sets.specs.declared.OptionalSet.{OptionalSet}
-use Rattle.sets.specs.declared.OptionalSet.TheVariants.{NoSet, Set}
+use Rattle.std.specs.Prelude.{cond, List, ℕ, zero, suc, ◌+◌, ◌*◌, min, eqb, ltb, set, replicate, Option, None, Some}
+use Rattle.message.specs.declared.RoundV.{RoundV}
 use Rattle.tables.specs.Tables.{store}
 use Rattle.message.specs.declared.PFMode.{PFMode}
 use Rattle.message.specs.declared.PFMode.TheVariants.{Paxos, MultiPaxos, MultiPaxos3P, EPaxos, Pando, SwiftPaxos}
 use Rattle.settings.specs.declared.Settings.{Settings}
-use Rattle.round_state.specs.declared.HeldPromise.{HeldPromise}
-use Rattle.round_state.specs.declared.HeldPromise.TheVariants.{NothingHeld, Held}
 use Rattle.round_state.specs.declared.PaxosState.{PaxosState}
 use Rattle.fast_state.specs.declared.FastState.{FastState}
 use Rattle.read_tracker.specs.Reads.{new_table}
@@ -20,8 +17,8 @@ use Rattle.line_calls.specs.Calls.{at, optional_value, optional_round, promise_o
 
 -- ---- settings
 
-unfoldable pub optional_set : ℕ → ℕ → OptionalSet
-optional_set flag s = cond (eqb flag 1) (Set s) NoSet
+unfoldable pub optional_set : ℕ → ℕ → Option ℕ
+optional_set flag s = cond (eqb flag 1) (Some s) None
 
 unfoldable pub mode_of : ℕ → PFMode
 mode_of n =
@@ -62,8 +59,8 @@ settings_of ns = settings_at ns (min (at ns 10) 64)
 -- ---- state
 
 -- HELD
-unfoldable pub held_of : ℕ → ℕ → ℕ → ℕ → HeldPromise
-held_of kind a b v = cond (eqb kind 3) NothingHeld (Held (promise_of kind a b v))
+unfoldable pub held_of : ℕ → ℕ → ℕ → ℕ → Option RoundV
+held_of kind a b v = cond (eqb kind 3) None (Some (promise_of kind a b v))
 
 unfoldable pub paxos_of : List ℕ → PaxosState
 paxos_of ns =

@@ -1,92 +1,81 @@
-// The numbers of a line as settings or a state, and what is wrong with them (docs/ORACLE.md, "Call lines").
+// The numbers of a line as settings or a state, and what is wrong with them (docs/ORACLE.md, "Call lines"). Kinds of lines, of
+// promises and modes are the numbers of that format here, and no enums: what stands in a line may be any number, and each has an answer.
 #![tactic(auto)]
 
-ghost use Rattle.std.specs.Prelude.{◌≡◌, ◌&&◌, ◌≤◌, ◌<◌, min, ltb};
-ghost use Rattle.line_states.specs.States.{optional_set, mode_of, entry_at, table_to, settings_with, settings_at, settings_of, held_of, paxos_of, core_at, proposers_to, fast_at, read_at, read_table_at, state_at, state_of};
+ghost use Rattle.std.specs.Prelude.{◌≡◌, ◌≤◌, ◌<◌, min};
+ghost use Rattle.line_states.specs.States.{mode_of, entry_at, table_to, settings_with, settings_at, settings_of, held_of, paxos_of, core_at, proposers_to, fast_at, read_at, read_table_at, state_at, state_of};
 ghost use Rattle.line_states.specs.Faults.{is_kind, settings_count_at, state_count_at, expected_count, is_flag, read_flags, settings_flags, state_flags_at, message_flags, flags_fit, mode_fits, promise_fits, settings_places, proposers_fit, state_places_at, places_fit, numbers_fault};
 
 use call_lines::Fault;
 use fast_state::FastState;
-use line_calls::{number_at, optional_round, optional_value, promise, words_place};
-use message::{PFMode, ReadId};
+use line_calls::{number_at, optional, promise, words_place};
+use message::{PFMode, PaxosRound, ReadId, RoundV};
 use read_tracker::{OpenRead, ReadTable, ReadTracker};
-use round_state::{HeldPromise, PaxosState};
-use sets::OptionalSet;
+use round_state::PaxosState;
 use settings::Settings;
 use state_calls::State;
 use steps::{Core, Rounds};
 
-fn optional_set(flag: u64, s: u64) -> OptionalSet
-    ensures { result ≡ optional_set flag s }
-{
-    if flag == 1 {
-        return OptionalSet::Set(s);
-    }
-    OptionalSet::NoSet
-}
-
-fn held_promise(kind: u64, a: u64, b: u64, v: u64) -> HeldPromise
+#[tactic(auto, unfolding(crate::specs::States::held_of))]
+fn held_promise(kind: u64, a: u64, b: u64, v: u64) -> Option<RoundV>
     ensures { result ≡ held_of kind a b v }
 {
     if kind == 3 {
-        return HeldPromise::NothingHeld;
+        None
+    } else {
+        Some(promise(kind, a, b, v))
     }
-    HeldPromise::Held(promise(kind, a, b, v))
 }
 
+// Modes are numbers of the format; one that it does not have is refused before it is asked for here.
+#[tactic(auto, unfolding(crate::specs::States::mode_of))]
 fn mode_of(n: u64) -> PFMode
     ensures { result ≡ mode_of n }
 {
-    if n == 1 {
-        return PFMode::MultiPaxos;
+    match n {
+        1 => PFMode::MultiPaxos,
+        2 => PFMode::MultiPaxos3P,
+        3 => PFMode::EPaxos,
+        4 => PFMode::Pando,
+        5 => PFMode::SwiftPaxos,
+        _ => PFMode::Paxos,
     }
-    if n == 2 {
-        return PFMode::MultiPaxos3P;
-    }
-    if n == 3 {
-        return PFMode::EPaxos;
-    }
-    if n == 4 {
-        return PFMode::Pando;
-    }
-    if n == 5 {
-        return PFMode::SwiftPaxos;
-    }
-    PFMode::Paxos
 }
 
 fn at_most(n: u64, limit: usize) -> usize
     ensures { result ≡ min n limit }
 {
-    if n < limit as u64 { n as usize } else { limit }
+    n.min(limit as u64) as usize
 }
 
 // The number at place i behind `at`, and 0 from the count on.
+#[tactic(auto, unfolding(crate::specs::States::entry_at))]
 fn entry(numbers: &[u64], at: usize, count: usize, i: usize) -> u64
     requires { (at < 10000) × (count ≤ 64) }
     ensures { result ≡ entry_at numbers.now at count i }
 {
     if i < count {
-        return number_at(numbers, at + i);
+        number_at(numbers, at + i)
+    } else {
+        0
     }
-    0
 }
 
 // A table whose first count places stand at `at`.
+#[tactic(auto, using(crate::proofs::Turns::table_next), unfolding(crate::specs::States::table_to))]
 fn table_at(numbers: &[u64], at: usize, count: usize) -> [u64; 64]
     requires { (at < 10000) × (count ≤ 64) }
     ensures { result ≡ table_to numbers.now at count 64 }
 {
     let mut table = [0u64; 64];
-    let mut i: usize = 0;
-    while i < 64 {
+    for i in 0..64usize {
         table[i] = entry(numbers, at, count, i);
-        i += 1;
     }
     table
 }
 
 // The settings of a line of kind 1 with these tables.
+#[tactic(auto, unfolding(crate::specs::States::settings_with, crate::specs::States::optional_set))]
 fn settings_with(numbers: &[u64], committers: [u64; 64], delegates: [u64; 64]) -> Settings
     ensures { result ≡ settings_with numbers.now committers delegates }
 {
@@ -100,7 +89,7 @@ fn settings_with(numbers: &[u64], committers: [u64; 64], delegates: [u64; 64]) -
         alive_replicas: number_at(numbers, 4),
         first_leader: number_at(numbers, 5),
         mode: mode_of(number_at(numbers, 6)),
-        quorum: optional_set(quorum, set),
+        quorum: optional(quorum, set),
         has_committers: has_committers == 1,
         committers,
         delegates,
@@ -108,6 +97,7 @@ fn settings_with(numbers: &[u64], committers: [u64; 64], delegates: [u64; 64]) -
 }
 
 // The settings of a line of kind 1 with c committers.
+#[tactic(auto, unfolding(crate::specs::States::settings_at))]
 fn settings_at(numbers: &[u64], c: usize) -> Settings
     requires { c ≤ 64 }
     ensures { result ≡ settings_at numbers.now c }
@@ -125,18 +115,21 @@ pub fn settings_of(numbers: &[u64]) -> Settings
     settings_at(numbers, at_most(number_at(numbers, 10), 64))
 }
 
+#[tactic(auto, unfolding(crate::specs::States::paxos_of, line_calls::specs::Calls::optional_round))]
 fn paxos_of(numbers: &[u64]) -> PaxosState
     ensures { result ≡ paxos_of numbers.now }
 {
     let flag = number_at(numbers, 5);
-    let group = number_at(numbers, 6);
-    let leader = number_at(numbers, 7);
+    let round = PaxosRound {
+        round_group: number_at(numbers, 6),
+        leader: number_at(numbers, 7),
+    };
     let kind = number_at(numbers, 8);
     let a = number_at(numbers, 9);
     let b = number_at(numbers, 10);
     let v = number_at(numbers, 11);
     PaxosState {
-        round: optional_round(flag, group, leader),
+        round: optional(flag, round),
         max_rv: held_promise(kind, a, b, v),
         prepared_set: number_at(numbers, 12),
         accepted_set: number_at(numbers, 13),
@@ -144,6 +137,7 @@ fn paxos_of(numbers: &[u64]) -> PaxosState
 }
 
 // The core of a line of kind 2 with so many open reads.
+#[tactic(auto, unfolding(crate::specs::States::core_at, line_calls::specs::Calls::optional_value))]
 fn core_at(numbers: &[u64], open_count: u64) -> Core
     ensures { result ≡ core_at numbers.now open_count }
 {
@@ -156,7 +150,7 @@ fn core_at(numbers: &[u64], open_count: u64) -> Core
     };
     Core {
         slot: number_at(numbers, 1),
-        last_v: optional_value(flag, last),
+        last_v: optional(flag, last),
         slot_left_fast_path: left == 1,
         paxos: paxos_of(numbers),
         tracker,
@@ -164,23 +158,22 @@ fn core_at(numbers: &[u64], open_count: u64) -> Core
 }
 
 // The table of one number of each proposer that the line names: its value, with which 1, or one of its scores, with 2 and 3.
+#[tactic(auto, using(crate::proofs::Turns::proposers_next), unfolding(crate::specs::States::proposers_to))]
 fn proposer_table(numbers: &[u64], count: usize, which: usize) -> [u64; 64]
     requires { (count ≤ 64) × (which < 4) }
     ensures { result ≡ proposers_to numbers.now which count }
 {
     let mut table = [0u64; 64];
-    let mut i: usize = 0;
-    while i < count {
+    for i in 0..count {
         let at = 21 + 4 * i;
         let proposer = number_at(numbers, at);
-        let named = tables::store(table, proposer, number_at(numbers, at + which));
-        table = named;
-        i += 1;
+        tables::store(&mut table, proposer, number_at(numbers, at + which));
     }
     table
 }
 
 // The fast half of a line of kind 2 with p proposers.
+#[tactic(auto, unfolding(crate::specs::States::fast_at, line_calls::specs::Calls::optional_value))]
 fn fast_at(numbers: &[u64], p: usize) -> FastState
     requires { p ≤ 64 }
     ensures { result ≡ fast_at numbers.now p }
@@ -197,10 +190,11 @@ fn fast_at(numbers: &[u64], p: usize) -> FastState
         fast_proposer_to_v,
         epaxos_proposer_scores,
         swift_proposer_scores,
-        swift_leader_answer: optional_value(flag, answer),
+        swift_leader_answer: optional(flag, answer),
     }
 }
 
+#[tactic(auto, unfolding(crate::specs::States::read_at))]
 fn read_at(numbers: &[u64], at: usize) -> OpenRead
     requires { at < 10000 }
     ensures { result ≡ read_at numbers.now at }
@@ -216,6 +210,7 @@ fn read_at(numbers: &[u64], at: usize) -> OpenRead
 }
 
 // The table of the reads that stand at `at`, with none served.
+#[tactic(auto, using(crate::proofs::Turns::reads_next), unfolding(crate::specs::States::reads_to, crate::specs::States::read_table_at))]
 fn reads_at(numbers: &[u64], at: usize, count: usize) -> ReadTable
     requires { (at < 1000) × (count ≤ 128) }
     ensures { result ≡ read_table_at numbers.now at count }
@@ -223,15 +218,14 @@ fn reads_at(numbers: &[u64], at: usize, count: usize) -> ReadTable
     let none = ReadTable::new();
     let mut reads = none.reads;
     let served = none.served;
-    let mut i: usize = 0;
-    while i < count {
+    for i in 0..count {
         reads[i] = read_at(numbers, at + 5 * i);
-        i += 1;
     }
     ReadTable { reads, served }
 }
 
 // The state of a line of kind 2 with p proposers.
+#[tactic(auto, unfolding(crate::specs::States::state_at))]
 fn state_at(numbers: &[u64], p: usize) -> State
     requires { p ≤ 64 }
     ensures { result ≡ state_at numbers.now p }
@@ -254,6 +248,7 @@ pub fn state_of(numbers: &[u64]) -> State
 }
 
 // How many numbers a line of kind 1 with c committers has.
+#[tactic(auto, unfolding(crate::specs::Faults::settings_count_at))]
 fn settings_count_at(numbers: &[u64], c: usize) -> usize
     requires { c ≤ 2048 }
     ensures { result ≡ settings_count_at numbers.now c }
@@ -263,6 +258,7 @@ fn settings_count_at(numbers: &[u64], c: usize) -> usize
 }
 
 // How many numbers a line of kind 2 with p proposers has.
+#[tactic(auto, unfolding(crate::specs::Faults::state_count_at))]
 fn state_count_at(numbers: &[u64], p: usize) -> usize
     requires { p ≤ 2048 }
     ensures { result ≡ state_count_at numbers.now p }
@@ -272,32 +268,24 @@ fn state_count_at(numbers: &[u64], p: usize) -> usize
 }
 
 // How many numbers the line has by its kind and the counts that stand on it. A count from 2048 on gives more numbers than a line may have.
+#[tactic(auto, unfolding(crate::specs::Faults::expected_count))]
 fn expected_count(numbers: &[u64]) -> usize
     ensures { result ≡ expected_count numbers.now }
 {
-    let kind = number_at(numbers, 0);
-    if kind == 1 {
-        return settings_count_at(numbers, at_most(number_at(numbers, 10), 2048));
+    match number_at(numbers, 0) {
+        1 => settings_count_at(numbers, at_most(number_at(numbers, 10), 2048)),
+        2 => state_count_at(numbers, at_most(number_at(numbers, 20), 2048)),
+        3 => 2,
+        4 => 3,
+        kind => words_place(kind) + 6,
     }
-    if kind == 2 {
-        return state_count_at(numbers, at_most(number_at(numbers, 20), 2048));
-    }
-    if kind == 3 {
-        return 2;
-    }
-    if kind == 4 {
-        return 3;
-    }
-    words_place(kind) + 6
 }
 
+#[tactic(auto, unfolding(crate::specs::Faults::is_kind))]
 fn is_kind(kind: u64) -> bool
     ensures { result ≡ is_kind kind }
 {
-    if kind < 1 {
-        return false;
-    }
-    kind <= 10
+    1 <= kind && kind <= 10
 }
 
 fn is_flag(n: u64) -> bool
@@ -306,75 +294,53 @@ fn is_flag(n: u64) -> bool
     n <= 1
 }
 
+#[tactic(auto, unfolding(crate::specs::Faults::settings_flags))]
 fn settings_flags(numbers: &[u64]) -> bool
     ensures { result ≡ settings_flags numbers.now }
 {
-    if is_flag(number_at(numbers, 7)) {
-        return is_flag(number_at(numbers, 9));
-    }
-    false
-}
-
-fn and_flag(so_far: bool, n: u64) -> bool
-    ensures { result ≡ (so_far && is_flag n) }
-{
-    if so_far { n <= 1 } else { false }
+    is_flag(number_at(numbers, 7)) && is_flag(number_at(numbers, 9))
 }
 
 // The flags of the first count reads of a table that begins at `at`.
+#[tactic(auto, unfolding(crate::specs::Faults::read_flags))]
 fn read_flags(numbers: &[u64], at: usize, count: usize) -> bool
     requires { (at < 10000) × (count ≤ 2048) }
     ensures { result ≡ read_flags numbers.now at count }
 {
     let mut fit = true;
-    let mut i: usize = 0;
-    while i < count {
-        fit = and_flag(fit, number_at(numbers, at + 5 * i));
-        i += 1;
+    for i in 0..count {
+        fit = is_flag(number_at(numbers, at + 5 * i)) && fit;
     }
     fit
 }
 
 // The flags of a line of kind 2 whose reads are counted at `at`.
+#[tactic(auto, unfolding(crate::specs::Faults::state_flags_at))]
 fn state_flags_at(numbers: &[u64], at: usize) -> bool
     requires { at < 9000 }
     ensures { result ≡ state_flags_at numbers.now at }
 {
-    if !is_flag(number_at(numbers, 2)) {
-        return false;
-    }
-    if !is_flag(number_at(numbers, 4)) {
-        return false;
-    }
-    if !is_flag(number_at(numbers, 5)) {
-        return false;
-    }
-    if !is_flag(number_at(numbers, 17)) {
-        return false;
-    }
     let open_count = at_most(number_at(numbers, at), 2048);
-    read_flags(numbers, at + 5, open_count)
+    is_flag(number_at(numbers, 2))
+        && is_flag(number_at(numbers, 4))
+        && is_flag(number_at(numbers, 5))
+        && is_flag(number_at(numbers, 17))
+        && read_flags(numbers, at + 5, open_count)
 }
 
+#[tactic(auto, unfolding(crate::specs::Faults::message_flags))]
 fn message_flags(numbers: &[u64], at: usize) -> bool
     requires { at < 100 }
     ensures { result ≡ message_flags numbers.now at }
 {
-    if !is_flag(number_at(numbers, 2)) {
-        return false;
-    }
-    if !is_flag(number_at(numbers, at)) {
-        return false;
-    }
-    if !is_flag(number_at(numbers, at + 1)) {
-        return false;
-    }
-    if !is_flag(number_at(numbers, at + 3)) {
-        return false;
-    }
-    is_flag(number_at(numbers, at + 4))
+    is_flag(number_at(numbers, 2))
+        && is_flag(number_at(numbers, at))
+        && is_flag(number_at(numbers, at + 1))
+        && is_flag(number_at(numbers, at + 3))
+        && is_flag(number_at(numbers, at + 4))
 }
 
+#[tactic(auto, unfolding(crate::specs::Faults::flags_fit))]
 fn flags_fit(numbers: &[u64]) -> bool
     ensures { result ≡ flags_fit numbers.now }
 {
@@ -387,112 +353,90 @@ fn flags_fit(numbers: &[u64]) -> bool
         return state_flags_at(numbers, 21 + 4 * proposer_count);
     }
     let at = words_place(kind);
-    if at == 0 {
-        return true;
-    }
-    message_flags(numbers, at)
+    at == 0 || message_flags(numbers, at)
 }
 
+#[tactic(auto, unfolding(crate::specs::Faults::mode_fits))]
 fn mode_fits(numbers: &[u64]) -> bool
     ensures { result ≡ mode_fits numbers.now }
 {
-    if number_at(numbers, 0) == 1 {
-        return number_at(numbers, 6) <= 5;
-    }
-    true
+    number_at(numbers, 0) != 1 || number_at(numbers, 6) <= 5
 }
 
+#[tactic(auto, unfolding(crate::specs::Faults::promise_fits))]
 fn promise_fits(numbers: &[u64]) -> bool
     ensures { result ≡ promise_fits numbers.now }
 {
-    let kind = number_at(numbers, 0);
-    if kind == 2 {
-        return number_at(numbers, 8) <= 3;
+    match number_at(numbers, 0) {
+        2 => number_at(numbers, 8) <= 3,
+        5 => number_at(numbers, 7) <= 2,
+        _ => true,
     }
-    if kind == 5 {
-        return number_at(numbers, 7) <= 2;
-    }
-    true
 }
 
+#[tactic(auto, unfolding(crate::specs::Faults::settings_places))]
 fn settings_places(numbers: &[u64]) -> bool
     ensures { result ≡ settings_places numbers.now }
 {
     let committer_count = at_most(number_at(numbers, 10), 65);
-    if committer_count > 64 {
-        return false;
-    }
-    number_at(numbers, 11 + committer_count) <= 64
-}
-
-fn and_process(so_far: bool, p: u64) -> bool
-    ensures { result ≡ (so_far && ltb p 64) }
-{
-    if so_far { p < 64 } else { false }
+    committer_count <= 64 && number_at(numbers, 11 + committer_count) <= 64
 }
 
 // Whether the first count proposers of a line of kind 2 are process numbers.
+#[tactic(auto, unfolding(crate::specs::Faults::proposers_fit))]
 fn proposers_fit(numbers: &[u64], count: usize) -> bool
     requires { count ≤ 64 }
     ensures { result ≡ proposers_fit numbers.now count }
 {
     let mut fit = true;
-    let mut i: usize = 0;
-    while i < count {
-        fit = and_process(fit, number_at(numbers, 21 + 4 * i));
-        i += 1;
+    for i in 0..count {
+        fit = number_at(numbers, 21 + 4 * i) < 64 && fit;
     }
     fit
 }
 
 // The places of a line of kind 2 with p proposers.
+#[tactic(auto, unfolding(crate::specs::Faults::state_places_at))]
 fn state_places_at(numbers: &[u64], p: usize) -> bool
     requires { p ≤ 65 }
     ensures { result ≡ state_places_at numbers.now p }
 {
-    if p > 64 {
-        return false;
-    }
-    if number_at(numbers, 21 + 4 * p) > 128 {
-        return false;
-    }
-    proposers_fit(numbers, p)
+    p <= 64 && number_at(numbers, 21 + 4 * p) <= 128 && proposers_fit(numbers, p)
 }
 
+#[tactic(auto, unfolding(crate::specs::Faults::places_fit))]
 fn places_fit(numbers: &[u64]) -> bool
     ensures { result ≡ places_fit numbers.now }
 {
-    let kind = number_at(numbers, 0);
-    if kind == 1 {
-        return settings_places(numbers);
+    match number_at(numbers, 0) {
+        1 => settings_places(numbers),
+        2 => state_places_at(numbers, at_most(number_at(numbers, 20), 65)),
+        _ => true,
     }
-    if kind == 2 {
-        return state_places_at(numbers, at_most(number_at(numbers, 20), 65));
-    }
-    true
 }
 
 // What is wrong with the numbers of a line.
-pub fn numbers_fault(numbers: &[u64]) -> Fault
+#[tactic(auto, unfolding(crate::specs::Faults::numbers_fault))]
+pub fn numbers_fault(numbers: &[u64]) -> Result<(), Fault>
     ensures { result ≡ numbers_fault numbers.now }
 {
     if !is_kind(number_at(numbers, 0)) {
-        return Fault::UnknownKind;
+        return Err(Fault::UnknownKind);
     }
     if expected_count(numbers) != numbers.len() {
-        return Fault::WrongCount;
+        return Err(Fault::WrongCount);
     }
     if !flags_fit(numbers) {
-        return Fault::NotFlag;
+        return Err(Fault::NotFlag);
     }
     if !mode_fits(numbers) {
-        return Fault::NoSuchMode;
+        return Err(Fault::NoSuchMode);
     }
     if !promise_fits(numbers) {
-        return Fault::NoSuchPromise;
+        return Err(Fault::NoSuchPromise);
     }
     if !places_fit(numbers) {
-        return Fault::PlaceAboveLimit;
+        return Err(Fault::PlaceAboveLimit);
     }
-    Fault::NoFault
+    Ok(())
 }

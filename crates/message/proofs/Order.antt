@@ -1,5 +1,6 @@
 -- Rounds are ordered, and are proposal numbers in the sense of *Paxos Made Simple*; no round comes before every round.
 -- Assumes nothing.
+use Rattle.std.specs.Prelude.{Option, None, Some}
 use mathlib.Core.Path.{◌≡◌, refl, sym, ap, ap₂, ◌∙◌}
 use mathlib.Core.Logic.{◌⊎◌, inl, inr}
 use mathlib.Core.Bool.{Bool, true, false, ◌&&◌}
@@ -10,8 +11,6 @@ use borrow.Author.Tests.{lt-ltb, ltb-true, eqb-true, eq-eqb}
 use Rattle.basics.proofs.Tests.{not_both, fails, and_left, and_right, and_both, or_cases, or_left, or_right}
 use Rattle.paxos.specs.PaxosMadeSimple.{Ordered, ProposalNumbers}
 use Rattle.message.specs.declared.PaxosRound.{PaxosRound}
-use Rattle.message.specs.declared.OptionalRound.{OptionalRound}
-use Rattle.message.specs.declared.OptionalRound.TheVariants.{NoRound, Round}
 use Rattle.message.specs.Rounds.{round_of, round_before, round_equal, before, equal}
 
 -- a comes before b: its group is lower, or the groups are equal and its leader is lower
@@ -75,28 +74,28 @@ own_round p r = eqb r.leader p
 pub rounds_are_proposal_numbers : ProposalNumbers round_before own_round
 rounds_are_proposal_numbers = record { ordered = rounds_ordered; disjoint = λ p q r e d. sym (eqb-true r.leader p e) ∙ eqb-true r.leader q d }
 
-transitive : (a b c : OptionalRound) → before a b ≡ true → before b c ≡ true → before a c ≡ true
-transitive NoRound NoRound c p q = absurd (not_both p refl)
-transitive NoRound (Round b) NoRound p q = absurd (not_both q refl)
-transitive NoRound (Round b) (Round c) p q = refl
-transitive (Round a) NoRound c p q = absurd (not_both p refl)
-transitive (Round a) (Round b) NoRound p q = absurd (not_both q refl)
-transitive (Round a) (Round b) (Round c) p q = rounds_ordered.transitive a b c p q
+transitive : (a b c : Option PaxosRound) → before a b ≡ true → before b c ≡ true → before a c ≡ true
+transitive None None c p q = absurd (not_both p refl)
+transitive None (Some b) None p q = absurd (not_both q refl)
+transitive None (Some b) (Some c) p q = refl
+transitive (Some a) None c p q = absurd (not_both p refl)
+transitive (Some a) (Some b) None p q = absurd (not_both q refl)
+transitive (Some a) (Some b) (Some c) p q = rounds_ordered.transitive a b c p q
 
-irreflexive : (a : OptionalRound) → before a a ≡ false
-irreflexive NoRound = refl
-irreflexive (Round a) = rounds_ordered.irreflexive a
+irreflexive : (a : Option PaxosRound) → before a a ≡ false
+irreflexive None = refl
+irreflexive (Some a) = rounds_ordered.irreflexive a
 
-connected : (a b : OptionalRound) → before a b ≡ false → before b a ≡ false → a ≡ b
-connected NoRound NoRound p q = refl
-connected NoRound (Round b) p q = absurd (not_both refl p)
-connected (Round a) NoRound p q = absurd (not_both refl q)
-connected (Round a) (Round b) p q = ap Round (rounds_ordered.connected a b p q)
+connected : (a b : Option PaxosRound) → before a b ≡ false → before b a ≡ false → a ≡ b
+connected None None p q = refl
+connected None (Some b) p q = absurd (not_both refl p)
+connected (Some a) None p q = absurd (not_both refl q)
+connected (Some a) (Some b) p q = ap Some (rounds_ordered.connected a b p q)
 
 pub optional_rounds_ordered : Ordered before
 optional_rounds_ordered = record { irreflexive = irreflexive; transitive = transitive; connected = connected }
 
-pub no_round_first : (r : PaxosRound) → before NoRound (Round r) ≡ true
+pub no_round_first : (r : PaxosRound) → before None (Some r) ≡ true
 no_round_first r = refl
 
 -- the two tests of equality say what they seem to say
@@ -111,12 +110,12 @@ pub equal_round : (a : PaxosRound) → round_equal a a ≡ true
 unfolding round_equal
 equal_round a = and_both (eq-eqb a.round_group a.round_group refl) (eq-eqb a.leader a.leader refl)
 
-pub equal_rounds : (a b : OptionalRound) → equal a b ≡ true → a ≡ b
-equal_rounds NoRound NoRound e = refl
-equal_rounds NoRound (Round b) e = absurd (not_both e refl)
-equal_rounds (Round a) NoRound e = absurd (not_both e refl)
-equal_rounds (Round a) (Round b) e = ap Round (round_equal_lem a b e)
+pub equal_rounds : (a b : Option PaxosRound) → equal a b ≡ true → a ≡ b
+equal_rounds None None e = refl
+equal_rounds None (Some b) e = absurd (not_both e refl)
+equal_rounds (Some a) None e = absurd (not_both e refl)
+equal_rounds (Some a) (Some b) e = ap Some (round_equal_lem a b e)
 
-pub rounds_equal : (a : OptionalRound) → equal a a ≡ true
-rounds_equal NoRound = refl
-rounds_equal (Round a) = equal_round a
+pub rounds_equal : (a : Option PaxosRound) → equal a a ≡ true
+rounds_equal None = refl
+rounds_equal (Some a) = equal_round a

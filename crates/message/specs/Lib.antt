@@ -3,3 +3,4 @@ pub mod Rounds
 pub mod Promises
 pub mod Messages
 pub mod Refusals
+pub mod Outcomes

@@ -1,10 +1,8 @@
 -- Rounds and their order (document 01, "Round and held promise"; the Rust's paxos_family/message.rs and the starting round of
 -- PaxosFamilyShard::new).
 -- Assumes nothing.
-use Rattle.std.specs.Prelude.{ℕ, ◌+◌, Bool, true, false, cond, ◌&&◌, ◌||◌, ltb, leb, eqb}
+use Rattle.std.specs.Prelude.{ℕ, ◌+◌, Bool, true, false, cond, ◌&&◌, ◌||◌, ltb, leb, eqb, Option, None, Some}
 use Rattle.message.specs.declared.PaxosRound.{PaxosRound}
-use Rattle.message.specs.declared.OptionalRound.{OptionalRound}
-use Rattle.message.specs.declared.OptionalRound.TheVariants.{NoRound, Round}
 use Rattle.message.specs.declared.PFMode.{PFMode}
 use Rattle.message.specs.declared.PFMode.TheVariants.{Paxos, MultiPaxos, MultiPaxos3P, EPaxos, Pando, SwiftPaxos}
 
@@ -25,13 +23,13 @@ unfoldable pub next_leader_round : PaxosRound → ℕ → PaxosRound
 next_leader_round r p = round_of (cond (leb r.leader p) r.round_group (increment r.round_group)) p
 
 -- starting_round of PaxosFamilyShard::new
-abbrev pub starting_round : PFMode → ℕ → OptionalRound
-starting_round Paxos leader = NoRound
-starting_round MultiPaxos leader = Round (next_leader_round default_round leader)
-starting_round MultiPaxos3P leader = Round (next_leader_round default_round leader)
-starting_round EPaxos leader = NoRound
-starting_round Pando leader = NoRound
-starting_round SwiftPaxos leader = NoRound
+abbrev pub starting_round : PFMode → ℕ → Option PaxosRound
+starting_round Paxos leader = None
+starting_round MultiPaxos leader = Some (next_leader_round default_round leader)
+starting_round MultiPaxos3P leader = Some (next_leader_round default_round leader)
+starting_round EPaxos leader = None
+starting_round Pando leader = None
+starting_round SwiftPaxos leader = None
 
 -- by group, then by leader
 unfoldable pub round_before : PaxosRound → PaxosRound → Bool
@@ -42,25 +40,20 @@ unfoldable pub round_equal : PaxosRound → PaxosRound → Bool
 round_equal a b = eqb a.round_group b.round_group && eqb a.leader b.leader
 
 -- the order of optional rounds: no round comes before every round
-abbrev pub before : OptionalRound → OptionalRound → Bool
-before NoRound NoRound = false
-before NoRound (Round b) = true
-before (Round a) NoRound = false
-before (Round a) (Round b) = round_before a b
+abbrev pub before : Option PaxosRound → Option PaxosRound → Bool
+before None None = false
+before None (Some b) = true
+before (Some a) None = false
+before (Some a) (Some b) = round_before a b
 
 -- equality of optional rounds
-abbrev pub equal : OptionalRound → OptionalRound → Bool
-equal NoRound NoRound = true
-equal NoRound (Round b) = false
-equal (Round a) NoRound = false
-equal (Round a) (Round b) = round_equal a b
-
--- Option::is_some
-abbrev pub is_round : OptionalRound → Bool
-is_round NoRound = false
-is_round (Round a) = true
+abbrev pub equal : Option PaxosRound → Option PaxosRound → Bool
+equal None None = true
+equal None (Some b) = false
+equal (Some a) None = false
+equal (Some a) (Some b) = round_equal a b
 
 -- Option::unwrap_or_default
-abbrev pub unwrap_or_default : OptionalRound → PaxosRound
-unwrap_or_default NoRound = default_round
-unwrap_or_default (Round a) = a
+abbrev pub unwrap_or_default : Option PaxosRound → PaxosRound
+unwrap_or_default None = default_round
+unwrap_or_default (Some a) = a

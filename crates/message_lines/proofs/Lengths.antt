@@ -1,27 +1,25 @@
 -- How long the messages are.
 -- Assumes nothing.
+use Rattle.std.specs.Prelude.{ℕ, Option, None, Some}
+use Rattle.steps.specs.declared.Outgoing.{Outgoing}
 use mathlib.Core.List.{[], ◌∷◌}
 use Prim.Native.Nat.{◌≤◌}
 use native.Mathlib.Omega.{arith}
 use lib.ListN.{length, length-append}
 use Rattle.message.specs.declared.ConsensusMsg.{ConsensusMsg}
 use Rattle.message.specs.declared.ConsensusMsg.TheVariants.{Prepare, Accept, ForwardRequest, Commit, ReadRequest, ReadResponse}
-use Rattle.message.specs.declared.OptionalProcess.{OptionalProcess}
-use Rattle.message.specs.declared.OptionalProcess.TheVariants.{NoProcess, Process}
 use Rattle.steps.specs.declared.Destination.{Destination}
 use Rattle.steps.specs.declared.Destination.TheVariants.{One, All}
 use Rattle.steps.specs.declared.Messages.{Messages}
-use Rattle.steps.specs.declared.OptionalMessage.{OptionalMessage}
-use Rattle.steps.specs.declared.OptionalMessage.TheVariants.{NoMessage, Send}
 use Rattle.texts.specs.Text.{ascii}
 use Rattle.message_lines.specs.Messages.{optional_process_text, message_text, destination_text, outgoing_text, optional_message_text, messages_text}
 use Rattle.texts.proofs.Lengths.{number, fields_length}
 use Rattle.promise_lines.proofs.Lengths.{value, promise}
 
-process : (p : OptionalProcess) → length (optional_process_text p) ≤ 21
+process : (p : Option ℕ) → length (optional_process_text p) ≤ 21
 unfolding optional_process_text
-process NoProcess = omega arith
-process (Process p) = number p
+process None = omega arith
+process (Some p) = number p
 
 message : (m : ConsensusMsg) → length (message_text m) ≤ 140
 unfolding message_text
@@ -38,10 +36,10 @@ unfolding destination_text
 destination (One p) = simp length-append (omega (arith, number p))
 destination (All first) = simp length-append (omega (arith, process first))
 
-optional_message : (m : OptionalMessage) → length (optional_message_text m) ≤ 193
+optional_message : (m : Option Outgoing) → length (optional_message_text m) ≤ 193
 unfolding optional_message_text outgoing_text
-optional_message NoMessage = omega arith
-optional_message (Send o) =
+optional_message None = omega arith
+optional_message (Some o) =
     simp length-append (omega (arith, destination o.destination, value o.message.last_v, message o.message.msg))
 
 pub messages : (m : Messages) → length (messages_text m) ≤ 579

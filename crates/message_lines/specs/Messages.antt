@@ -1,23 +1,19 @@
 -- The messages of a reply (docs/ORACLE.md, "Answer lines", 2). Each text begins with a space, or with the bar that joins two parts.
 -- Assumes nothing.
-use Rattle.std.specs.Prelude.{List, [], ◌∷◌, ◌++◌, ℕ}
+use Rattle.std.specs.Prelude.{List, [], ◌∷◌, ◌++◌, ℕ, Option, None, Some}
 use Rattle.message.specs.declared.ConsensusMsg.{ConsensusMsg}
 use Rattle.message.specs.declared.ConsensusMsg.TheVariants.{Prepare, Accept, ForwardRequest, Commit, ReadRequest, ReadResponse}
-use Rattle.message.specs.declared.OptionalProcess.{OptionalProcess}
-use Rattle.message.specs.declared.OptionalProcess.TheVariants.{NoProcess, Process}
 use Rattle.steps.specs.declared.Destination.{Destination}
 use Rattle.steps.specs.declared.Destination.TheVariants.{One, All}
 use Rattle.steps.specs.declared.Messages.{Messages}
-use Rattle.steps.specs.declared.OptionalMessage.{OptionalMessage}
-use Rattle.steps.specs.declared.OptionalMessage.TheVariants.{NoMessage, Send}
 use Rattle.steps.specs.declared.Outgoing.{Outgoing}
 use Rattle.texts.specs.Text.{ascii, field, fields}
 use Rattle.promise_lines.specs.Promises.{optional_value_text, promise_text}
 
 -- FIRST
-unfoldable pub optional_process_text : OptionalProcess → List ℕ
-optional_process_text NoProcess = ascii " -"
-optional_process_text (Process p) = field p
+unfoldable pub optional_process_text : Option ℕ → List ℕ
+optional_process_text None = ascii " -"
+optional_process_text (Some p) = field p
 
 -- MESSAGE
 unfoldable pub message_text : ConsensusMsg → List ℕ
@@ -37,9 +33,9 @@ destination_text (All first) = ascii " all" ++ optional_process_text first
 unfoldable pub outgoing_text : Outgoing → List ℕ
 outgoing_text o = ascii " | send" ++ destination_text o.destination ++ optional_value_text o.message.last_v ++ message_text o.message.msg
 
-unfoldable pub optional_message_text : OptionalMessage → List ℕ
-optional_message_text NoMessage = []
-optional_message_text (Send o) = outgoing_text o
+unfoldable pub optional_message_text : Option Outgoing → List ℕ
+optional_message_text None = []
+optional_message_text (Some o) = outgoing_text o
 
 unfoldable pub messages_text : Messages → List ℕ
 messages_text m = optional_message_text m.first ++ optional_message_text m.second ++ optional_message_text m.third

@@ -5,89 +5,75 @@ ghost use Rattle.std.specs.Prelude.{◌≡◌};
 ghost use Rattle.texts.specs.Text.{put};
 ghost use Rattle.message_lines.specs.Messages.{optional_process_text, message_text, destination_text, optional_message_text, messages_text};
 
-use message::{ConsensusMsg, OptionalProcess};
-use steps::{Destination, Messages, OptionalMessage};
+use message::ConsensusMsg;
+use steps::{Destination, Messages, Outgoing};
+use texts::Output;
 
-fn put_optional_process(out: &mut [u8], at: usize, process: OptionalProcess) -> usize
-    ensures { (out.new, result) ≡ put (optional_process_text process) (out.old, at) }
+#[tactic(auto, unfolding(crate::specs::Messages::optional_process_text))]
+fn put_optional_process(out: &mut Output, process: Option<u64>)
+    ensures { out.new ≡ put (optional_process_text process) out.old }
 {
     match process {
-        OptionalProcess::NoProcess => texts::put_bytes(out, at, b" -"),
-        OptionalProcess::Process(p) => texts::put_field(out, at, p),
+        None => out.put_bytes(b" -"),
+        Some(p) => out.put_field(p),
     }
 }
 
-fn put_message(out: &mut [u8], at: usize, msg: ConsensusMsg) -> usize
-    ensures { (out.new, result) ≡ put (message_text msg) (out.old, at) }
+#[tactic(auto, using(texts::proofs::Putting::put_then), unfolding(crate::specs::Messages::message_text))]
+fn put_message(out: &mut Output, msg: ConsensusMsg)
+    ensures { out.new ≡ put (message_text msg) out.old }
 {
     match msg {
         ConsensusMsg::Prepare { slot, round, rv } => {
-            let group = round.round_group;
-            let leader = round.leader;
-            let next = texts::put_fields(out, at, b" prepare", &[slot, group, leader]);
-            promise_lines::put_promise(out, next, rv)
+            out.put_fields(b" prepare", &[slot, round.round_group, round.leader]);
+            promise_lines::put_promise(out, rv);
         }
         ConsensusMsg::Accept { slot, round, v } => {
-            let group = round.round_group;
-            let leader = round.leader;
-            texts::put_fields(out, at, b" accept", &[slot, group, leader, v])
+            out.put_fields(b" accept", &[slot, round.round_group, round.leader, v]);
         }
-        ConsensusMsg::ForwardRequest { v } => texts::put_fields(out, at, b" forward", &[v]),
-        ConsensusMsg::Commit { slot, v } => texts::put_fields(out, at, b" commit", &[slot, v]),
-        ConsensusMsg::ReadRequest { id } => {
-            let number = id.0;
-            texts::put_fields(out, at, b" read_request", &[number])
-        }
+        ConsensusMsg::ForwardRequest { v } => out.put_fields(b" forward", &[v]),
+        ConsensusMsg::Commit { slot, v } => out.put_fields(b" commit", &[slot, v]),
+        ConsensusMsg::ReadRequest { id } => out.put_fields(b" read_request", &[id.0]),
         ConsensusMsg::ReadResponse {
             id,
             next_readable_slot,
-        } => {
-            let number = id.0;
-            texts::put_fields(out, at, b" read_response", &[number, next_readable_slot])
-        }
+        } => out.put_fields(b" read_response", &[id.0, next_readable_slot]),
     }
 }
 
-fn put_destination(out: &mut [u8], at: usize, destination: Destination) -> usize
-    ensures { (out.new, result) ≡ put (destination_text destination) (out.old, at) }
+#[tactic(auto, using(texts::proofs::Putting::put_then), unfolding(crate::specs::Messages::destination_text))]
+fn put_destination(out: &mut Output, destination: Destination)
+    ensures { out.new ≡ put (destination_text destination) out.old }
 {
     match destination {
         Destination::One(process) => {
-            let next = texts::put_field(out, at, process);
-            texts::put_bytes(out, next, b" -")
+            out.put_field(process);
+            out.put_bytes(b" -");
         }
         Destination::All(first) => {
-            let next = texts::put_bytes(out, at, b" all");
-            put_optional_process(out, next, first)
+            out.put_bytes(b" all");
+            put_optional_process(out, first);
         }
     }
 }
 
-fn put_optional_message(out: &mut [u8], at: usize, message: OptionalMessage) -> usize
-    ensures { (out.new, result) ≡ put (optional_message_text message) (out.old, at) }
+#[tactic(auto, using(texts::proofs::Putting::put_then, texts::proofs::Putting::put_nothing), unfolding(crate::specs::Messages::optional_message_text, crate::specs::Messages::outgoing_text))]
+fn put_optional_message(out: &mut Output, message: Option<Outgoing>)
+    ensures { out.new ≡ put (optional_message_text message) out.old }
 {
-    match message {
-        OptionalMessage::NoMessage => at,
-        OptionalMessage::Send(outgoing) => {
-            let destination = outgoing.destination;
-            let sent = outgoing.message;
-            let last_v = sent.last_v;
-            let msg = sent.msg;
-            let second = texts::put_bytes(out, at, b" | send");
-            let third = put_destination(out, second, destination);
-            let fourth = promise_lines::put_optional_value(out, third, last_v);
-            put_message(out, fourth, msg)
-        }
+    if let Some(outgoing) = message {
+        out.put_bytes(b" | send");
+        put_destination(out, outgoing.destination);
+        promise_lines::put_optional_value(out, outgoing.message.last_v);
+        put_message(out, outgoing.message.msg);
     }
 }
 
-pub fn put_messages(out: &mut [u8], at: usize, messages: Messages) -> usize
-    ensures { (out.new, result) ≡ put (messages_text messages) (out.old, at) }
+#[tactic(auto, using(texts::proofs::Putting::put_then), unfolding(crate::specs::Messages::messages_text))]
+pub fn put_messages(out: &mut Output, messages: Messages)
+    ensures { out.new ≡ put (messages_text messages) out.old }
 {
-    let first = messages.first;
-    let second = messages.second;
-    let third = messages.third;
-    let after_first = put_optional_message(out, at, first);
-    let after_second = put_optional_message(out, after_first, second);
-    put_optional_message(out, after_second, third)
+    put_optional_message(out, messages.first);
+    put_optional_message(out, messages.second);
+    put_optional_message(out, messages.third);
 }

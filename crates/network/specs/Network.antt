@@ -1,9 +1,8 @@
 -- The messages under way (document 01, "Group runs (demand 3)"): each with the member that it goes to, in the first count places.
 -- Assumes nothing.
-use Rattle.std.specs.Prelude.{cond, List, ℕ, zero, suc, ◌+◌, ◌-◌, eqb, ltb, get_or, set, replicate}
+use Rattle.std.specs.Prelude.{cond, List, ℕ, zero, suc, ◌+◌, ◌-◌, eqb, ltb, get_or, set, replicate, None}
 use Rattle.message.specs.declared.ConsensusMessage.{ConsensusMessage}
 use Rattle.message.specs.declared.ConsensusMsg.TheVariants.{ForwardRequest}
-use Rattle.message.specs.declared.OptionalValue.TheVariants.{NoValue}
 use Rattle.steps.specs.declared.Destination.{Destination}
 use Rattle.steps.specs.declared.Destination.TheVariants.{One, All}
 use Rattle.network.specs.declared.Network.{Network}
@@ -13,7 +12,7 @@ abbrev pub parcel_of : ℕ → ConsensusMessage → Parcel
 parcel_of p m = record { member = p; message = m }
 
 abbrev pub no_parcel : Parcel
-no_parcel = parcel_of 0 (record { msg = ForwardRequest 0; src = 0; last_v = NoValue })
+no_parcel = parcel_of 0 (record { msg = ForwardRequest 0; src = 0; last_v = None })
 
 abbrev pub parcel_at : List Parcel → ℕ → Parcel
 parcel_at ps i = get_or ps i no_parcel

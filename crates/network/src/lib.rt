@@ -4,7 +4,7 @@
 ghost use Rattle.std.specs.Prelude.{◌≡◌};
 ghost use Rattle.network.specs.Network.{no_parcel, new_network, posted, without, posted_to_other, posted_to_all, sent, under};
 
-use message::{ConsensusMessage, ConsensusMsg, OptionalValue};
+use message::{ConsensusMessage, ConsensusMsg};
 use steps::{Destination, Outgoing};
 
 // A message on its way to one member.
@@ -14,7 +14,8 @@ pub struct Parcel {
     pub message: ConsensusMessage,
 }
 
-// The messages under way, in the first count places.
+// The messages under way, in the first count places. A buffer with its count, and no vector: `at` answers for every place, also one behind the count, where the message that was taken out still stands, and any
+// count is answered.
 #[derive(Clone, Copy)]
 pub struct Network {
     pub parcels: [Parcel; 128],
@@ -30,7 +31,7 @@ fn no_parcel() -> Parcel
         message: ConsensusMessage {
             msg: ConsensusMsg::ForwardRequest { v: 0 },
             src: 0,
-            last_v: OptionalValue::NoValue,
+            last_v: None,
         },
     }
 }
@@ -47,6 +48,7 @@ impl Network {
     }
 
     // One more message under way. Where there is no room it is lost.
+    #[tactic(auto, unfolding(crate::specs::Network::posted))]
     fn with(mut self, member: u64, message: ConsensusMessage) -> Network
         ensures { result ≡ posted self member message }
     {
@@ -60,6 +62,7 @@ impl Network {
     }
 
     // The message is no more under way: the last one takes its place.
+    #[tactic(auto, unfolding(crate::specs::Network::without))]
     pub fn without(mut self, i: u64) -> Network
         ensures { result ≡ without self i }
     {
@@ -78,6 +81,7 @@ impl Network {
     }
 
     // The message at a place, also one that is no more under way.
+    #[tactic(auto, unfolding(crate::specs::Network::under))]
     pub fn at(self, i: u64) -> Parcel
         ensures { result ≡ under self i }
     {
@@ -89,6 +93,7 @@ impl Network {
     }
 
     // To one member, but not to the source.
+    #[tactic(auto, unfolding(crate::specs::Network::posted_to_other))]
     fn with_other(self, member: u64, message: ConsensusMessage) -> Network
         ensures { result ≡ posted_to_other self member message }
     {
@@ -99,14 +104,13 @@ impl Network {
     }
 
     // To every other member of n.
+    #[tactic(auto, unfolding(crate::specs::Network::posted_to_all))]
     fn with_all(self, n: u64, message: ConsensusMessage) -> Network
         ensures { result ≡ posted_to_all self n message }
     {
         let mut network = self;
-        let mut member: u64 = 0;
-        while member < n {
+        for member in 0..n {
             network = network.with_other(member, message);
-            member += 1;
         }
         network
     }

@@ -1,22 +1,17 @@
 -- A run as the lister keeps it: the group of three after the run, who proposed, and in time order what was sent, the events and the commits.
 -- Assumes nothing.
-use Rattle.std.specs.Prelude.{Bool, true, false, cond, List, ℕ, ◌+◌, ltb, get_or, set, replicate}
+use Rattle.std.specs.Prelude.{true, false, cond, ℕ, ◌+◌, ltb, get_or, set, replicate, Option, None, Some}
+use Rattle.steps.specs.declared.Outgoing.{Outgoing}
+use Rattle.calls.specs.declared.CommittedSlot.{CommittedSlot}
 use Rattle.sets.specs.Sets.{contains, insert}
 use Rattle.message.specs.declared.ConsensusMsg.TheVariants.{ForwardRequest}
-use Rattle.message.specs.declared.OptionalValue.TheVariants.{NoValue}
 use Rattle.steps.specs.declared.Destination.TheVariants.{One}
 use Rattle.steps.specs.declared.Messages.{Messages}
-use Rattle.steps.specs.declared.OptionalMessage.{OptionalMessage}
-use Rattle.steps.specs.declared.OptionalMessage.TheVariants.{NoMessage, Send}
 use Rattle.calls.specs.declared.Call.TheVariants.{Propose, Receive}
-use Rattle.calls.specs.declared.OptionalCommit.{OptionalCommit}
-use Rattle.calls.specs.declared.OptionalCommit.TheVariants.{NoCommit, Committed}
 use Rattle.consensus.specs.Call.{new_shard, call_of}
 use Rattle.consensus.specs.declared.Answer.{Answer}
 use Rattle.consensus.specs.declared.Shard.{Shard}
 use Rattle.group.specs.Steps.{is_done}
-use Rattle.enabled_runs.specs.declared.CommitBy.{CommitBy}
-use Rattle.enabled_runs.specs.declared.EventPlace.{EventPlace}
 use Rattle.enabled_runs.specs.declared.RunEvent.{RunEvent}
 use Rattle.enabled_runs.specs.declared.RunEvent.TheVariants.{Proposes, Delivers}
 use Rattle.enabled_runs.specs.declared.Sending.{Sending}
@@ -43,7 +38,7 @@ abbrev pub no_sending : Sending
 no_sending =
     record {
       source = 0;
-      outgoing = record { destination = One 0; message = record { msg = ForwardRequest 0; src = 0; last_v = NoValue } };
+      outgoing = record { destination = One 0; message = record { msg = ForwardRequest 0; src = 0; last_v = None } };
     }
 
 unfoldable pub sending_at : SentSoFar → ℕ → Sending
@@ -52,9 +47,9 @@ sending_at s place = cond (ltb place 15) (get_or s.places place no_sending) no_s
 unfoldable pub with_sending : SentSoFar → Sending → SentSoFar
 with_sending s x = cond (ltb s.count 15) (record { places = set s.places s.count x; count = s.count + 1 }) s
 
-unfoldable pub with_message : SentSoFar → ℕ → OptionalMessage → SentSoFar
-with_message s source NoMessage = s
-with_message s source (Send o) = with_sending s (record { source = source; outgoing = o })
+unfoldable pub with_message : SentSoFar → ℕ → Option Outgoing → SentSoFar
+with_message s source None = s
+with_message s source (Some o) = with_sending s (record { source = source; outgoing = o })
 
 -- with the messages of a call
 unfoldable pub with_messages : SentSoFar → ℕ → Messages → SentSoFar
@@ -63,10 +58,10 @@ with_messages s source ms = with_message (with_message (with_message s source ms
 unfoldable pub with_event : EventsSoFar → RunEvent → EventsSoFar
 with_event s e = cond (ltb s.count 5) (record { places = set s.places s.count (record { event = e }); count = s.count + 1 }) s
 
-unfoldable pub with_commit_by : CommitsSoFar → ℕ → OptionalCommit → CommitsSoFar
-with_commit_by s member NoCommit = s
-with_commit_by s member (Committed slot v fast) =
-    cond (ltb s.count 5) (record { places = set s.places s.count (record { member = member; slot = slot; v = v }); count = s.count + 1 }) s
+unfoldable pub with_commit_by : CommitsSoFar → ℕ → Option CommittedSlot → CommitsSoFar
+with_commit_by s member None = s
+with_commit_by s member (Some commit) =
+    cond (ltb s.count 5) (record { places = set s.places s.count (record { member = member; slot = commit.slot; v = commit.v }); count = s.count + 1 }) s
 
 -- ---- runs
 

@@ -8,15 +8,13 @@ ghost use Rattle.enabled_runs.specs.Listing.{is_commit_message, is_sent_to};
 ghost use Rattle.enabled_runs.specs.Offices.{office_settings, requester_of_value, message_requester, held_requester, heard_by};
 ghost use Rattle.office_runs.specs.Runs.{office, value_proposed, no_sending, sending_at, with_sending, with_message, with_messages, with_event, with_commit_by, new_run, office_shard, with_answer, after_proposal, after_delivery, trial_of};
 
-use calls::{Call, OptionalCommit};
+use calls::{Call, CommittedSlot};
 use consensus::{Answer, Shard};
 use delivery::{Delivery, Said};
 use enabled_runs::{CommitBy, EventPlace, RunEvent, Sending};
-use message::{ConsensusMessage, ConsensusMsg, OptionalProcess, OptionalValue, Outcome, PFMode};
-use round_state::HeldPromise;
-use sets::OptionalSet;
+use message::{ConsensusMessage, ConsensusMsg, Outcome, PFMode, RoundV};
 use settings::Settings;
-use steps::{Destination, Messages, OptionalMessage, Outgoing};
+use steps::{Destination, Messages, Outgoing};
 
 // A call hands back at most three messages and one commit, so that in each of these there is room for five events. The first count places are
 // filled, in time order.
@@ -70,7 +68,7 @@ fn office_settings(member: u64) -> Settings
         alive_replicas: 7,
         first_leader: 0,
         mode: PFMode::Paxos,
-        quorum: OptionalSet::NoSet,
+        quorum: None,
         has_committers: false,
         committers,
         delegates,
@@ -84,52 +82,40 @@ fn new_office(member: u64) -> Shard
 }
 
 // "member 0, 1 or 2 proposes value 10, 11 or 12"; another number is no member.
+#[tactic(auto, unfolding(crate::specs::Runs::value_proposed))]
 fn value_of(member: u64) -> u64
     ensures { result ≡ value_proposed member }
 {
-    if member < 3 {
-        return 10 + member;
-    }
-    10
+    if member < 3 { 10 + member } else { 10 }
 }
 
 // "names the member that proposes a value as its requester"
-fn requester_of(v: u64) -> OptionalProcess
+fn requester_of(v: u64) -> Option<u64>
     ensures { result ≡ requester_of_value v }
 {
-    OptionalProcess::Process(message::saturating_sub(v, 10))
+    Some(v.saturating_sub(10))
 }
 
-fn message_requester(msg: ConsensusMsg) -> OptionalProcess
+#[tactic(auto, unfolding(enabled_runs::specs::Offices::message_requester))]
+fn message_requester(msg: ConsensusMsg) -> Option<u64>
     ensures { result ≡ message_requester msg }
 {
     match msg {
-        ConsensusMsg::Prepare {
-            slot: _,
-            round: _,
-            rv,
-        } => requester_of(rv.get_v()),
-        ConsensusMsg::Accept {
-            slot: _,
-            round: _,
-            v,
-        } => requester_of(v),
+        ConsensusMsg::Prepare { rv, .. } => requester_of(rv.get_v()),
+        ConsensusMsg::Accept { v, .. } => requester_of(v),
         ConsensusMsg::ForwardRequest { v } => requester_of(v),
-        ConsensusMsg::Commit { slot: _, v } => requester_of(v),
-        ConsensusMsg::ReadRequest { id: _ } => OptionalProcess::NoProcess,
-        ConsensusMsg::ReadResponse {
-            id: _,
-            next_readable_slot: _,
-        } => OptionalProcess::NoProcess,
+        ConsensusMsg::Commit { v, .. } => requester_of(v),
+        ConsensusMsg::ReadRequest { .. } | ConsensusMsg::ReadResponse { .. } => None,
     }
 }
 
-fn held_requester(held: HeldPromise) -> OptionalProcess
+#[tactic(auto, unfolding(enabled_runs::specs::Offices::held_requester))]
+fn held_requester(held: Option<RoundV>) -> Option<u64>
     ensures { result ≡ held_requester held }
 {
     match held {
-        HeldPromise::NothingHeld => OptionalProcess::NoProcess,
-        HeldPromise::Held(rv) => requester_of(rv.get_v()),
+        None => None,
+        Some(rv) => requester_of(rv.get_v()),
     }
 }
 
@@ -154,28 +140,11 @@ fn heard_by(shard: Shard, message: ConsensusMessage) -> Delivery
     }
 }
 
+#[tactic(auto, unfolding(enabled_runs::specs::Listing::is_commit_message))]
 fn is_commit_message(msg: ConsensusMsg) -> bool
     ensures { result ≡ is_commit_message msg }
 {
-    match msg {
-        ConsensusMsg::Prepare {
-            slot: _,
-            round: _,
-            rv: _,
-        } => false,
-        ConsensusMsg::Accept {
-            slot: _,
-            round: _,
-            v: _,
-        } => false,
-        ConsensusMsg::ForwardRequest { v: _ } => false,
-        ConsensusMsg::Commit { slot: _, v: _ } => true,
-        ConsensusMsg::ReadRequest { id: _ } => false,
-        ConsensusMsg::ReadResponse {
-            id: _,
-            next_readable_slot: _,
-        } => false,
-    }
+    matches!(msg, ConsensusMsg::Commit { slot: _, v: _ })
 }
 
 // Whether the message was sent to the member. "A Commit counts as sent to every other member."
@@ -202,10 +171,7 @@ fn sent_to(sending: Sending, member: u64) -> bool
 fn is_done(outcome: Outcome) -> bool
     ensures { result ≡ is_done outcome }
 {
-    match outcome {
-        Outcome::Done => true,
-        Outcome::Refused(_) => false,
-    }
+    outcome.is_ok()
 }
 
 // ---- what a run has brought
@@ -221,7 +187,7 @@ fn no_sending() -> Sending
             message: ConsensusMessage {
                 msg: ConsensusMsg::ForwardRequest { v: 0 },
                 src: 0,
-                last_v: OptionalValue::NoValue,
+                last_v: None,
             },
         },
     }
@@ -241,16 +207,18 @@ impl SentSoFar {
         self
     }
 
-    fn with_message(self, source: u64, message: OptionalMessage) -> SentSoFar
+    #[tactic(auto, unfolding(crate::specs::Runs::with_message))]
+    fn with_message(self, source: u64, message: Option<Outgoing>) -> SentSoFar
         ensures { result ≡ with_message self source message }
     {
         match message {
-            OptionalMessage::NoMessage => self,
-            OptionalMessage::Send(outgoing) => self.with(Sending { source, outgoing }),
+            None => self,
+            Some(outgoing) => self.with(Sending { source, outgoing }),
         }
     }
 
     // With the messages of a call, in the order of sending.
+    #[tactic(auto, unfolding(crate::specs::Runs::with_messages))]
     fn with_messages(self, source: u64, messages: Messages) -> SentSoFar
         ensures { result ≡ with_messages self source messages }
     {
@@ -262,6 +230,7 @@ impl SentSoFar {
         two.with_message(source, third)
     }
 
+    #[tactic(auto, unfolding(crate::specs::Runs::sending_at))]
     fn at(self, place: u64) -> Sending
         ensures { result ≡ sending_at self place }
     {
@@ -290,12 +259,12 @@ impl EventsSoFar {
 }
 
 impl CommitsSoFar {
-    fn with(mut self, member: u64, commit: OptionalCommit) -> CommitsSoFar
+    fn with(mut self, member: u64, commit: Option<CommittedSlot>) -> CommitsSoFar
         ensures { result ≡ with_commit_by self member commit }
     {
         match commit {
-            OptionalCommit::NoCommit => self,
-            OptionalCommit::Committed { slot, v, fast: _ } => {
+            None => self,
+            Some(CommittedSlot { slot, v, fast: _ }) => {
                 let count = self.count;
                 let last = CommitBy { member, slot, v };
                 if count < 5 {
@@ -353,6 +322,7 @@ impl OfficeRun {
         }
     }
 
+    #[tactic(auto, unfolding(crate::specs::Runs::office_shard))]
     fn shard_of(self, member: u64) -> Shard
         ensures { result ≡ office_shard self member }
     {
@@ -437,6 +407,7 @@ impl OfficeRun {
         }
     }
 
+    #[tactic(auto, unfolding(crate::specs::Runs::trial_of))]
     pub fn trial(self, event: RunEvent) -> Trial
         ensures { result ≡ trial_of self event }
     {

@@ -1,6 +1,8 @@
 -- What is seen of the engine's handler of an Accept is what the paper's rules make of the replica: who is told of the acceptance, who counts it, and who is
 -- informed of a commit.
 -- Assumes nothing.
+use Rattle.calls.specs.Commits.{committed_slot}
+use Rattle.std.specs.Prelude.{Option as Optional, None, Some, Result}
 use mathlib.Core.Path.{◌≡◌, refl, sym, ap, subst, ◌∙◌}
 use mathlib.Core.Bool.{Bool, true, false, cond, not, ◌&&◌, ◌||◌}
 use mathlib.Core.List.{List, [], ◌∷◌, ◌++◌, append-nil}
@@ -16,17 +18,13 @@ use Rattle.message.specs.Modes.{is_swift_paxos, has_fast_path}
 use Rattle.message.specs.Promises.{is_process}
 use Rattle.message.specs.Rounds.{increment, before}
 use Rattle.message.specs.declared.ConsensusMsg.TheVariants.{Commit}
-use Rattle.message.specs.declared.OptionalProcess.{OptionalProcess}
-use Rattle.message.specs.declared.OptionalProcess.TheVariants.{NoProcess, Process}
-use Rattle.message.specs.declared.OptionalRound.TheVariants.{Round}
-use Rattle.message.specs.declared.OptionalValue.TheVariants.{Value}
 use Rattle.message.specs.declared.PaxosRound.{PaxosRound}
 use Rattle.message.specs.declared.PFMode.{PFMode}
 use Rattle.message.specs.declared.PFMode.TheVariants.{Paxos, MultiPaxos, MultiPaxos3P, EPaxos, Pando, SwiftPaxos}
+use Rattle.message.specs.declared.Refusal.{Refusal}
 use Rattle.message.specs.declared.Refusal.TheVariants.{Panic}
 use Rattle.round_state.specs.Paxos.{receive_accept, accept_fits, after_accept, paxos_can_commit}
 use Rattle.round_state.specs.declared.PaxosState.{PaxosState}
-use Rattle.round_state.specs.declared.PaxosStep.{PaxosStep}
 use Rattle.accept.specs.Accept.{tells_committer, is_committer, accept_to, committer_hears, answer_accept, tells_commit, commit_messages, try_commit, answered, follower, accepted as accepted_step, after_accepted, accepting}
 use Rattle.paxos_family.specs.Commit.{commit_slot}
 use Rattle.steps.specs.Steps.{no_messages, one_message, two_messages, also, first_served, with_paxos, left_fast_path, stays, continues, refuses, commits as commits_step, on_rounds}
@@ -37,7 +35,6 @@ use Rattle.steps.specs.declared.Destination.TheVariants.{All}
 use Rattle.steps.specs.declared.Outgoing.{Outgoing}
 use Rattle.steps.specs.declared.Heard.{Heard}
 use Rattle.steps.specs.declared.Messages.{Messages}
-use Rattle.calls.specs.declared.OptionalCommit.TheVariants.{Committed}
 use Rattle.consensus.specs.Answers.{committed, finish}
 use Rattle.consensus.specs.FirstCause.{is_oneself}
 use Rattle.consensus.specs.declared.Shard.{Shard}
@@ -138,7 +135,7 @@ module _ (shard : Shard) (a : Asked) (h : Heard) (there : Bool) (acceptors : ℕ
           Tells : Messages → List ℕ → Type 0
           Tells x committers = Lists x (acceptances (but me (but n.leader committers ++ (n.leader ∷ []))))
 
-          no_committer : (m : PFMode) → Tells (one_message to_leader) (committers_in m NoProcess)
+          no_committer : (m : PFMode) → Tells (one_message to_leader) (committers_in m None)
           no_committer Paxos = leader_told
           no_committer MultiPaxos = leader_told
           no_committer MultiPaxos3P = leader_told
@@ -148,7 +145,7 @@ module _ (shard : Shard) (a : Asked) (h : Heard) (there : Bool) (acceptors : ℕ
 
           by_mode : (q : ℕ) (m : PFMode) → has_fast_path m ≡ false
               → Tells (cond (tells_committer m && (not (eqb q n.leader) && not (eqb q me)))
-              (two_messages (accept_to a off n q) to_leader) (one_message to_leader)) (committers_in m (Process q))
+              (two_messages (accept_to a off n q) to_leader) (one_message to_leader)) (committers_in m (Some q))
           by_mode q Paxos e = leader_told
           by_mode q MultiPaxos e = leader_told
           by_mode q MultiPaxos3P e = committer_told q
@@ -156,9 +153,9 @@ module _ (shard : Shard) (a : Asked) (h : Heard) (there : Bool) (acceptors : ℕ
           by_mode q Pando e = leader_told
           by_mode q SwiftPaxos e = absurd (not_both refl e)
 
-          by_committer : (q : OptionalProcess) → Tells (answer_accept a n off q) (committers_in a.mode q)
-          by_committer NoProcess = no_committer a.mode
-          by_committer (Process q) = by_mode q a.mode classic
+          by_committer : (q : Optional ℕ) → Tells (answer_accept a n off q) (committers_in a.mode q)
+          by_committer None = no_committer a.mode
+          by_committer (Some q) = by_mode q a.mode classic
 
     -- a learner is the leader or the committer
     learner_same : is_learner here known n ≡ (eqb me n.leader || is_committer a h)
@@ -170,12 +167,12 @@ module _ (shard : Shard) (a : Asked) (h : Heard) (there : Bool) (acceptors : ℕ
         by_leader q true e = or_same (eqb me n.leader) (eqb me q) (ap (eqb me) (sym (eqb-true n.leader q e)))
         by_leader q false e = or_turned (eqb me q) (eqb me n.leader)
 
-        go : (m : PFMode) (q : OptionalProcess) → has_fast_path m ≡ false
+        go : (m : PFMode) (q : Optional ℕ) → has_fast_path m ≡ false
             → is_one_of me (but n.leader (committers_in m q) ++ (n.leader ∷ [])) ≡ (eqb me n.leader || (tells_committer m && is_process q me))
         go Paxos q e = refl
         go MultiPaxos q e = refl
-        go MultiPaxos3P NoProcess e = refl
-        go MultiPaxos3P (Process q) e =
+        go MultiPaxos3P None e = refl
+        go MultiPaxos3P (Some q) e =
             by_leader q (eqb n.leader q) refl ∙ ap (λ (t : Bool). eqb me n.leader || t) (eqb_sym me q)
         go EPaxos q e = absurd (not_both refl e)
         go Pando q e = refl
@@ -184,7 +181,7 @@ module _ (shard : Shard) (a : Asked) (h : Heard) (there : Bool) (acceptors : ℕ
     tells_paper : (x : Messages) (ms : List Outgoing) → Lists x ms → commit_messages a h n off x ≡ in_places (ms ++ informs here known proposal)
     unfolding commit_messages tells_commit informs
     tells_paper x ms (same, room) =
-        ap (λ (p : OptionalProcess). cond tells (also x (addressed here (All p) (Commit core.slot v))) x) (first_served_lem h.requester)
+        ap (λ (p : Optional ℕ). cond tells (also x (addressed here (All p) (Commit core.slot v))) x) (first_served_lem h.requester)
         ∙ ap (λ (l : Bool). by l (is_process h.requester me)) (eqb_sym n.leader me)
         ∙ ap (by (eqb me n.leader)) (requester_same h.requester)
         ∙ go (eqb me n.leader) (is_oneself h.requester me)
@@ -198,13 +195,13 @@ module _ (shard : Shard) (a : Asked) (h : Heard) (there : Bool) (acceptors : ℕ
         by : Bool → Bool → Messages
         by l k = cond (cond l true (not k)) (also x told_all) x
 
-        first_served_lem : (p : OptionalProcess) → first_served a p ≡ served_first here known p
-        first_served_lem NoProcess = refl
-        first_served_lem (Process p) = refl
+        first_served_lem : (p : Optional ℕ) → first_served a p ≡ served_first here known p
+        first_served_lem None = refl
+        first_served_lem (Some p) = refl
 
-        requester_same : (p : OptionalProcess) → is_process p me ≡ is_oneself p me
-        requester_same NoProcess = refl
-        requester_same (Process p) = refl
+        requester_same : (p : Optional ℕ) → is_process p me ≡ is_oneself p me
+        requester_same None = refl
+        requester_same (Some p) = refl
 
         go : (l k : Bool) → by l k ≡ in_places (ms ++ cond (k && not l) [] (told_all ∷ []))
         go true true = room told_all
@@ -220,10 +217,10 @@ module _ (shard : Shard) (a : Asked) (h : Heard) (there : Bool) (acceptors : ℕ
           outcome = 0;
           slot = increment
               core.slot;
-          last = Value v;
+          last = Some v;
           replica = (commits here v ms).replica;
           messages = in_places ms;
-          commit = Committed core.slot v (t && false);
+          commit = committed_slot core.slot v (t && false);
         }) classic))
         (λ e. no_refusal refl)
 
@@ -278,13 +275,13 @@ module _ (shard : Shard) (a : Asked) (h : Heard) (there : Bool) (acceptors : ℕ
         (ap (rule (replica_of after) (announced leads from_proposer)) (sym learner_same))
 
     -- what was entered is accepted, and so is announced
-    announces_accepted : before (Round n) p.round ≡ false → announces here known proposal (replica_of p) ≡ announced leads from_proposer
+    announces_accepted : before (Some n) p.round ≡ false → announces here known proposal (replica_of p) ≡ announced leads from_proposer
     unfolding announces announcement accepts
     announces_accepted free =
         ap (λ (t : Bool). cond from_proposer (to_each here known (announced_to here known n) (cond (not t) (some (acceptance proposal)) none)) [])
         (sym (exceeded_older p.round n) ∙ free)
 
-    pub accepting_paper : before (Round n) p.round ≡ false
+    pub accepting_paper : before (Some n) p.round ≡ false
         → Agrees (seen_step (accepting a h n v (with_paxos p core))) (in_accept here known proposal (replica_of p))
     unfolding accepting receive_accept in_accept
     accepting_paper free =
@@ -297,5 +294,5 @@ module _ (shard : Shard) (a : Asked) (h : Heard) (there : Bool) (acceptors : ℕ
         (sym (announces_accepted free))))
         (λ fit. no_refusal refl)
       where
-        g : PaxosStep → Seen
-        g st = seen_step (after_accepted a h n v (with_paxos p core) st.state st.outcome)
+        g : Result PaxosState Refusal → Seen
+        g result = seen_step (after_accepted a h n v (with_paxos p core) result)

@@ -2,6 +2,8 @@
 -- *Paxos Made Simple* (specs/PaperCall.antt) makes of the call, on every shard of Paxos, MultiPaxos, MultiPaxos3P or Pando with settings within
 -- the limits, and for every proposal and every Prepare, Accept, ForwardRequest and Commit.
 -- Assumes nothing.
+use Rattle.std.specs.Prelude.{Option as Optional, None, Some, Result, Ok, Err}
+use Rattle.message.specs.Outcomes.{Outcome}
 use mathlib.Core.Path.{◌≡◌, refl, sym, ap, ◌∙◌}
 use mathlib.Core.Logic.{inl, inr}
 use mathlib.Core.Bool.{Bool, true, false, cond, not, ◌&&◌}
@@ -16,12 +18,6 @@ use Rattle.message.specs.Modes.{has_fast_path}
 use Rattle.message.specs.Rounds.{increment, before, starting_round, round_of}
 use Rattle.message.specs.declared.ConsensusMsg.{ConsensusMsg}
 use Rattle.message.specs.declared.ConsensusMsg.TheVariants.{Prepare, Accept, ForwardRequest, Commit, ReadRequest, ReadResponse}
-use Rattle.message.specs.declared.OptionalValue.TheVariants.{Value}
-use Rattle.message.specs.declared.OptionalProcess.{OptionalProcess}
-use Rattle.message.specs.declared.OptionalRound.{OptionalRound}
-use Rattle.message.specs.declared.OptionalRound.TheVariants.{NoRound, Round}
-use Rattle.message.specs.declared.Outcome.{Outcome}
-use Rattle.message.specs.declared.Outcome.TheVariants.{Done, Refused}
 use Rattle.message.specs.declared.PaxosRound.{PaxosRound}
 use Rattle.message.specs.declared.PFMode.{PFMode}
 use Rattle.message.specs.declared.PFMode.TheVariants.{Paxos, MultiPaxos, MultiPaxos3P, EPaxos, Pando, SwiftPaxos}
@@ -32,8 +28,6 @@ use Rattle.message.specs.declared.Refusal.TheVariants.{SettingsOutsideLimits, Nu
 use Rattle.message.specs.declared.RoundV.{RoundV}
 use Rattle.message.specs.declared.RoundV.TheVariants.{FastV, PaxosV}
 use Rattle.fast_state.specs.Adopt.{lowest_best}
-use Rattle.read_tracker.specs.declared.Opened.{Opened}
-use Rattle.read_tracker.specs.declared.Opened.TheVariants.{Refused as NotOpened, Id}
 use Rattle.settings.specs.Settings.{counts_fit, within_limits}
 use Rattle.settings.specs.Questions.{committer_of, quorums_of}
 use Rattle.settings.specs.declared.Settings.{Settings}
@@ -52,10 +46,10 @@ use Rattle.steps.specs.declared.RoundsStep.{RoundsStep}
 use Rattle.delivery.specs.Admit.{admit}
 use Rattle.delivery.specs.Limits.{is_number, is_slot}
 use Rattle.delivery.specs.declared.Delivery.{Delivery}
+use Rattle.calls.specs.Commits.{committed_slot}
 use Rattle.calls.specs.Asked.{asked_of, gatherer_in, gatherer_of, heard_of}
 use Rattle.calls.specs.declared.Call.{Call}
 use Rattle.calls.specs.declared.Call.TheVariants.{Propose, StartRead, Receive}
-use Rattle.calls.specs.declared.OptionalCommit.TheVariants.{Committed}
 use Rattle.core_calls.specs.CoreCall.{read_answer}
 use Rattle.consensus.specs.Answers.{refused, sent, committed, finish}
 use Rattle.consensus.specs.Call.{new_shard, call_of, proposing, propose, read, admitted, receive, dispatch, unless_spent, if_made, call_with}
@@ -100,10 +94,10 @@ majority_paper s within k =
 
 -- ---- what is asked of the settings, and what is known of a message
 
-start_same : (m : PFMode) (leader : ℕ) → starting_round m leader ≡ cond (led_from_start m) (Round (round_of 0 leader)) NoRound
+start_same : (m : PFMode) (leader : ℕ) → starting_round m leader ≡ cond (led_from_start m) (Some (round_of 0 leader)) None
 start_same Paxos leader = refl
-start_same MultiPaxos leader = ap Round (first_start leader)
-start_same MultiPaxos3P leader = ap Round (first_start leader)
+start_same MultiPaxos leader = ap Some (first_start leader)
+start_same MultiPaxos3P leader = ap Some (first_start leader)
 start_same EPaxos leader = refl
 start_same Pando leader = refl
 start_same SwiftPaxos leader = refl
@@ -111,7 +105,7 @@ start_same SwiftPaxos leader = refl
 place_same : (shard : Shard) → place_in (asked_of shard.settings) shard.settings.replica_count shard.state.rounds.core ≡ place_of shard
 place_same shard = ap with (start_same shard.settings.mode shard.settings.first_leader)
   where
-    with : OptionalRound → Place
+    with : Optional PaxosRound → Place
     with start =
         record {
           self = shard.settings.my_pid;
@@ -141,9 +135,9 @@ proposer_same s classic (ReadResponse id next) = refl
 known_same : (s : Settings) → has_fast_path s.mode ≡ false → (d : Delivery) → known_in (asked_of s) (heard_of s d) ≡ known_of s d
 known_same s classic d =
     ap (with (committer_of s d.said.requester)) (proposer_same s classic d.message.msg)
-    ∙ ap (λ (c : OptionalProcess). with c (proposer_by s d.message.msg)) (committer_same s d.said.requester)
+    ∙ ap (λ (c : Optional ℕ). with c (proposer_by s d.message.msg)) (committer_same s d.said.requester)
   where
-    with : OptionalProcess → ℕ → Known
+    with : Optional ℕ → ℕ → Known
     with committer proposer =
         record { src = d.message.src; proposer = proposer; requester = d.said.requester; committers = committers_in s.mode committer }
 
@@ -220,10 +214,10 @@ module _ (shard : Shard) (classic : has_fast_path shard.settings.mode ≡ false)
           outcome = 0;
           slot = increment
               core.slot;
-          last = Value v;
+          last = Some v;
           replica = (commits here v []).replica;
           messages = no_messages;
-          commit = Committed core.slot v
+          commit = committed_slot core.slot v
               (t && not core.slot_left_fast_path);
         }) classic))
     handled_paper (ReadRequest id) e p = absurd p
@@ -234,8 +228,8 @@ module _ (shard : Shard) (classic : has_fast_path shard.settings.mode ≡ false)
     receive_paper p = go (admit shard.settings.process_count shard.settings.my_pid core d)
       where
         go : (o : Outcome) → Agrees (seen (admitted lowest_best shard d o)) (received here known d.message.msg)
-        go Done = handled_paper d.message.msg refl p
-        go (Refused why) = no_refusal (refusal_numbered why)
+        go (Ok tt) = handled_paper d.message.msg refl p
+        go (Err why) = no_refusal (refusal_numbered why)
 
   propose_paper : (v : ℕ) → Agrees (seen (propose shard v)) (proposes_own (place_in a acceptors core) v)
   unfolding propose proposing
@@ -263,8 +257,8 @@ module _ (shard : Shard) (classic : has_fast_path shard.settings.mode ≡ false)
   taken_by_rules c p = go shard.made
     where
       go : (o : Outcome) → Agrees (seen (if_made lowest_best shard c o)) (by_rules shard c)
-      go Done = agree_unless seen (leb 9223372036854775807 core.slot) (λ e. no_refusal refl) (λ e. dispatch_paper c p)
-      go (Refused why) = no_refusal (refusal_numbered why)
+      go (Ok tt) = agree_unless seen (leb 9223372036854775807 core.slot) (λ e. no_refusal refl) (λ e. dispatch_paper c p)
+      go (Err why) = no_refusal (refusal_numbered why)
 
   -- Every call is the paper's, whatever stands in the shard: where a cause refuses it (demand 1), with its number, and else by the rules.
   pub call_as_paper : (c : Call) → InPaxos c → seen (call_of shard c) ≡ paper_call shard c
@@ -291,9 +285,9 @@ other_calls_leave shard c other = made shard.made
     nothing_left : (why : Refusal) → LeavesPaxos shard (refused why shard)
     nothing_left why = (refl, refl, refl, refl, (tt, tt, tt))
 
-    opened : (tag arrival : ℕ) (o : Opened) → LeavesPaxos shard (after_insert shard (read_inserted shard tag arrival) o)
-    opened tag arrival (NotOpened why) = nothing_left why
-    opened tag arrival (Id id) = (refl, refl, refl, refl, ((λ x. x), tt, tt))
+    opened : (tag arrival : ℕ) (o : Result ReadId Refusal) → LeavesPaxos shard (after_insert shard (read_inserted shard tag arrival) o)
+    opened tag arrival (Err why) = nothing_left why
+    opened tag arrival (Ok id) = (refl, refl, refl, refl, ((λ x. x), tt, tt))
 
     new_read_lem : (tag arrival : ℕ) (t : Bool)
         → LeavesPaxos shard
@@ -316,8 +310,8 @@ other_calls_leave shard c other = made shard.made
     handled d (ReadResponse id next) o = (refl, refl, refl, refl, (tt, tt, tt))
 
     delivered : (d : Delivery) → (OfPaxos d.message.msg → ⊥) → (o : Outcome) → LeavesPaxos shard (admitted lowest_best shard d o)
-    delivered d o Done = handled d d.message.msg o
-    delivered d o (Refused why) = nothing_left why
+    delivered d o (Ok tt) = handled d d.message.msg o
+    delivered d o (Err why) = nothing_left why
 
     taken : (x : Call) → (InPaxos x → ⊥) → LeavesPaxos shard (dispatch lowest_best shard x)
     taken (Propose v) o = absurd (o tt)
@@ -329,25 +323,28 @@ other_calls_leave shard c other = made shard.made
     unspent false = taken c other
 
     made : (o : Outcome) → LeavesPaxos shard (if_made lowest_best shard c o)
-    made Done = unspent (leb 9223372036854775807 shard.state.rounds.core.slot)
-    made (Refused why) = nothing_left why
+    made (Ok tt) = unspent (leb 9223372036854775807 shard.state.rounds.core.slot)
+    made (Err why) = nothing_left why
 
 -- ---- the shards that there are
 
 -- A new shard is the paper's at its beginning, of whatever settings.
 pub new_as_paper : (s : Settings) → AtBeginning s (new_shard s)
 unfolding new_shard
-new_as_paper s = (refl, refl, ap (λ (start : OptionalRound). beginning (responded_of start)) (start_same s.mode s.first_leader))
+new_as_paper s = (refl, refl, ap (λ (start : Optional PaxosRound). beginning (responded_of start)) (start_same s.mode s.first_leader))
 
 abbrev is_done : Outcome → Bool
-is_done Done = true
-is_done (Refused why) = false
+is_done (Ok tt) = true
+is_done (Err why) = false
 
-new_within : (s : Settings) → (new_shard s).made ≡ Done → within_limits (new_shard s).settings ≡ true
+new_within : (s : Settings) → (new_shard s).made ≡ Ok tt → within_limits (new_shard s).settings ≡ true
 unfolding new_shard
 new_within s e = go (within_limits s) e
   where
-    go : (t : Bool) → cond t Done (Refused SettingsOutsideLimits) ≡ Done → t ≡ true
+    made : Bool → Outcome
+    made t = cond t (Ok tt) (Err SettingsOutsideLimits)
+
+    go : (t : Bool) → made t ≡ Ok tt → t ≡ true
     go true d = refl
     go false d = absurd (not_both (ap is_done d) refl)
 

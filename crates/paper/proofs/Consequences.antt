@@ -1,5 +1,6 @@
 -- What follows from `call_as_paper`: the Paxos half of the new shard, and the proposer's choice of all the promises that it has heard.
 -- Assumes nothing.
+use Rattle.std.specs.Prelude.{Option as Optional, None, Some}
 use mathlib.Core.Path.{◌≡◌, refl, sym, ap, ◌∙◌}
 use mathlib.Core.Logic.{◌⊎◌, inl, inr}
 use mathlib.Core.Bool.{Bool, true, false, cond, ◌||◌}
@@ -15,13 +16,9 @@ use Rattle.sets.proofs.Laws.{contains_insert_other}
 use Rattle.paxos.specs.PaxosMadeSimple.{Proposal, higher, highest, value_or, choice, is_majority, proposes}
 use Rattle.message.specs.Modes.{has_fast_path}
 use Rattle.message.specs.Rounds.{round_before}
-use Rattle.message.specs.declared.OptionalRound.{OptionalRound}
-use Rattle.message.specs.declared.OptionalRound.TheVariants.{NoRound, Round}
 use Rattle.message.specs.declared.PaxosRound.{PaxosRound}
 use Rattle.message.specs.declared.RoundV.{RoundV}
 use Rattle.message.specs.declared.RoundV.TheVariants.{FastV, PaxosV}
-use Rattle.round_state.specs.declared.HeldPromise.{HeldPromise}
-use Rattle.round_state.specs.declared.HeldPromise.TheVariants.{NothingHeld, Held}
 use Rattle.round_state.specs.declared.PaxosState.{PaxosState}
 use Rattle.settings.specs.Settings.{within_limits}
 use Rattle.calls.specs.declared.Call.{Call}
@@ -34,26 +31,26 @@ use Rattle.paper.proofs.Calls.{call_as_paper}
 
 -- ---- the new shard
 
-round_back : (o : OptionalRound) → round_of (responded_of o) ≡ o
-round_back NoRound = refl
-round_back (Round n) = refl
+round_back : (o : Optional PaxosRound) → round_of (responded_of o) ≡ o
+round_back None = refl
+round_back (Some n) = refl
 
-held_back : (held : HeldPromise) → held_of (accepted_of held) (wish_of held) ≡ held
-held_back NothingHeld = refl
-held_back (Held (FastV proposer v)) = refl
-held_back (Held (PaxosV NoRound v)) = refl
-held_back (Held (PaxosV (Round n) v)) = refl
+held_back : (held : Optional RoundV) → held_of (accepted_of held) (wish_of held) ≡ held
+held_back None = refl
+held_back (Some (FastV proposer v)) = refl
+held_back (Some (PaxosV None v)) = refl
+held_back (Some (PaxosV (Some n) v)) = refl
 
 pub state_back : (p : PaxosState) → state_of (replica_of p) ≡ p
 state_back p =
-    ap (λ (o : OptionalRound). record {
+    ap (λ (o : Optional PaxosRound). record {
       round = o;
       max_rv = held_of (accepted_of p.max_rv)
           (wish_of p.max_rv);
       prepared_set = p.prepared_set;
       accepted_set = p.accepted_set;
     }) (round_back p.round)
-    ∙ ap (λ (held : HeldPromise). record { round = p.round; max_rv = held; prepared_set = p.prepared_set; accepted_set = p.accepted_set })
+    ∙ ap (λ (held : Optional RoundV). record { round = p.round; max_rv = held; prepared_set = p.prepared_set; accepted_set = p.accepted_set })
     (held_back p.max_rv)
 
 -- the round, what is held, and who is counted, in the shard that a call leaves

@@ -1,6 +1,8 @@
 -- The proposer over a list of calls: a gatherer that takes Prepares of one number, and has sent nothing yet, proposes with the next one as the paper's
 -- proposer that has every report since it was in the number.
 -- Assumes nothing.
+use Rattle.std.specs.Prelude.{Option as Optional, None, Some}
+use Rattle.steps.specs.declared.Outgoing.{Outgoing}
 use mathlib.Core.Path.{◌≡◌, refl, sym, ap, ◌∙◌}
 use mathlib.Core.Bool.{Bool, true, false}
 use mathlib.Core.List.{List, [], ◌∷◌, ◌++◌}
@@ -15,8 +17,6 @@ use Rattle.message.specs.declared.RoundV.{RoundV}
 use Rattle.settings.specs.Settings.{within_limits}
 use Rattle.settings.specs.declared.Settings.{Settings}
 use Rattle.steps.specs.declared.Messages.{Messages}
-use Rattle.steps.specs.declared.OptionalMessage.{OptionalMessage}
-use Rattle.steps.specs.declared.OptionalMessage.TheVariants.{NoMessage, Send}
 use Rattle.delivery.specs.declared.Delivery.{Delivery}
 use Rattle.calls.specs.declared.Call.TheVariants.{Receive}
 use Rattle.consensus.specs.Call.{call_of}
@@ -28,9 +28,9 @@ use Rattle.paper.proofs.Calls.{settings_kept}
 use Rattle.paper.proofs.Consequences.{heard_keeps, heard_last}
 use Rattle.paper.proofs.Roles.{proposer_proposes, proposer_proposes_of_all}
 
-abbrev is_sent : OptionalMessage → Bool
-is_sent NoMessage = false
-is_sent (Send m) = true
+abbrev is_sent : Optional Outgoing → Bool
+is_sent None = false
+is_sent (Some m) = true
 
 -- where nothing is sent, the promise was heard and nothing else happened
 abbrev Quiet : Replica → Seen → Type 0

@@ -1,5 +1,6 @@
 -- What is seen of the engine's handler of a Prepare, and of entering a round, is what the paper's rules make of the replica.
 -- Assumes nothing.
+use Rattle.std.specs.Prelude.{Option as Optional, None, Some, is_some, Result, Ok, Err}
 use mathlib.Core.Path.{◌≡◌, refl, sym, ap, ◌∙◌}
 use mathlib.Core.Bool.{Bool, true, false, cond, not, ◌&&◌, ◌||◌}
 use mathlib.Core.List.{List, [], ◌∷◌}
@@ -13,19 +14,14 @@ use Rattle.paxos.specs.PaxosMadeSimple.Message.{promise}
 use Rattle.message.specs.Modes.{is_swift_paxos, has_fast_path}
 use Rattle.message.specs.Rounds.{round_before, before, equal}
 use Rattle.message.specs.declared.ConsensusMsg.TheVariants.{Prepare, Accept}
-use Rattle.message.specs.declared.OptionalRound.TheVariants.{Round}
-use Rattle.message.specs.declared.OptionalValue.{OptionalValue}
-use Rattle.message.specs.declared.OptionalValue.TheVariants.{Value}
 use Rattle.message.specs.declared.PaxosRound.{PaxosRound}
 use Rattle.message.specs.declared.PFMode.{PFMode}
 use Rattle.message.specs.declared.PFMode.TheVariants.{Paxos, MultiPaxos, MultiPaxos3P, EPaxos, Pando, SwiftPaxos}
+use Rattle.message.specs.declared.Refusal.{Refusal}
 use Rattle.message.specs.declared.Refusal.TheVariants.{Panic}
 use Rattle.message.specs.declared.RoundV.{RoundV}
-use Rattle.round_state.specs.Paxos.{is_held, get_v, get_last_accepted_round, taken, refused, goto_round, held_after_promise, receive_promise, paxos_propose_v, self_accept, accept_own, receive_accept, accept_fits, after_accept}
-use Rattle.round_state.specs.declared.HeldPromise.{HeldPromise}
-use Rattle.round_state.specs.declared.HeldPromise.TheVariants.{NothingHeld, Held}
+use Rattle.round_state.specs.Paxos.{get_v, get_last_accepted_round, goto_round, held_after_promise, receive_promise, paxos_propose_v, self_accept, accept_own, receive_accept, accept_fits, after_accept}
 use Rattle.round_state.specs.declared.PaxosState.{PaxosState}
-use Rattle.round_state.specs.declared.PaxosStep.{PaxosStep}
 use Rattle.enter.specs.Enter.{in_round, is_older, from_live, enter}
 use Rattle.prepare.specs.Prepare.{hold_first, may_answer, answer_prepare, answers_nothing, preparing, after_held, prepared, off_fast_path, broadcast_accept, after_own_accept, accept_phase, with_promise, becomes_prepared, gather}
 use Rattle.steps.specs.Steps.{sends, to_all, held_v, with_paxos, left_fast_path, stays, and_then, on_rounds}
@@ -66,16 +62,16 @@ nested true true e x y = refl
 nested true false true x y = refl
 nested true false false x y = refl
 
-has_value : (held : HeldPromise) → is_held held ≡ true → get_v held ≡ Value (held_v held)
-has_value NothingHeld e = absurd (not_both e refl)
-has_value (Held rv) e = refl
+held_has_value : (held : Optional RoundV) → is_some held ≡ true → get_v held ≡ Some (held_v held)
+held_has_value None e = absurd (not_both e refl)
+held_has_value (Some rv) e = refl
 
-after_promise_held : (held : HeldPromise) (rv : RoundV) → is_held (held_after_promise held rv) ≡ true
+after_promise_held : (held : Optional RoundV) (rv : RoundV) → is_some (held_after_promise held rv) ≡ true
 unfolding held_after_promise
-after_promise_held NothingHeld rv = refl
-after_promise_held (Held old) rv = go (before (get_last_accepted_round (Held old)) (get_last_accepted_round (Held rv)))
+after_promise_held None rv = refl
+after_promise_held (Some old) rv = go (before (get_last_accepted_round (Some old)) (get_last_accepted_round (Some rv)))
   where
-    go : (t : Bool) → is_held (cond t (Held rv) (Held old)) ≡ true
+    go : (t : Bool) → is_some (cond t (Some rv) (Some old)) ≡ true
     go true = refl
     go false = refl
 
@@ -103,7 +99,7 @@ module _ (shard : Shard) (a : Asked) (h : Heard) (there : Bool) (acceptors : ℕ
   -- ---- entering
 
   pub enter_paper : (slot : ℕ) (n : PaxosRound) (rest : Core → CoreStep) (rule : Seen)
-      → (a.member.replica ≡ true → before (Round n) core.paxos.round ≡ false → Agrees (seen_step (rest (in_round n core))) rule)
+      → (a.member.replica ≡ true → before (Some n) core.paxos.round ≡ false → Agrees (seen_step (rest (in_round n core))) rule)
       → Agrees (seen_step (and_then (enter a h slot n core) rest))
       (cond (takes_part here slot && not (exceeded round_before old.acceptor.responded n)) rule (nothing here))
   unfolding enter is_older from_live
@@ -111,13 +107,13 @@ module _ (shard : Shard) (a : Asked) (h : Heard) (there : Bool) (acceptors : ℕ
       through refl
       (agree_both f (a.member.replica || is_swift_paxos a.mode) a.member.replica (or_false a.member.replica (is_swift_paxos a.mode) swift)
       (λ r.
-      agree_both f (ltb slot core.slot || before (Round n) core.paxos.round) (ltb slot core.slot || exceeded round_before old.acceptor.responded n)
+      agree_both f (ltb slot core.slot || before (Some n) core.paxos.round) (ltb slot core.slot || exceeded round_before old.acceptor.responded n)
       (ap (λ (t : Bool). ltb slot core.slot || t) (exceeded_older core.paxos.round n))
       (λ o. agrees refl)
       (λ o.
       agree_unless f (h.source_live || is_swift_paxos a.mode)
       (λ l. go (sym (or_false a.member.replica (is_swift_paxos a.mode) swift) ∙ r)
-      (neither_right (ltb slot core.slot) (before (Round n) core.paxos.round) o))
+      (neither_right (ltb slot core.slot) (before (Some n) core.paxos.round) o))
       (λ l. no_refusal refl)))
       (λ r. agrees refl))
       (nested a.member.replica (ltb slot core.slot) (exceeded round_before old.acceptor.responded n) rule (nothing here))
@@ -127,11 +123,11 @@ module _ (shard : Shard) (a : Asked) (h : Heard) (there : Bool) (acceptors : ℕ
 
   pub entered_core : (n : PaxosRound) → in_round n core ≡ with_paxos (in_round n core).paxos core
   unfolding in_round
-  entered_core n = go (before core.paxos.round (Round n))
+  entered_core n = go (before core.paxos.round (Some n))
     where
       go : (t : Bool)
-          → cond t (with_paxos (goto_round (Round n) core.paxos) core) core
-          ≡ with_paxos (cond t (with_paxos (goto_round (Round n) core.paxos) core) core).paxos core
+          → cond t (with_paxos (goto_round (Some n) core.paxos) core) core
+          ≡ with_paxos (cond t (with_paxos (goto_round (Some n) core.paxos) core) core).paxos core
       go true = refl
       go false = refl
 
@@ -142,13 +138,13 @@ module _ (shard : Shard) (a : Asked) (h : Heard) (there : Bool) (acceptors : ℕ
     -- ---- Prepare
 
     module _ (rv : RoundV) where
-      propose_paper : (q : PaxosState) → is_held q.max_rv ≡ true → before (Round n) q.round ≡ false
+      propose_paper : (q : PaxosState) → is_some q.max_rv ≡ true → before (Some n) q.round ≡ false
           → Agrees (seen_step (accept_phase a n (with_paxos q core))) (requesting here (replica_of q) (some (proposal_of round_before (proposer_in n (replica_of q)))))
       unfolding accept_phase self_accept accept_own receive_accept broadcast_accept requesting
       propose_paper q has free =
           agree_unless g (is_empty q.accepted_set)
           (λ e.
-          through (ap (λ (v : OptionalValue). g (accept_own a.member n q v)) (has_value q.max_rv has))
+          through (ap (λ (v : Optional ℕ). g (accept_own a.member n q v)) (held_has_value q.max_rv has))
           (agree_unless g (accept_fits q.max_rv n v)
           (λ fit. agrees
           (ap (λ (c : Core). seen_step (stays c (in_places request))) (off_paxos (with_paxos (after_accept a.member a.member.my_pid n v q) core))
@@ -162,8 +158,8 @@ module _ (shard : Shard) (a : Asked) (h : Heard) (there : Bool) (acceptors : ℕ
           v : ℕ
           v = held_v q.max_rv
 
-          g : PaxosStep → Seen
-          g st = seen_step (after_own_accept a n (with_paxos q core) st.state st.outcome)
+          g : Result PaxosState Refusal → Seen
+          g result = seen_step (after_own_accept a n (with_paxos q core) result)
 
           request : List Outgoing
           request = sends a core to_all (Accept core.slot n v) ∷ []
@@ -172,7 +168,7 @@ module _ (shard : Shard) (a : Asked) (h : Heard) (there : Bool) (acceptors : ℕ
       unfolding requesting
       requests_none r = refl
 
-      gather_paper : (p : PaxosState) → before (Round n) p.round ≡ false
+      gather_paper : (p : PaxosState) → before (Some n) p.round ≡ false
           → Agrees (seen_step (gather a h n rv (with_paxos p core))) (gathers here known n rv (replica_of p))
       unfolding gather gathers becomes_prepared receive_promise proposes
       gather_paper p free =
@@ -189,7 +185,7 @@ module _ (shard : Shard) (a : Asked) (h : Heard) (there : Bool) (acceptors : ℕ
           (proposes round_before acceptors (proposer_in n r)))) heard)
         where
           q : PaxosState
-          q = (receive_promise a.member h.src rv p).state
+          q = receive_promise a.member h.src rv p
 
           heard : replica_of q ≡ hears here.self h.src rv (replica_of p)
           heard = promise_heard a replica h.src rv p
@@ -198,7 +194,7 @@ module _ (shard : Shard) (a : Asked) (h : Heard) (there : Bool) (acceptors : ℕ
       abbrev seen_then : CoreStep → Seen
       seen_then step = seen_step (and_then step (gather a h n rv))
 
-      preparing_paper : (p : PaxosState) → before (Round n) p.round ≡ false
+      preparing_paper : (p : PaxosState) → before (Some n) p.round ≡ false
           → Agrees (seen_then (preparing a h n (with_paxos p core))) (in_prepare here known n rv (replica_of p))
       unfolding preparing answers_nothing answer_prepare in_prepare responding promises ignores
       preparing_paper p free =
@@ -219,23 +215,23 @@ module _ (shard : Shard) (a : Asked) (h : Heard) (there : Bool) (acceptors : ℕ
           (push (responding here known (replica_of p)) (ignores round_before (replica_of p).acceptor n) none (some (promise n (accepted_of p.max_rv)))))
         where
           last : Bool
-          last = equal (get_last_accepted_round p.max_rv) (Round n)
+          last = equal (get_last_accepted_round p.max_rv) (Some n)
 
-      pub prepared_paper : (p : PaxosState) → before (Round n) p.round ≡ false
+      pub prepared_paper : (p : PaxosState) → before (Some n) p.round ≡ false
           → Agrees (seen_then (prepared a h n rv (with_paxos p core))) (in_prepare here known n rv (takes_up here.self rv (replica_of p)))
       unfolding prepared hold_first paxos_propose_v takes_up receive_promise
       prepared_paper p free =
           through refl
-          (agree_both g (is_held p.max_rv) (keeps_something (replica_of p)) (held_kept p.max_rv)
+          (agree_both g (is_some p.max_rv) (keeps_something (replica_of p)) (held_kept p.max_rv)
           (λ e. preparing_paper p free)
           (λ e.
-          through (taken_no g (is_held p.max_rv) (refused Panic p) (cond (is_empty p.prepared_set) (taken q) (refused Panic p)) e)
+          through (taken_no g (is_some p.max_rv) (Err Panic) (cond (is_empty p.prepared_set) (Ok q) (Err Panic)) e)
           (agree_unless g (is_empty p.prepared_set) (λ d. preparing_paper q free) (λ d. no_refusal refl))
           (ap (in_prepare here known n rv) (promise_heard a replica a.member.my_pid rv p))))
           (push (in_prepare here known n rv) (keeps_something (replica_of p)) (replica_of p) (hears here.self here.self rv (replica_of p)))
         where
           q : PaxosState
-          q = (receive_promise a.member a.member.my_pid rv p).state
+          q = receive_promise a.member a.member.my_pid rv p
 
-          g : PaxosStep → Seen
-          g st = seen_then (after_held a h n (with_paxos p core) st.state st.outcome)
+          g : Result PaxosState Refusal → Seen
+          g result = seen_then (after_held a h n (with_paxos p core) result)

@@ -1,6 +1,8 @@
 -- The learner over a list of calls: those that are counted as having accepted in a number have accepted one proposal, and what is committed is its
 -- value, accepted by a majority. That a second proposal of the number is not counted is a cause of demand 1 (9).
 -- Assumes nothing.
+use Rattle.std.specs.Prelude.{Option as Optional, None, Some}
+use Rattle.message.specs.declared.RoundV.{RoundV}
 use mathlib.Core.Path.{◌≡◌, refl, sym, ap, subst, ◌∙◌}
 use mathlib.Core.Logic.{◌⊎◌, inl, inr}
 use mathlib.Core.Bool.{Bool, true, false, cond, not, ◌||◌}
@@ -16,18 +18,16 @@ use Rattle.message.specs.Modes.{is_swift_paxos, has_fast_path}
 use Rattle.message.specs.Rounds.{round_before, before}
 use Rattle.message.proofs.Order.{rounds_ordered}
 use Rattle.message.specs.declared.ConsensusMsg.{ConsensusMsg}
-use Rattle.message.specs.declared.OptionalRound.TheVariants.{Round}
 use Rattle.message.specs.declared.PFMode.{PFMode}
 use Rattle.message.specs.declared.PFMode.TheVariants.{Paxos, MultiPaxos, MultiPaxos3P, EPaxos, Pando, SwiftPaxos}
 use Rattle.message.specs.declared.PaxosRound.{PaxosRound}
-use Rattle.round_state.specs.declared.HeldPromise.{HeldPromise}
 use Rattle.fast_state.specs.Adopt.{lowest_best}
 use Rattle.settings.specs.Settings.{within_limits}
 use Rattle.settings.specs.declared.Settings.{Settings}
 use Rattle.delivery.specs.declared.Delivery.{Delivery}
+use Rattle.calls.specs.Commits.{committed_slot}
 use Rattle.calls.specs.declared.Call.{Call}
 use Rattle.calls.specs.declared.Call.TheVariants.{Receive}
-use Rattle.calls.specs.declared.OptionalCommit.TheVariants.{NoCommit, Committed}
 use Rattle.consensus.specs.Call.{call_of}
 use Rattle.consensus.specs.FirstCause.{number_of, leader_delegate, facts_of, ignored, source_not_live, unmade, admission_causes, handling_causes, all_causes, first_cause, ByFirstCause}
 use Rattle.consensus.specs.Panics.{Facts, fits_held, accept_panics}
@@ -78,7 +78,7 @@ fits_in SwiftPaxos e f v h = absurd (not_both refl e)
 
 module _ (shard : Shard) (classic : has_fast_path shard.settings.mode ≡ false) (d : Delivery) (n : PaxosRound) (v : ℕ) (a : Announced n shard d v)
     (newer : exceeded round_before (replica_in shard).acceptor.responded n ≡ false) where
-  abbrev held : HeldPromise
+  abbrev held : Optional RoundV
   held = shard.state.rounds.core.paxos.max_rv
 
   abbrev old : Replica
@@ -92,7 +92,7 @@ module _ (shard : Shard) (classic : has_fast_path shard.settings.mode ≡ false)
       ∙ newer
     where
       later : Bool
-      later = before (Round n) shard.state.rounds.core.paxos.round
+      later = before (Some n) shard.state.rounds.core.paxos.round
 
   taken_fits : fits_held held n v ≡ true
   taken_fits = fits_in shard.settings.mode classic facts v go.1
@@ -278,7 +278,7 @@ module _ (n : PaxosRound) (first : Shard) (classic : has_fast_path first.setting
         ∙ ap (λ (o : Option (Proposal PaxosRound ℕ)). higher round_before o (some p)) (entered_accepted n (replica_in shard))
         ∙ highest_now
 
-    counted_more : (call_of shard (Receive d)).reply.commit ≡ NoCommit → Since (one_more xs (acceptance_of d v)) (call_of shard (Receive d)).shard
+    counted_more : (call_of shard (Receive d)).reply.commit ≡ None → Since (one_more xs (acceptance_of d v)) (call_of shard (Receive d)).shard
     counted_more c =
         record {
           settings = settings_kept shard (Receive d) ∙ s.settings;
@@ -309,7 +309,7 @@ module _ (n : PaxosRound) (first : Shard) (classic : has_fast_path first.setting
   -- the value of that one, a majority is counted, and each of those was counted before the list, or is the replica itself, or has sent an Accept of that
   -- value in the number.
   pub learned_from_majority : (xs : List Acceptance) (shard : Shard) → Counted n first xs shard → (d : Delivery) (v : ℕ) → Announced n shard d v
-      → (at w : ℕ) (fast : Bool) → (call_of shard (Receive d)).reply.commit ≡ Committed at w fast
+      → (at w : ℕ) (fast : Bool) → (call_of shard (Receive d)).reply.commit ≡ committed_slot at w fast
       → (w ≡ v) × (is_majority acceptors (size (accepts_all me n begin (xs ++ (acceptance_of d v ∷ []))).agreed) ≡ true)
       × ((q : ℕ) → contains (accepts_all me n begin (xs ++ (acceptance_of d v ∷ []))).agreed q ≡ true
       → (contains begin.agreed q ≡ true) ⊎ (q ≡ me) ⊎ ((x : Acceptance) × In x (xs ++ (acceptance_of d v ∷ [])) × (q ≡ x.src) × (x.value ≡ v)))

@@ -1,5 +1,6 @@
 -- What is seen of the engine's proposals in the classic modes is what the paper's rules make of the replica.
 -- Assumes nothing.
+use Rattle.std.specs.Prelude.{Option as Optional, None, Some, is_some}
 use mathlib.Core.Path.{◌≡◌, refl, sym, ap, ◌∙◌}
 use mathlib.Core.Logic.{◌⊎◌, inl, inr}
 use mathlib.Core.Bool.{Bool, true, false, cond, not, ◌&&◌, ◌||◌}
@@ -12,16 +13,12 @@ use Rattle.message.specs.Modes.{is_multi_paxos, is_swift_paxos, has_fast_path}
 use Rattle.message.specs.Rounds.{round_before, equal, next_leader_round, default_round, unwrap_or_default, starting_round}
 use Rattle.message.proofs.Order.{rounds_ordered, round_equal_lem}
 use Rattle.message.specs.declared.ConsensusMsg.TheVariants.{Prepare, Accept}
-use Rattle.message.specs.declared.OptionalRound.{OptionalRound}
-use Rattle.message.specs.declared.OptionalRound.TheVariants.{NoRound, Round}
 use Rattle.message.specs.declared.PaxosRound.{PaxosRound}
 use Rattle.message.specs.declared.PFMode.{PFMode}
 use Rattle.message.specs.declared.PFMode.TheVariants.{Paxos, MultiPaxos, MultiPaxos3P, EPaxos, Pando, SwiftPaxos}
 use Rattle.message.specs.declared.RoundV.{RoundV}
 use Rattle.message.specs.declared.RoundV.TheVariants.{PaxosV}
-use Rattle.round_state.specs.Paxos.{is_held, goto_round, held_after_promise, receive_promise, paxos_propose_v, self_accept, accept_own, receive_accept, accept_fits}
-use Rattle.round_state.specs.declared.HeldPromise.{HeldPromise}
-use Rattle.round_state.specs.declared.HeldPromise.TheVariants.{NothingHeld, Held}
+use Rattle.round_state.specs.Paxos.{goto_round, held_after_promise, receive_promise, paxos_propose_v, self_accept, accept_own, receive_accept, accept_fits}
 use Rattle.round_state.specs.declared.PaxosState.{PaxosState}
 use Rattle.enter.specs.Enter.{can_propose}
 use Rattle.proposal.specs.Proposal.{proposal_round, electing, may_propose}
@@ -39,11 +36,11 @@ use Rattle.paper.specs.PaperCall.{Seen, Place, seen, leaves, requesting, own_num
 use Rattle.paper.proofs.Views.{place_in, Agrees, agrees, no_refusal, agree_both, agree_unless, promise_heard, accept_counted}
 use Rattle.paper.proofs.Handlers.{not_swift, or_false}
 
-or_default : (o : OptionalRound) → unwrap_or_default o ≡ number_or default_round (responded_of o)
-or_default NoRound = refl
-or_default (Round n) = refl
+or_default : (o : Optional PaxosRound) → unwrap_or_default o ≡ number_or default_round (responded_of o)
+or_default None = refl
+or_default (Some n) = refl
 
-none_at_start : (m : PFMode) (leader : ℕ) → is_multi_paxos m ≡ false → starting_round m leader ≡ NoRound
+none_at_start : (m : PFMode) (leader : ℕ) → is_multi_paxos m ≡ false → starting_round m leader ≡ None
 none_at_start Paxos leader e = refl
 none_at_start MultiPaxos leader e = absurd (not_both refl e)
 none_at_start MultiPaxos3P leader e = absurd (not_both refl e)
@@ -64,14 +61,14 @@ not_or true t e d = e
 not_or false t e d = absurd (not_both d refl)
 
 -- the proposer's own acceptor has responded to its number
-begun : (o start : OptionalRound) (n : PaxosRound) (x : Option (Proposal PaxosRound ℕ)) → equal o start ≡ true
-    → (start ≡ NoRound) ⊎ (equal (Round n) start ≡ true)
+begun : (o start : Optional PaxosRound) (n : PaxosRound) (x : Option (Proposal PaxosRound ℕ)) → equal o start ≡ true
+    → (start ≡ None) ⊎ (equal (Some n) start ≡ true)
     → prepare round_before (record { responded = responded_of o; accepted = x }) n ≡ record { responded = some n; accepted = x }
 unfolding prepare responds
-begun NoRound start n x e d = refl
-begun (Round m) NoRound n x e d = absurd (not_both e refl)
-begun (Round m) (Round s) n x e (inl d) = absurd (not_both e (ap (equal (Round m)) d))
-begun (Round m) (Round s) n x e (inr d) =
+begun None start n x e d = refl
+begun (Some m) None n x e d = absurd (not_both e refl)
+begun (Some m) (Some s) n x e (inl d) = absurd (not_both e (ap (equal (Some m)) d))
+begun (Some m) (Some s) n x e (inr d) =
     ap (λ (t : Bool). cond t (record { responded = some n; accepted = x }) (record { responded = some m; accepted = x }))
     (ap (round_before m) (round_equal_lem n s d ∙ sym (round_equal_lem m s e)) ∙ rounds_ordered.irreflexive m)
     ∙ ap (λ (k : PaxosRound). record { responded = some k; accepted = x }) (round_equal_lem m s e ∙ sym (round_equal_lem n s d))
@@ -106,27 +103,27 @@ module _ (shard : Shard) (acceptors : ℕ) (classic : has_fast_path shard.settin
 
   -- what the paper's proposer begins with, where it may propose
   abbrev first : PaxosState
-  first = record { round = Round n; max_rv = NothingHeld; prepared_set = 0; accepted_set = 0 }
+  first = record { round = Some n; max_rv = None; prepared_set = 0; accepted_set = 0 }
 
   module _ (allowed : may_propose a core ≡ true) where
     abbrev at_start : Bool
     at_start = equal core.paxos.round a.starting_round
 
     abbrev in_starting : Bool
-    in_starting = not (is_multi_paxos a.mode) || equal (Round (proposal_round a core)) a.starting_round
+    in_starting = not (is_multi_paxos a.mode) || equal (Some (proposal_round a core)) a.starting_round
 
     -- nothing is held, and the tests that an own proposal passes hold
-    passed : (core.paxos.max_rv ≡ NothingHeld) × ((can_propose a && at_start && in_starting) ≡ true)
+    passed : (core.paxos.max_rv ≡ None) × ((can_propose a && at_start && in_starting) ≡ true)
     unfolding may_propose
     passed = go core.paxos.max_rv refl allowed
       where
-        go : (held : HeldPromise) → core.paxos.max_rv ≡ held → cond (is_held held) false (can_propose a && at_start && in_starting) ≡ true
-            → (core.paxos.max_rv ≡ NothingHeld) × ((can_propose a && at_start && in_starting) ≡ true)
-        go NothingHeld e d = (e, d)
-        go (Held rv) e d = absurd (not_both d refl)
+        go : (held : Optional RoundV) → core.paxos.max_rv ≡ held → cond (is_some held) false (can_propose a && at_start && in_starting) ≡ true
+            → (core.paxos.max_rv ≡ None) × ((can_propose a && at_start && in_starting) ≡ true)
+        go None e d = (e, d)
+        go (Some rv) e d = absurd (not_both d refl)
 
-    in_round_lem : goto_round (Round n) core.paxos ≡ first
-    in_round_lem = ap (λ (held : HeldPromise). record { round = Round n; max_rv = held; prepared_set = 0; accepted_set = 0 }) passed.0
+    in_round_lem : goto_round (Some n) core.paxos ≡ first
+    in_round_lem = ap (λ (held : Optional RoundV). record { round = Some n; max_rv = held; prepared_set = 0; accepted_set = 0 }) passed.0
 
     replica : a.member.replica ≡ true
     replica =
@@ -138,26 +135,26 @@ module _ (shard : Shard) (acceptors : ℕ) (classic : has_fast_path shard.settin
         ap (λ (x : Acceptor PaxosRound ℕ). record { acceptor = x; wish = old.wish; promised = 0; agreed = 0 })
         (begun core.paxos.round a.starting_round n (accepted_of core.paxos.max_rv)
         (and_right (can_propose a) at_start (and_left (can_propose a && at_start) in_starting passed.1)) (go (is_multi_paxos a.mode) refl))
-        ∙ ap (λ (held : HeldPromise). begin (accepted_of held) (wish_of held)) passed.0
+        ∙ ap (λ (held : Optional RoundV). begin (accepted_of held) (wish_of held)) passed.0
       where
         begin : Option (Proposal PaxosRound ℕ) → Option RoundV → Replica
         begin x w = record { acceptor = record { responded = some n; accepted = x }; wish = w; promised = 0; agreed = 0 }
 
-        go : (t : Bool) → is_multi_paxos a.mode ≡ t → (a.starting_round ≡ NoRound) ⊎ (equal (Round n) a.starting_round ≡ true)
+        go : (t : Bool) → is_multi_paxos a.mode ≡ t → (a.starting_round ≡ None) ⊎ (equal (Some n) a.starting_round ≡ true)
         go true e =
-            inr (ap (λ (k : PaxosRound). equal (Round k) a.starting_round) (sym number)
-            ∙ not_or (is_multi_paxos a.mode) (equal (Round (proposal_round a core)) a.starting_round)
+            inr (ap (λ (k : PaxosRound). equal (Some k) a.starting_round) (sym number)
+            ∙ not_or (is_multi_paxos a.mode) (equal (Some (proposal_round a core)) a.starting_round)
             (and_right (can_propose a && at_start) in_starting passed.1) e)
         go false e = inl (none_at_start a.mode a.first_leader e)
 
     abbrev rv : RoundV
-    rv = PaxosV NoRound v
+    rv = PaxosV None v
 
     abbrev heard : Replica → Replica
     heard r = hears here.self a.member.my_pid rv r
 
     abbrev mine : PaxosState
-    mine = (receive_promise a.member a.member.my_pid rv first).state
+    mine = receive_promise a.member a.member.my_pid rv first
 
     own_heard : replica_of mine ≡ heard (replica_of first)
     own_heard = promise_heard a replica a.member.my_pid rv first
@@ -168,8 +165,7 @@ module _ (shard : Shard) (acceptors : ℕ) (classic : has_fast_path shard.settin
         (sends a core to_all (Prepare core.slot n (brings none (begins here v).wish)) ∷ [])
     unfolding propose_prepare paxos_propose_v hears
     prepare_request_lem =
-        ap (λ (p : PaxosState). seen_step (proposed a (Prepare core.slot n rv) core (paxos_propose_v a.member rv p).state
-        (paxos_propose_v a.member rv p).outcome)) in_round_lem
+        ap (λ (p : PaxosState). seen_step (proposed a (Prepare core.slot n rv) core (paxos_propose_v a.member rv p))) in_round_lem
         ∙ ap (λ (r : Replica). leaves here r (sends a core to_all (Prepare core.slot n rv) ∷ [])) own_heard
         ∙ ap (λ (r : Replica). leaves here (heard r) (sends a core to_all (Prepare core.slot n (brings none (heard r).wish)) ∷ [])) (sym started)
 
@@ -180,8 +176,7 @@ module _ (shard : Shard) (acceptors : ℕ) (classic : has_fast_path shard.settin
         (sends a core to_all (Accept core.slot n (proposal_of round_before (proposer_in n (begins here v))).value) ∷ [])
     unfolding propose_accept paxos_propose_v self_accept accept_own receive_accept accept_fits receive_promise held_after_promise hears choice highest
     accept_request_lem =
-        ap (λ (p : PaxosState). seen_step (after_own_promise a n v core (paxos_propose_v a.member rv p).state
-        (paxos_propose_v a.member rv p).outcome)) in_round_lem
+        ap (λ (p : PaxosState). seen_step (after_own_promise a n v core (paxos_propose_v a.member rv p))) in_round_lem
         ∙ ap (λ (r : Replica). leaves here r request) (accept_counted a replica a.member.my_pid n v mine (rounds_ordered.irreflexive n) refl)
         ∙ ap (λ (r : Replica). leaves here (accepts_with here.self a.member.my_pid (record { number = n; value = v }) r) request) own_heard
         ∙ ap (λ (r : Replica). leaves here (accepts_with here.self a.member.my_pid (proposal_of round_before (proposer_in n (heard r))) (heard r))
@@ -197,5 +192,5 @@ module _ (shard : Shard) (acceptors : ℕ) (classic : has_fast_path shard.settin
       (λ e.
       agree_both seen_step (is_multi_paxos a.mode) (is_there here.start) (led_start a.mode a.first_leader)
       (λ m. agrees (ap (λ (k : PaxosRound). seen_step (propose_accept a k v core)) number ∙ accept_request_lem e))
-      (λ m. agrees (ap (λ (k : PaxosRound). seen_step (propose_prepare a k (PaxosV NoRound v) core)) number ∙ prepare_request_lem e)))
+      (λ m. agrees (ap (λ (k : PaxosRound). seen_step (propose_prepare a k (PaxosV None v) core)) number ∙ prepare_request_lem e)))
       (λ e. no_refusal refl)

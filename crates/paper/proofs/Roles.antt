@@ -1,6 +1,9 @@
 -- `call_as_paper` role by role, for a Prepare or an Accept of the own slot at a live replica that no cause refuses: the acceptor responds and accepts as the
 -- paper's, the proposer proposes as the paper's, and what is committed a majority has accepted.
 -- Assumes nothing.
+use Rattle.std.specs.Prelude.{Option as Optional, None, Some}
+use Rattle.calls.specs.Commits.{committed_slot}
+use Rattle.calls.specs.declared.CommittedSlot.{CommittedSlot}
 use mathlib.Core.Path.{◌≡◌, refl, sym, ap, subst, ◌∙◌}
 use mathlib.Core.Bool.{Bool, true, false, cond, not, ◌&&◌, ◌||◌}
 use mathlib.Core.List.{List, [], ◌∷◌, ◌++◌}
@@ -23,8 +26,6 @@ use Rattle.steps.specs.declared.Destination.TheVariants.{One}
 use Rattle.steps.specs.declared.Outgoing.{Outgoing}
 use Rattle.delivery.specs.declared.Delivery.{Delivery}
 use Rattle.calls.specs.declared.Call.TheVariants.{Receive}
-use Rattle.calls.specs.declared.OptionalCommit.{OptionalCommit}
-use Rattle.calls.specs.declared.OptionalCommit.TheVariants.{NoCommit, Committed}
 use Rattle.consensus.specs.Call.{call_of}
 use Rattle.consensus.specs.declared.Shard.{Shard}
 use Rattle.paper.specs.Replica.{Replica, report_of, enters, promises, unless_accepted, is_there, keeps_something, proposer_in, newly, also_self, hears, takes_up, accepts_with}
@@ -49,13 +50,13 @@ exceeded_not_later : (o : Option PaxosRound) (n : PaxosRound) → exceeded round
 exceeded_not_later none n e = absurd (not_both e refl)
 exceeded_not_later (some m) n e = fails (λ f. not_both (rounds_ordered.transitive n m n e f) (rounds_ordered.irreflexive n))
 
-abbrev is_commit : OptionalCommit → Bool
-is_commit NoCommit = false
-is_commit (Committed slot v fast) = true
+abbrev is_commit : Optional CommittedSlot → Bool
+is_commit None = false
+is_commit (Some commit) = true
 
-abbrev committed_value : OptionalCommit → ℕ
-committed_value NoCommit = 0
-committed_value (Committed slot v fast) = v
+abbrev committed_value : Optional CommittedSlot → ℕ
+committed_value None = 0
+committed_value (Some commit) = commit.v
 
 pub entered_acceptor : (n : PaxosRound) (r : Replica) → (enters n r).acceptor ≡ prepare round_before r.acceptor n
 unfolding enters prepare
@@ -361,29 +362,29 @@ module _ (shard : Shard) (classic : has_fast_path shard.settings.mode ≡ false)
             ∙ ap (λ (x : Option (Message PaxosRound ℕ)). leaves here counted (to_each here h (learners here h n) x)) g
 
     -- the replica after one that commits nothing, in a number that is not exceeded
-    pub accept_leaves : older ≡ false → (call_of shard (Receive d)).reply.commit ≡ NoCommit → replica_in (call_of shard (Receive d)).shard ≡ counted
+    pub accept_leaves : older ≡ false → (call_of shard (Receive d)).reply.commit ≡ None → replica_in (call_of shard (Receive d)).shard ≡ counted
     accept_leaves newer =
-        of_accept (λ (s : Seen). s.commit ≡ NoCommit → s.replica ≡ counted)
+        of_accept (λ (s : Seen). s.commit ≡ None → s.replica ≡ counted)
         (λ e c. absurd (not_both e newer))
         (λ ms c. refl)
         (λ ms m c. absurd (not_both refl (ap is_commit c)))
 
     -- Phase 2 (b): an Accept that commits nothing leaves the paper's acceptor behind a prepare request of the number and the accept request; one of an
     -- older number leaves it as it was, as in the paper.
-    pub acceptor_accepts : (call_of shard (Receive d)).reply.commit ≡ NoCommit
+    pub acceptor_accepts : (call_of shard (Receive d)).reply.commit ≡ None
         → (replica_in (call_of shard (Receive d)).shard).acceptor ≡ accept round_before (prepare round_before old.acceptor n) p
     unfolding accepts_with
     acceptor_accepts =
-        of_accept (λ (s : Seen). s.commit ≡ NoCommit → s.replica.acceptor ≡ accept round_before (prepare round_before old.acceptor n) p)
+        of_accept (λ (s : Seen). s.commit ≡ None → s.replica.acceptor ≡ accept round_before (prepare round_before old.acceptor n) p)
         (λ e c. sym (older_accept old.acceptor p e))
         (λ ms c. ap (λ (x : Acceptor PaxosRound ℕ). accept round_before x p) (entered_acceptor n old))
         (λ ms m c. absurd (not_both refl (ap is_commit c)))
 
     -- Section 2.3: what an Accept commits is its value, and a majority of the replicas is counted as having accepted it in the number.
-    pub learner_learns : (at w : ℕ) (fast : Bool) → (call_of shard (Receive d)).reply.commit ≡ Committed at w fast
+    pub learner_learns : (at w : ℕ) (fast : Bool) → (call_of shard (Receive d)).reply.commit ≡ committed_slot at w fast
         → (w ≡ v) × (is_majority acceptors (size counted.agreed) ≡ true)
     learner_learns =
-        of_accept (λ (s : Seen). (at w : ℕ) (fast : Bool) → s.commit ≡ Committed at w fast → (w ≡ v) × (is_majority acceptors (size counted.agreed) ≡ true))
+        of_accept (λ (s : Seen). (at w : ℕ) (fast : Bool) → s.commit ≡ committed_slot at w fast → (w ≡ v) × (is_majority acceptors (size counted.agreed) ≡ true))
         (λ e at w fast c. absurd (not_both (ap is_commit c) refl))
         (λ ms at w fast c. absurd (not_both (ap is_commit c) refl))
         (λ ms m at w fast c. (ap committed_value (sym c), m))

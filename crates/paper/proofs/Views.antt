@@ -1,5 +1,6 @@
 -- The engine's state in the paper's terms: what each operation of the round state does to the replica that is seen in it.
 -- Assumes nothing.
+use Rattle.std.specs.Prelude.{Option as Optional, None, Some, is_some}
 use mathlib.Core.Path.{◌≡◌, refl, sym, ap, subst, ◌∙◌}
 use mathlib.Core.Logic.{◌⊎◌, inl, inr}
 use mathlib.Core.Bool.{Bool, true, false, cond, not, ◌&&◌, ◌||◌}
@@ -16,14 +17,10 @@ use Rattle.sets.specs.Sets.{insert}
 use Rattle.paxos.specs.PaxosMadeSimple.{Proposal, Acceptor, greater, exceeded, higher, responds, prepare, accepted_in, accepts, accept, highest, choice}
 use Rattle.message.specs.Rounds.{round_before, round_equal, before, equal}
 use Rattle.message.proofs.Order.{rounds_ordered, optional_rounds_ordered, round_equal_lem, equal_round}
-use Rattle.message.specs.declared.OptionalRound.{OptionalRound}
-use Rattle.message.specs.declared.OptionalRound.TheVariants.{NoRound, Round}
 use Rattle.message.specs.declared.PaxosRound.{PaxosRound}
 use Rattle.message.specs.declared.RoundV.{RoundV}
 use Rattle.message.specs.declared.RoundV.TheVariants.{FastV, PaxosV}
-use Rattle.round_state.specs.Paxos.{is_held, get_last_accepted_round, held_after_promise, receive_promise, counted, with_sender, with_own, accept_fits, after_accept}
-use Rattle.round_state.specs.declared.HeldPromise.{HeldPromise}
-use Rattle.round_state.specs.declared.HeldPromise.TheVariants.{NothingHeld, Held}
+use Rattle.round_state.specs.Paxos.{get_last_accepted_round, held_after_promise, receive_promise, counted, with_sender, with_own, accept_fits, after_accept}
 use Rattle.round_state.specs.declared.PaxosState.{PaxosState}
 use Rattle.round_state.proofs.Holding.{accept_fits_lem}
 use Rattle.enter.specs.Enter.{in_round}
@@ -113,24 +110,24 @@ once f false false p q = refl
 
 -- ---- what is held
 
-pub held_kept : (held : HeldPromise) → is_held held ≡ (is_there (accepted_of held) || is_there (wish_of held))
-held_kept NothingHeld = refl
-held_kept (Held (FastV proposer v)) = refl
-held_kept (Held (PaxosV NoRound v)) = refl
-held_kept (Held (PaxosV (Round n) v)) = refl
+pub held_kept : (held : Optional RoundV) → is_some held ≡ (is_there (accepted_of held) || is_there (wish_of held))
+held_kept None = refl
+held_kept (Some (FastV proposer v)) = refl
+held_kept (Some (PaxosV None v)) = refl
+held_kept (Some (PaxosV (Some n) v)) = refl
 
-pub held_brings : (held : HeldPromise) → held_rv held ≡ brings (accepted_of held) (wish_of held)
-held_brings NothingHeld = refl
-held_brings (Held (FastV proposer v)) = refl
-held_brings (Held (PaxosV NoRound v)) = refl
-held_brings (Held (PaxosV (Round n) v)) = refl
+pub held_brings : (held : Optional RoundV) → held_rv held ≡ brings (accepted_of held) (wish_of held)
+held_brings None = refl
+held_brings (Some (FastV proposer v)) = refl
+held_brings (Some (PaxosV None v)) = refl
+held_brings (Some (PaxosV (Some n) v)) = refl
 
-pub held_value_lem : (held : HeldPromise) → held_v held ≡ choice round_before (own_value (wish_of held)) (accepted_of held ∷ [])
+pub held_value_lem : (held : Optional RoundV) → held_v held ≡ choice round_before (own_value (wish_of held)) (accepted_of held ∷ [])
 unfolding choice highest
-held_value_lem NothingHeld = refl
-held_value_lem (Held (FastV proposer v)) = refl
-held_value_lem (Held (PaxosV NoRound v)) = refl
-held_value_lem (Held (PaxosV (Round n) v)) = refl
+held_value_lem None = refl
+held_value_lem (Some (FastV proposer v)) = refl
+held_value_lem (Some (PaxosV None v)) = refl
+held_value_lem (Some (PaxosV (Some n) v)) = refl
 
 -- two numbers are the same where neither is before the other
 same_round : (m n : PaxosRound) → round_equal m n ≡ not (round_before m n || round_before n m)
@@ -149,27 +146,27 @@ same_round m n = same_test there back
         go false true d f g = absurd (not_both g refl)
         go false false d f g = ap (round_equal m) (sym (rounds_ordered.connected m n d f)) ∙ equal_round m
 
-pub held_accepted_in : (held : HeldPromise) (n : PaxosRound) → equal (get_last_accepted_round held) (Round n) ≡ accepted_in round_before n (accepted_of held)
-held_accepted_in NothingHeld n = refl
-held_accepted_in (Held (FastV proposer v)) n = refl
-held_accepted_in (Held (PaxosV NoRound v)) n = refl
-held_accepted_in (Held (PaxosV (Round m) v)) n = same_round m n
+pub held_accepted_in : (held : Optional RoundV) (n : PaxosRound) → equal (get_last_accepted_round held) (Some n) ≡ accepted_in round_before n (accepted_of held)
+held_accepted_in None n = refl
+held_accepted_in (Some (FastV proposer v)) n = refl
+held_accepted_in (Some (PaxosV None v)) n = refl
+held_accepted_in (Some (PaxosV (Some m) v)) n = same_round m n
 
 -- ---- numbers
 
-pub exceeded_older : (o : OptionalRound) (n : PaxosRound) → before (Round n) o ≡ exceeded round_before (responded_of o) n
-exceeded_older NoRound n = refl
-exceeded_older (Round m) n = refl
+pub exceeded_older : (o : Optional PaxosRound) (n : PaxosRound) → before (Some n) o ≡ exceeded round_before (responded_of o) n
+exceeded_older None n = refl
+exceeded_older (Some m) n = refl
 
-greater_later : (o : OptionalRound) (n : PaxosRound) → before o (Round n) ≡ greater round_before n (responded_of o)
-greater_later NoRound n = refl
-greater_later (Round m) n = refl
+greater_later : (o : Optional PaxosRound) (n : PaxosRound) → before o (Some n) ≡ greater round_before n (responded_of o)
+greater_later None n = refl
+greater_later (Some m) n = refl
 
 -- a round is entered as the acceptor responds to its number
 pub round_entered : (n : PaxosRound) (core : Core) → replica_of (in_round n core).paxos ≡ enters n (replica_of core.paxos)
 unfolding in_round enters prepare responds
 round_entered n core =
-    both (λ (c : Core). replica_of c.paxos) (before core.paxos.round (Round n)) (responds round_before (replica_of core.paxos).acceptor n)
+    both (λ (c : Core). replica_of c.paxos) (before core.paxos.round (Some n)) (responds round_before (replica_of core.paxos).acceptor n)
     (greater_later core.paxos.round n)
     (λ e. ap (λ (t : Bool). with (cond t (record { responded = some n; accepted = accepted_of core.paxos.max_rv }) (replica_of core.paxos).acceptor))
     (sym e ∙ greater_later core.paxos.round n))
@@ -179,76 +176,76 @@ round_entered n core =
     with x = record { acceptor = x; wish = wish_of core.paxos.max_rv; promised = 0; agreed = 0 }
 
 -- the number of the round that was entered is not exceeded
-pub not_exceeded : (n : PaxosRound) (core : Core) → before (Round n) core.paxos.round ≡ false → before (Round n) (in_round n core).paxos.round ≡ false
+pub not_exceeded : (n : PaxosRound) (core : Core) → before (Some n) core.paxos.round ≡ false → before (Some n) (in_round n core).paxos.round ≡ false
 unfolding in_round
 not_exceeded n core e =
-    of-both (λ (c : Core). before (Round n) c.paxos.round ≡ false) (before core.paxos.round (Round n))
-    (optional_rounds_ordered.irreflexive (Round n)) e
+    of-both (λ (c : Core). before (Some n) c.paxos.round ≡ false) (before core.paxos.round (Some n))
+    (optional_rounds_ordered.irreflexive (Some n)) e
 
 -- ---- a promise
 
-accepted_cond : (t : Bool) (a b : RoundV) → accepted_of (cond t (Held a) (Held b)) ≡ cond t (report_of a) (report_of b)
+accepted_cond : (t : Bool) (a b : RoundV) → accepted_of (cond t (Some a) (Some b)) ≡ cond t (report_of a) (report_of b)
 accepted_cond true a b = refl
 accepted_cond false a b = refl
 
 -- the higher-numbered proposal is kept
-pub promise_higher : (held : HeldPromise) (rv : RoundV) → accepted_of (held_after_promise held rv) ≡ higher round_before (accepted_of held) (report_of rv)
+pub promise_higher : (held : Optional RoundV) (rv : RoundV) → accepted_of (held_after_promise held rv) ≡ higher round_before (accepted_of held) (report_of rv)
 unfolding held_after_promise
-promise_higher NothingHeld rv = refl
-promise_higher (Held (FastV p v)) (FastV q w) = refl
-promise_higher (Held (FastV p v)) (PaxosV NoRound w) = refl
-promise_higher (Held (FastV p v)) (PaxosV (Round r) w) = refl
-promise_higher (Held (PaxosV NoRound v)) (FastV q w) = refl
-promise_higher (Held (PaxosV NoRound v)) (PaxosV NoRound w) = refl
-promise_higher (Held (PaxosV NoRound v)) (PaxosV (Round r) w) = refl
-promise_higher (Held (PaxosV (Round s) v)) (FastV q w) = refl
-promise_higher (Held (PaxosV (Round s) v)) (PaxosV NoRound w) = refl
-promise_higher (Held (PaxosV (Round s) v)) (PaxosV (Round r) w) = accepted_cond (round_before s r) (PaxosV (Round r) w) (PaxosV (Round s) v)
+promise_higher None rv = refl
+promise_higher (Some (FastV p v)) (FastV q w) = refl
+promise_higher (Some (FastV p v)) (PaxosV None w) = refl
+promise_higher (Some (FastV p v)) (PaxosV (Some r) w) = refl
+promise_higher (Some (PaxosV None v)) (FastV q w) = refl
+promise_higher (Some (PaxosV None v)) (PaxosV None w) = refl
+promise_higher (Some (PaxosV None v)) (PaxosV (Some r) w) = refl
+promise_higher (Some (PaxosV (Some s) v)) (FastV q w) = refl
+promise_higher (Some (PaxosV (Some s) v)) (PaxosV None w) = refl
+promise_higher (Some (PaxosV (Some s) v)) (PaxosV (Some r) w) = accepted_cond (round_before s r) (PaxosV (Some r) w) (PaxosV (Some s) v)
 
 wish_cond : (t : Bool) (n m : PaxosRound) (v w : ℕ) (o : Option RoundV)
-    → wish_of (cond t (Held (PaxosV (Round n) v)) (Held (PaxosV (Round m) w)))
+    → wish_of (cond t (Some (PaxosV (Some n) v)) (Some (PaxosV (Some m) w)))
     ≡ unless_accepted (cond t (some (record { number = n; value = v })) (some (record { number = m; value = w }))) o
 wish_cond true n m v w o = refl
 wish_cond false n m v w o = refl
 
 -- and the first wish, while there is no proposal
-pub promise_wish : (held : HeldPromise) (rv : RoundV)
+pub promise_wish : (held : Optional RoundV) (rv : RoundV)
     → wish_of (held_after_promise held rv) ≡ unless_accepted (higher round_before (accepted_of held) (report_of rv)) (first_wish (wish_of held) rv)
 unfolding held_after_promise
-promise_wish NothingHeld (FastV q w) = refl
-promise_wish NothingHeld (PaxosV NoRound w) = refl
-promise_wish NothingHeld (PaxosV (Round r) w) = refl
-promise_wish (Held (FastV p v)) (FastV q w) = refl
-promise_wish (Held (FastV p v)) (PaxosV NoRound w) = refl
-promise_wish (Held (FastV p v)) (PaxosV (Round r) w) = refl
-promise_wish (Held (PaxosV NoRound v)) (FastV q w) = refl
-promise_wish (Held (PaxosV NoRound v)) (PaxosV NoRound w) = refl
-promise_wish (Held (PaxosV NoRound v)) (PaxosV (Round r) w) = refl
-promise_wish (Held (PaxosV (Round s) v)) (FastV q w) = refl
-promise_wish (Held (PaxosV (Round s) v)) (PaxosV NoRound w) = refl
-promise_wish (Held (PaxosV (Round s) v)) (PaxosV (Round r) w) = wish_cond (round_before s r) r s w v (some (PaxosV (Round r) w))
+promise_wish None (FastV q w) = refl
+promise_wish None (PaxosV None w) = refl
+promise_wish None (PaxosV (Some r) w) = refl
+promise_wish (Some (FastV p v)) (FastV q w) = refl
+promise_wish (Some (FastV p v)) (PaxosV None w) = refl
+promise_wish (Some (FastV p v)) (PaxosV (Some r) w) = refl
+promise_wish (Some (PaxosV None v)) (FastV q w) = refl
+promise_wish (Some (PaxosV None v)) (PaxosV None w) = refl
+promise_wish (Some (PaxosV None v)) (PaxosV (Some r) w) = refl
+promise_wish (Some (PaxosV (Some s) v)) (FastV q w) = refl
+promise_wish (Some (PaxosV (Some s) v)) (PaxosV None w) = refl
+promise_wish (Some (PaxosV (Some s) v)) (PaxosV (Some r) w) = wish_cond (round_before s r) r s w v (some (PaxosV (Some r) w))
 
 -- ---- an accept
 
 -- one that fits is higher than what was accepted, or the same
-later_higher : (held : HeldPromise) (n : PaxosRound) (v : ℕ) → before (get_last_accepted_round held) (Round n) ≡ true
+later_higher : (held : Optional RoundV) (n : PaxosRound) (v : ℕ) → before (get_last_accepted_round held) (Some n) ≡ true
     → some (record { number = n; value = v }) ≡ higher round_before (accepted_of held) (some (record { number = n; value = v }))
-later_higher NothingHeld n v e = refl
-later_higher (Held (FastV p w)) n v e = refl
-later_higher (Held (PaxosV NoRound w)) n v e = refl
-later_higher (Held (PaxosV (Round r) w)) n v e =
+later_higher None n v e = refl
+later_higher (Some (FastV p w)) n v e = refl
+later_higher (Some (PaxosV None w)) n v e = refl
+later_higher (Some (PaxosV (Some r) w)) n v e =
     ap (λ (t : Bool). cond t (some (record { number = n; value = v })) (some (record { number = r; value = w }))) (sym e)
 
-pub accept_higher : (held : HeldPromise) (n : PaxosRound) (v : ℕ) → accept_fits held n v ≡ true
+pub accept_higher : (held : Optional RoundV) (n : PaxosRound) (v : ℕ) → accept_fits held n v ≡ true
     → some (record { number = n; value = v }) ≡ higher round_before (accepted_of held) (some (record { number = n; value = v }))
 accept_higher held n v e = go (accept_fits_lem held n v e)
   where
-    go : (before (get_last_accepted_round held) (Round n) ≡ true) ⊎ (held ≡ Held (PaxosV (Round n) v))
+    go : (before (get_last_accepted_round held) (Some n) ≡ true) ⊎ (held ≡ Some (PaxosV (Some n) v))
         → some (record { number = n; value = v }) ≡ higher round_before (accepted_of held) (some (record { number = n; value = v }))
     go (inl l) = later_higher held n v l
     go (inr s) =
         ap (λ (t : Bool). cond t (some (record { number = n; value = v })) (some (record { number = n; value = v }))) (sym (rounds_ordered.irreflexive n))
-        ∙ ap (λ (x : HeldPromise). higher round_before (accepted_of x) (some (record { number = n; value = v }))) (sym s)
+        ∙ ap (λ (x : Optional RoundV). higher round_before (accepted_of x) (some (record { number = n; value = v }))) (sym s)
 
 -- ---- who is counted
 
@@ -313,7 +310,7 @@ module _ (a : Asked) (replica : a.member.replica ≡ true) where
       go false e = refl
 
   pub promise_heard : (src : ℕ) (rv : RoundV) (p : PaxosState)
-      → replica_of (receive_promise a.member src rv p).state ≡ hears a.member.my_pid src rv (replica_of p)
+      → replica_of (receive_promise a.member src rv p) ≡ hears a.member.my_pid src rv (replica_of p)
   unfolding receive_promise hears
   promise_heard src rv p =
       ap (λ (x : Option (Proposal PaxosRound ℕ)). made x (wish_of (held_after_promise p.max_rv rv)) (counted a.member src p.prepared_set))
@@ -328,7 +325,7 @@ module _ (a : Asked) (replica : a.member.replica ≡ true) where
       made x w set = record { acceptor = record { responded = responded_of p.round; accepted = x }; wish = w; promised = set; agreed = p.accepted_set }
 
   -- an accept that fits, in a number that is not exceeded
-  pub accept_counted : (src : ℕ) (n : PaxosRound) (v : ℕ) (p : PaxosState) → before (Round n) p.round ≡ false → accept_fits p.max_rv n v ≡ true
+  pub accept_counted : (src : ℕ) (n : PaxosRound) (v : ℕ) (p : PaxosState) → before (Some n) p.round ≡ false → accept_fits p.max_rv n v ≡ true
       → replica_of (after_accept a.member src n v p) ≡ accepts_with a.member.my_pid src (record { number = n; value = v }) (replica_of p)
   unfolding accepts_with accept accepts
   accept_counted src n v p free fit =

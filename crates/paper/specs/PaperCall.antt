@@ -6,7 +6,9 @@
 -- `default_round`, `increment`) and sets of processes (`size`), and of demand 1's page the causes, who is live, the delegates, the committer of a value and
 -- the starting round.
 -- Assumes nothing.
-use Rattle.std.specs.Prelude.{◌≡◌, Bool, false, cond, not, ◌&&◌, ◌||◌, List, [], ◌∷◌, ◌++◌, map, ℕ, eqb, ltb}
+use Rattle.std.specs.Prelude.{◌≡◌, Bool, false, cond, not, ◌&&◌, ◌||◌, List, [], ◌∷◌, ◌++◌, map, ℕ, eqb, ltb, Option as Optional, None, Some}
+use Rattle.calls.specs.Commits.{committed_slot}
+use Rattle.calls.specs.declared.CommittedSlot.{CommittedSlot}
 use Rattle.std.proofs.Math.Option.{Option, none, some}
 use Rattle.sets.specs.Sets.{size}
 use Rattle.paxos.specs.PaxosMadeSimple.{Proposal, Message, exceeded, prepare, accepts, announcement, asks, proposal_of, proposes, learns}
@@ -14,11 +16,6 @@ use Rattle.paxos.specs.PaxosMadeSimple.Message.{accept_request}
 use Rattle.message.specs.Rounds.{increment, round_before, next_leader_round, default_round}
 use Rattle.message.specs.declared.ConsensusMsg.{ConsensusMsg}
 use Rattle.message.specs.declared.ConsensusMsg.TheVariants.{Prepare, Accept, ForwardRequest, Commit, ReadRequest, ReadResponse}
-use Rattle.message.specs.declared.OptionalProcess.{OptionalProcess}
-use Rattle.message.specs.declared.OptionalProcess.TheVariants.{NoProcess, Process}
-use Rattle.message.specs.declared.OptionalRound.TheVariants.{NoRound}
-use Rattle.message.specs.declared.OptionalValue.{OptionalValue}
-use Rattle.message.specs.declared.OptionalValue.TheVariants.{NoValue, Value}
 use Rattle.message.specs.declared.PaxosRound.{PaxosRound}
 use Rattle.message.specs.declared.PFMode.{PFMode}
 use Rattle.message.specs.declared.PFMode.TheVariants.{Paxos, MultiPaxos, MultiPaxos3P, EPaxos, Pando, SwiftPaxos}
@@ -29,15 +26,11 @@ use Rattle.settings.specs.declared.Settings.{Settings}
 use Rattle.steps.specs.declared.Destination.{Destination}
 use Rattle.steps.specs.declared.Destination.TheVariants.{One, All}
 use Rattle.steps.specs.declared.Messages.{Messages}
-use Rattle.steps.specs.declared.OptionalMessage.{OptionalMessage}
-use Rattle.steps.specs.declared.OptionalMessage.TheVariants.{NoMessage, Send}
 use Rattle.steps.specs.declared.Outgoing.{Outgoing}
 use Rattle.delivery.specs.declared.Delivery.{Delivery}
 use Rattle.calls.specs.declared.Call.{Call}
 use Rattle.calls.specs.declared.Call.TheVariants.{Propose, StartRead, Receive}
-use Rattle.calls.specs.declared.OptionalCommit.{OptionalCommit}
-use Rattle.calls.specs.declared.OptionalCommit.TheVariants.{NoCommit, Committed}
-use Rattle.consensus.specs.FirstCause.{number_of, given_process, is_live, is_oneself, leader_delegate, value_committer, starts_in, first_cause}
+use Rattle.consensus.specs.FirstCause.{number_of, given_number, is_live, is_oneself, leader_delegate, value_committer, starts_in, first_cause}
 use Rattle.consensus.specs.declared.Answer.{Answer}
 use Rattle.consensus.specs.declared.Shard.{Shard}
 use Rattle.paper.specs.Replica.{Replica, responded_of, replica_of, written, enters, promises, is_there, proposer_in, newly, hears, takes_up, accepts_with, number_or}
@@ -48,10 +41,10 @@ use Rattle.paper.specs.Replica.{Replica, responded_of, replica_of, written, ente
 pub record Seen : Type 0 where
   pub outcome : ℕ
   pub slot : ℕ
-  pub last : OptionalValue
+  pub last : Optional ℕ
   pub replica : Replica
   pub messages : Messages
-  pub commit : OptionalCommit
+  pub commit : Optional CommittedSlot
 
 abbrev pub seen : Answer → Seen
 seen r =
@@ -67,9 +60,9 @@ seen r =
 -- ---- the places of what is sent
 
 -- the first of a list, and those behind it
-abbrev pub first_sent : List Outgoing → OptionalMessage
-first_sent [] = NoMessage
-first_sent (m ∷ ms) = Send m
+abbrev pub first_sent : List Outgoing → Optional Outgoing
+first_sent [] = None
+first_sent (m ∷ ms) = Some m
 
 abbrev pub behind_first : List Outgoing → List Outgoing
 behind_first [] = []
@@ -101,14 +94,14 @@ pub record Place : Type 0 where
   pub acceptors : ℕ
   pub start : Option PaxosRound
   pub slot : ℕ
-  pub last : OptionalValue
+  pub last : Optional ℕ
   pub old : Replica
 
 -- what is known of a message besides its own fields: its source, the proposer in its number, and the requester and the committers of its value
 pub record Known : Type 0 where
   pub src : ℕ
   pub proposer : ℕ
-  pub requester : OptionalProcess
+  pub requester : Optional ℕ
   pub committers : List ℕ
 
 -- a replica that has responded to nothing but the starting number, if there is one, and has accepted nothing; it wishes nothing, and has counted nobody
@@ -118,7 +111,7 @@ beginning start = record { acceptor = record { responded = start; accepted = non
 module _ (here : Place) where
   -- the call leaves this replica and sends these messages
   abbrev pub leaves : Replica → List Outgoing → Seen
-  leaves r ms = record { outcome = 0; slot = here.slot; last = here.last; replica = r; messages = in_places ms; commit = NoCommit }
+  leaves r ms = record { outcome = 0; slot = here.slot; last = here.last; replica = r; messages = in_places ms; commit = None }
 
   abbrev pub nothing : Seen
   nothing = leaves here.old []
@@ -131,10 +124,10 @@ module _ (here : Place) where
       record {
         outcome = 0;
         slot = increment here.slot;
-        last = Value v;
+        last = Some v;
         replica = beginning here.start;
         messages = in_places ms;
-        commit = Committed here.slot v false;
+        commit = committed_slot here.slot v false;
       }
 
   -- a message carries the own number as its source. DIFFERENCE ("what a message carries besides"): it also carries the last value that was committed
@@ -153,7 +146,7 @@ module _ (here : Place) where
   -- Phase 2 (a): the accept request to all; the proposer's own acceptor accepts
   unfoldable pub requesting : Replica → Option (Proposal PaxosRound ℕ) → Seen
   requesting r none = leaves r []
-  requesting r (some p) = leaves (accepts_with here.self here.self p r) (sending none (accept_request p) (All NoProcess) ∷ [])
+  requesting r (some p) = leaves (accepts_with here.self here.self p r) (sending none (accept_request p) (All None) ∷ [])
 
   -- ---- a proposal
 
@@ -166,7 +159,7 @@ module _ (here : Place) where
   -- nobody is counted in the number yet but the own acceptor, which promises; the value is the wish
   abbrev pub begins : ℕ → Replica
   begins v =
-      hears here.self here.self (PaxosV NoRound v)
+      hears here.self here.self (PaxosV None v)
       (record { acceptor = prepare round_before here.old.acceptor own_number; wish = here.old.wish; promised = 0; agreed = 0 })
 
   -- The prepare request to all. DIFFERENCE ("the first round of MultiPaxos and MultiPaxos3P"): where slots begin with a number, its leader needs no
@@ -175,7 +168,7 @@ module _ (here : Place) where
   proposes_own v =
       cond (is_there here.start)
       (requesting (begins v) (some (proposal_of round_before (proposer_in own_number (begins v)))))
-      (leaves (begins v) (sending (begins v).wish (asks round_before (proposer_in own_number (begins v))) (All NoProcess) ∷ []))
+      (leaves (begins v) (sending (begins v).wish (asks round_before (proposer_in own_number (begins v))) (All None) ∷ []))
 
   module _ (known : Known) where
     -- ---- Prepare
@@ -232,9 +225,9 @@ module _ (here : Place) where
     announces p r = cond (eqb known.src known.proposer) (to_each (announced_to p.number) (announcement round_before r.acceptor p)) []
 
     -- DIFFERENCE ("what a message carries besides"): a Commit goes to the requester of its value first, where that is another process
-    abbrev pub served_first : OptionalProcess → OptionalProcess
-    served_first NoProcess = NoProcess
-    served_first (Process p) = cond (eqb p here.self) NoProcess (Process p)
+    abbrev pub served_first : Optional ℕ → Optional ℕ
+    served_first None = None
+    served_first (Some p) = cond (eqb p here.self) None (Some p)
 
     -- DIFFERENCE ("how a chosen value is learned"): a learner that is itself the requester of the value, and not the leader, informs nobody
     abbrev pub keeps_to_itself : PaxosRound → Bool
@@ -321,10 +314,10 @@ proposer_by s (ReadRequest id) = 0
 proposer_by s (ReadResponse id next) = 0
 
 -- MultiPaxos3P has learners beside the leader: the committer of the value, where it has one
-abbrev pub committers_in : PFMode → OptionalProcess → List ℕ
+abbrev pub committers_in : PFMode → Optional ℕ → List ℕ
 committers_in Paxos committer = []
 committers_in MultiPaxos committer = []
-committers_in MultiPaxos3P committer = given_process committer
+committers_in MultiPaxos3P committer = given_number committer
 committers_in EPaxos committer = []
 committers_in Pando committer = []
 committers_in SwiftPaxos committer = []
@@ -354,7 +347,7 @@ refused_with number shard =
       last = shard.state.rounds.core.last_v;
       replica = replica_in shard;
       messages = in_places [];
-      commit = NoCommit;
+      commit = None;
     }
 
 -- What is seen of a call: it is refused with the number of the first cause that holds, and where none does it follows the rules.
@@ -369,12 +362,12 @@ paper_call shard c =
 -- a shard at its beginning, by its settings: the first slot, nothing committed, and the replica of a slot that begins
 abbrev pub AtBeginning : Settings → Shard → Type 0
 AtBeginning s shard =
-    (shard.state.rounds.core.slot ≡ 0) × (shard.state.rounds.core.last_v ≡ NoValue) × (replica_in shard ≡ beginning (responded_of (starts_in s)))
+    (shard.state.rounds.core.slot ≡ 0) × (shard.state.rounds.core.last_v ≡ None) × (replica_in shard ≡ beginning (responded_of (starts_in s)))
 
 -- what is sent, if anything, is no message of the paper
-abbrev pub NotOfPaxos : OptionalMessage → Type 0
-NotOfPaxos NoMessage = Unit {0}
-NotOfPaxos (Send m) = OfPaxos m.message.msg → ⊥
+abbrev pub NotOfPaxos : Optional Outgoing → Type 0
+NotOfPaxos None = Unit {0}
+NotOfPaxos (Some m) = OfPaxos m.message.msg → ⊥
 
 abbrev pub NoneOfPaxos : Messages → Type 0
 NoneOfPaxos messages = NotOfPaxos messages.first × NotOfPaxos messages.second × NotOfPaxos messages.third
@@ -385,5 +378,5 @@ LeavesPaxos shard r =
     (r.shard.state.rounds.core.slot ≡ shard.state.rounds.core.slot)
     × (r.shard.state.rounds.core.last_v ≡ shard.state.rounds.core.last_v)
     × (replica_in r.shard ≡ replica_in shard)
-    × (r.reply.commit ≡ NoCommit)
+    × (r.reply.commit ≡ None)
     × NoneOfPaxos r.reply.messages

@@ -2,7 +2,7 @@
 -- rule of the paper. What is not the paper's is marked DIFFERENCE, with the name of its row in docs/DIFFERENCES.md, "The Rust and the paper".
 -- Of the engine's definitions it cites the order of rounds (`round_before`) and sets of processes (`insert`, `size`).
 -- Assumes nothing.
-use Rattle.std.specs.Prelude.{Bool, true, false, cond, ◌||◌, [], ◌∷◌, ℕ}
+use Rattle.std.specs.Prelude.{Bool, true, false, cond, ◌||◌, [], ◌∷◌, ℕ, Option as Optional, None, Some}
 use Rattle.std.proofs.Math.Option.{Option, none, some}
 use Rattle.sets.specs.Sets.{insert, size}
 use Rattle.paxos.specs.PaxosMadeSimple.{Proposal, Acceptor, Message, Proposer, higher, responds, prepare, ignores, accept}
@@ -10,13 +10,9 @@ use Rattle.paxos.specs.PaxosMadeSimple.Message.{prepare_request, promise, accept
 use Rattle.message.specs.Rounds.{round_before}
 use Rattle.message.specs.declared.ConsensusMsg.{ConsensusMsg}
 use Rattle.message.specs.declared.ConsensusMsg.TheVariants.{Prepare, Accept}
-use Rattle.message.specs.declared.OptionalRound.{OptionalRound}
-use Rattle.message.specs.declared.OptionalRound.TheVariants.{NoRound, Round}
 use Rattle.message.specs.declared.PaxosRound.{PaxosRound}
 use Rattle.message.specs.declared.RoundV.{RoundV}
 use Rattle.message.specs.declared.RoundV.TheVariants.{FastV, PaxosV}
-use Rattle.round_state.specs.declared.HeldPromise.{HeldPromise}
-use Rattle.round_state.specs.declared.HeldPromise.TheVariants.{NothingHeld, Held}
 use Rattle.round_state.specs.declared.PaxosState.{PaxosState}
 
 -- ---- a replica in the paper's terms
@@ -34,25 +30,27 @@ pub record Replica : Type 0 where
 
 -- ---- the same in the engine's state
 
+-- The engine's state has the Option of std, which is `Optional` here; `Option` is that of the paper's page.
+
 -- the proposal that a Prepare reports as accepted, if it reports one
 abbrev pub report_of : RoundV → Option (Proposal PaxosRound ℕ)
 report_of (FastV proposer v) = none
-report_of (PaxosV NoRound v) = none
-report_of (PaxosV (Round n) v) = some (record { number = n; value = v })
+report_of (PaxosV None v) = none
+report_of (PaxosV (Some n) v) = some (record { number = n; value = v })
 
-abbrev pub accepted_of : HeldPromise → Option (Proposal PaxosRound ℕ)
-accepted_of NothingHeld = none
-accepted_of (Held rv) = report_of rv
+abbrev pub accepted_of : Optional RoundV → Option (Proposal PaxosRound ℕ)
+accepted_of None = none
+accepted_of (Some rv) = report_of rv
 
-abbrev pub wish_of : HeldPromise → Option RoundV
-wish_of NothingHeld = none
-wish_of (Held (FastV proposer v)) = some (FastV proposer v)
-wish_of (Held (PaxosV NoRound v)) = some (PaxosV NoRound v)
-wish_of (Held (PaxosV (Round n) v)) = none
+abbrev pub wish_of : Optional RoundV → Option RoundV
+wish_of None = none
+wish_of (Some (FastV proposer v)) = some (FastV proposer v)
+wish_of (Some (PaxosV None v)) = some (PaxosV None v)
+wish_of (Some (PaxosV (Some n) v)) = none
 
-abbrev pub responded_of : OptionalRound → Option PaxosRound
-responded_of NoRound = none
-responded_of (Round n) = some n
+abbrev pub responded_of : Optional PaxosRound → Option PaxosRound
+responded_of None = none
+responded_of (Some n) = some n
 
 abbrev pub replica_of : PaxosState → Replica
 replica_of p =
@@ -64,14 +62,14 @@ replica_of p =
     }
 
 -- and back: the replica is the whole Paxos half of the round state (`state_back`)
-abbrev pub round_of : Option PaxosRound → OptionalRound
-round_of none = NoRound
-round_of (some n) = Round n
+abbrev pub round_of : Option PaxosRound → Optional PaxosRound
+round_of none = None
+round_of (some n) = Some n
 
-abbrev pub held_of : Option (Proposal PaxosRound ℕ) → Option RoundV → HeldPromise
-held_of (some p) wish = Held (PaxosV (Round p.number) p.value)
-held_of none none = NothingHeld
-held_of none (some rv) = Held rv
+abbrev pub held_of : Option (Proposal PaxosRound ℕ) → Option RoundV → Optional RoundV
+held_of (some p) wish = Some (PaxosV (Some p.number) p.value)
+held_of none none = None
+held_of none (some rv) = Some rv
 
 abbrev pub state_of : Replica → PaxosState
 state_of r =
@@ -86,9 +84,9 @@ state_of r =
 
 -- what a Prepare brings: the proposal that is reported, or the wish; a replica that sends one has either
 abbrev pub brings : Option (Proposal PaxosRound ℕ) → Option RoundV → RoundV
-brings (some p) wish = PaxosV (Round p.number) p.value
+brings (some p) wish = PaxosV (Some p.number) p.value
 brings none (some rv) = rv
-brings none none = PaxosV NoRound 0
+brings none none = PaxosV None 0
 
 -- the value that a Prepare brings
 abbrev pub value_brought : RoundV → ℕ

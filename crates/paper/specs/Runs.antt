@@ -1,12 +1,11 @@
 -- Calls one after the other: the shards that there are, a proposer that gathers promises, and a learner that counts acceptances. The statements of
 -- proofs/ are about these.
 -- Assumes nothing.
-use Rattle.std.specs.Prelude.{◌≡◌, true, false, List, [], ◌∷◌, ◌++◌, ℕ, eqb, ltb}
+use Rattle.std.specs.Prelude.{◌≡◌, true, false, List, [], ◌∷◌, ◌++◌, ℕ, eqb, ltb, None, Ok}
 use Rattle.std.proofs.Math.Option.{Option}
 use Rattle.sets.specs.Sets.{size}
 use Rattle.paxos.specs.PaxosMadeSimple.{Proposal, Proposer}
 use Rattle.message.specs.declared.ConsensusMsg.TheVariants.{Prepare, Accept}
-use Rattle.message.specs.declared.Outcome.TheVariants.{Done}
 use Rattle.message.specs.declared.PaxosRound.{PaxosRound}
 use Rattle.message.specs.declared.PFMode.{PFMode}
 use Rattle.message.specs.declared.PFMode.TheVariants.{Paxos, MultiPaxos, MultiPaxos3P, EPaxos, Pando, SwiftPaxos}
@@ -16,7 +15,6 @@ use Rattle.settings.specs.declared.Settings.{Settings}
 use Rattle.delivery.specs.declared.Delivery.{Delivery}
 use Rattle.calls.specs.declared.Call.{Call}
 use Rattle.calls.specs.declared.Call.TheVariants.{Receive}
-use Rattle.calls.specs.declared.OptionalCommit.TheVariants.{NoCommit}
 use Rattle.consensus.specs.Call.{new_shard, call_of}
 use Rattle.consensus.specs.FirstCause.{is_live, first_cause}
 use Rattle.consensus.specs.declared.Shard.{Shard}
@@ -34,7 +32,7 @@ ClassicMode SwiftPaxos = ⊥
 
 -- a shard as it was made, or as a call of it has left it
 pub data Reached : Shard → Type 0 where
-  new : (s : Settings) → (new_shard s).made ≡ Done → Reached (new_shard s)
+  new : (s : Settings) → (new_shard s).made ≡ Ok tt → Reached (new_shard s)
   called : (shard : Shard) (c : Call) → Reached shard → Reached (call_of shard c).shard
 
 -- a message of the own slot, at a live replica, that no cause refuses
@@ -106,5 +104,5 @@ acceptance_of d v = record { src = d.message.src; value = v }
 pub data Counted (n : PaxosRound) (first : Shard) : List Acceptance → Shard → Type 0 where
   none_yet : Counted n first [] first
   one_counted : {xs : List Acceptance} {shard : Shard} (d : Delivery) (v : ℕ) → Counted n first xs shard → Announced n shard d v
-      → (call_of shard (Receive d)).reply.commit ≡ NoCommit
+      → (call_of shard (Receive d)).reply.commit ≡ None
       → Counted n first (xs ++ (acceptance_of d v ∷ [])) (call_of shard (Receive d)).shard

@@ -1,6 +1,7 @@
 -- What a commit clears and what a new round keeps (document 01, "Round state": "A new round clears both sets, not the held promise, not the
 -- fast answers. A commit clears everything.").
 -- Assumes nothing.
+use Rattle.std.specs.Prelude.{Some}
 use mathlib.Core.Path.{◌≡◌, refl, ap}
 use mathlib.Core.Logic.{◌⊎◌, inl, inr}
 use mathlib.Core.Bool.{Bool, true, false, cond}
@@ -8,7 +9,6 @@ use Prim.Native.Nat.{ℕ}
 use Rattle.basics.proofs.Tests.{of-both}
 use Rattle.message.specs.Modes.{has_fast_path}
 use Rattle.message.specs.Rounds.{before}
-use Rattle.message.specs.declared.OptionalRound.TheVariants.{Round}
 use Rattle.message.specs.declared.PaxosRound.{PaxosRound}
 use Rattle.fast_state.specs.Fast.{answers_of, unchanged, changed, no_answers, to_v_after, epaxos_scores_after, swift_scores_after}
 use Rattle.fast_state.specs.RoundState.{new_round_state}
@@ -44,7 +44,7 @@ commit_clears a v s h = ap (λ (f : FastState). record { paxos = (new_round_stat
 -- A new round keeps what is held.
 pub in_round_held : (round : PaxosRound) (core : Core) → (in_round round core).paxos.max_rv ≡ core.paxos.max_rv
 unfolding in_round
-in_round_held round core = of-both (λ (c : Core). c.paxos.max_rv ≡ core.paxos.max_rv) (before core.paxos.round (Round round)) refl refl
+in_round_held round core = of-both (λ (c : Core). c.paxos.max_rv ≡ core.paxos.max_rv) (before core.paxos.round (Some round)) refl refl
 
 nothing_changed : (f : FastState) → changed (unchanged (answers_of f)) f ≡ f
 unfolding to_v_after epaxos_scores_after swift_scores_after

@@ -1,6 +1,7 @@
 -- The delegate proposes only with the promise that completes a majority, and not again with any promise that follows: a further promise is
 -- counted, and nothing is sent.
 -- Assumes nothing.
+use Rattle.std.specs.Prelude.{Option, None, Some, Result, Ok, Err}
 use mathlib.Core.Path.{◌≡◌, refl, ap, ◌∙◌}
 use mathlib.Core.Logic.{◌⊎◌, inl, inr}
 use mathlib.Core.Bool.{Bool, true, false, cond, not}
@@ -13,14 +14,11 @@ use Rattle.basics.proofs.Tests.{either, and_right}
 use Rattle.sets.specs.Sets.{size, is_empty}
 use Rattle.sets.proofs.Laws.{size_within}
 use Rattle.message.specs.Modes.{is_swift_paxos}
-use Rattle.message.specs.declared.OptionalValue.{OptionalValue}
-use Rattle.message.specs.declared.OptionalValue.TheVariants.{NoValue, Value}
-use Rattle.message.specs.declared.Outcome.{Outcome}
-use Rattle.message.specs.declared.Outcome.TheVariants.{Done, Refused}
 use Rattle.message.specs.declared.PaxosRound.{PaxosRound}
+use Rattle.message.specs.declared.Refusal.{Refusal}
 use Rattle.message.specs.declared.Refusal.TheVariants.{AcceptUnlikeHeld}
 use Rattle.message.specs.declared.RoundV.{RoundV}
-use Rattle.round_state.specs.Paxos.{get_v, is_prepared, taken, refused, counted, receive_promise, accept_fits, after_accept, receive_accept, accept_own, self_accept}
+use Rattle.round_state.specs.Paxos.{get_v, is_prepared, counted, receive_promise, accept_fits, after_accept, receive_accept, accept_own, self_accept, state_left}
 use Rattle.round_state.specs.declared.Member.{Member}
 use Rattle.round_state.specs.declared.PaxosState.{PaxosState}
 use Rattle.round_state.proofs.Counting.{counted_keeps}
@@ -32,7 +30,7 @@ use Rattle.steps.specs.declared.CoreStep.{CoreStep}
 use Rattle.steps.specs.declared.Heard.{Heard}
 
 -- a majority that has prepared is one after a further promise, too
-prepared_stays : (me : Member) (src : ℕ) (rv : RoundV) (s : PaxosState) → is_prepared me s ≡ true → is_prepared me (receive_promise me src rv s).state ≡ true
+prepared_stays : (me : Member) (src : ℕ) (rv : RoundV) (s : PaxosState) → is_prepared me s ≡ true → is_prepared me (receive_promise me src rv s) ≡ true
 unfolding receive_promise
 prepared_stays me src rv s e =
     let enough : me.quorums.majority ≤ size s.prepared_set = leb-true me.quorums.majority (size s.prepared_set) e in
@@ -42,24 +40,24 @@ prepared_stays me src rv s e =
 
 -- ---- an own accept leaves the prepared set
 
-accept_prepared : (me : Member) (src : ℕ) (round : PaxosRound) (v : ℕ) (s : PaxosState) → (receive_accept me src round v s).state.prepared_set ≡ s.prepared_set
+accept_prepared : (me : Member) (src : ℕ) (round : PaxosRound) (v : ℕ) (s : PaxosState) → (state_left s (receive_accept me src round v s)).prepared_set ≡ s.prepared_set
 unfolding receive_accept
 accept_prepared me src round v s = go (accept_fits s.max_rv round v)
   where
-    go : (t : Bool) → (cond t (taken (after_accept me src round v s)) (refused AcceptUnlikeHeld s)).state.prepared_set ≡ s.prepared_set
+    go : (t : Bool) → (state_left s (cond t (Ok (after_accept me src round v s)) (Err AcceptUnlikeHeld))).prepared_set ≡ s.prepared_set
     go true = refl
     go false = refl
 
-own_prepared : (me : Member) (round : PaxosRound) (s : PaxosState) (held : OptionalValue) → (accept_own me round s held).state.prepared_set ≡ s.prepared_set
+own_prepared : (me : Member) (round : PaxosRound) (s : PaxosState) (held : Option ℕ) → (state_left s (accept_own me round s held)).prepared_set ≡ s.prepared_set
 unfolding accept_own
-own_prepared me round s NoValue = refl
-own_prepared me round s (Value v) = accept_prepared me me.my_pid round v s
+own_prepared me round s None = refl
+own_prepared me round s (Some v) = accept_prepared me me.my_pid round v s
 
-self_prepared : (me : Member) (round : PaxosRound) (s : PaxosState) → (self_accept me round s).state.prepared_set ≡ s.prepared_set
+self_prepared : (me : Member) (round : PaxosRound) (s : PaxosState) → (state_left s (self_accept me round s)).prepared_set ≡ s.prepared_set
 unfolding self_accept
 self_prepared me round s = go (is_empty s.accepted_set)
   where
-    go : (t : Bool) → (cond t (accept_own me round s (get_v s.max_rv)) (refused AcceptUnlikeHeld s)).state.prepared_set ≡ s.prepared_set
+    go : (t : Bool) → (state_left s (cond t (accept_own me round s (get_v s.max_rv)) (Err AcceptUnlikeHeld))).prepared_set ≡ s.prepared_set
     go true = own_prepared me round s (get_v s.max_rv)
     go false = refl
 
@@ -73,14 +71,12 @@ sent_paxos a round core = go (is_swift_paxos a.mode)
 
 phase_prepared : (a : Asked) (round : PaxosRound) (core : Core) → (accept_phase a round core).core.paxos.prepared_set ≡ core.paxos.prepared_set
 unfolding accept_phase
-phase_prepared a round core = go (self_accept a.member round core.paxos).outcome
+phase_prepared a round core = go (self_accept a.member round core.paxos) (self_prepared a.member round core.paxos)
   where
-    own : PaxosState
-    own = (self_accept a.member round core.paxos).state
-
-    go : (o : Outcome) → (after_own_accept a round core own o).core.paxos.prepared_set ≡ core.paxos.prepared_set
-    go Done = ap (λ (p : PaxosState). p.prepared_set) (sent_paxos a round (with_paxos own core)) ∙ self_prepared a.member round core.paxos
-    go (Refused why) = refl
+    go : (own : Result PaxosState Refusal) → (state_left core.paxos own).prepared_set ≡ core.paxos.prepared_set
+        → (after_own_accept a round core own).core.paxos.prepared_set ≡ core.paxos.prepared_set
+    go (Ok own) same = ap (λ (p : PaxosState). p.prepared_set) (sent_paxos a round (with_paxos own core)) ∙ same
+    go (Err why) same = refl
 
 -- ---- the promises of a round
 

@@ -1,5 +1,6 @@
 -- A Prepare or an Accept of an older slot, or of an older round, changes nothing and is not answered, in every mode.
 -- Assumes nothing.
+use Rattle.std.specs.Prelude.{Some}
 use mathlib.Core.Path.{◌≡◌, refl, ap, ◌∙◌}
 use mathlib.Core.Logic.{◌⊎◌, inl, inr}
 use mathlib.Core.Bool.{Bool, true, false, cond, ◌||◌}
@@ -10,7 +11,6 @@ use Rattle.basics.proofs.Tests.{or_left, or_right}
 use Rattle.message.specs.Modes.{is_swift_paxos}
 use Rattle.message.specs.Rounds.{before}
 use Rattle.message.specs.declared.ConsensusMsg.TheVariants.{Prepare, Accept}
-use Rattle.message.specs.declared.OptionalRound.TheVariants.{Round}
 use Rattle.message.specs.declared.PaxosRound.{PaxosRound}
 use Rattle.message.specs.declared.RoundV.{RoundV}
 use Rattle.fast_state.specs.Adopt.{Choice}
@@ -26,11 +26,11 @@ use Rattle.steps.specs.declared.Rounds.{Rounds}
 
 -- the slot is older, or the round is
 abbrev pub Older : ℕ → PaxosRound → Core → Type 0
-Older slot round core = (ltb slot core.slot ≡ true) ⊎ (before (Round round) core.paxos.round ≡ true)
+Older slot round core = (ltb slot core.slot ≡ true) ⊎ (before (Some round) core.paxos.round ≡ true)
 
 older_test : (slot : ℕ) (round : PaxosRound) (core : Core) → Older slot round core → is_older slot round core ≡ true
 unfolding is_older
-older_test slot round core (inl e) = or_left (before (Round round) core.paxos.round) e
+older_test slot round core (inl e) = or_left (before (Some round) core.paxos.round) e
 older_test slot round core (inr e) = or_right (ltb slot core.slot) e
 
 module _ (a : Asked) (h : Heard) (slot : ℕ) (round : PaxosRound) where

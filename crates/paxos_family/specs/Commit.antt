@@ -1,10 +1,9 @@
 -- commit_slot of the Rust's paxos_family.rs: the value becomes the last one, the next slot begins in the starting round, and the round state
 -- is cleared. In the classic modes the fast half is never changed, and so is clear already.
 -- Assumes nothing.
-use Rattle.std.specs.Prelude.{cond, ℕ}
+use Rattle.std.specs.Prelude.{cond, ℕ, Some}
 use Rattle.message.specs.Modes.{has_fast_path}
 use Rattle.message.specs.Rounds.{increment}
-use Rattle.message.specs.declared.OptionalValue.TheVariants.{Value}
 use Rattle.round_state.specs.Paxos.{goto_round, full_clear}
 use Rattle.fast_state.specs.Fast.{no_answers}
 use Rattle.steps.specs.declared.Asked.{Asked}
@@ -16,7 +15,7 @@ abbrev pub commit_core : Asked → ℕ → Core → Core
 commit_core a v core =
     record {
       slot = increment core.slot;
-      last_v = Value v;
+      last_v = Some v;
       slot_left_fast_path = core.slot_left_fast_path;
       paxos = full_clear (goto_round a.starting_round core.paxos);
       tracker = core.tracker;

@@ -7,22 +7,22 @@ ghost use Rattle.paxos_family.specs.Commit.{commit_core, commit_slot};
 ghost use Rattle.fast_state.specs.Adopt.{lowest_best};
 
 use fast_state::{FastAnswers, FastState};
-use message::{ConsensusMsg, OptionalValue, PaxosRound, RoundV};
+use message::{ConsensusMsg, PaxosRound, RoundV};
 use steps::{Asked, ChangeStep, Core, CoreStep, Heard, Rounds, RoundsStep};
 
 // A Prepare in the entered round: the delegate goes on and counts the promise.
+#[tactic(auto, unfolding(crate::specs::Process::in_prepare))]
 fn in_prepare(asked: Asked, heard: Heard, round: PaxosRound, rv: RoundV, core: Core) -> CoreStep
     ensures { result ≡ in_prepare asked heard round rv core }
 {
     let step = prepare::prepared(asked, heard, round, rv, core);
-    let next = step.next;
-    if next.goes_on() {
-        let core = step.core;
-        return prepare::gather(asked, heard, round, rv, core);
+    if step.next.goes_on() {
+        return prepare::gather(asked, heard, round, rv, step.core);
     }
     step
 }
 
+#[tactic(auto, unfolding(crate::specs::Process::on_prepare))]
 fn on_prepare(
     asked: Asked,
     heard: Heard,
@@ -34,14 +34,13 @@ fn on_prepare(
     ensures { result ≡ on_prepare asked heard slot round rv core }
 {
     let step = enter::enter(asked, heard, slot, round, core);
-    let next = step.next;
-    if next.goes_on() {
-        let core = step.core;
-        return in_prepare(asked, heard, round, rv, core);
+    if step.next.goes_on() {
+        return in_prepare(asked, heard, round, rv, step.core);
     }
     step
 }
 
+#[tactic(auto, unfolding(crate::specs::Process::on_accept))]
 fn on_accept(
     asked: Asked,
     heard: Heard,
@@ -53,15 +52,14 @@ fn on_accept(
     ensures { result ≡ on_accept asked heard slot round v core }
 {
     let step = enter::enter(asked, heard, slot, round, core);
-    let next = step.next;
-    if next.goes_on() {
-        let core = step.core;
-        return accept::accepting(asked, heard, round, v, core);
+    if step.next.goes_on() {
+        return accept::accepting(asked, heard, round, v, step.core);
     }
     step
 }
 
 // A message in the classic modes, which change the core alone. A ForwardRequest does nothing; Commit and reads are handled before.
+#[tactic(auto, unfolding(crate::specs::Process::process_classic))]
 pub fn process_classic(asked: Asked, heard: Heard, msg: ConsensusMsg, core: Core) -> CoreStep
     ensures { result ≡ process_classic asked heard msg core }
 {
@@ -70,18 +68,16 @@ pub fn process_classic(asked: Asked, heard: Heard, msg: ConsensusMsg, core: Core
             asked, heard, slot, round, rv, core,
         ),
         ConsensusMsg::Accept { slot, round, v } => on_accept(asked, heard, slot, round, v, core),
-        ConsensusMsg::ForwardRequest { v: _ } => core.stays_silent(),
-        ConsensusMsg::Commit { slot: _, v: _ } => core.stays_silent(),
-        ConsensusMsg::ReadRequest { id: _ } => core.stays_silent(),
-        ConsensusMsg::ReadResponse {
-            id: _,
-            next_readable_slot: _,
-        } => core.stays_silent(),
+        ConsensusMsg::ForwardRequest { .. }
+        | ConsensusMsg::Commit { .. }
+        | ConsensusMsg::ReadRequest { .. }
+        | ConsensusMsg::ReadResponse { .. } => core.stays_silent(),
     }
 }
 
 // Of a Prepare a SwiftPaxos client, which is no replica, holds and answers nothing: the Rust goes to
 // process_answers_at_swift_paxos_client at once.
+#[tactic(auto, unfolding(crate::specs::Process::fast_prepared))]
 fn fast_prepared(asked: Asked, heard: Heard, round: PaxosRound, rv: RoundV, core: Core) -> CoreStep
     ensures { result ≡ fast_prepared asked heard round rv core }
 {
@@ -92,6 +88,7 @@ fn fast_prepared(asked: Asked, heard: Heard, round: PaxosRound, rv: RoundV, core
 }
 
 // Nor does a client count a promise.
+#[tactic(auto, unfolding(crate::specs::Process::fast_promised))]
 fn fast_promised(asked: Asked, heard: Heard, rv: RoundV, core: Core) -> Core
     ensures { result ≡ fast_promised asked heard rv core }
 {
@@ -102,44 +99,36 @@ fn fast_promised(asked: Asked, heard: Heard, rv: RoundV, core: Core) -> Core
 }
 
 // Whether the member is a replica and leads the round.
+#[tactic(auto, unfolding(crate::specs::Process::leads_round))]
 fn leads_round(asked: Asked, round: PaxosRound) -> bool
     ensures { result ≡ leads_round asked round }
 {
-    let me = asked.member;
-    if me.replica {
-        return round.leader == me.my_pid;
-    }
-    false
+    asked.member.replica && round.leader == asked.member.my_pid
 }
 
 // The leader of SwiftPaxos accepts at once, where nothing is accepted yet. In EPaxos, once a value is accepted, the promises count as in Paxos.
+#[tactic(auto, unfolding(crate::specs::Process::starts_accept))]
 fn starts_accept(asked: Asked, round: PaxosRound, core: Core, promised: Core) -> bool
     ensures { result ≡ starts_accept asked round core promised }
 {
-    let mode = asked.mode;
-    if mode.is_swift_paxos() {
-        if leads_round(asked, round) {
-            return !prepare::has_accepted(promised);
-        }
-        return false;
+    if asked.mode.is_swift_paxos() {
+        return leads_round(asked, round) && !prepare::has_accepted(promised);
     }
-    if prepare::has_accepted(promised) {
-        return prepare::becomes_prepared(asked, core, promised);
-    }
-    false
+    prepare::has_accepted(promised) && prepare::becomes_prepared(asked, core, promised)
 }
 
+#[tactic(auto, unfolding(crate::specs::Process::waits))]
 fn waits(asked: Asked, round: PaxosRound, promised: Core) -> bool
     ensures { result ≡ waits asked round promised }
 {
-    let mode = asked.mode;
-    if mode.is_swift_paxos() {
+    if asked.mode.is_swift_paxos() {
         return leads_round(asked, round);
     }
     prepare::has_accepted(promised)
 }
 
 // Any other promise is an answer on the fast path.
+#[tactic(auto, unfolding(crate::specs::Process::fast_answered))]
 fn fast_answered(
     asked: Asked,
     heard: Heard,
@@ -153,8 +142,7 @@ fn fast_answered(
 ) -> ChangeStep
     ensures { result ≡ fast_answered lowest_best asked heard round rv promised answers values.now epaxos_scores.now swift_scores.now }
 {
-    let mode = asked.mode;
-    if mode.is_swift_paxos() {
+    if asked.mode.is_swift_paxos() {
         return swift_path::swift_client_prepare(
             asked,
             heard,
@@ -178,6 +166,7 @@ fn fast_answered(
 }
 
 // The delegate counts a promise as its mode does.
+#[tactic(auto, unfolding(crate::specs::Process::fast_gather))]
 fn fast_gather(
     asked: Asked,
     heard: Heard,
@@ -211,6 +200,7 @@ fn fast_gather(
     )
 }
 
+#[tactic(auto, unfolding(crate::specs::Process::in_fast_prepare))]
 fn in_fast_prepare(
     asked: Asked,
     heard: Heard,
@@ -225,8 +215,7 @@ fn in_fast_prepare(
     ensures { result ≡ in_fast_prepare lowest_best asked heard round rv core answers values.now epaxos_scores.now swift_scores.now }
 {
     let step = fast_prepared(asked, heard, round, rv, core);
-    let next = step.next;
-    if next.goes_on() {
+    if step.next.goes_on() {
         let core = step.core;
         return fast_gather(
             asked,
@@ -243,6 +232,7 @@ fn in_fast_prepare(
     step.unchanged(answers)
 }
 
+#[tactic(auto, unfolding(crate::specs::Process::on_fast_prepare))]
 fn on_fast_prepare(
     asked: Asked,
     heard: Heard,
@@ -258,8 +248,7 @@ fn on_fast_prepare(
     ensures { result ≡ on_fast_prepare lowest_best asked heard slot round rv core answers values.now epaxos_scores.now swift_scores.now }
 {
     let step = enter::enter(asked, heard, slot, round, core);
-    let next = step.next;
-    if next.goes_on() {
+    if step.next.goes_on() {
         let core = step.core;
         return in_fast_prepare(
             asked,
@@ -276,6 +265,7 @@ fn on_fast_prepare(
     step.unchanged(answers)
 }
 
+#[tactic(auto, unfolding(crate::specs::Process::replica_accept))]
 fn replica_accept(
     asked: Asked,
     heard: Heard,
@@ -288,8 +278,7 @@ fn replica_accept(
     ensures { result ≡ replica_accept asked heard round v core answers swift_scores.now }
 {
     let step = accept::accepting(asked, heard, round, v, core);
-    let next = step.next;
-    if next.goes_on() {
+    if step.next.goes_on() {
         let core = step.core;
         let messages = step.messages;
         return swift_path::swift_answered_accept(
@@ -306,6 +295,7 @@ fn replica_accept(
     step.unchanged(answers)
 }
 
+#[tactic(auto, unfolding(crate::specs::Process::in_fast_accept))]
 fn in_fast_accept(
     asked: Asked,
     heard: Heard,
@@ -323,6 +313,7 @@ fn in_fast_accept(
     swift_path::swift_client_accept(asked, heard, round, v, core, answers, swift_scores)
 }
 
+#[tactic(auto, unfolding(crate::specs::Process::on_fast_accept))]
 fn on_fast_accept(
     asked: Asked,
     heard: Heard,
@@ -336,8 +327,7 @@ fn on_fast_accept(
     ensures { result ≡ on_fast_accept asked heard slot round v core answers swift_scores.now }
 {
     let step = enter::enter(asked, heard, slot, round, core);
-    let next = step.next;
-    if next.goes_on() {
+    if step.next.goes_on() {
         let core = step.core;
         return in_fast_accept(asked, heard, round, v, core, answers, swift_scores);
     }
@@ -345,6 +335,7 @@ fn on_fast_accept(
 }
 
 // A message in EPaxos and SwiftPaxos, with the values of the proposers and the scores of each mode.
+#[tactic(auto, unfolding(crate::specs::Process::process_change))]
 pub fn process_change(
     asked: Asked,
     heard: Heard,
@@ -373,35 +364,28 @@ pub fn process_change(
         ConsensusMsg::Accept { slot, round, v } => {
             on_fast_accept(asked, heard, slot, round, v, core, answers, swift_scores)
         },
-        ConsensusMsg::ForwardRequest { v: _ } => core.stays_unchanged(answers),
-        ConsensusMsg::Commit { slot: _, v: _ } => core.stays_unchanged(answers),
-        ConsensusMsg::ReadRequest { id: _ } => core.stays_unchanged(answers),
-        ConsensusMsg::ReadResponse {
-            id: _,
-            next_readable_slot: _,
-        } => core.stays_unchanged(answers),
+        ConsensusMsg::ForwardRequest { .. }
+        | ConsensusMsg::Commit { .. }
+        | ConsensusMsg::ReadRequest { .. }
+        | ConsensusMsg::ReadResponse { .. } => core.stays_unchanged(answers),
     }
 }
 
 // The same, with the change made.
+#[tactic(auto, unfolding(crate::specs::Process::process_fast))]
 pub fn process_fast(asked: Asked, heard: Heard, msg: ConsensusMsg, s: Rounds) -> RoundsStep
     ensures { result ≡ process_fast lowest_best asked heard msg s }
 {
-    let core = s.core;
     let fast = s.fast;
-    let values = fast.fast_proposer_to_v;
-    let epaxos_scores = fast.epaxos_proposer_scores;
-    let swift_scores = fast.swift_proposer_scores;
-    let answers = fast.answers();
     process_change(
         asked,
         heard,
         msg,
-        core,
-        answers,
-        &values,
-        &epaxos_scores,
-        &swift_scores,
+        s.core,
+        fast.answers(),
+        &fast.fast_proposer_to_v,
+        &fast.epaxos_proposer_scores,
+        &fast.swift_proposer_scores,
     )
     .change_rounds(fast)
 }
@@ -410,31 +394,27 @@ pub fn process_fast(asked: Asked, heard: Heard, msg: ConsensusMsg, s: Rounds) ->
 pub fn commit_core(asked: Asked, v: u64, core: Core) -> Core
     ensures { result ≡ commit_core asked v core }
 {
-    let old = core.paxos;
-    let starting = asked.starting_round;
-    let tracker = core.tracker;
-    let paxos = old.goto_round(starting).full_clear();
     Core {
         slot: message::increment(core.slot),
-        last_v: OptionalValue::Value(v),
+        last_v: Some(v),
         slot_left_fast_path: core.slot_left_fast_path,
-        paxos,
-        tracker,
+        paxos: core.paxos.goto_round(asked.starting_round).full_clear(),
+        tracker: core.tracker,
     }
 }
 
 // The value becomes the last one, and the next slot begins in the starting round, with nothing held or counted. The fast half is clear already in the classic
 // modes, which never change it.
+#[tactic(auto, unfolding(crate::specs::Commit::commit_slot))]
 pub fn commit_slot(asked: Asked, v: u64, s: Rounds) -> Rounds
     ensures { result ≡ commit_slot asked v s }
 {
-    let mode = asked.mode;
-    let old = s.core;
-    let core = commit_core(asked, v, old);
-    if mode.has_fast_path() {
-        let clear = FastState::no_answers();
-        return Rounds { core, fast: clear };
+    let core = commit_core(asked, v, s.core);
+    if asked.mode.has_fast_path() {
+        return Rounds {
+            core,
+            fast: FastState::no_answers(),
+        };
     }
-    let fast = s.fast;
-    Rounds { core, fast }
+    Rounds { core, fast: s.fast }
 }

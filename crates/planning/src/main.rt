@@ -4,6 +4,7 @@
 
 use register::Register;
 use std::io::Read;
+use texts::Output;
 
 // Between two blocks: the register, how many bytes of a line that has not ended stand at the start of the input buffer, whether the rest of a
 // line that is too long is being skipped, and whether the input may go on.
@@ -22,38 +23,36 @@ struct AfterLines {
     used: usize,
 }
 
-// Answers the lines that end in the input, from a place on.
-fn answer_block(old: Register, from: usize, input: &[u8], out: &mut [u8]) -> AfterLines {
+// Answers the lines that end in the input, from a place on. A `for` over lines is no plainer than the `while`: what a line that has not ended holds is not
+// used, and how many bytes are must be handed back.
+fn answer_block(old: Register, from: usize, input: &[u8], out: &mut Output<'_>) -> AfterLines {
     let mut register = old;
     let mut used = from;
-    let mut put = 0;
     while used < input.len() {
         let end = line_blocks::line_end(input, used);
         if end >= input.len() {
             break;
         }
-        put = line_blocks::with_room(out, put);
-        let answered = stored_lines::answer_line(register, &input[used..end], out, put);
-        register = answered.register;
-        put = answered.put;
+        line_blocks::with_room(out);
+        register = stored_lines::answer_line(register, &input[used..end], out);
         used = end + 1;
     }
-    line_blocks::write_output(out, put);
+    line_blocks::write_output(out);
     AfterLines { register, used }
 }
 
 // Answers the last line, which no LF ends, where there is one.
-fn answer_last(register: Register, input: &[u8], out: &mut [u8]) {
+fn answer_last(register: Register, input: &[u8], out: &mut Output<'_>) {
     if input.len() > 0 {
-        let answered = stored_lines::answer_line(register, input, out, 0);
-        line_blocks::write_output(out, answered.put);
+        stored_lines::answer_line(register, input, out);
+        line_blocks::write_output(out);
     }
 }
 
 // A line that fills the whole buffer is answered before its end is seen.
-fn answer_too_long(out: &mut [u8]) {
-    let put = planning_lines::put_bad_line(out, 0);
-    line_blocks::write_output(out, put);
+fn answer_too_long(out: &mut Output<'_>) {
+    planning_lines::put_bad_line(out);
+    line_blocks::write_output(out);
 }
 
 // Reads one block and answers it.
@@ -61,7 +60,7 @@ fn take_block<R: Read>(
     reader: &mut R,
     between: BetweenBlocks,
     input: &mut [u8],
-    out: &mut [u8],
+    out: &mut Output<'_>,
 ) -> BetweenBlocks {
     let kept = between.kept;
     let register = between.register;
@@ -104,20 +103,18 @@ fn answer_input<R: Read>(
     output_bytes: &mut [u8; 98304],
 ) {
     let input: &mut [u8] = input_bytes;
-    let out: &mut [u8] = output_bytes;
+    let mut out = Output::new(output_bytes);
     let mut between = BetweenBlocks {
         register: Register::new(),
         kept: 0,
         skipping: false,
         goes_on: true,
     };
-    let mut turns: u64 = 18446744073709551615;
-    while turns > 0 {
+    for _ in 0..u64::MAX {
         if !between.goes_on {
             break;
         }
-        between = take_block(reader, between, input, out);
-        turns -= 1;
+        between = take_block(reader, between, input, &mut out);
     }
 }
 

@@ -1,29 +1,28 @@
 -- E10's join as a host gets it: the number of document 02 that refuses, or 0, and how many entries stand in the lent places; and what it gets of a list
 -- that is fed.
 -- Assumes nothing.
-use Rattle.std.specs.Prelude.{◌≡◌}
+use Rattle.std.specs.Prelude.{◌≡◌, ℕ, Option, Result, Ok, Err}
 use Rattle.catch_up.specs.Joining.{join_refusal, join_count, Joins}
-use Rattle.catch_up.specs.declared.Joined.{Joined}
+use Rattle.catch_up.specs.declared.JoinRefusal.{JoinRefusal}
 use Rattle.register.specs.declared.Register.{Register}
 use Rattle.catch_up.specs.Causes.{CommitList, join_number}
 use Rattle.feeding.specs.Feeding.{FedList, refused_slot, refused_number, feeding}
-use Rattle.feeding.specs.declared.FeedAnswer.{FeedAnswer}
-use Rattle.feeding.specs.declared.FeedAnswer.TheVariants.{Fed, NotFed}
+use Rattle.feeding.specs.declared.FirstRefused.{FirstRefused}
 use Rattle.planning_host.specs.declared.FlatFed.{FlatFed}
 use Rattle.planning_host.specs.declared.FlatValue.{FlatValue}
 
-abbrev pub flat_join : Joined → FlatValue
+abbrev pub flat_join : Result ℕ JoinRefusal → FlatValue
 flat_join answer = record { refusal = join_refusal answer; value = join_count answer }
 
 -- the lists a and b are joined into the lent places, and the answer is in numbers
 pub record JoinsFlat (a b places after : CommitList) (answer : FlatValue) : Type 0 where
-  pub joined : Joined
+  pub joined : Result ℕ JoinRefusal
   pub numbers : answer ≡ flat_join joined
   pub call : Joins a b places after joined
 
-abbrev pub flat_fed : FeedAnswer → FlatFed
-flat_fed (Fed first) = record { refusal = 0; slot = refused_slot first; number = refused_number first }
-flat_fed (NotFed why) = record { refusal = join_number why; slot = 0; number = 0 }
+abbrev pub flat_fed : Result (Option FirstRefused) JoinRefusal → FlatFed
+flat_fed (Ok first) = record { refusal = 0; slot = refused_slot first; number = refused_number first }
+flat_fed (Err why) = record { refusal = join_number why; slot = 0; number = 0 }
 
 -- the list is fed to the register, and the answer is in numbers
 pub record FeedsFlat (r : Register) (l : FedList) (after : Register) (answer : FlatFed) : Type 0 where

@@ -8,14 +8,16 @@ ghost use Rattle.stored_register.specs.Stored.{widened};
 ghost use Rattle.stored_arrays.specs.Columns.{stored_in};
 ghost use Rattle.catch_up.specs.Joining.{list_of};
 ghost use Rattle.feeding.specs.Feeding.{fed_list_of};
-ghost use Rattle.planning_host.specs.Conversions.{flat_khz, flat_number};
+ghost use Rattle.planning_host.specs.Conversions.{flat_raster, flat_khz, flat_number};
 ghost use Rattle.planning_host.specs.Lists.{flat_join, JoinsFlat, flat_fed, FeedsFlat};
 
-use catch_up::Joined;
-use feeding::FeedAnswer;
-use register::CellNumber;
+use catch_up::{JoinRefusal, LentList, LentPlaces};
+use feeding::{EntryList, FirstRefused};
+use register::{CellNumber, entry_number};
+use register_arrays::{Columns, entry_from_numbers};
+use stored_arrays::StoredColumns;
 
-// The number of document 02 that refuses, with 0 as the value; or 0 and the value.
+// The number of document 02 that refuses, with 0 as the value; or 0 and the value: a Result or an Option as the C interface has it.
 #[repr(C)]
 #[derive(Clone, Copy)]
 pub struct FlatValue {
@@ -24,7 +26,7 @@ pub struct FlatValue {
 }
 
 // What became of a list that was to be fed: the number that refuses it, with nothing fed; or 0, and the first slot that was refused with its number,
-// both 0 where none was.
+// both 0 where none was: numbers, for the C interface.
 #[repr(C)]
 #[derive(Clone, Copy)]
 pub struct FlatFed {
@@ -33,16 +35,21 @@ pub struct FlatFed {
     pub number: u64,
 }
 
+fn flat_raster(answer: Option<u64>) -> FlatValue
+    ensures { result ≡ flat_raster answer }
+{
+    FlatValue {
+        refusal: raster::refusal(answer),
+        value: answer.unwrap_or(0),
+    }
+}
+
 // E5: the frequency of a carrier number, in kHz.
 #[unsafe(no_mangle)]
 pub extern "C" fn chanbook_raster_khz(number: u64) -> FlatValue
     ensures { result ≡ flat_khz number }
 {
-    let answer = raster::frequency_of(number);
-    FlatValue {
-        refusal: answer.refusal(),
-        value: answer.khz(),
-    }
+    flat_raster(raster::frequency_of(number))
 }
 
 // E5: the carrier number of a frequency in kHz.
@@ -50,11 +57,7 @@ pub extern "C" fn chanbook_raster_khz(number: u64) -> FlatValue
 pub extern "C" fn chanbook_raster_number(khz: u64) -> FlatValue
     ensures { result ≡ flat_number khz }
 {
-    let answer = raster::number_of(khz);
-    FlatValue {
-        refusal: answer.refusal(),
-        value: answer.number(),
-    }
+    flat_raster(raster::number_of(khz))
 }
 
 // E6: a register that has seen no entry, in four arrays that the host lends (crates/register_arrays says what stands where).
@@ -67,7 +70,13 @@ pub extern "C" fn chanbook_register_new(
 )
     ensures { register_of cells.new carriers.new widths.new figures.new ≡ new_register }
 {
-    register_arrays::new_register(cells, carriers, widths, figures);
+    let mut columns = Columns {
+        cells,
+        carriers,
+        widths,
+        figures,
+    };
+    columns.clear();
 }
 
 // E6: an entry. Kind 1 is an assignment, kind 2 a release, any other kind is refused with 14. Hands back 0, done; 64, older; or the number of
@@ -86,9 +95,14 @@ pub extern "C" fn chanbook_register_entry(
 ) -> u64
     ensures { (register_of cells.new carriers.new widths.new figures.new, result) ≡ after_entry (register_of cells.old carriers.old widths.old figures.old) (entry_from_numbers slot kind cell carrier width) }
 {
-    register_arrays::apply_entry(
-        cells, carriers, widths, figures, slot, kind, cell, carrier, width,
-    )
+    let mut columns = Columns {
+        cells,
+        carriers,
+        widths,
+        figures,
+    };
+    let entry = entry_from_numbers(slot, kind, cell, carrier, width);
+    entry_number(columns.apply(entry))
 }
 
 // E6: the report at the start of out, zeros after it; hands back its length.
@@ -113,24 +127,27 @@ pub extern "C" fn chanbook_register_widened(
 )
     ensures { register_of cells.new carriers.new widths.new figures.new ≡ widened (stored_in stored_cells.now stored_carriers.now stored_widths.now stored_figures.now) }
 {
-    stored_arrays::widen(
-        stored_cells,
-        stored_carriers,
-        stored_widths,
-        stored_figures,
+    let stored = StoredColumns {
+        cells: stored_cells,
+        carriers: stored_carriers,
+        widths: stored_widths,
+        figures: stored_figures,
+    };
+    let mut columns = Columns {
         cells,
         carriers,
         widths,
         figures,
-    );
+    };
+    stored.widen(&mut columns);
 }
 
-fn flat_join(answer: Joined) -> FlatValue
-    ensures { result ≡ flat_join answer }
+fn flat_join(joined: Result<u64, JoinRefusal>) -> FlatValue
+    ensures { result ≡ flat_join joined }
 {
     FlatValue {
-        refusal: answer.refusal(),
-        value: answer.count(),
+        refusal: catch_up::refusal(joined),
+        value: joined.unwrap_or(0),
     }
 }
 
@@ -147,20 +164,34 @@ pub extern "C" fn chanbook_join(
     ensures { JoinsFlat (list_of a_slots.now a_values.now) (list_of b_slots.now b_values.now)
         (list_of slots.old values.old) (list_of slots.new values.new) result }
 {
-    flat_join(catch_up::join(a_slots, a_values, b_slots, b_values, slots, values))
+    let a = LentList {
+        slots: a_slots,
+        values: a_values,
+    };
+    let b = LentList {
+        slots: b_slots,
+        values: b_values,
+    };
+    let mut places = LentPlaces { slots, values };
+    flat_join(catch_up::join(a, b, &mut places))
 }
 
-fn flat_fed(answer: FeedAnswer) -> FlatFed
-    ensures { result ≡ flat_fed answer }
+fn flat_fed(fed: Result<Option<FirstRefused>, JoinRefusal>) -> FlatFed
+    ensures { result ≡ flat_fed fed }
 {
-    match answer {
-        FeedAnswer::Fed(first) => FlatFed {
+    match fed {
+        Ok(Some(first)) => FlatFed {
             refusal: 0,
-            slot: first.slot(),
-            number: first.number(),
+            slot: first.slot,
+            number: first.why.number(),
         },
-        FeedAnswer::NotFed(why) => FlatFed {
-            refusal: catch_up::join_number(why),
+        Ok(None) => FlatFed {
+            refusal: 0,
+            slot: 0,
+            number: 0,
+        },
+        Err(why) => FlatFed {
+            refusal: u64::from(why),
             slot: 0,
             number: 0,
         },
@@ -185,17 +216,18 @@ pub extern "C" fn chanbook_feed(
         (fed_list_of slots.now values.now kinds.now entry_cells.now entry_carriers.now entry_widths.now)
         (register_of cells.new carriers.new widths.new figures.new) result }
 {
-    let answer = feeding::feed(
+    let mut columns = Columns {
         cells,
         carriers,
         widths,
         figures,
-        slots,
-        values,
+    };
+    let list = EntryList {
+        commits: LentList { slots, values },
         kinds,
-        entry_cells,
-        entry_carriers,
-        entry_widths,
-    );
-    flat_fed(answer)
+        cells: entry_cells,
+        carriers: entry_carriers,
+        widths: entry_widths,
+    };
+    flat_fed(feeding::feed(&mut columns, list))
 }

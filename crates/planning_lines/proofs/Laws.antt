@@ -10,10 +10,11 @@ use lib.Dec.{ltb, eqb}
 use lib.ListN.{length, take, drop, length-append}
 use borrow.Author.Tests.{le-ltb}
 use Rattle.basics.proofs.Tests.{not_both, fails, and_right, of-both}
-use Rattle.raster.specs.Raster.{frequency_of, number_of, frequency_refusal, khz_of, carrier_refusal, carrier_of}
+use Rattle.raster.specs.Raster.{frequency_of, number_of, raster_refusal, raster_value}
 use Rattle.raster.specs.Table.{OnRaster}
 use Rattle.raster.proofs.ByTable.{on_raster_frequency, on_raster_number, raster_number_refused, raster_frequency_refused}
-use Rattle.texts.specs.Text.{ascii, put, digit_count, decimal, field}
+use Rattle.texts.specs.declared.Output.{Output}
+use Rattle.texts.specs.Text.{with_bytes, ascii, put, digit_count, decimal, field}
 use Rattle.texts.proofs.Lengths.{put_fits, number}
 use Rattle.line_fields.specs.Fields.{same_to, begins, is_line, number_from, line_text}
 use Rattle.line_fields.proofs.ReadBack.{number_read}
@@ -126,11 +127,12 @@ value_length word refusal value h =
 
 answer_length : (q : Question) (a : Applied) → length (answer_text q a) ≤ 34837
 unfolding answer_text bad_line_text
-answer_length (FrequencyOf n) a = omega (arith, value_length (ascii "khz") (frequency_refusal (frequency_of n)) (khz_of (frequency_of n)) (omega arith))
-answer_length (CarrierOf f) a = omega (arith, value_length (ascii "number") (carrier_refusal (number_of f)) (carrier_of (number_of f)) (omega arith))
+answer_length (FrequencyOf n) a = omega (arith, value_length (ascii "khz") (raster_refusal (frequency_of n)) (raster_value (frequency_of n)) (omega arith))
+answer_length (CarrierOf f) a = omega (arith, value_length (ascii "number") (raster_refusal (number_of f)) (raster_value (number_of f)) (omega arith))
 answer_length (OfRegister q) a = register_answer_length q a
 answer_length BadLine a = omega arith
 
-pub answer_whole : (q : Question) (a : Applied) (out : List ℕ) (at : ℕ) → at + 34837 ≤ length out
-    → put (answer_text q a) (out, at) ≡ (take at out ++ answer_text q a ++ drop (at + length (answer_text q a)) out, at + length (answer_text q a))
-answer_whole q a out at room = put_fits (answer_text q a) out at (omega (arith, answer_length q a))
+pub answer_whole : (q : Question) (a : Applied) (o : Output) → o.at + 34837 ≤ length o.bytes.now
+    → put (answer_text q a) o
+    ≡ with_bytes o (take o.at o.bytes.now ++ answer_text q a ++ drop (o.at + length (answer_text q a)) o.bytes.now) (o.at + length (answer_text q a))
+answer_whole q a o room = put_fits (answer_text q a) o (omega (arith, answer_length q a))

@@ -7,7 +7,7 @@ use Rattle.register.specs.Register.{done}
 use Rattle.register.specs.declared.Applied.{Applied}
 use Rattle.register.specs.declared.Register.{Register}
 use Rattle.register_lines.specs.Answers.{after_question, register_answer}
-use Rattle.raster.specs.Raster.{frequency_of, number_of, frequency_refusal, khz_of, carrier_refusal, carrier_of}
+use Rattle.raster.specs.Raster.{frequency_of, number_of, raster_refusal, raster_value}
 use Rattle.planning_lines.specs.declared.Question.{Question}
 use Rattle.planning_lines.specs.declared.Question.TheVariants.{FrequencyOf, CarrierOf, OfRegister, BadLine}
 
@@ -25,7 +25,7 @@ after_line r (OfRegister q) = after_question r q
 after_line r BadLine = done r
 
 unfoldable pub answer_text : Question → Applied → List ℕ
-answer_text (FrequencyOf n) a = value_text (ascii "khz") (frequency_refusal (frequency_of n)) (khz_of (frequency_of n))
-answer_text (CarrierOf f) a = value_text (ascii "number") (carrier_refusal (number_of f)) (carrier_of (number_of f))
+answer_text (FrequencyOf n) a = value_text (ascii "khz") (raster_refusal (frequency_of n)) (raster_value (frequency_of n))
+answer_text (CarrierOf f) a = value_text (ascii "number") (raster_refusal (number_of f)) (raster_value (number_of f))
 answer_text (OfRegister q) a = register_answer q a
 answer_text BadLine a = bad_line_text

@@ -1,29 +1,26 @@
 -- What a line of `planning` asks (docs/PLANNING.md).
 -- Assumes nothing.
-use Rattle.std.specs.Prelude.{cond, List, ℕ}
+use Rattle.std.specs.Prelude.{cond, List, ℕ, Option, Some, None}
 use Rattle.texts.specs.Text.{ascii}
 use Rattle.line_fields.specs.Fields.{begins, is_line, number_from}
-use Rattle.line_fields.specs.declared.OptionalNumber.{OptionalNumber}
-use Rattle.line_fields.specs.declared.OptionalNumber.TheVariants.{Holds, NoNumber}
+use Rattle.register.specs.declared.CellEntry.{CellEntry}
 use Rattle.register_lines.specs.Entries.{entry_of}
-use Rattle.register_lines.specs.declared.OptionalEntry.{OptionalEntry}
-use Rattle.register_lines.specs.declared.OptionalEntry.TheVariants.{Gives, NoEntry}
 use Rattle.register_lines.specs.declared.RegisterQuestion.TheVariants.{Begin, Enter, ReportLine, CellList}
 use Rattle.planning_lines.specs.declared.Question.{Question}
 use Rattle.planning_lines.specs.declared.Question.TheVariants.{FrequencyOf, CarrierOf, OfRegister, BadLine}
 
-abbrev pub frequency_question : OptionalNumber → Question
-frequency_question (Holds n) = FrequencyOf n
-frequency_question NoNumber = BadLine
+abbrev pub frequency_question : Option ℕ → Question
+frequency_question (Some n) = FrequencyOf n
+frequency_question None = BadLine
 
-abbrev pub carrier_question : OptionalNumber → Question
-carrier_question (Holds f) = CarrierOf f
-carrier_question NoNumber = BadLine
+abbrev pub carrier_question : Option ℕ → Question
+carrier_question (Some f) = CarrierOf f
+carrier_question None = BadLine
 
 -- E6: `entry ..`, `register`, `report` and `cells`
-abbrev pub entry_question : OptionalEntry → Question
-entry_question (Gives e) = OfRegister (Enter e)
-entry_question NoEntry = BadLine
+abbrev pub entry_question : Option CellEntry → Question
+entry_question (Some e) = OfRegister (Enter e)
+entry_question None = BadLine
 
 unfoldable pub register_question : List ℕ → Question
 register_question line =

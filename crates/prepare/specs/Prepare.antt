@@ -1,18 +1,15 @@
 -- Handling a Prepare at a replica (the Rust's process_message, `Prepare`), up to the point where the fast modes part.
 -- Assumes nothing.
-use Rattle.std.specs.Prelude.{Bool, cond, not, ◌&&◌, ◌||◌, eqb}
+use Rattle.std.specs.Prelude.{Bool, cond, not, ◌&&◌, ◌||◌, eqb, Some, Ok, Err, is_some, Result}
+use Rattle.message.specs.declared.Refusal.{Refusal}
 use Rattle.message.specs.Modes.{is_swift_paxos}
-use Rattle.message.specs.Rounds.{equal, is_round}
+use Rattle.message.specs.Rounds.{equal}
 use Rattle.message.specs.declared.ConsensusMsg.TheVariants.{Prepare, Accept}
-use Rattle.message.specs.declared.OptionalRound.TheVariants.{Round}
-use Rattle.message.specs.declared.Outcome.{Outcome}
-use Rattle.message.specs.declared.Outcome.TheVariants.{Done, Refused}
 use Rattle.message.specs.declared.PaxosRound.{PaxosRound}
 use Rattle.message.specs.declared.Refusal.TheVariants.{Panic}
 use Rattle.message.specs.declared.RoundV.{RoundV}
-use Rattle.round_state.specs.Paxos.{get_last_accepted_round, is_held, is_prepared, taken, receive_promise, paxos_propose_v, self_accept}
+use Rattle.round_state.specs.Paxos.{get_last_accepted_round, is_prepared, receive_promise, paxos_propose_v, self_accept}
 use Rattle.round_state.specs.declared.PaxosState.{PaxosState}
-use Rattle.round_state.specs.declared.PaxosStep.{PaxosStep}
 use Rattle.steps.specs.Steps.{no_messages, one_message, sends, to_all, held_rv, held_v, with_paxos, left_fast_path, stays, continues, refuses}
 use Rattle.steps.specs.declared.Asked.{Asked}
 use Rattle.steps.specs.declared.Core.{Core}
@@ -21,8 +18,8 @@ use Rattle.steps.specs.declared.Destination.TheVariants.{One}
 use Rattle.steps.specs.declared.Heard.{Heard}
 
 -- where nothing is held, the promise that came is held: `if self.get_my_v().is_none() { paxos_propose_v(rv) }`
-unfoldable pub hold_first : Asked → RoundV → PaxosState → PaxosStep
-hold_first a rv p = cond (is_held p.max_rv) (taken p) (paxos_propose_v a.member rv p)
+unfoldable pub hold_first : Asked → RoundV → PaxosState → Result PaxosState Refusal
+hold_first a rv p = cond (is_some p.max_rv) (Ok p) (paxos_propose_v a.member rv p)
 
 -- what process_message asserts behind answer_prepare: `delegate_or_leader == src || delegate_or_leader != round.leader`
 abbrev pub may_answer : Heard → PaxosRound → Bool
@@ -42,7 +39,7 @@ leaves_leader a h round = is_swift_paxos a.mode && eqb h.delegate round.leader
 -- another than the delegate answers, unless it has accepted in the round
 unfoldable pub answers_nothing : Asked → Heard → PaxosRound → Core → Bool
 answers_nothing a h round core =
-    leaves_leader a h round || equal (get_last_accepted_round core.paxos.max_rv) (Round round)
+    leaves_leader a h round || equal (get_last_accepted_round core.paxos.max_rv) (Some round)
 
 -- `if delegate_or_leader != self.my_pid`: another than the delegate answers, and the delegate goes on
 unfoldable pub preparing : Asked → Heard → PaxosRound → Core → CoreStep
@@ -51,13 +48,13 @@ preparing a h round core =
     (cond (answers_nothing a h round core) (stays core no_messages) (answer_prepare a h round core))
 
 -- behind the paxos_propose_v of hold_first, whose assertion may fail
-abbrev pub after_held : Asked → Heard → PaxosRound → Core → PaxosState → Outcome → CoreStep
-after_held a h round core p Done = preparing a h round (with_paxos p core)
-after_held a h round core p (Refused why) = refuses why core
+abbrev pub after_held : Asked → Heard → PaxosRound → Core → Result PaxosState Refusal → CoreStep
+after_held a h round core (Ok p) = preparing a h round (with_paxos p core)
+after_held a h round core (Err why) = refuses why core
 
 -- a Prepare up to the point where the delegate counts the promise, the part that every mode has
 unfoldable pub prepared : Asked → Heard → PaxosRound → RoundV → Core → CoreStep
-prepared a h round rv core = after_held a h round core (hold_first a rv core.paxos).state (hold_first a rv core.paxos).outcome
+prepared a h round rv core = after_held a h round core (hold_first a rv core.paxos)
 
 -- an accept phase is off the fast path; not in SwiftPaxos, whose leader accepts in every slot
 abbrev pub off_fast_path : Asked → Core → Core
@@ -70,18 +67,17 @@ broadcast_accept a round core =
     (one_message (sends a core to_all (Accept core.slot round (held_v core.paxos.max_rv))))
 
 -- self_accept, or adopt_from_epaxos, and then broadcast_accept
-abbrev pub after_own_accept : Asked → PaxosRound → Core → PaxosState → Outcome → CoreStep
-after_own_accept a round core p Done = broadcast_accept a round (with_paxos p core)
-after_own_accept a round core p (Refused why) = refuses why core
+abbrev pub after_own_accept : Asked → PaxosRound → Core → Result PaxosState Refusal → CoreStep
+after_own_accept a round core (Ok p) = broadcast_accept a round (with_paxos p core)
+after_own_accept a round core (Err why) = refuses why core
 
 -- the accept phase of what is held: self_accept, and then broadcast_accept
 unfoldable pub accept_phase : Asked → PaxosRound → Core → CoreStep
-accept_phase a round core =
-    after_own_accept a round core (self_accept a.member round core.paxos).state (self_accept a.member round core.paxos).outcome
+accept_phase a round core = after_own_accept a round core (self_accept a.member round core.paxos)
 
 -- the promise counted: receive_promise
 abbrev pub with_promise : Asked → Heard → RoundV → Core → Core
-with_promise a h rv core = with_paxos (receive_promise a.member h.src rv core.paxos).state core
+with_promise a h rv core = with_paxos (receive_promise a.member h.src rv core.paxos) core
 
 -- a promise completes the majority, by the core before it and the core with it: `!was_paxos_prepared && is_prepared()`
 unfoldable pub becomes_prepared : Asked → Core → Core → Bool
@@ -94,4 +90,4 @@ gather a h round rv core =
 
 -- what is held was accepted in some round: not `get_last_accepted_round().is_none()`
 abbrev pub has_accepted : Core → Bool
-has_accepted core = is_round (get_last_accepted_round core.paxos.max_rv)
+has_accepted core = is_some (get_last_accepted_round core.paxos.max_rv)

@@ -1,37 +1,33 @@
 -- How long values, rounds and promises are.
 -- Assumes nothing.
+use Rattle.std.specs.Prelude.{ℕ, Option, None, Some}
+use Rattle.message.specs.declared.PaxosRound.{PaxosRound}
 use mathlib.Core.List.{[], ◌∷◌}
 use Prim.Native.Nat.{◌≤◌}
 use native.Mathlib.Omega.{arith}
 use lib.ListN.{length, length-append}
-use Rattle.round_state.specs.declared.HeldPromise.{HeldPromise}
-use Rattle.round_state.specs.declared.HeldPromise.TheVariants.{NothingHeld, Held}
-use Rattle.message.specs.declared.OptionalRound.{OptionalRound}
-use Rattle.message.specs.declared.OptionalRound.TheVariants.{NoRound, Round}
-use Rattle.message.specs.declared.OptionalValue.{OptionalValue}
-use Rattle.message.specs.declared.OptionalValue.TheVariants.{NoValue, Value}
 use Rattle.message.specs.declared.RoundV.{RoundV}
 use Rattle.message.specs.declared.RoundV.TheVariants.{FastV, PaxosV}
 use Rattle.texts.specs.Text.{ascii}
 use Rattle.promise_lines.specs.Promises.{optional_value_text, optional_round_text, promise_text, held_text}
 use Rattle.texts.proofs.Lengths.{number, fields_length}
 
-pub value : (v : OptionalValue) → length (optional_value_text v) ≤ 21
+pub value : (v : Option ℕ) → length (optional_value_text v) ≤ 21
 unfolding optional_value_text
-value NoValue = omega arith
-value (Value v) = number v
+value None = omega arith
+value (Some v) = number v
 
-pub round : (r : OptionalRound) → length (optional_round_text r) ≤ 42
+pub round : (r : Option PaxosRound) → length (optional_round_text r) ≤ 42
 unfolding optional_round_text
-round NoRound = omega arith
-round (Round r) = simp length-append (omega (arith, number r.round_group, number r.leader))
+round None = omega arith
+round (Some r) = simp length-append (omega (arith, number r.round_group, number r.leader))
 
 pub promise : (rv : RoundV) → length (promise_text rv) ≤ 69
 unfolding promise_text
 promise (FastV p v) = omega (arith, fields_length (ascii " fast") (p ∷ v ∷ []))
 promise (PaxosV r v) = simp length-append (omega (arith, round r, number v))
 
-pub held : (h : HeldPromise) → length (held_text h) ≤ 69
+pub held : (h : Option RoundV) → length (held_text h) ≤ 69
 unfolding held_text
-held NothingHeld = omega arith
-held (Held rv) = promise rv
+held None = omega arith
+held (Some rv) = promise rv

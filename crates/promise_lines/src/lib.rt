@@ -5,48 +5,52 @@ ghost use Rattle.std.specs.Prelude.{◌≡◌};
 ghost use Rattle.texts.specs.Text.{put};
 ghost use Rattle.promise_lines.specs.Promises.{optional_value_text, optional_round_text, promise_text, held_text};
 
-use message::{OptionalRound, OptionalValue, RoundV};
-use round_state::HeldPromise;
+use message::{PaxosRound, RoundV};
+use texts::Output;
 
-pub fn put_optional_value(out: &mut [u8], at: usize, value: OptionalValue) -> usize
-    ensures { (out.new, result) ≡ put (optional_value_text value) (out.old, at) }
+#[tactic(auto, unfolding(crate::specs::Promises::optional_value_text))]
+pub fn put_optional_value(out: &mut Output, value: Option<u64>)
+    ensures { out.new ≡ put (optional_value_text value) out.old }
 {
     match value {
-        OptionalValue::NoValue => texts::put_bytes(out, at, b" -"),
-        OptionalValue::Value(v) => texts::put_field(out, at, v),
+        None => out.put_bytes(b" -"),
+        Some(v) => out.put_field(v),
     }
 }
 
-pub fn put_optional_round(out: &mut [u8], at: usize, round: OptionalRound) -> usize
-    ensures { (out.new, result) ≡ put (optional_round_text round) (out.old, at) }
+#[tactic(auto, using(texts::proofs::Putting::put_then), unfolding(crate::specs::Promises::optional_round_text))]
+pub fn put_optional_round(out: &mut Output, round: Option<PaxosRound>)
+    ensures { out.new ≡ put (optional_round_text round) out.old }
 {
     match round {
-        OptionalRound::NoRound => texts::put_bytes(out, at, b" -"),
-        OptionalRound::Round(r) => {
-            let next = texts::put_field(out, at, r.round_group);
-            texts::put_field(out, next, r.leader)
+        None => out.put_bytes(b" -"),
+        Some(r) => {
+            out.put_field(r.round_group);
+            out.put_field(r.leader);
         }
     }
 }
 
-pub fn put_promise(out: &mut [u8], at: usize, rv: RoundV) -> usize
-    ensures { (out.new, result) ≡ put (promise_text rv) (out.old, at) }
+#[tactic(auto, using(texts::proofs::Putting::put_then), unfolding(crate::specs::Promises::promise_text))]
+pub fn put_promise(out: &mut Output, rv: RoundV)
+    ensures { out.new ≡ put (promise_text rv) out.old }
 {
     match rv {
-        RoundV::FastV { proposer, v } => texts::put_fields(out, at, b" fast", &[proposer, v]),
+        RoundV::FastV { proposer, v } => out.put_fields(b" fast", &[proposer, v]),
         RoundV::PaxosV { accept_round, v } => {
-            let second = texts::put_bytes(out, at, b" paxos");
-            let third = put_optional_round(out, second, accept_round);
-            texts::put_field(out, third, v)
+            out.put_bytes(b" paxos");
+            put_optional_round(out, accept_round);
+            out.put_field(v);
         }
     }
 }
 
-pub fn put_held(out: &mut [u8], at: usize, held: HeldPromise) -> usize
-    ensures { (out.new, result) ≡ put (held_text held) (out.old, at) }
+#[tactic(auto, unfolding(crate::specs::Promises::held_text))]
+pub fn put_held(out: &mut Output, held: Option<RoundV>)
+    ensures { out.new ≡ put (held_text held) out.old }
 {
     match held {
-        HeldPromise::NothingHeld => texts::put_bytes(out, at, b" -"),
-        HeldPromise::Held(rv) => put_promise(out, at, rv),
+        None => out.put_bytes(b" -"),
+        Some(rv) => put_promise(out, rv),
     }
 }

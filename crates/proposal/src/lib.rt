@@ -4,7 +4,7 @@
 ghost use Rattle.std.specs.Prelude.{◌≡◌};
 ghost use Rattle.proposal.specs.Proposal.{not_allowed, electing, proposal_round, round_allowed, may_propose};
 
-use message::{OptionalRound, PaxosRound, Refusal};
+use message::{PaxosRound, Refusal};
 use steps::{Asked, Core, CoreStep};
 
 // Every assertion that the Rust meets in `propose` is this refusal.
@@ -15,11 +15,11 @@ pub fn not_allowed(core: Core) -> CoreStep
 }
 
 // Whose round a proposal opens.
+#[tactic(auto, unfolding(crate::specs::Proposal::electing))]
 pub fn electing(asked: Asked) -> u64
     ensures { result ≡ electing asked }
 {
-    let mode = asked.mode;
-    if mode.is_swift_paxos() {
+    if asked.mode.is_swift_paxos() {
         return asked.first_leader;
     }
     asked.member.my_pid
@@ -29,41 +29,32 @@ pub fn electing(asked: Asked) -> u64
 pub fn proposal_round(asked: Asked, core: Core) -> PaxosRound
     ensures { result ≡ proposal_round asked core }
 {
-    let paxos = core.paxos;
-    let now_at = paxos.round;
-    now_at
-        .unwrap_or_default()
+    core.paxos
+        .round
+        .unwrap_or(PaxosRound::DEFAULT)
         .next_leader_round(electing(asked))
 }
 
 // In MultiPaxos only the leader from the start proposes; in the other modes every round is allowed.
+#[tactic(auto, using(message::proofs::Comparisons::rounds_equal))]
 fn round_allowed(asked: Asked, core: Core) -> bool
     ensures { result ≡ round_allowed asked core }
 {
-    let mode = asked.mode;
-    if mode.is_multi_paxos() {
-        let starting = asked.starting_round;
-        return OptionalRound::Round(proposal_round(asked, core)).equals(starting);
+    if asked.mode.is_multi_paxos() {
+        return Some(proposal_round(asked, core)) == asked.starting_round;
     }
     true
 }
 
 // Whether the Rust's propose would meet no failed assertion.
+#[tactic(auto, using(message::proofs::Comparisons::rounds_equal), unfolding(crate::specs::Proposal::may_propose))]
 pub fn may_propose(asked: Asked, core: Core) -> bool
     ensures { result ≡ may_propose asked core }
 {
-    let paxos = core.paxos;
-    let held = paxos.max_rv;
-    let now_at = paxos.round;
-    let starting = asked.starting_round;
-    if held.is_held() {
+    if core.paxos.max_rv.is_some() {
         return false;
     }
-    if enter::can_propose(asked) {
-        if now_at.equals(starting) {
-            return round_allowed(asked, core);
-        }
-        return false;
-    }
-    false
+    enter::can_propose(asked)
+        && core.paxos.round == asked.starting_round
+        && round_allowed(asked, core)
 }

@@ -1,12 +1,10 @@
 -- propose of the Rust's paxos_family.rs. Every assertion that it meets is refusal 11, decided before any change.
 -- Assumes nothing.
-use Rattle.std.specs.Prelude.{Bool, false, cond, ◌&&◌, List, ℕ, eqb}
+use Rattle.std.specs.Prelude.{Bool, false, cond, ◌&&◌, List, ℕ, eqb, None, Some, Ok, Err, Result}
+use Rattle.message.specs.declared.Refusal.{Refusal}
 use Rattle.message.specs.Modes.{is_multi_paxos, is_swift_paxos}
 use Rattle.message.specs.declared.ConsensusMsg.{ConsensusMsg}
 use Rattle.message.specs.declared.ConsensusMsg.TheVariants.{Prepare, Accept}
-use Rattle.message.specs.declared.OptionalRound.TheVariants.{NoRound, Round}
-use Rattle.message.specs.declared.Outcome.{Outcome}
-use Rattle.message.specs.declared.Outcome.TheVariants.{Done, Refused}
 use Rattle.message.specs.declared.PaxosRound.{PaxosRound}
 use Rattle.message.specs.declared.RoundV.{RoundV}
 use Rattle.message.specs.declared.RoundV.TheVariants.{FastV, PaxosV}
@@ -15,7 +13,6 @@ use Rattle.round_state.specs.declared.PaxosState.{PaxosState}
 use Rattle.fast_state.specs.Fast.{answers_of, unchanged, epaxos_propose_v, swift_propose_v}
 use Rattle.fast_state.specs.declared.FastAnswers.{FastAnswers}
 use Rattle.fast_state.specs.declared.FastChange.{FastChange}
-use Rattle.fast_state.specs.declared.FastStep.{FastStep}
 pub use Rattle.proposal.specs.Proposal.{not_allowed, proposal_round}
 unfoldable pub use Rattle.proposal.specs.Proposal.{electing, may_propose}
 use Rattle.steps.specs.Steps.{one_message, sends, to_all, with_paxos, stays, with_change, change_rounds}
@@ -27,42 +24,40 @@ use Rattle.steps.specs.declared.Rounds.{Rounds}
 use Rattle.steps.specs.declared.RoundsStep.{RoundsStep}
 
 -- broadcast: where the own promise or the own accept is taken, the message of the proposal goes to all
-abbrev pub proposed : Asked → ConsensusMsg → Core → PaxosState → Outcome → CoreStep
-proposed a msg core p Done = stays (with_paxos p core) (one_message (sends a core to_all msg))
-proposed a msg core p (Refused why) = not_allowed core
+abbrev pub proposed : Asked → ConsensusMsg → Core → Result PaxosState Refusal → CoreStep
+proposed a msg core (Ok p) = stays (with_paxos p core) (one_message (sends a core to_all msg))
+proposed a msg core (Err why) = not_allowed core
 
 -- goto_round, paxos_propose_v, and the Prepare of the value
 unfoldable pub propose_prepare : Asked → PaxosRound → RoundV → Core → CoreStep
 propose_prepare a round rv core =
-    proposed a (Prepare core.slot round rv) core (paxos_propose_v a.member rv (goto_round (Round round) core.paxos)).state
-    (paxos_propose_v a.member rv (goto_round (Round round) core.paxos)).outcome
+    proposed a (Prepare core.slot round rv) core (paxos_propose_v a.member rv (goto_round (Some round) core.paxos))
 
 -- paxos_propose_v was taken: self_accept, and the Accept of the value
-abbrev pub after_own_promise : Asked → PaxosRound → ℕ → Core → PaxosState → Outcome → CoreStep
-after_own_promise a round v core p Done = proposed a (Accept core.slot round v) core (self_accept a.member round p).state (self_accept a.member round p).outcome
-after_own_promise a round v core p (Refused why) = not_allowed core
+abbrev pub after_own_promise : Asked → PaxosRound → ℕ → Core → Result PaxosState Refusal → CoreStep
+after_own_promise a round v core (Ok p) = proposed a (Accept core.slot round v) core (self_accept a.member round p)
+after_own_promise a round v core (Err why) = not_allowed core
 
 -- goto_round, paxos_propose_v, self_accept, and the Accept of the value: a leader from the start needs no other promise than its own
 unfoldable pub propose_accept : Asked → PaxosRound → ℕ → Core → CoreStep
 propose_accept a round v core =
-    after_own_promise a round v core (paxos_propose_v a.member (PaxosV NoRound v) (goto_round (Round round) core.paxos)).state
-    (paxos_propose_v a.member (PaxosV NoRound v) (goto_round (Round round) core.paxos)).outcome
+    after_own_promise a round v core (paxos_propose_v a.member (PaxosV None v) (goto_round (Some round) core.paxos))
 
 -- the classic modes
 unfoldable pub propose_classic : Asked → ℕ → Core → CoreStep
 propose_classic a v core =
     cond (may_propose a core)
-    (cond (is_multi_paxos a.mode) (propose_accept a (proposal_round a core) v core) (propose_prepare a (proposal_round a core) (PaxosV NoRound v) core))
+    (cond (is_multi_paxos a.mode) (propose_accept a (proposal_round a core) v core) (propose_prepare a (proposal_round a core) (PaxosV None v) core))
     (not_allowed core)
 
 -- EPaxos and SwiftPaxos: the fast half answers the own proposal first, in epaxos_propose_v or swift_propose_v
-abbrev pub after_own_answer : Asked → PaxosRound → ℕ → Core → FastChange → Outcome → ChangeStep
-after_own_answer a round v core change Done = with_change change (propose_prepare a round (FastV a.member.my_pid v) core)
-after_own_answer a round v core change (Refused why) = with_change change (not_allowed core)
+abbrev pub after_own_answer : Asked → PaxosRound → ℕ → Core → FastAnswers → Result FastChange Refusal → ChangeStep
+after_own_answer a round v core answers (Ok change) = with_change change (propose_prepare a round (FastV a.member.my_pid v) core)
+after_own_answer a round v core answers (Err why) = with_change (unchanged answers) (not_allowed core)
 
 -- epaxos_propose_v or swift_propose_v, by the scores of the mode; swift_propose_v's last argument is false: a leader does not come here, it
 -- proposes in an Accept (leads_from_start)
-unfoldable pub own_answer : Asked → ℕ → FastAnswers → List ℕ → List ℕ → FastStep
+unfoldable pub own_answer : Asked → ℕ → FastAnswers → List ℕ → List ℕ → Result FastChange Refusal
 own_answer a v answers epaxos_scores swift_scores =
     cond (is_swift_paxos a.mode) (swift_propose_v a.member v a.quorum false answers swift_scores) (epaxos_propose_v a.member v answers epaxos_scores)
 
@@ -75,7 +70,7 @@ unfoldable pub propose_change : Asked → ℕ → Core → FastAnswers → List 
 propose_change a v core answers epaxos_scores swift_scores =
     cond (may_propose a core)
     (cond (leads_from_start a) (with_change (unchanged answers) (propose_accept a (proposal_round a core) v core))
-    (after_own_answer a (proposal_round a core) v core (own_answer a v answers epaxos_scores swift_scores).change (own_answer a v answers epaxos_scores swift_scores).outcome))
+    (after_own_answer a (proposal_round a core) v core answers (own_answer a v answers epaxos_scores swift_scores)))
     (with_change (unchanged answers) (not_allowed core))
 
 -- the same with the change made to the fast half

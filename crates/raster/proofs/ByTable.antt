@@ -5,14 +5,11 @@ use mathlib.Core.Bool.{Bool, true, false, cond}
 use mathlib.Core.Logic.{inl, inr}
 use Prim.Native.Nat.{ℕ, ◌+◌, ◌*◌, ◌-◌, ◌/◌, ◌%◌, ◌<◌, ◌≤◌}
 use native.Mathlib.Omega.{arith}
-use lib.Dec.{ltb, leb, eqb}
+use lib.Dec.{eqb}
 use borrow.Author.Tests.{ltb-true, ltb-false, leb-true, leb-false, eqb-true, lt-ltb, le-ltb, le-leb, lt-leb, eq-eqb}
+use Rattle.std.specs.Prelude.{Option, Some, None}
 use Rattle.raster.specs.Table.{OnRaster}
-use Rattle.raster.specs.Raster.{frequency_of, whole_steps, number_of, frequency_refusal, khz_of, carrier_refusal, carrier_of}
-use Rattle.raster.specs.declared.Frequency.{Frequency}
-use Rattle.raster.specs.declared.Frequency.TheVariants.{Khz, NoRasterNumber}
-use Rattle.raster.specs.declared.Carrier.{Carrier}
-use Rattle.raster.specs.declared.Carrier.TheVariants.{Number, NoRasterFrequency}
+use Rattle.raster.specs.Raster.{frequency_of, whole_steps, number_of, raster_refusal, raster_value}
 
 -- ---- what the conversions give, a row of the table says
 
@@ -21,13 +18,13 @@ chosen : {A : Type 0} (P : A → Type 0) (t : Bool) {x y : A} → (t ≡ true �
 chosen P true f g = f refl
 chosen P false f g = g refl
 
-abbrev FrequencyOnRaster : ℕ → Frequency → Type 0
-FrequencyOnRaster n (Khz f) = OnRaster n f
-FrequencyOnRaster n NoRasterNumber = Unit {0}
+abbrev FrequencyOnRaster : ℕ → Option ℕ → Type 0
+FrequencyOnRaster n (Some f) = OnRaster n f
+FrequencyOnRaster n None = Unit {0}
 
-abbrev CarrierOnRaster : ℕ → Carrier → Type 0
-CarrierOnRaster f (Number n) = OnRaster n f
-CarrierOnRaster f NoRasterFrequency = Unit {0}
+abbrev CarrierOnRaster : ℕ → Option ℕ → Type 0
+CarrierOnRaster f (Some n) = OnRaster n f
+CarrierOnRaster f None = Unit {0}
 
 frequency_by_table : (n : ℕ) → FrequencyOnRaster n (frequency_of n)
 unfolding frequency_of
@@ -67,15 +64,15 @@ carrier_by_table f =
     high : 24250080 ≤ f → f ≤ 99999960 → CarrierOnRaster f (whole_steps 2016667 60 (f - 24250080))
     high g h = whole_steps_by_table f 2016667 60 (f - 24250080) (λ e. inr (inr (record { from = omega arith; to = omega arith; khz = omega arith })))
 
-pub frequency_on_raster : (n f : ℕ) → frequency_of n ≡ Khz f → OnRaster n f
+pub frequency_on_raster : (n f : ℕ) → frequency_of n ≡ Some f → OnRaster n f
 frequency_on_raster n f e = rw e at (frequency_by_table n)
 
-pub number_on_raster : (n f : ℕ) → number_of f ≡ Number n → OnRaster n f
+pub number_on_raster : (n f : ℕ) → number_of f ≡ Some n → OnRaster n f
 number_on_raster n f e = rw e at (carrier_by_table f)
 
 -- ---- and what a row says, they give
 
-pub on_raster_frequency : (n f : ℕ) → OnRaster n f → frequency_of n ≡ Khz f
+pub on_raster_frequency : (n f : ℕ) → OnRaster n f → frequency_of n ≡ Some f
 unfolding frequency_of
 on_raster_frequency n f (inl row) =
     let is : 5 * n ≡ f = omega arith in
@@ -88,7 +85,7 @@ on_raster_frequency n f (inr (inr row)) =
     let middle : 2016666 < n = omega arith in
     simp (lt-leb _ _ low, lt-leb _ _ middle, le-leb _ _ row.to, sym row.khz)
 
-pub on_raster_number : (n f : ℕ) → OnRaster n f → number_of f ≡ Number n
+pub on_raster_number : (n f : ℕ) → OnRaster n f → number_of f ≡ Some n
 unfolding number_of whole_steps
 on_raster_number n f (inl row) =
     let below : f < 3000000 = omega arith in
@@ -112,44 +109,44 @@ on_raster_number n f (inr (inr row)) =
 
 -- ---- "14, no raster number or no raster frequency": given exactly where no row of the table has the number, or the frequency
 
-pub no_raster_number : (n : ℕ) → frequency_refusal (frequency_of n) ≡ 14 → (f : ℕ) → OnRaster n f → ⊥
-no_raster_number n e f row = let z = sym e ∙ ap frequency_refusal (on_raster_frequency n f row) in omega arith
+pub no_raster_number : (n : ℕ) → raster_refusal (frequency_of n) ≡ 14 → (f : ℕ) → OnRaster n f → ⊥
+no_raster_number n e f row = let z = sym e ∙ ap raster_refusal (on_raster_frequency n f row) in omega arith
 
-pub raster_number_refused : (n : ℕ) → ((f : ℕ) → OnRaster n f → ⊥) → frequency_refusal (frequency_of n) ≡ 14
+pub raster_number_refused : (n : ℕ) → ((f : ℕ) → OnRaster n f → ⊥) → raster_refusal (frequency_of n) ≡ 14
 raster_number_refused n off = go (frequency_of n) refl
   where
-    go : (answer : Frequency) → frequency_of n ≡ answer → frequency_refusal answer ≡ 14
-    go (Khz f) e = absurd (off f (frequency_on_raster n f e))
-    go NoRasterNumber e = refl
+    go : (answer : Option ℕ) → frequency_of n ≡ answer → raster_refusal answer ≡ 14
+    go (Some f) e = absurd (off f (frequency_on_raster n f e))
+    go None e = refl
 
-pub no_raster_frequency : (f : ℕ) → carrier_refusal (number_of f) ≡ 14 → (n : ℕ) → OnRaster n f → ⊥
-no_raster_frequency f e n row = let z = sym e ∙ ap carrier_refusal (on_raster_number n f row) in omega arith
+pub no_raster_frequency : (f : ℕ) → raster_refusal (number_of f) ≡ 14 → (n : ℕ) → OnRaster n f → ⊥
+no_raster_frequency f e n row = let z = sym e ∙ ap raster_refusal (on_raster_number n f row) in omega arith
 
-pub raster_frequency_refused : (f : ℕ) → ((n : ℕ) → OnRaster n f → ⊥) → carrier_refusal (number_of f) ≡ 14
+pub raster_frequency_refused : (f : ℕ) → ((n : ℕ) → OnRaster n f → ⊥) → raster_refusal (number_of f) ≡ 14
 raster_frequency_refused f off = go (number_of f) refl
   where
-    go : (answer : Carrier) → number_of f ≡ answer → carrier_refusal answer ≡ 14
-    go (Number n) e = absurd (off n (number_on_raster n f e))
-    go NoRasterFrequency e = refl
+    go : (answer : Option ℕ) → number_of f ≡ answer → raster_refusal answer ≡ 14
+    go (Some n) e = absurd (off n (number_on_raster n f e))
+    go None e = refl
 
 -- ---- an answer as two numbers: 0 and the table's value where a row has one, and 0 as the value of a refusal
 
-pub on_raster_khz : (n f : ℕ) → OnRaster n f → (frequency_refusal (frequency_of n) ≡ 0) × (khz_of (frequency_of n) ≡ f)
-on_raster_khz n f row = let e = on_raster_frequency n f row in (ap frequency_refusal e, ap khz_of e)
+pub on_raster_khz : (n f : ℕ) → OnRaster n f → (raster_refusal (frequency_of n) ≡ 0) × (raster_value (frequency_of n) ≡ f)
+on_raster_khz n f row = let e = on_raster_frequency n f row in (ap raster_refusal e, ap raster_value e)
 
-pub off_raster_khz : (n : ℕ) → ((f : ℕ) → OnRaster n f → ⊥) → khz_of (frequency_of n) ≡ 0
+pub off_raster_khz : (n : ℕ) → ((f : ℕ) → OnRaster n f → ⊥) → raster_value (frequency_of n) ≡ 0
 off_raster_khz n off = go (frequency_of n) refl
   where
-    go : (answer : Frequency) → frequency_of n ≡ answer → khz_of answer ≡ 0
-    go (Khz f) e = absurd (off f (frequency_on_raster n f e))
-    go NoRasterNumber e = refl
+    go : (answer : Option ℕ) → frequency_of n ≡ answer → raster_value answer ≡ 0
+    go (Some f) e = absurd (off f (frequency_on_raster n f e))
+    go None e = refl
 
-pub on_raster_carrier : (n f : ℕ) → OnRaster n f → (carrier_refusal (number_of f) ≡ 0) × (carrier_of (number_of f) ≡ n)
-on_raster_carrier n f row = let e = on_raster_number n f row in (ap carrier_refusal e, ap carrier_of e)
+pub on_raster_carrier : (n f : ℕ) → OnRaster n f → (raster_refusal (number_of f) ≡ 0) × (raster_value (number_of f) ≡ n)
+on_raster_carrier n f row = let e = on_raster_number n f row in (ap raster_refusal e, ap raster_value e)
 
-pub off_raster_carrier : (f : ℕ) → ((n : ℕ) → OnRaster n f → ⊥) → carrier_of (number_of f) ≡ 0
+pub off_raster_carrier : (f : ℕ) → ((n : ℕ) → OnRaster n f → ⊥) → raster_value (number_of f) ≡ 0
 off_raster_carrier f off = go (number_of f) refl
   where
-    go : (answer : Carrier) → number_of f ≡ answer → carrier_of answer ≡ 0
-    go (Number n) e = absurd (off n (number_on_raster n f e))
-    go NoRasterFrequency e = refl
+    go : (answer : Option ℕ) → number_of f ≡ answer → raster_value answer ≡ 0
+    go (Some n) e = absurd (off n (number_on_raster n f e))
+    go None e = refl

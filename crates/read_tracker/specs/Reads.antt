@@ -1,6 +1,6 @@
 -- The open reads of a shard, a new read, and what one answer adds to a read (document 01, "Read"; the Rust's consensus/read_tracker.rs).
 -- Assumes nothing.
-use Rattle.std.specs.Prelude.{ℕ, ◌+◌, ◌-◌, min, Bool, true, false, cond, List, ltb, leb, take, set, replicate}
+use Rattle.std.specs.Prelude.{ℕ, ◌+◌, ◌-◌, min, Bool, true, false, cond, List, ltb, leb, take, set, replicate, Ok, Err}
 use Rattle.message.specs.declared.ReadId.{ReadId}
 use Rattle.message.specs.declared.Refusal.TheVariants.{NoRoomForRead}
 use Rattle.message.specs.Rounds.{increment}
@@ -8,7 +8,6 @@ use Rattle.read_tracker.specs.declared.OpenRead.{OpenRead}
 use Rattle.read_tracker.specs.declared.ServedRead.{ServedRead}
 use Rattle.read_tracker.specs.declared.ReadTracker.{ReadTracker}
 use Rattle.read_tracker.specs.declared.ReadTable.{ReadTable}
-use Rattle.read_tracker.specs.declared.Opened.TheVariants.{Refused, Id}
 use Rattle.read_tracker.specs.declared.Inserted.{Inserted}
 
 -- the id of that number
@@ -46,7 +45,7 @@ open_reads tracker table = take (open_places tracker) table.reads
 
 -- insert where it is refused, with 12: nothing changes
 abbrev pub refused : ReadTracker → ReadTable → Inserted
-refused tracker table = record { tracker = tracker; table = table; opened = Refused NoRoomForRead }
+refused tracker table = record { tracker = tracker; table = table; opened = Err NoRoomForRead }
 
 -- the new read, under the next id, behind the open ones
 abbrev pub inserted : ReadTracker → ReadTable → ℕ → ℕ → Bool → Inserted
@@ -58,7 +57,7 @@ inserted tracker table tag arrival local =
             reads = set table.reads tracker.open_count (new_read (read_id tracker.next_id) tag arrival local);
             served = table.served;
           };
-      opened = Id (read_id tracker.next_id);
+      opened = Ok (read_id tracker.next_id);
     }
 
 -- insert, refused where there is no room: 128 reads open, or ids spent (the last id is 2^63-1)

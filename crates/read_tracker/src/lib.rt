@@ -5,7 +5,7 @@
 ghost use Rattle.std.specs.Prelude.{◌≡◌};
 ghost use Rattle.read_tracker.specs.Reads.{new_tracker, new_table, new_read, insert, open_places, after_response, after_commit, has_quorum, serve};
 
-use message::{ReadId, Refusal, increment, saturating_sub};
+use message::{ReadId, Refusal, increment};
 
 // A read that waits for its quorum: the Rust's ReadOnlyCommand with its id. The host keeps the command under the tag.
 #[derive(Clone, Copy)]
@@ -33,25 +33,20 @@ pub struct ReadTracker {
     pub open_count: u64,
 }
 
-// The open reads stand in the first open_count places. A call puts the reads that it serves into the first places of `served`.
+// The open reads stand in the first open_count places. A call puts the reads that it serves into the first places of `served`. Arrays whose count stands in
+// the tracker, and no vectors: the memory is fixed, without heap, and any count is answered (open_places).
 #[derive(Clone, Copy)]
 pub struct ReadTable {
     pub reads: [OpenRead; 128],
     pub served: [ServedRead; 128],
 }
 
-// What became of a new read: refused, or taken under an id.
-#[derive(Clone, Copy)]
-pub enum Opened {
-    Refused(Refusal),
-    Id(ReadId),
-}
-
+// The tracker and the table after a new read, and what became of it: it is taken under an id, or refused.
 #[derive(Clone, Copy)]
 pub struct Inserted {
     pub tracker: ReadTracker,
     pub table: ReadTable,
-    pub opened: Opened,
+    pub opened: Result<ReadId, Refusal>,
 }
 
 impl ReadTable {
@@ -92,10 +87,7 @@ impl ReadTracker {
     pub fn open_places(self) -> usize
         ensures { result ≡ open_places self }
     {
-        if self.open_count < 128 {
-            return self.open_count as usize;
-        }
-        128
+        self.open_count.min(128) as usize
     }
 }
 
@@ -115,6 +107,7 @@ impl OpenRead {
     }
 
     // What one response adds.
+    #[tactic(auto, unfolding(crate::specs::Reads::after_response))]
     pub fn after_response(mut self) -> OpenRead
         ensures { result ≡ after_response self }
     {
@@ -123,6 +116,7 @@ impl OpenRead {
     }
 
     // The own answer, which a commit gives to each read that misses it.
+    #[tactic(auto, unfolding(crate::specs::Reads::after_commit))]
     pub fn after_commit(mut self) -> OpenRead
         ensures { result ≡ after_commit self }
     {
@@ -147,13 +141,14 @@ impl OpenRead {
         ServedRead {
             id,
             tag: self.tag,
-            waited_for: saturating_sub(slot, self.arrival_slot),
+            waited_for: slot.saturating_sub(self.arrival_slot),
             fast,
         }
     }
 }
 
 // A new read, under the next id. Refused where 128 reads are open, or where the ids are spent: the last one is 2^63-1.
+#[tactic(auto, unfolding(crate::specs::Reads::insert))]
 pub fn insert(
     tracker: ReadTracker,
     mut table: ReadTable,
@@ -163,18 +158,11 @@ pub fn insert(
 ) -> Inserted
     ensures { result ≡ insert tracker table tag arrival_slot local_ready }
 {
-    if tracker.open_count >= 128 {
+    if tracker.open_count >= 128 || tracker.next_id > 9223372036854775807 {
         return Inserted {
             tracker,
             table,
-            opened: Opened::Refused(Refusal::NoRoomForRead),
-        };
-    }
-    if tracker.next_id > 9223372036854775807 {
-        return Inserted {
-            tracker,
-            table,
-            opened: Opened::Refused(Refusal::NoRoomForRead),
+            opened: Err(Refusal::NoRoomForRead),
         };
     }
     let id = ReadId(tracker.next_id);
@@ -189,6 +177,6 @@ pub fn insert(
             open_count,
         },
         table,
-        opened: Opened::Id(id),
+        opened: Ok(id),
     }
 }

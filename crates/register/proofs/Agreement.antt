@@ -12,9 +12,9 @@ use lib.Seq.{take_at}
 use borrow.Author.Tests.{ltb-true, ltb-false, leb-true, leb-false, lt-ltb, le-leb, lt-leb}
 use Rattle.basics.proofs.Tests.{either, not_both, same_test, and_left, and_right, and_both}
 use Rattle.message.specs.Rounds.{increment}
-use Rattle.raster.specs.Raster.{frequency_of, frequency_refusal}
-use Rattle.serving.specs.Serving.{at_front}
-use Rattle.serving.proofs.Lists.{front_length}
+use Rattle.raster.specs.Raster.{frequency_of, raster_refusal}
+use Rattle.places.specs.Places.{at_front}
+use Rattle.places.proofs.Lists.{front_length}
 use Rattle.register.specs.Cells.{is_live_cell, cell_reassigned, cell_inserted, cell_removed}
 use Rattle.register.specs.Register.{new_register, live_places, live_cells, assignable, holding, with_new_cell, with_superseded, with_released, slot_seen, done, older, refused, assign, release, apply_change, apply}
 use Rattle.register.specs.Refusals.{entry_number, entry_refusal_number}
@@ -234,12 +234,12 @@ unfolding is_taken_given
 taken_by_number before e k h = ap (λ (m : ℕ). eqb m 0) h
 
 -- the three ranges of E5 leave no gap
-has_frequency : (n : ℕ) → eqb (frequency_refusal (frequency_of n)) 0 ≡ leb n 3279165
+has_frequency : (n : ℕ) → eqb (raster_refusal (frequency_of n)) 0 ≡ leb n 3279165
 unfolding frequency_of
 has_frequency n = go (either (leb n 599999)) (either (leb n 2016666)) (either (leb n 3279165))
   where
     go : (leb n 599999 ≡ true) ⊎ (leb n 599999 ≡ false) → (leb n 2016666 ≡ true) ⊎ (leb n 2016666 ≡ false) → (leb n 3279165 ≡ true) ⊎ (leb n 3279165 ≡ false)
-        → eqb (frequency_refusal (frequency_of n)) 0 ≡ leb n 3279165
+        → eqb (raster_refusal (frequency_of n)) 0 ≡ leb n 3279165
     go (inl p) q s = let h = leb-true n 599999 p in simp (p, le-leb n 3279165 (omega arith))
     go (inr p) (inl q) s = let h = leb-true n 2016666 q in simp (p, q, le-leb n 3279165 (omega arith))
     go (inr p) (inr q) (inl s) = simp (p, q, s)

@@ -11,7 +11,7 @@ use lib.ListN.{length}
 use borrow.Author.Tests.{eqb-true, eqb-false, eq-eqb, ne_eqb, leb-true, leb-false, le-leb, lt-leb}
 use Rattle.basics.specs.Lists.{In}
 use Rattle.basics.proofs.Tests.{either, not_both}
-use Rattle.register.specs.Cells.{cell_of, is_live_cell, cell_reassigned, cell_inserted, cell_removed}
+use Rattle.register.specs.Cells.{cell_of, has_number, is_live_cell, cell_reassigned, cell_inserted, cell_removed}
 use Rattle.register.specs.History.{RisingCells}
 use Rattle.register.specs.Taken.{Latest, never, is, is_assigned}
 use Rattle.register.specs.declared.Assignment.{Assignment}
@@ -24,7 +24,7 @@ look_up_cell n [] = never
 look_up_cell n (c ∷ cs) = cond (leb n c.number) (cond (eqb c.number n) (is (Assign c.assignment)) never) (look_up_cell n cs)
 
 pub live_look_up : (n : ℕ) (cs : List Cell) → is_live_cell n cs ≡ is_assigned (look_up_cell n cs)
-unfolding is_live_cell look_up_cell
+unfolding has_number look_up_cell
 live_look_up n [] = refl
 live_look_up n (c ∷ cs) = go (leb n c.number) (eqb c.number n) (live_look_up n cs)
   where
@@ -66,7 +66,7 @@ module _ (n : ℕ) (a : Assignment) (m : ℕ) where
       go (inr e) f g (inr h) rest = simp (e, h) rest
 
   pub look_up_reassigned : (cs : List Cell) → is_live_cell n cs ≡ true → Told (cell_reassigned n a cs) cs
-  unfolding is_live_cell cell_reassigned look_up_cell
+  unfolding has_number cell_reassigned look_up_cell
   look_up_reassigned [] h = absurd (not_both h refl)
   look_up_reassigned (c ∷ cs) live = go (either (leb n c.number)) (either (leb m n)) (either (eqb n m)) (either (leb m c.number)) (λ k. look_up_reassigned cs k)
     where
@@ -97,7 +97,7 @@ look_up_below m low (c ∷ cs) h r =
     simp (le-leb m c.number (omega arith), ne_eqb c.number m s)
 
 pub look_up_removed : (n m low : ℕ) (cs : List Cell) → RisingCells low cs → is_live_cell n cs ≡ true → look_up_cell m (cell_removed n cs) ≡ cond (eqb n m) never (look_up_cell m cs)
-unfolding is_live_cell cell_removed look_up_cell
+unfolding has_number cell_removed look_up_cell
 look_up_removed n m low [] rise h = absurd (not_both h refl)
 look_up_removed n m low (c ∷ cs) rise live = go (either (leb n c.number)) (either (leb m n)) (either (eqb n m)) (either (leb m c.number)) (λ k. look_up_removed n m (c.number + 1) cs rise.1 k)
   where
@@ -129,7 +129,7 @@ rising_from low m [] h r = tt
 rising_from low m (c ∷ cs) h r = (omega arith, r.1)
 
 pub rising_inserted : (low n : ℕ) (a : Assignment) (cs : List Cell) → low ≤ n → is_live_cell n cs ≡ false → RisingCells low cs → RisingCells low (cell_inserted n a cs)
-unfolding is_live_cell cell_inserted
+unfolding has_number cell_inserted
 rising_inserted low n a [] h live r = (h, tt)
 rising_inserted low n a (c ∷ cs) h live r = go (leb n c.number) refl (λ p k. rising_inserted (c.number + 1) n a cs p k r.1)
   where
@@ -149,7 +149,7 @@ rising_inserted low n a (c ∷ cs) h live r = go (leb n c.number) refl (λ p k. 
         leb_false' p = omega arith
 
 pub rising_reassigned : (low n : ℕ) (a : Assignment) (cs : List Cell) → is_live_cell n cs ≡ true → RisingCells low cs → RisingCells low (cell_reassigned n a cs)
-unfolding is_live_cell cell_reassigned
+unfolding has_number cell_reassigned
 rising_reassigned low n a [] live r = tt
 rising_reassigned low n a (c ∷ cs) live r = go (leb n c.number) refl (λ k. rising_reassigned (c.number + 1) n a cs k r.1)
   where
@@ -188,7 +188,7 @@ reassigned_length n a (c ∷ cs) = go (leb n c.number) (reassigned_length n a cs
     go false rest = ap suc rest
 
 pub removed_length : (n : ℕ) (cs : List Cell) → is_live_cell n cs ≡ true → length cs ≡ suc (length (cell_removed n cs))
-unfolding is_live_cell cell_removed
+unfolding has_number cell_removed
 removed_length n [] h = absurd (not_both h refl)
 removed_length n (c ∷ cs) h = go (leb n c.number) refl (λ k. removed_length n cs k)
   where

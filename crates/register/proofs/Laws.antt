@@ -18,9 +18,11 @@ use Rattle.register.specs.declared.Assignment.{Assignment}
 use Rattle.register.specs.declared.Change.TheVariants.{Assign, Release}
 use Rattle.register.specs.declared.CellEntry.{CellEntry}
 use Rattle.register.specs.declared.Figures.{Figures}
+use Rattle.register.specs.declared.EntryRefusal.{EntryRefusal}
 use Rattle.register.specs.declared.EntryRefusal.TheVariants.{NumberTooLarge, NotAssignable, NoRoomForCell, CellNotLive}
-use Rattle.register.specs.declared.EntryOutcome.{EntryOutcome}
-use Rattle.register.specs.declared.EntryOutcome.TheVariants.{Done, Older, Refused}
+use Rattle.register.specs.declared.Entered.{Entered}
+use Rattle.register.specs.declared.Entered.TheVariants.{Done, Older}
+use Rattle.std.specs.Prelude.{Result, Ok, Err}
 use Rattle.register.proofs.Cells.{look_up_in, in_look_up}
 use Rattle.register.proofs.Agreement.{RegisterAgrees, new_agrees, standing, stepped, left_alone}
 
@@ -37,7 +39,7 @@ in_order (e ∷ es) before = in_order es (e ∷ before)
 
 -- ---- an entry is done exactly where it is taken
 module _ (before : List CellEntry) (e : CellEntry) where
-  abbrev outcome : EntryOutcome
+  abbrev outcome : Result Entered EntryRefusal
   outcome = (apply (register_after before) e).outcome
 
   -- its number is what the entries say
@@ -48,19 +50,19 @@ module _ (before : List CellEntry) (e : CellEntry) where
   unfolding is_taken_given
   same = ap (λ (k : ℕ). eqb k 0) number_given_lem
 
-  pub done_where_taken : is_taken before e ≡ true → (apply (register_after before) e).outcome ≡ Done
+  pub done_where_taken : is_taken before e ≡ true → (apply (register_after before) e).outcome ≡ Ok Done
   done_where_taken h = go outcome (same ∙ h)
     where
-      go : (o : EntryOutcome) → eqb (entry_number o) 0 ≡ true → o ≡ Done
-      go Done t = refl
-      go Older t = absurd (not_both t refl)
-      go (Refused NumberTooLarge) t = absurd (not_both t refl)
-      go (Refused NotAssignable) t = absurd (not_both t refl)
-      go (Refused NoRoomForCell) t = absurd (not_both t refl)
-      go (Refused CellNotLive) t = absurd (not_both t refl)
+      go : (o : Result Entered EntryRefusal) → eqb (entry_number o) 0 ≡ true → o ≡ Ok Done
+      go (Ok Done) t = refl
+      go (Ok Older) t = absurd (not_both t refl)
+      go (Err NumberTooLarge) t = absurd (not_both t refl)
+      go (Err NotAssignable) t = absurd (not_both t refl)
+      go (Err NoRoomForCell) t = absurd (not_both t refl)
+      go (Err CellNotLive) t = absurd (not_both t refl)
 
-  pub taken_where_done : (apply (register_after before) e).outcome ≡ Done → is_taken before e ≡ true
-  taken_where_done h = sym same ∙ ap (λ (o : EntryOutcome). eqb (entry_number o) 0) h
+  pub taken_where_done : (apply (register_after before) e).outcome ≡ Ok Done → is_taken before e ≡ true
+  taken_where_done h = sym same ∙ ap (λ (o : Result Entered EntryRefusal). eqb (entry_number o) 0) h
 
 -- ---- "Each figure is counted from the committed entries alone"
 pub figures_counted : (es : List CellEntry) → (register_after es).figures ≡ figures_of es

@@ -1,5 +1,4 @@
 pub mod Places
-pub mod Ends
 pub mod Counting
 pub mod Cells
 pub mod Entries
@@ -7,3 +6,5 @@ pub mod Agreement
 pub mod Laws
 pub mod Examples
 pub mod Full
+pub mod Ends
+pub mod Assignable

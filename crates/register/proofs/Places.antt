@@ -1,99 +1,78 @@
--- The loops of `find_cell` and `insert_cell`, and the changes of the live cells at a place.
+-- The loop of `find`, and the changes of the live cells at a place.
 -- Assumes nothing.
-use Prim.Native.Nat.{ℕ, suc, ◌+◌, ◌-◌, ◌≤◌, ◌<◌}
+use Prim.Native.Nat.{ℕ, suc, ◌+◌, ◌≤◌, ◌<◌}
 use mathlib.Core.Bool.{Bool, true, false, cond}
-use mathlib.Core.Path.{◌≡◌, refl, ap, ◌∙◌}
-use mathlib.Core.List.{List, [], ◌∷◌, ◌++◌, append_assoc}
+use mathlib.Core.Path.{◌≡◌, refl, sym, ap, ◌∙◌}
+use borrow.Author.Tests.{le-leb, lt-leb, eq-eqb, ne_eqb}
+use mathlib.Core.List.{List, [], ◌∷◌}
 use mathlib.Core.Logic.{◌⊎◌, inl, inr}
 use native.Mathlib.Omega.{arith}
 use native.Mathlib.Numerals.{add-one}
 use lib.Dec.{leb, eqb}
-use lib.ListN.{length, get_or, set, take, drop, length-append, length-take, length-drop, drop_of_length-le, take-append-drop, get_or-append}
-use lib.Seq.{take-suc, drop-cons, get_or-take, take-take, set_at}
+use lib.ListN.{length, get_or, set, drop, drop_of_length-le}
+use lib.Seq.{drop-cons}
+use Rattle.std.specs.Prelude.{Result, Ok, Err}
 use Rattle.basics.proofs.Tests.{either}
-use Rattle.serving.specs.Serving.{at_front, without}
-use Rattle.register.specs.Cells.{cell_of, is_live_cell, cell_reassigned, cell_inserted, cell_removed, cell_place, found, with_at}
+use Rattle.places.specs.Places.{without, with_at}
+use Rattle.register.specs.Cells.{cell_of, has_number, number_place, is_live_cell, cell_reassigned, cell_inserted, cell_removed, cell_place, found}
 use Rattle.register.specs.declared.Assignment.{Assignment}
 use Rattle.register.specs.declared.Cell.{Cell}
-use Rattle.register.specs.declared.Found.{Found}
 
--- ---- the search of `find_cell` among the first m places: the first i cells have lower numbers
-abbrev pub Passed : ℕ → List Cell → ℕ → Type 0
-Passed n l i = (cell_place n l ≡ i + cell_place n (drop i l)) × (is_live_cell n l ≡ is_live_cell n (drop i l))
+-- ---- the search of `find`, in a list of what has numbers: the first i have lower numbers
+module _ {A : Type 0} (f : A → ℕ) (n : ℕ) (l : List A) where
+  abbrev pub Passed : ℕ → Type 0
+  Passed i = (number_place f n l ≡ i + number_place f n (drop i l)) × (has_number f n l ≡ has_number f n (drop i l))
 
-module _ (n : ℕ) (places : List Cell) (m i : ℕ) (d : Cell) (more : i < m) (fits : m ≤ 512) (long : length places ≡ 512)
-    (passed : Passed n (take m places) i) where
-  next : drop i (take m places) ≡ get_or places i d ∷ drop (i + 1) (take m places)
-  next = rw add-one (drop-cons (take m places) i d (rw length-take (omega arith)) ∙ simp (get_or-take m places i d more))
+  -- x stands at i, and `here` is its number
+  module _ (i : ℕ) (x : A) (here : ℕ) (is : x ≡ get_or l i x) (number : here ≡ f x) (more : i < length l) (passed : Passed i) where
+    next : drop i l ≡ x ∷ drop (i + 1) l
+    next = rw add-one (drop-cons l i x more) ∙ ap (λ (y : A). y ∷ drop (i + 1) l) (sym is)
 
-  pub search_found : leb n (get_or places i d).number ≡ true
-      → ◌≡◌ {A = Found} (record { at = i; live = eqb (get_or places i d).number n }) (found n (take m places))
-  unfolding cell_place is_live_cell
-  search_found t =
-      let at : cell_place n (take m places) ≡ i = passed.0 ∙ simp (next, t) (omega arith) in
-      let live : is_live_cell n (take m places) ≡ eqb (get_or places i d).number n = passed.1 ∙ simp (next, t) in
+    stands : n ≤ here → (number_place f n l ≡ i) × (has_number f n l ≡ eqb here n)
+    unfolding number_place has_number
+    stands h = let t = le-leb n here h in (passed.0 ∙ simp (next, ← number, t) (omega arith), passed.1 ∙ simp (next, ← number, t))
+
+    -- the first number that is not lower is that one, or is above it
+    pub search_found : n ≤ here → here ≡ n → Ok i ≡ found f n l
+    search_found h e = let s = stands h in simp (s.0, s.1, eq-eqb here n e)
+
+    pub search_above : n ≤ here → (here ≡ n → ⊥) → Err i ≡ found f n l
+    search_above h e = let s = stands h in simp (s.0, s.1, ne_eqb here n e)
+
+    pub search_more : here < n → Passed (i + 1)
+    unfolding number_place has_number
+    search_more h =
+        let t = lt-leb n here h in
+        let one : number_place f n (drop i l) ≡ suc (number_place f n (drop (i + 1) l)) = simp (next, ← number, t) in
+        (omega (arith, passed.0), passed.1 ∙ simp (next, ← number, t))
+
+  pub search_none : (i : ℕ) → length l ≤ i → i ≤ length l → Passed i → Err (length l) ≡ found f n l
+  unfolding number_place has_number
+  search_none i h k passed =
+      let none : drop i l ≡ [] = drop_of_length-le l {i = i} h in
+      let z : number_place f n (drop i l) ≡ 0 = simp none in
+      let at : number_place f n l ≡ length l = omega (arith, passed.0) in
+      let live : has_number f n l ≡ false = passed.1 ∙ simp none in
       simp (at, live)
 
-  pub search_more : leb n (get_or places i d).number ≡ false → Passed n (take m places) (i + 1)
-  unfolding cell_place is_live_cell
-  search_more t =
-      let one : cell_place n (drop i (take m places)) ≡ suc (cell_place n (drop (i + 1) (take m places))) = simp (next, t) in
-      (omega (arith, passed.0), passed.1 ∙ simp (next, t))
+  -- ---- what is found
+  pub found_ok : (at : ℕ) → Ok at ≡ found f n l → (has_number f n l ≡ true) × (at ≡ number_place f n l)
+  found_ok at e = go (has_number f n l) refl e
+    where
+      go : (t : Bool) → has_number f n l ≡ t → ◌≡◌ {A = Result ℕ ℕ} (Ok at) (cond t (Ok (number_place f n l)) (Err (number_place f n l))) → (has_number f n l ≡ true) × (at ≡ number_place f n l)
+      go true h e = (h, cc)
+      go false h e = absurd (cc)
 
-pub search_none : (n : ℕ) (places : List Cell) (m i : ℕ) → i ≤ m → m ≤ i → Passed n (take m places) i
-    → ◌≡◌ {A = Found} (record { at = m; live = false }) (found n (take m places))
-unfolding cell_place is_live_cell
-search_none n places m i k h passed =
-    let none : drop i (take m places) ≡ [] = drop_of_length-le (take m places) {i = i} (rw length-take (omega arith)) in
-    let z : cell_place n (drop i (take m places)) ≡ 0 = simp none in
-    let at : cell_place n (take m places) ≡ m = omega (arith, passed.0) in
-    let live : is_live_cell n (take m places) ≡ false = passed.1 ∙ simp none in
-    simp (at, live)
-
--- ---- the loop of `insert_cell`: the cells from place i on have moved one place up
-abbrev pub moved_up : {A : Type 0} → ℕ → ℕ → List A → List A
-moved_up i m places = take (i + 1) places ++ (drop i (take m places) ++ drop (m + 1) places)
-
-pub move_start : {A : Type 0} (places : List A) (m : ℕ) → m < length places → places ≡ moved_up m m places
-move_start places m h =
-    let none : drop m (take m places) ≡ [] = drop_of_length-le (take m places) {i = m} (rw length-take (omega arith)) in
-    simp (none, take-append-drop)
-
-module _ {A : Type 0} (l places : List A) (m i : ℕ) (d : A) (fits : m < length places) (inside : i ≤ m) (moved : l ≡ moved_up i m places) where
-  pub move_more : 0 < i → set l i (get_or l (i - 1) d) ≡ moved_up (i - 1) m places
-  move_more h =
-      let j : ℕ = i - 1 in
-      let one : i - 1 + 1 ≡ i = omega arith in
-      let head : length (take i places) ≡ i = length-take i places ∙ omega arith in
-      let front : length (take (i + 1) places) ≡ i + 1 = length-take (i + 1) places ∙ omega arith in
-      let read : get_or l (i - 1) d ≡ get_or places (i - 1) d =
-      ap (λ (x : List A). get_or x (i - 1) d) moved
-      ∙ get_or-append (take (i + 1) places) (drop i (take m places) ++ drop (m + 1) places) d (i - 1) (omega arith)
-      ∙ get_or-take (i + 1) places (i - 1) d (omega arith) in
-      let split : take (i + 1) places ≡ take i places ++ (get_or places i d ∷ []) = rw add-one (take-suc places i d (omega arith)) in
-      let first : drop (i - 1) (take m places) ≡ get_or places (i - 1) d ∷ drop i (take m places) =
-      drop-cons (take m places) (i - 1) d (rw length-take (omega arith)) ∙ simp (get_or-take m places (i - 1) d (omega arith), ← add-one, one) in
-      let parts : l ≡ take i places ++ (get_or places i d ∷ (drop i (take m places) ++ drop (m + 1) places)) = moved ∙ simp (split, append_assoc) in
-      ap (λ (x : List A). set x i (get_or l (i - 1) d)) parts
-      ∙ set_at (take i places) (get_or places i d) (drop i (take m places) ++ drop (m + 1) places) (get_or l (i - 1) d) i head
-      ∙ simp (read, one, first)
-
-  pub move_end : (at : ℕ) (new : A) → at ≤ i → i ≤ at → set l at new ≡ at_front (with_at at new (take m places)) places
-  unfolding with_at at_front
-  move_end at new g h =
-      let same : i ≡ at = omega arith in
-      let head : length (take at places) ≡ at = length-take at places ∙ omega arith in
-      let split : take (at + 1) places ≡ take at places ++ (get_or places at d ∷ []) = rw add-one (take-suc places at d (omega arith)) in
-      let start : take at (take m places) ≡ take at places = take-take at m places (omega arith) in
-      let size : length (take at places ++ (new ∷ drop at (take m places))) ≡ m + 1 = simp (length-append, length-take, length-drop) (omega arith) in
-      let parts : l ≡ take at places ++ (get_or places at d ∷ (drop at (take m places) ++ drop (m + 1) places)) = moved ∙ simp (same, split, append_assoc) in
-      ap (λ (x : List A). set x at new) parts
-      ∙ set_at (take at places) (get_or places at d) (drop at (take m places) ++ drop (m + 1) places) new at head
-      ∙ simp (start, size, append_assoc)
+  pub found_err : (at : ℕ) → Err at ≡ found f n l → (has_number f n l ≡ false) × (at ≡ number_place f n l)
+  found_err at e = go (has_number f n l) refl e
+    where
+      go : (t : Bool) → has_number f n l ≡ t → ◌≡◌ {A = Result ℕ ℕ} (Err at) (cond t (Ok (number_place f n l)) (Err (number_place f n l))) → (has_number f n l ≡ false) × (at ≡ number_place f n l)
+      go true h e = absurd (cc)
+      go false h e = (h, cc)
 
 -- ---- a change of the live cells is one at the place of its cell
 pub inserted_at : (n : ℕ) (a : Assignment) (l : List Cell) → cell_inserted n a l ≡ with_at (cell_place n l) (cell_of n a) l
-unfolding cell_inserted with_at cell_place
+unfolding cell_inserted with_at number_place
 inserted_at n a [] = refl
 inserted_at n a (c ∷ cs) = go (either (leb n c.number)) (inserted_at n a cs)
   where
@@ -103,7 +82,7 @@ inserted_at n a (c ∷ cs) = go (either (leb n c.number)) (inserted_at n a cs)
     go (inr e) rest = simp e (ap (λ (x : List Cell). c ∷ x) rest)
 
 pub reassigned_at : (n : ℕ) (a : Assignment) (l : List Cell) → cell_reassigned n a l ≡ set l (cell_place n l) (cell_of n a)
-unfolding cell_reassigned cell_place
+unfolding cell_reassigned number_place
 reassigned_at n a [] = refl
 reassigned_at n a (c ∷ cs) = go (either (leb n c.number)) (reassigned_at n a cs)
   where
@@ -113,7 +92,7 @@ reassigned_at n a (c ∷ cs) = go (either (leb n c.number)) (reassigned_at n a c
     go (inr e) rest = simp e (ap (λ (x : List Cell). c ∷ x) rest)
 
 pub removed_at : (n : ℕ) (l : List Cell) → cell_removed n l ≡ without (cell_place n l) l
-unfolding cell_removed without cell_place
+unfolding cell_removed without number_place
 removed_at n [] = refl
 removed_at n (c ∷ cs) = go (either (leb n c.number)) (removed_at n cs)
   where
@@ -123,7 +102,7 @@ removed_at n (c ∷ cs) = go (either (leb n c.number)) (removed_at n cs)
     go (inr e) rest = simp e (ap (λ (x : List Cell). c ∷ x) rest)
 
 pub place_within : (n : ℕ) (l : List Cell) → cell_place n l ≤ length l
-unfolding cell_place
+unfolding number_place
 place_within n [] = omega arith
 place_within n (c ∷ cs) = go (leb n c.number) (place_within n cs)
   where
@@ -132,7 +111,7 @@ place_within n (c ∷ cs) = go (leb n c.number) (place_within n cs)
     go false rest = omega arith
 
 pub live_within : (n : ℕ) (l : List Cell) → is_live_cell n l ≡ true → cell_place n l < length l
-unfolding cell_place is_live_cell
+unfolding number_place has_number
 live_within n [] h = absurd (let z : ◌≡◌ {A = ℕ} 0 1 = cc in omega arith)
 live_within n (c ∷ cs) h = go (either (leb n c.number)) (λ k. live_within n cs k)
   where

@@ -1,17 +1,38 @@
 -- The live cells, by number (document 02, E6). Each function passes the cells of lower numbers.
 -- Assumes nothing.
-use Rattle.std.specs.Prelude.{Bool, false, cond, List, [], ◌∷◌, ◌++◌, ℕ, suc, leb, eqb, take, drop}
+use Rattle.std.specs.Prelude.{Bool, false, cond, List, [], ◌∷◌, ℕ, suc, leb, eqb, Result, Ok, Err}
 use Rattle.register.specs.declared.Assignment.{Assignment}
 use Rattle.register.specs.declared.Cell.{Cell}
-use Rattle.register.specs.declared.Found.{Found}
 
 abbrev pub cell_of : ℕ → Assignment → Cell
 cell_of n a = record { number = n; assignment = a }
 
+-- ---- in a list of what has numbers, by those numbers, which f gives
+-- whether number n is there
+unfoldable pub has_number : {A : Type 0} → (A → ℕ) → ℕ → List A → Bool
+has_number f n [] = false
+has_number f n (x ∷ xs) = cond (leb n (f x)) (eqb (f x) n) (has_number f n xs)
+
+-- how many stand before the place of number n
+unfoldable pub number_place : {A : Type 0} → (A → ℕ) → ℕ → List A → ℕ
+number_place f n [] = 0
+number_place f n (x ∷ xs) = cond (leb n (f x)) 0 (suc (number_place f n xs))
+
+-- the place of number n where it is there, or else the place where it would stand
+abbrev pub found : {A : Type 0} → (A → ℕ) → ℕ → List A → Result ℕ ℕ
+found f n l = cond (has_number f n l) (Ok (number_place f n l)) (Err (number_place f n l))
+
+-- ---- the live cells
+abbrev pub number_of_cell : Cell → ℕ
+number_of_cell c = c.number
+
 -- whether cell n is live
-unfoldable pub is_live_cell : ℕ → List Cell → Bool
-is_live_cell n [] = false
-is_live_cell n (c ∷ cs) = cond (leb n c.number) (eqb c.number n) (is_live_cell n cs)
+abbrev pub is_live_cell : ℕ → List Cell → Bool
+is_live_cell n cs = has_number number_of_cell n cs
+
+-- the number of cells before the place of cell n
+abbrev pub cell_place : ℕ → List Cell → ℕ
+cell_place n cs = number_place number_of_cell n cs
 
 -- "An assignment supersedes the cell's earlier one"
 unfoldable pub cell_reassigned : ℕ → Assignment → List Cell → List Cell
@@ -27,15 +48,3 @@ cell_inserted n a (c ∷ cs) = cond (leb n c.number) (cell_of n a ∷ c ∷ cs) 
 unfoldable pub cell_removed : ℕ → List Cell → List Cell
 cell_removed n [] = []
 cell_removed n (c ∷ cs) = cond (leb n c.number) cs (c ∷ cell_removed n cs)
-
--- the number of cells before the place of cell n
-unfoldable pub cell_place : ℕ → List Cell → ℕ
-cell_place n [] = 0
-cell_place n (c ∷ cs) = cond (leb n c.number) 0 (suc (cell_place n cs))
-
-abbrev pub found : ℕ → List Cell → Found
-found n cs = record { at = cell_place n cs; live = is_live_cell n cs }
-
--- the list with a new element at a place
-unfoldable pub with_at : {A : Type 0} → ℕ → A → List A → List A
-with_at at new l = take at l ++ (new ∷ drop at l)

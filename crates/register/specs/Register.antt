@@ -1,9 +1,9 @@
 -- The register of cells, and what an entry makes of it (document 02, E6).
 -- Assumes nothing.
-use Rattle.std.specs.Prelude.{Bool, cond, ◌&&◌, not, List, ℕ, ◌+◌, min, ltb, leb, eqb, length, take, replicate}
+use Rattle.std.specs.Prelude.{Bool, cond, ◌&&◌, not, List, ℕ, ◌+◌, min, ltb, leb, eqb, length, take, replicate, Ok, Err}
 use Rattle.message.specs.Rounds.{increment}
-use Rattle.raster.specs.Raster.{frequency_of, frequency_refusal}
-use Rattle.serving.specs.Serving.{at_front}
+use Rattle.raster.specs.Raster.{frequency_of, raster_refusal}
+use Rattle.places.specs.Places.{at_front}
 use Rattle.register.specs.Cells.{cell_of, is_live_cell, cell_reassigned, cell_inserted, cell_removed}
 use Rattle.register.specs.declared.Assignment.{Assignment}
 use Rattle.register.specs.declared.Change.{Change}
@@ -14,7 +14,7 @@ use Rattle.register.specs.declared.Figures.{Figures}
 use Rattle.register.specs.declared.Register.{Register}
 use Rattle.register.specs.declared.EntryRefusal.{EntryRefusal}
 use Rattle.register.specs.declared.EntryRefusal.TheVariants.{NumberTooLarge, NotAssignable, NoRoomForCell, CellNotLive}
-use Rattle.register.specs.declared.EntryOutcome.TheVariants.{Done, Older, Refused}
+use Rattle.register.specs.declared.Entered.TheVariants.{Done, Older}
 use Rattle.register.specs.declared.Applied.{Applied}
 
 -- a register that has seen no entry
@@ -37,7 +37,7 @@ live_cells r = take (live_places r) r.cells
 
 -- "14": no raster number (E5), or no "width in kHz from 1 to 400,000"
 unfoldable pub assignable : Assignment → Bool
-assignable a = eqb (frequency_refusal (frequency_of a.carrier)) 0 && leb 1 a.width && leb a.width 400000
+assignable a = eqb (raster_refusal (frequency_of a.carrier)) 0 && leb 1 a.width && leb a.width 400000
 
 -- ---- what an entry leaves
 abbrev pub holding : List Cell → Figures → Register → Register
@@ -68,13 +68,13 @@ slot_seen slot r = record { next_slot = slot + 1; figures = r.figures; live_coun
 
 -- ---- what becomes of an entry
 abbrev pub done : Register → Applied
-done r = record { register = r; outcome = Done }
+done r = record { register = r; outcome = Ok Done }
 
 abbrev pub older : Register → Applied
-older r = record { register = r; outcome = Older }
+older r = record { register = r; outcome = Ok Older }
 
 abbrev pub refused : EntryRefusal → Register → Applied
-refused why r = record { register = r; outcome = Refused why }
+refused why r = record { register = r; outcome = Err why }
 
 -- "15, a new cell with 512 live .. 14 comes before both, and a width outside its limits gives 14 too"
 unfoldable pub assign : Register → ℕ → Assignment → Applied

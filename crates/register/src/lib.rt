@@ -1,20 +1,20 @@
 // A register of cells from the commits (document 02, E6).
 #![tactic(auto)]
 
-ghost use Rattle.std.specs.Prelude.{◌≡◌, ◌<◌, ◌≤◌, min, take};
-ghost use Rattle.serving.specs.Serving.{at_front, without};
-ghost use Rattle.register.specs.Cells.{found, with_at};
+ghost use Rattle.std.specs.Prelude.{◌≡◌, ◌<◌, ◌≤◌, ℕ, min, length, MatchResult};
+ghost use Rattle.register.specs.Cells.{found, number_of_cell};
 ghost use Rattle.register.specs.Refusals.{entry_refusal_number, entry_number};
-ghost use Rattle.register.specs.Register.{assignable, new_register, live_cells, assign, release, apply};
+ghost use Rattle.register.specs.Register.{assignable, new_register, done, refused, assign, release, apply};
 
 use message::increment;
+use places::{insert_at, remove_at};
 use raster::frequency_of;
 
 // "Cell numbers grow from 16 to 32 bits in entries and register" (E7)
 pub type CellNumber = u32;
 
 // "an assignment (carrier number, width in kHz from 1 to 400,000)"
-#[derive(Clone, Copy)]
+#[derive(Clone, Copy, Default)]
 pub struct Assignment {
     pub carrier: u64,
     pub width: u64,
@@ -36,21 +36,22 @@ pub struct CellEntry {
 }
 
 // A live cell.
-#[derive(Clone, Copy)]
+#[derive(Clone, Copy, Default)]
 pub struct Cell {
     pub number: CellNumber,
     pub assignment: Assignment,
 }
 
 // The assignments made, superseded and released so far.
-#[derive(Clone, Copy)]
+#[derive(Clone, Copy, Default)]
 pub struct Figures {
     pub made: u64,
     pub superseded: u64,
     pub released: u64,
 }
 
-// The slot after the last one seen, the figures, and the live cells: they stand in the first live_count places, by number.
+// The slot after the last one seen, the figures, and the live cells: they stand in the first live_count places, by number. An
+// array with its count and no vector: a register is one block of fixed size without heap, and any count is answered (live_places).
 #[derive(Clone, Copy)]
 pub struct Register {
     pub next_slot: u64,
@@ -59,21 +60,20 @@ pub struct Register {
     pub cells: [Cell; 512],
 }
 
-// Why an entry is refused.
-#[derive(Clone, Copy)]
+// Why an entry is refused, with document 02's numbers.
+#[derive(Clone, Copy, PartialEq, Eq, Debug)]
 pub enum EntryRefusal {
-    NumberTooLarge,
-    NotAssignable,
-    NoRoomForCell,
-    CellNotLive,
+    NumberTooLarge = 2,
+    NotAssignable = 14,
+    NoRoomForCell = 15,
+    CellNotLive = 16,
 }
 
-// What became of an entry: it was done, its slot was not after the last one seen, or it was refused.
-#[derive(Clone, Copy)]
-pub enum EntryOutcome {
+// What became of an entry that is not refused: it was done, or its slot was not after the last one seen.
+#[derive(Clone, Copy, PartialEq, Eq, Debug)]
+pub enum Entered {
     Done,
     Older,
-    Refused(EntryRefusal),
 }
 
 impl EntryRefusal {
@@ -81,54 +81,34 @@ impl EntryRefusal {
     pub fn number(self) -> u64
         ensures { result ≡ entry_refusal_number self }
     {
-        match self {
-            EntryRefusal::NumberTooLarge => 2,
-            EntryRefusal::NotAssignable => 14,
-            EntryRefusal::NoRoomForCell => 15,
-            EntryRefusal::CellNotLive => 16,
-        }
+        self as u64
     }
 }
 
-impl EntryOutcome {
-    // Document 02's number, and where it gives none 0, done, or 64, older.
-    pub fn number(self) -> u64
-        ensures { result ≡ entry_number self }
-    {
-        match self {
-            EntryOutcome::Done => 0,
-            EntryOutcome::Older => 64,
-            EntryOutcome::Refused(why) => why.number(),
-        }
+// Document 02's number for what became of an entry, and where it gives none 0, done, or 64, older.
+pub fn entry_number(outcome: Result<Entered, EntryRefusal>) -> u64
+    ensures { result ≡ entry_number outcome }
+{
+    match outcome {
+        Ok(Entered::Done) => 0,
+        Ok(Entered::Older) => 64,
+        Err(why) => why.number(),
     }
 }
 
 #[derive(Clone, Copy)]
 pub struct Applied {
     pub register: Register,
-    pub outcome: EntryOutcome,
-}
-
-// Where a cell stands, or would stand, among the live ones, and whether it is live.
-#[derive(Clone, Copy)]
-pub struct Found {
-    pub at: usize,
-    pub live: bool,
+    pub outcome: Result<Entered, EntryRefusal>,
 }
 
 impl Assignment {
     // Whether the carrier is a raster number and the width within its limits.
+    #[tactic(auto, using(crate::proofs::Assignable::has_value), unfolding(crate::specs::Register::assignable))]
     pub fn assignable(self) -> bool
         ensures { result ≡ assignable self }
     {
-        let frequency = frequency_of(self.carrier);
-        if frequency.refusal() == 0 {
-            if self.width >= 1 {
-                return self.width <= 400000;
-            }
-            return false;
-        }
-        false
+        frequency_of(self.carrier).is_some() && self.width >= 1 && self.width <= 400000
     }
 }
 
@@ -136,22 +116,11 @@ impl Register {
     pub fn new() -> Register
         ensures { result ≡ new_register }
     {
-        let nothing = Cell {
-            number: 0,
-            assignment: Assignment {
-                carrier: 0,
-                width: 0,
-            },
-        };
         Register {
             next_slot: 0,
-            figures: Figures {
-                made: 0,
-                superseded: 0,
-                released: 0,
-            },
+            figures: Figures::default(),
             live_count: 0,
-            cells: [nothing; 512],
+            cells: [Cell::default(); 512],
         }
     }
 }
@@ -160,59 +129,66 @@ impl Register {
 pub fn live_places(live_count: u64) -> usize
     ensures { result ≡ min live_count 512 }
 {
-    if live_count < 512 {
-        return live_count as usize;
-    }
-    512
+    live_count.min(512) as usize
 }
 
-// The place of the first live cell whose number is not below that one.
-fn find_cell(register: Register, number: CellNumber) -> Found
-    ensures { result ≡ found number (live_cells register) }
+// What stands in a list by its number.
+pub trait Numbered {
+    ghost number_of: { Self → ℕ };
+
+    fn number(&self) -> u64
+        ensures { result ≡ number_of self.now };
+}
+
+impl Numbered for Cell {
+    ghost number_of = { number_of_cell };
+
+    fn number(&self) -> u64 {
+        self.number as u64
+    }
+}
+
+// A column of numbers alone.
+impl Numbered for u64 {
+    ghost number_of = { λ n. n };
+
+    fn number(&self) -> u64 {
+        *self
+    }
+}
+
+// The place of that number, or the place where it would stand: that of the first number that is not below it. The count of a register may be any
+// number and its cells may stand in any order, and every register is answered: so the search takes one after the other.
+pub fn find<T: Numbered>(list: &[T], number: u64) -> Result<usize, usize>
+    ensures found { result ≡ found T.number_of number list.now }
+    ensures within { MatchResult result (λ at. at < length list.now) (λ at. at ≤ length list.now) }
 {
-    let places = live_places(register.live_count);
-    let mut i: usize = 0;
-    while i < places {
-        let cell = register.cells[i];
-        if cell.number >= number {
-            return Found {
-                at: i,
-                live: cell.number == number,
-            };
+    for (i, x) in list.iter().enumerate() {
+        let here = x.number();
+        if here >= number {
+            return if here == number { Ok(i) } else { Err(i) };
         }
-        i += 1;
     }
-    Found {
-        at: places,
-        live: false,
+    Err(list.len())
+}
+
+// Nothing is refused, or nothing has become of an entry: the register is as it is.
+pub fn done(register: Register) -> Applied
+    ensures { result ≡ done register }
+{
+    Applied {
+        register,
+        outcome: Ok(Entered::Done),
     }
 }
 
-// The first `live_places` cells with a new one at place `at`: the later ones move one place up.
-fn insert_cell(mut cells: [Cell; 512], at: usize, live_places: usize, new: Cell) -> [Cell; 512]
-    requires { (at ≤ live_places) × (live_places < 512) }
-    ensures { result ≡ at_front (with_at at new (take live_places cells)) cells }
+fn refused(register: Register, why: EntryRefusal) -> Applied
+    ensures { result ≡ refused why register }
 {
-    let mut i = live_places;
-    while at < i {
-        cells[i] = cells[i - 1];
-        i -= 1;
+    Applied {
+        register,
+        outcome: Err(why),
     }
-    cells[at] = new;
-    cells
-}
-
-// The first `live_places` cells without the one at place `at`: the later ones move one place down.
-fn remove_cell(mut cells: [Cell; 512], at: usize, live_places: usize) -> [Cell; 512]
-    requires { (at < live_places) × (live_places ≤ 512) }
-    ensures { result ≡ at_front (without at (take live_places cells)) cells }
-{
-    let mut i = at + 1;
-    while i < live_places {
-        cells[i - 1] = cells[i];
-        i += 1;
-    }
-    cells
 }
 
 // An assignment: refused with 14 or 15, or done.
@@ -220,42 +196,26 @@ fn assign(mut register: Register, number: CellNumber, assignment: Assignment) ->
     ensures { result ≡ assign register number assignment }
 {
     if !assignment.assignable() {
-        return Applied {
-            register,
-            outcome: EntryOutcome::Refused(EntryRefusal::NotAssignable),
-        };
+        return refused(register, EntryRefusal::NotAssignable);
     }
     let places = live_places(register.live_count);
-    let found = find_cell(register, number);
-    let at = found.at;
-    if found.live {
-        let made = increment(register.figures.made);
-        let superseded = increment(register.figures.superseded);
-        register.figures.made = made;
-        register.figures.superseded = superseded;
-        register.live_count = places as u64;
-        register.cells[at] = Cell { number, assignment };
-        return Applied {
-            register,
-            outcome: EntryOutcome::Done,
-        };
-    }
-    if places >= 512 {
-        return Applied {
-            register,
-            outcome: EntryOutcome::Refused(EntryRefusal::NoRoomForCell),
-        };
-    }
-    let made = increment(register.figures.made);
-    register.figures.made = made;
-    let more = places + 1;
-    register.live_count = more as u64;
-    let old = register.cells;
-    let cells = insert_cell(old, at, places, Cell { number, assignment });
-    register.cells = cells;
-    Applied {
-        register,
-        outcome: EntryOutcome::Done,
+    match find(&register.cells[..places], number as u64) {
+        Ok(at) => {
+            register.figures.made = increment(register.figures.made);
+            register.figures.superseded = increment(register.figures.superseded);
+            register.live_count = places as u64;
+            register.cells[at] = Cell { number, assignment };
+            done(register)
+        }
+        Err(at) => {
+            if places >= 512 {
+                return refused(register, EntryRefusal::NoRoomForCell);
+            }
+            register.figures.made = increment(register.figures.made);
+            register.live_count = places as u64 + 1;
+            insert_at(&mut register.cells, at, places, Cell { number, assignment });
+            done(register)
+        }
     }
 }
 
@@ -264,46 +224,33 @@ fn release(mut register: Register, number: CellNumber) -> Applied
     ensures { result ≡ release register number }
 {
     let places = live_places(register.live_count);
-    let found = find_cell(register, number);
-    let at = found.at;
-    if found.live {
-        let released = increment(register.figures.released);
-        register.figures.released = released;
-        let left = places - 1;
-        register.live_count = left as u64;
-        let old = register.cells;
-        let cells = remove_cell(old, at, places);
-        register.cells = cells;
-        return Applied {
-            register,
-            outcome: EntryOutcome::Done,
-        };
-    }
-    Applied {
-        register,
-        outcome: EntryOutcome::Refused(EntryRefusal::CellNotLive),
+    match find(&register.cells[..places], number as u64) {
+        Ok(at) => {
+            register.figures.released = increment(register.figures.released);
+            register.live_count = places as u64 - 1;
+            remove_at(&mut register.cells, at, places);
+            done(register)
+        }
+        Err(_) => refused(register, EntryRefusal::CellNotLive),
     }
 }
 
 // The register after an entry. The last slot is 2^63-2; a refused entry's slot is seen, unless it is above that.
+#[tactic(auto, unfolding(crate::specs::Register::apply, crate::specs::Register::apply_change))]
 pub fn apply(mut register: Register, entry: CellEntry) -> Applied
     ensures { result ≡ apply register entry }
 {
     if entry.slot > 9223372036854775806 {
-        return Applied {
-            register,
-            outcome: EntryOutcome::Refused(EntryRefusal::NumberTooLarge),
-        };
+        return refused(register, EntryRefusal::NumberTooLarge);
     }
     if entry.slot < register.next_slot {
         return Applied {
             register,
-            outcome: EntryOutcome::Older,
+            outcome: Ok(Entered::Older),
         };
     }
     register.next_slot = entry.slot + 1;
-    let change = entry.change;
-    match change {
+    match entry.change {
         Change::Assign(assignment) => assign(register, entry.cell, assignment),
         Change::Release => release(register, entry.cell),
     }

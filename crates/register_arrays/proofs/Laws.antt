@@ -24,7 +24,7 @@ use Rattle.register.specs.declared.Register.{Register}
 use Rattle.raster.specs.Raster.{frequency_of}
 use Rattle.report.specs.Report.{register_page}
 use Rattle.register_arrays.specs.Columns.{HavePlaces, cells_in, register_of, change_of, entry_from_numbers, after_entry, report_in}
-use Rattle.register_arrays.proofs.Columns.{Level, level, below}
+use Rattle.register_arrays.proofs.Levels.{Level, level, below}
 
 -- ---- the numbers with which a register stays as it is: the slot gives 2, or is older
 abbrev pub leaves_all : ℕ → Bool

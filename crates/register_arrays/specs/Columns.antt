@@ -1,18 +1,20 @@
 -- The register that stands in columns of numbers (document 02, E6), and an entry given as numbers.
 -- Assumes nothing.
-use Rattle.std.specs.Prelude.{ℕ, min, cond, ◌≡◌, List, [], ◌∷◌, eqb, length, get_or}
+use Rattle.std.specs.Prelude.{ℕ, min, cond, ◌≡◌, List, [], ◌∷◌, eqb, length, get_or, Result}
 use Rattle.register.specs.Cells.{cell_of}
-use Rattle.register.specs.Register.{apply}
 use Rattle.register.specs.Refusals.{entry_number}
+use Rattle.register.specs.Register.{apply}
 use Rattle.register.specs.declared.Applied.{Applied}
 use Rattle.register.specs.declared.Cell.{Cell}
 use Rattle.register.specs.declared.CellEntry.{CellEntry}
 use Rattle.register.specs.declared.Change.{Change}
 use Rattle.register.specs.declared.Change.TheVariants.{Assign, Release}
-use Rattle.register.specs.declared.EntryOutcome.{EntryOutcome}
+use Rattle.register.specs.declared.Entered.{Entered}
+use Rattle.register.specs.declared.EntryRefusal.{EntryRefusal}
 use Rattle.register.specs.declared.Figures.{Figures}
 use Rattle.register.specs.declared.Register.{Register}
 use Rattle.report.specs.Report.{page_with}
+use Rattle.register_arrays.specs.declared.Columns.{Columns}
 
 -- each column has its 512 places
 abbrev pub HavePlaces : List ℕ → List ℕ → List ℕ → Type 0
@@ -25,11 +27,6 @@ cells_in (n ∷ ns) (c ∷ cs) [] = []
 cells_in (n ∷ ns) [] ws = []
 cells_in [] cs ws = []
 
--- the cells of the first column alone, where the search looks at nothing else
-unfoldable pub numbered : List ℕ → List Cell
-numbered [] = []
-numbered (n ∷ ns) = cell_of n (record { carrier = 0; width = 0 }) ∷ numbered ns
-
 -- the figures: next slot, made, superseded, released, live
 abbrev pub figures_in : List ℕ → Figures
 figures_in f = record { made = get_or f 1 0; superseded = get_or f 2 0; released = get_or f 3 0 }
@@ -38,9 +35,24 @@ abbrev pub register_of : List ℕ → List ℕ → List ℕ → List ℕ → Reg
 register_of cells carriers widths figures =
     record { next_slot = get_or figures 0 0; figures = figures_in figures; live_count = get_or figures 4 0; cells = cells_in cells carriers widths }
 
+-- the cells, and the register, in the lent arrays
+abbrev pub cells_of : Columns → List Cell
+cells_of c = cells_in c.cells.now c.carriers.now c.widths.now
+
+abbrev pub register_in : Columns → Register
+register_in c = register_of c.cells.now c.carriers.now c.widths.now c.figures.now
+
+-- they are the arrays that were lent
+abbrev pub SameArrays : Columns → Columns → Type 0
+SameArrays c d =
+    (d.cells.ghost_name ≡ c.cells.ghost_name)
+    × (d.carriers.ghost_name ≡ c.carriers.ghost_name)
+    × (d.widths.ghost_name ≡ c.widths.ghost_name)
+    × (d.figures.ghost_name ≡ c.figures.ghost_name)
+
 -- what a call leaves: the outcome that it hands back, with the arrays
-abbrev pub applied_in : EntryOutcome → List ℕ → List ℕ → List ℕ → List ℕ → Applied
-applied_in outcome cells carriers widths figures = record { register = register_of cells carriers widths figures; outcome = outcome }
+abbrev pub applied_in : Result Entered EntryRefusal → Columns → Applied
+applied_in outcome c = record { register = register_in c; outcome = outcome }
 
 -- kind 1 is an assignment and kind 2 a release; any other kind stands for an assignment without a width, which gives 14
 unfoldable pub change_of : ℕ → ℕ → ℕ → Change

@@ -10,6 +10,7 @@ use lib.ListN.{length, drop, length-drop}
 use lib.Seq.{drop-drop}
 use borrow.Author.Tests.{le-ltb, eq-eqb}
 use Rattle.basics.proofs.Tests.{of-both}
+use Rattle.std.specs.Prelude.{Some}
 use Rattle.texts.specs.Text.{ascii, decimal, field}
 use Rattle.line_fields.specs.Fields.{same_to, begins, next_field}
 use Rattle.line_fields.proofs.FieldsRead.{field_read, behind_field, last_read, last_ends}
@@ -19,8 +20,6 @@ use Rattle.register.specs.declared.CellEntry.{CellEntry}
 use Rattle.register_lines.specs.Entries.{assignment_of, assignment_at, release_of, release_at, change_at, entry_with, entry_at, entry_of}
 use Rattle.register_lines.specs.Entries.{second, third}
 use Rattle.register_lines.specs.Written.{change_line, entry_line, ChangeFits, EntryFits}
-use Rattle.register_lines.specs.declared.OptionalChange.TheVariants.{Says}
-use Rattle.register_lines.specs.declared.OptionalEntry.TheVariants.{Gives}
 
 -- ---- words
 
@@ -52,7 +51,7 @@ behind_letter line at a b rest e =
 
 assignment_read : (line : List ℕ) (at n c w : ℕ) → n ≤ 4294967295 → c ≤ 18446744073709551615 → w ≤ 18446744073709551615
     → drop at line ≡ decimal n ++ (32 ∷ (decimal c ++ (32 ∷ decimal w)))
-    → assignment_at line at ≡ Says (record { cell = n; change = Assign (record { carrier = c; width = w }); end = length line })
+    → assignment_at line at ≡ Some (record { cell = n; change = Assign (record { carrier = c; width = w }); end = length line })
 unfolding assignment_at assignment_of
 assignment_read line at n c w ln lc lw e =
     let e2 = behind_field line at n (decimal c ++ (32 ∷ decimal w)) e in
@@ -66,12 +65,12 @@ assignment_read line at n c w ln lc lw e =
     )
 
 release_read : (line : List ℕ) (at n : ℕ) → n ≤ 4294967295 → drop at line ≡ decimal n
-    → release_at line at ≡ Says (record { cell = n; change = Release; end = length line })
+    → release_at line at ≡ Some (record { cell = n; change = Release; end = length line })
 unfolding release_at release_of
 release_read line at n ln e = simp (last_read line at n (omega arith) e, last_ends line at n e, le-ltb 4294967295 n ln)
 
 change_read : (line : List ℕ) (at n : ℕ) (k : Change) → n ≤ 4294967295 → ChangeFits k → drop at line ≡ change_line n k
-    → change_at line at ≡ Says (record { cell = n; change = k; end = length line })
+    → change_at line at ≡ Some (record { cell = n; change = k; end = length line })
 unfolding change_at field
 change_read line at n (Assign a) ln fits e =
     let rest = decimal n ++ (32 ∷ (decimal a.carrier ++ (32 ∷ decimal a.width))) in
@@ -84,7 +83,7 @@ change_read line at n Release ln fits e =
 
 -- ---- the line
 
-pub entry_read : (e : CellEntry) → EntryFits e → entry_of (entry_line e) ≡ Gives e
+pub entry_read : (e : CellEntry) → EntryFits e → entry_of (entry_line e) ≡ Some e
 unfolding entry_of entry_at entry_with field
 entry_read e fits =
     let line = entry_line e in

@@ -12,18 +12,20 @@ use Rattle.register.specs.Register.{live_places, live_cells}
 use Rattle.register.specs.declared.Applied.{Applied}
 use Rattle.register.specs.declared.Cell.{Cell}
 use Rattle.register.specs.declared.Register.{Register}
-use Rattle.register.specs.declared.EntryOutcome.{EntryOutcome}
-use Rattle.register.specs.declared.EntryOutcome.TheVariants.{Done, Older, Refused}
+use Rattle.std.specs.Prelude.{Result, Ok, Err}
+use Rattle.register.specs.declared.Entered.{Entered}
+use Rattle.register.specs.declared.Entered.TheVariants.{Done, Older}
+use Rattle.register.specs.declared.EntryRefusal.{EntryRefusal}
 use Rattle.report.proofs.Room.{figures_length}
 use Rattle.register_lines.specs.Answers.{outcome_text, figures_answer, cell_text, cells_text, register_answer}
 use Rattle.register_lines.specs.declared.RegisterQuestion.{RegisterQuestion}
 use Rattle.register_lines.specs.declared.RegisterQuestion.TheVariants.{Begin, Enter, ReportLine, CellList}
 
-outcome_length : (o : EntryOutcome) → length (outcome_text o) ≤ 29
+outcome_length : (o : Result Entered EntryRefusal) → length (outcome_text o) ≤ 29
 unfolding outcome_text line_text
-outcome_length Done = omega arith
-outcome_length Older = omega arith
-outcome_length (Refused why) = simp length-append (omega (arith, number (entry_refusal_number why)))
+outcome_length (Ok Done) = omega arith
+outcome_length (Ok Older) = omega arith
+outcome_length (Err why) = simp length-append (omega (arith, number (entry_refusal_number why)))
 
 figures_answer_length : (r : Register) → length (figures_answer r) ≤ 84
 unfolding figures_answer

@@ -1,6 +1,6 @@
 -- What is written of a register and of an entry (docs/PLANNING.md), as bytes.
 -- Assumes nothing.
-use Rattle.std.specs.Prelude.{List, ◌++◌, ℕ}
+use Rattle.std.specs.Prelude.{List, ◌++◌, ℕ, Result, Ok, Err}
 use Rattle.texts.specs.Text.{ascii, decimal, field, each}
 use Rattle.line_fields.specs.Fields.{line_text}
 use Rattle.register.specs.Refusals.{entry_refusal_number}
@@ -8,16 +8,17 @@ use Rattle.register.specs.Register.{new_register, live_places, live_cells, done,
 use Rattle.register.specs.declared.Applied.{Applied}
 use Rattle.register.specs.declared.Cell.{Cell}
 use Rattle.register.specs.declared.Register.{Register}
-use Rattle.register.specs.declared.EntryOutcome.{EntryOutcome}
-use Rattle.register.specs.declared.EntryOutcome.TheVariants.{Done, Older, Refused}
+use Rattle.register.specs.declared.Entered.{Entered}
+use Rattle.register.specs.declared.Entered.TheVariants.{Done, Older}
+use Rattle.register.specs.declared.EntryRefusal.{EntryRefusal}
 use Rattle.report.specs.Report.{figures_text}
 use Rattle.register_lines.specs.declared.RegisterQuestion.{RegisterQuestion}
 use Rattle.register_lines.specs.declared.RegisterQuestion.TheVariants.{Begin, Enter, ReportLine, CellList}
 
-unfoldable pub outcome_text : EntryOutcome → List ℕ
-outcome_text Done = ascii "done\n"
-outcome_text Older = ascii "old\n"
-outcome_text (Refused why) = line_text (ascii "refused") (entry_refusal_number why)
+unfoldable pub outcome_text : Result Entered EntryRefusal → List ℕ
+outcome_text (Ok Done) = ascii "done\n"
+outcome_text (Ok Older) = ascii "old\n"
+outcome_text (Err why) = line_text (ascii "refused") (entry_refusal_number why)
 
 -- the report's second line
 unfoldable pub figures_answer : Register → List ℕ

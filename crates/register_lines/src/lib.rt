@@ -3,14 +3,16 @@
 
 ghost use Rattle.std.specs.Prelude.{◌≡◌};
 ghost use Rattle.texts.specs.Text.{put};
-ghost use Rattle.register.specs.Register.{done};
 ghost use Rattle.register_lines.specs.Entries.{assignment_of, assignment_at, release_of, release_at, change_at, entry_at, entry_with, entry_of};
 ghost use Rattle.register_lines.specs.Answers.{outcome_text, figures_answer, cell_text, cells_text, after_question, register_answer};
 ghost use Rattle.register_lines.specs.Reports.{take_entry, take_line, page_after};
 
-use line_fields::OptionalNumber;
-use register::{Applied, Assignment, Cell, CellEntry, CellNumber, Change, EntryOutcome, Register};
+use register::{
+    Applied, Assignment, Cell, CellEntry, CellNumber, Change, Entered, EntryRefusal, Register,
+    live_places,
+};
 use report::ReportPage;
+use texts::Output;
 
 // What a line says of a cell, and where that ends.
 #[derive(Clone, Copy)]
@@ -18,20 +20,6 @@ pub struct LineChange {
     pub cell: CellNumber,
     pub change: Change,
     pub end: usize,
-}
-
-// What a line says of a cell from a place on, if it does.
-#[derive(Clone, Copy)]
-pub enum OptionalChange {
-    Says(LineChange),
-    NoChange,
-}
-
-// The entry that a line gives, if it does.
-#[derive(Clone, Copy)]
-pub enum OptionalEntry {
-    Gives(CellEntry),
-    NoEntry,
 }
 
 // What a line asks of the register: a new one, one entry more, the figures of its report, or its live cells.
@@ -43,83 +31,70 @@ pub enum RegisterQuestion {
     CellList,
 }
 
-// The register after the entry lines so far, and whether one of the lines was no entry line.
-#[derive(Clone, Copy)]
-pub struct LinesTaken {
-    pub register: Register,
-    pub refused: bool,
-}
-
 // ---- an entry, from its letter on
 
+#[tactic(auto, unfolding(crate::specs::Entries::assignment_of))]
 fn assignment_of(
-    cell: OptionalNumber,
-    carrier: OptionalNumber,
-    width: OptionalNumber,
+    cell: Option<u64>,
+    carrier: Option<u64>,
+    width: Option<u64>,
     end: usize,
-) -> OptionalChange
+) -> Option<LineChange>
     ensures { result ≡ assignment_of cell carrier width end }
 {
-    let number = cell.value();
+    let number = cell?;
     if number > 4294967295 {
-        return OptionalChange::NoChange;
+        return None;
     }
-    let two = line_fields::both(cell.is_number(), carrier.is_number());
-    if line_fields::both(two, width.is_number()) {
-        let assignment = Assignment {
-            carrier: carrier.value(),
-            width: width.value(),
-        };
-        return OptionalChange::Says(LineChange {
-            cell: number as CellNumber,
-            change: Change::Assign(assignment),
-            end,
-        });
-    }
-    OptionalChange::NoChange
+    let assignment = Assignment {
+        carrier: carrier?,
+        width: width?,
+    };
+    Some(LineChange {
+        cell: number as CellNumber,
+        change: Change::Assign(assignment),
+        end,
+    })
 }
 
 // `CELL CARRIER WIDTH`
-fn assignment_at(line: &[u8], at: usize) -> OptionalChange
+#[tactic(auto, unfolding(crate::specs::Entries::assignment_at))]
+fn assignment_at(line: &[u8], at: usize) -> Option<LineChange>
     ensures { result ≡ assignment_at line.now at }
 {
     let cell = line_fields::number_field(line, at);
     let carrier = line_fields::number_field(line, line_fields::next_field(line, cell.end));
     let width = line_fields::number_field(line, line_fields::next_field(line, carrier.end));
-    let cell_number = cell.number;
-    let carrier_number = carrier.number;
-    let width_number = width.number;
-    assignment_of(cell_number, carrier_number, width_number, width.end)
+    assignment_of(cell.number, carrier.number, width.number, width.end)
 }
 
-fn release_of(cell: OptionalNumber, end: usize) -> OptionalChange
+#[tactic(auto, unfolding(crate::specs::Entries::release_of))]
+fn release_of(cell: Option<u64>, end: usize) -> Option<LineChange>
     ensures { result ≡ release_of cell end }
 {
-    let number = cell.value();
+    let number = cell?;
     if number > 4294967295 {
-        return OptionalChange::NoChange;
+        return None;
     }
-    if cell.is_number() {
-        return OptionalChange::Says(LineChange {
-            cell: number as CellNumber,
-            change: Change::Release,
-            end,
-        });
-    }
-    OptionalChange::NoChange
+    Some(LineChange {
+        cell: number as CellNumber,
+        change: Change::Release,
+        end,
+    })
 }
 
 // `CELL`
-fn release_at(line: &[u8], at: usize) -> OptionalChange
+#[tactic(auto, unfolding(crate::specs::Entries::release_at))]
+fn release_at(line: &[u8], at: usize) -> Option<LineChange>
     ensures { result ≡ release_at line.now at }
 {
     let cell = line_fields::number_field(line, at);
-    let cell_number = cell.number;
-    release_of(cell_number, cell.end)
+    release_of(cell.number, cell.end)
 }
 
 // `a CELL CARRIER WIDTH` or `r CELL`, from a place of a line on.
-pub fn change_at(line: &[u8], at: usize) -> OptionalChange
+#[tactic(auto, unfolding(crate::specs::Entries::change_at))]
+pub fn change_at(line: &[u8], at: usize) -> Option<LineChange>
     ensures { result ≡ change_at line.now at }
 {
     if line_fields::begins_at(line, at, b"a ") {
@@ -134,181 +109,148 @@ pub fn change_at(line: &[u8], at: usize) -> OptionalChange
             line_fields::next_field(line, line_fields::next_field(line, at)),
         );
     }
-    OptionalChange::NoChange
+    None
 }
 
 // ---- an entry line
 
 // The entry, where its last field ends the line.
-fn entry_with(slot: u64, change: OptionalChange, length: usize) -> OptionalEntry
+#[tactic(auto, unfolding(crate::specs::Entries::entry_with))]
+fn entry_with(slot: u64, change: Option<LineChange>, length: usize) -> Option<CellEntry>
     ensures { result ≡ entry_with slot change length }
 {
-    match change {
-        OptionalChange::Says(said) => {
-            if said.end == length {
-                let change = said.change;
-                return OptionalEntry::Gives(CellEntry {
-                    slot,
-                    cell: said.cell,
-                    change,
-                });
-            }
-            OptionalEntry::NoEntry
-        }
-        OptionalChange::NoChange => OptionalEntry::NoEntry,
+    let said = change?;
+    if said.end == length {
+        return Some(CellEntry {
+            slot,
+            cell: said.cell,
+            change: said.change,
+        });
     }
+    None
 }
 
 // `SLOT` and what follows it, from a place of a line to its end.
-fn entry_at(line: &[u8], at: usize) -> OptionalEntry
+#[tactic(auto, unfolding(crate::specs::Entries::entry_at))]
+fn entry_at(line: &[u8], at: usize) -> Option<CellEntry>
     ensures { result ≡ entry_at line.now at }
 {
     let slot = line_fields::number_field(line, at);
-    let number = slot.number;
-    if number.is_number() {
-        return entry_with(
-            number.value(),
-            change_at(line, line_fields::next_field(line, slot.end)),
-            line.len(),
-        );
-    }
-    OptionalEntry::NoEntry
+    let number = slot.number?;
+    let change = change_at(line, line_fields::next_field(line, slot.end));
+    entry_with(number, change, line.len())
 }
 
 // The entry that a line gives, without its LF.
-pub fn entry_of(line: &[u8]) -> OptionalEntry
+#[tactic(auto, unfolding(crate::specs::Entries::entry_of))]
+pub fn entry_of(line: &[u8]) -> Option<CellEntry>
     ensures { result ≡ entry_of line.now }
 {
     if line_fields::begins(line, b"entry ") {
         return entry_at(line, 6);
     }
-    OptionalEntry::NoEntry
+    None
 }
 
 // ---- what is written of a register
 
 // What became of an entry, with LF.
-pub fn put_outcome(out: &mut [u8], at: usize, outcome: EntryOutcome) -> usize
-    ensures { (out.new, result) ≡ put (outcome_text outcome) (out.old, at) }
+#[tactic(auto, unfolding(crate::specs::Answers::outcome_text))]
+pub fn put_outcome(out: &mut Output<'_>, outcome: Result<Entered, EntryRefusal>)
+    ensures { out.new ≡ put (outcome_text outcome) out.old }
 {
     match outcome {
-        EntryOutcome::Done => texts::put_bytes(out, at, b"done\n"),
-        EntryOutcome::Older => texts::put_bytes(out, at, b"old\n"),
-        EntryOutcome::Refused(why) => line_fields::put_line(out, at, b"refused", why.number()),
+        Ok(Entered::Done) => out.put_bytes(b"done\n"),
+        Ok(Entered::Older) => out.put_bytes(b"old\n"),
+        Err(why) => line_fields::put_line(out, b"refused", why.number()),
     }
 }
 
 // The report's second line, with LF.
-pub fn put_figures_answer(out: &mut [u8], at: usize, register: Register) -> usize
-    ensures { (out.new, result) ≡ put (figures_answer register) (out.old, at) }
+#[tactic(auto, using(texts::proofs::Putting::put_then), unfolding(crate::specs::Answers::figures_answer))]
+pub fn put_figures_answer(out: &mut Output<'_>, register: &Register)
+    ensures { out.new ≡ put (figures_answer register.now) out.old }
 {
-    let live = register::live_places(register.live_count) as u64;
-    let figures = register.figures;
-    let end = report::put_figures(out, at, figures, live);
-    texts::put_byte(out, end, b'\n')
+    let live = live_places(register.live_count) as u64;
+    report::put_figures(out, register.figures, live);
+    out.put_byte(b'\n');
 }
 
 // A live cell, behind what stands before it.
-fn put_cell(out: &mut [u8], at: usize, cell: Cell) -> usize
-    ensures { (out.new, result) ≡ put (cell_text cell) (out.old, at) }
+#[tactic(auto, using(texts::proofs::Putting::put_then), unfolding(crate::specs::Answers::cell_text))]
+fn put_cell(out: &mut Output<'_>, cell: Cell)
+    ensures { out.new ≡ put (cell_text cell) out.old }
 {
-    let first = texts::put_bytes(out, at, b"; ");
-    let second = texts::put_number(out, first, cell.number as u64);
-    let third = texts::put_field(out, second, cell.assignment.carrier);
-    let fourth = texts::put_field(out, third, cell.assignment.width);
-    texts::put_bytes(out, fourth, b" - -")
+    out.put_bytes(b"; ");
+    out.put_number(cell.number as u64);
+    out.put_field(cell.assignment.carrier);
+    out.put_field(cell.assignment.width);
+    out.put_bytes(b" - -");
 }
 
 // The number of live cells and each of them, with LF.
-pub fn put_cells(out: &mut [u8], at: usize, register: Register) -> usize
-    ensures { (out.new, result) ≡ put (cells_text register) (out.old, at) }
+pub fn put_cells(out: &mut Output<'_>, register: &Register)
+    ensures { out.new ≡ put (cells_text register.now) out.old }
 {
-    let live_places = register::live_places(register.live_count);
-    let mut next = texts::put_number(out, at, live_places as u64);
-    let mut i: usize = 0;
-    while i < live_places {
-        let cell = register.cells[i];
-        next = put_cell(out, next, cell);
-        i += 1;
+    let places = live_places(register.live_count);
+    out.put_number(places as u64);
+    let live = &register.cells[..places];
+    for cell in live {
+        put_cell(out, *cell);
     }
-    texts::put_byte(out, next, b'\n')
-}
-
-// Nothing has become of an entry: the register is as it is.
-pub fn done(register: Register) -> Applied
-    ensures { result ≡ done register }
-{
-    Applied {
-        register,
-        outcome: EntryOutcome::Done,
-    }
+    out.put_byte(b'\n');
 }
 
 // The register after a question, and what became of its entry.
+#[tactic(auto, unfolding(crate::specs::Answers::after_question))]
 pub fn after_question(register: Register, question: RegisterQuestion) -> Applied
     ensures { result ≡ after_question register question }
 {
     match question {
-        RegisterQuestion::Begin => done(Register::new()),
+        RegisterQuestion::Begin => register::done(Register::new()),
         RegisterQuestion::Enter(entry) => register::apply(register, entry),
-        RegisterQuestion::ReportLine => done(register),
-        RegisterQuestion::CellList => done(register),
+        RegisterQuestion::ReportLine | RegisterQuestion::CellList => register::done(register),
     }
 }
 
 // The answer to a question, with its LF.
-pub fn put_answer(out: &mut [u8], at: usize, question: RegisterQuestion, applied: Applied) -> usize
-    ensures { (out.new, result) ≡ put (register_answer question applied) (out.old, at) }
+#[tactic(auto, unfolding(crate::specs::Answers::register_answer))]
+pub fn put_answer(out: &mut Output<'_>, question: RegisterQuestion, applied: &Applied)
+    ensures { out.new ≡ put (register_answer question applied.now) out.old }
 {
-    let register = applied.register;
-    let outcome = applied.outcome;
     match question {
-        RegisterQuestion::Begin => texts::put_bytes(out, at, b"made\n"),
-        RegisterQuestion::Enter(entry) => put_outcome(out, at, outcome),
-        RegisterQuestion::ReportLine => put_figures_answer(out, at, register),
-        RegisterQuestion::CellList => put_cells(out, at, register),
+        RegisterQuestion::Begin => out.put_bytes(b"made\n"),
+        RegisterQuestion::Enter(_) => put_outcome(out, applied.outcome),
+        RegisterQuestion::ReportLine => put_figures_answer(out, &applied.register),
+        RegisterQuestion::CellList => put_cells(out, &applied.register),
     }
 }
 
-// ---- a report of entry lines
+// ---- a report of entry lines: the register after the lines so far, where each of them was an entry line
 
-fn take_entry(register: Register, entry: OptionalEntry) -> LinesTaken
+#[tactic(auto, unfolding(crate::specs::Reports::take_entry))]
+fn take_entry(register: Register, entry: Option<CellEntry>) -> Option<Register>
     ensures { result ≡ take_entry register entry }
 {
-    match entry {
-        OptionalEntry::Gives(given) => {
-            let applied = register::apply(register, given);
-            let after = applied.register;
-            LinesTaken {
-                register: after,
-                refused: false,
-            }
-        }
-        OptionalEntry::NoEntry => LinesTaken {
-            register,
-            refused: true,
-        },
-    }
+    let given = entry?;
+    Some(register::apply(register, given).register)
 }
 
 // One more line, without its LF. A line that is no entry line is not forgotten.
-pub fn take_line(taken: LinesTaken, line: &[u8]) -> LinesTaken
+#[tactic(auto, unfolding(crate::specs::Reports::take_line))]
+pub fn take_line(taken: Option<Register>, line: &[u8]) -> Option<Register>
     ensures { result ≡ take_line taken line.now }
 {
-    if taken.refused {
-        return taken;
-    }
-    let register = taken.register;
-    take_entry(register, entry_of(line))
+    take_entry(taken?, entry_of(line))
 }
 
 // What is printed when the input ends.
-pub fn page_after(taken: LinesTaken) -> ReportPage
+#[tactic(auto, unfolding(crate::specs::Reports::page_after))]
+pub fn page_after(taken: Option<Register>) -> ReportPage
     ensures { result ≡ page_after taken }
 {
-    if taken.refused {
-        return report::refusal();
+    match taken {
+        Some(register) => report::report(register),
+        None => report::refusal(),
     }
-    let register = taken.register;
-    report::report(register)
 }

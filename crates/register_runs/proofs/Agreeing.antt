@@ -1,6 +1,8 @@
 -- Two members of one legal run, in any mode but SwiftPaxos, whose hosts give each committed value the same entry, hold equal registers at equal
 -- slots, each at its own moment.
 -- Assumes nothing.
+use Rattle.std.specs.Prelude.{Option, None, Some}
+use Rattle.calls.specs.declared.CommittedSlot.{CommittedSlot}
 use mathlib.Core.Path.{◌≡◌, refl, sym, ap, subst, ◌∙◌}
 use mathlib.Core.Bool.{Bool, true, false}
 use mathlib.Core.List.{List, [], ◌∷◌}
@@ -9,8 +11,6 @@ use Prim.Native.Nat.{ℕ, zero, suc}
 use native.Mathlib.Omega.{arith}
 use lib.Dec.{eqb}
 use borrow.Author.Tests.{eqb-true}
-use Rattle.calls.specs.declared.OptionalCommit.{OptionalCommit}
-use Rattle.calls.specs.declared.OptionalCommit.TheVariants.{NoCommit, Committed}
 use Rattle.settings.specs.declared.Settings.{Settings}
 use Rattle.register.specs.History.{register_after}
 use Rattle.register.specs.Taken.{later_entries}
@@ -58,24 +58,24 @@ module _ (says : ℕ → CellChange) (run : List Entry) (claim : Claim run) wher
   latest_commit member k (e ∷ past) u h =
       go (eqb member e.member) refl e.reply.commit refl (λ z. latest_commit member k past (earlier e past run u) z)
     where
-      go : (t : Bool) → eqb member e.member ≡ t → (o : OptionalCommit) → e.reply.commit ≡ o → (slot_at member past ≡ suc k → Latest member k past)
+      go : (t : Bool) → eqb member e.member ≡ t → (o : Option CommittedSlot) → e.reply.commit ≡ o → (slot_at member past ≡ suc k → Latest member k past)
           → Latest member k (e ∷ past)
       go false t o c rest = same (rest (simp t at h))
         where
           same : Latest member k past → Latest member k (e ∷ past)
           same l = record { value = l.value; before = l.before; up_to = l.up_to; slot = l.slot; commit = l.commit; is = simp t l.is }
-      go true t NoCommit c rest = same (rest (simp (t, c) at h))
+      go true t None c rest = same (rest (simp (t, c) at h))
         where
           same : Latest member k past → Latest member k (e ∷ past)
           same l = record { value = l.value; before = l.before; up_to = l.up_to; slot = l.slot; commit = l.commit; is = simp (t, c) l.is }
-      go true t (Committed slot v fast) c rest =
+      go true t (Some commit) c rest =
           let at : suc (slot_at member past) ≡ suc k = simp (t, c) at h in
           let here : slot_at member past ≡ k = omega arith in
-          let own : CommitAt slot v run = record { entry = e; earlier = past; stands = stands_at e past run u; fast = fast; commit = c } in
+          let own : CommitAt commit.slot commit.v run = record { entry = e; earlier = past; stands = stands_at e past run u; fast = commit.fast; commit = c } in
           let of_member : member ≡ e.member = eqb-true member e.member t in
-          let is-k : slot ≡ k = claim.own_slot slot v own ∙ ap (λ (m : ℕ). slot_at m past) (sym of_member) ∙ here in
+          let is-k : commit.slot ≡ k = claim.own_slot commit.slot commit.v own ∙ ap (λ (m : ℕ). slot_at m past) (sym of_member) ∙ here in
           record {
-            value = v;
+            value = commit.v;
             before = past;
             up_to = earlier e past run u;
             slot = here;
@@ -88,11 +88,11 @@ module _ (says : ℕ → CellChange) (run : List Entry) (claim : Claim run) wher
   no_commit member [] h = refl
   no_commit member (e ∷ past) h = go (eqb member e.member) refl e.reply.commit refl (λ z. no_commit member past z)
     where
-      go : (t : Bool) → eqb member e.member ≡ t → (o : OptionalCommit) → e.reply.commit ≡ o → (slot_at member past ≡ 0 → entries_for says member past ≡ [])
+      go : (t : Bool) → eqb member e.member ≡ t → (o : Option CommittedSlot) → e.reply.commit ≡ o → (slot_at member past ≡ 0 → entries_for says member past ≡ [])
           → entries_for says member (e ∷ past) ≡ []
       go false t o c rest = simp t (rest (simp t at h))
-      go true t NoCommit c rest = simp (t, c) (rest (simp (t, c) at h))
-      go true t (Committed slot v fast) c rest = absurd (let z : suc (slot_at member past) ≡ 0 = simp (t, c) at h in omega arith)
+      go true t None c rest = simp (t, c) (rest (simp (t, c) at h))
+      go true t (Some commit) c rest = absurd (let z : suc (slot_at member past) ≡ 0 = simp (t, c) at h in omega arith)
 
   same_entries : (k i j : ℕ) (p q : List Entry) → UpTo p run → UpTo q run → slot_at i p ≡ k → slot_at j q ≡ k
       → entries_for says i p ≡ entries_for says j q

@@ -1,9 +1,8 @@
 -- The register that a member of a group run holds: its host gives each committed value an entry, in the commit's slot (document 02, E6: "A register of
 -- cells from the commits"). Lists of what has happened have the latest first, as in crates/group.
 -- Assumes nothing.
-use Rattle.std.specs.Prelude.{◌≡◌, ◌⊎◌, cond, List, [], ◌∷◌, ℕ, eqb}
-use Rattle.calls.specs.declared.OptionalCommit.{OptionalCommit}
-use Rattle.calls.specs.declared.OptionalCommit.TheVariants.{NoCommit, Committed}
+use Rattle.std.specs.Prelude.{◌≡◌, ◌⊎◌, cond, List, [], ◌∷◌, ℕ, eqb, Option, None, Some}
+use Rattle.calls.specs.declared.CommittedSlot.{CommittedSlot}
 use Rattle.register.specs.History.{register_after}
 use Rattle.register.specs.declared.CellEntry.{CellEntry}
 use Rattle.register.specs.declared.Change.{Change}
@@ -19,9 +18,9 @@ abbrev pub entry_for_commit : (ℕ → CellChange) → ℕ → ℕ → CellEntry
 entry_for_commit says slot v = record { slot = slot; cell = (says v).cell; change = (says v).change }
 
 -- one entry more, where there is a commit
-abbrev pub plus_entry : (ℕ → CellChange) → OptionalCommit → List CellEntry → List CellEntry
-plus_entry says NoCommit es = es
-plus_entry says (Committed slot v fast) es = entry_for_commit says slot v ∷ es
+abbrev pub plus_entry : (ℕ → CellChange) → Option CommittedSlot → List CellEntry → List CellEntry
+plus_entry says None es = es
+plus_entry says (Some commit) es = entry_for_commit says commit.slot commit.v ∷ es
 
 -- the entries from a member's commits
 unfoldable pub entries_for : (ℕ → CellChange) → ℕ → List Entry → List CellEntry

@@ -1,12 +1,11 @@
 -- What a line without a fault makes of the shard.
 -- Assumes nothing.
-use Rattle.std.specs.Prelude.{cond, List, ℕ, eqb}
-use Rattle.message.specs.declared.Outcome.{Outcome}
+use Rattle.std.specs.Prelude.{cond, List, ℕ, eqb, None}
+use Rattle.message.specs.Outcomes.{Outcome}
 use Rattle.steps.specs.Steps.{no_messages}
 use Rattle.settings.specs.declared.Settings.{Settings}
 use Rattle.consensus.specs.Call.{new_shard, call_of}
 use Rattle.consensus.specs.declared.Answer.{Answer}
-use Rattle.calls.specs.declared.OptionalCommit.TheVariants.{NoCommit}
 use Rattle.consensus.specs.declared.Shard.{Shard}
 use Rattle.state_calls.specs.declared.State.{State}
 use Rattle.line_calls.specs.Calls.{at, call_of_numbers}
@@ -14,7 +13,7 @@ use Rattle.line_states.specs.States.{settings_of, state_of}
 
 abbrev pub answered : Shard → Outcome → Answer
 answered shard outcome =
-    record { shard = shard; reply = record { outcome = outcome; messages = no_messages; commit = NoCommit; served_count = 0 } }
+    record { shard = shard; reply = record { outcome = outcome; messages = no_messages; commit = None; served_count = 0 } }
 
 -- kind 1: a shard as it begins
 unfoldable pub new_answer : Settings → Answer

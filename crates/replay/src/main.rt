@@ -3,40 +3,28 @@
 #![tactic(auto)]
 
 ghost use Rattle.std.specs.Prelude.{◌≡◌};
-ghost use Rattle.io.specs.Counts.{IsPrefixLen};
 ghost use Rattle.replay.specs.Answer.{answered, new_answer, with_state, answer_of};
 
-use call_lines::{Fault, Scan};
-use calls::{OptionalCommit, Reply};
+use call_lines::Fault;
+use calls::Reply;
 use consensus::{Answer, Shard};
 use message::Outcome;
 use settings::Settings;
 use state_calls::State;
 use std::io::Read;
+use texts::Output;
 
-// The shard between two blocks: the shard, how many bytes of a line that has not ended stand at the start of the input buffer, whether
-// the rest of a line that is too long is being skipped, and whether the input may go on.
-#[derive(Clone, Copy)]
-struct BetweenBlocks {
+// What stays from one block to the next: the shard, how many bytes of a line that has not ended stand at the start of the input buffer, and
+// whether the rest of a line that is too long is being skipped.
+#[derive(Drop)]
+struct Replay {
     shard: Shard,
     kept: usize,
     skipping: bool,
-    goes_on: bool,
-}
-
-// The shard after a line, or after some, with how many bytes of input are used and of output are put.
-#[derive(Clone, Copy)]
-struct Answered {
-    shard: Shard,
-    used: usize,
-    put: usize,
 }
 
 fn is_skipped(line: &[u8]) -> bool {
-    if line.len() == 0 {
-        return true;
-    }
-    line[0] == b'#'
+    line.is_empty() || line[0] == b'#'
 }
 
 fn answer_with(shard: Shard, outcome: Outcome) -> Answer
@@ -45,13 +33,14 @@ fn answer_with(shard: Shard, outcome: Outcome) -> Answer
     let reply = Reply {
         outcome,
         messages: steps::no_messages(),
-        commit: OptionalCommit::NoCommit,
+        commit: None,
         served_count: 0,
     };
     Answer { shard, reply }
 }
 
 // A shard as it begins, in place of the old one.
+#[tactic(auto, unfolding(crate::specs::Answer::new_answer))]
 fn new_shard(settings: Settings) -> Answer
     ensures { result ≡ new_answer settings }
 {
@@ -60,6 +49,7 @@ fn new_shard(settings: Settings) -> Answer
     answer_with(shard, made)
 }
 
+#[tactic(auto, unfolding(crate::specs::Answer::with_state))]
 fn with_state(mut shard: Shard, state: State) -> Answer
     ensures { result ≡ with_state shard state }
 {
@@ -69,197 +59,118 @@ fn with_state(mut shard: Shard, state: State) -> Answer
 }
 
 // What a line without a fault makes of the shard.
+#[tactic(auto, unfolding(crate::specs::Answer::answer_of))]
 fn answer_of(shard: Shard, numbers: &[u64]) -> Answer
     ensures { result ≡ answer_of shard numbers.now }
 {
-    let kind = line_calls::number_at(numbers, 0);
-    if kind == 1 {
-        return new_shard(line_states::settings_of(numbers));
-    }
-    if kind == 2 {
-        return with_state(shard, line_states::state_of(numbers));
-    }
-    shard.call(line_calls::call_of(numbers))
-}
-
-fn answer_numbers(shard: Shard, numbers: &[u64], out: &mut [u8], at: usize) -> Answered {
-    let fault = line_states::numbers_fault(numbers);
-    if let Fault::NoFault = fault {
-        let answer = answer_of(shard, numbers);
-        let put = answer_lines::put_answer(out, at, answer);
-        let next = answer.shard;
-        return Answered {
-            shard: next,
-            used: 0,
-            put,
-        };
-    }
-    let put = fault_lines::put_fault(out, at, fault);
-    Answered {
-        shard,
-        used: 0,
-        put,
+    match line_calls::number_at(numbers, 0) {
+        1 => new_shard(line_states::settings_of(numbers)),
+        2 => with_state(shard, line_states::state_of(numbers)),
+        _ => shard.call(line_calls::call_of(numbers)),
     }
 }
 
-fn answer_fault(shard: Shard, fault: Fault, out: &mut [u8], at: usize) -> Answered {
-    let put = fault_lines::put_fault(out, at, fault);
-    Answered {
-        shard,
-        used: 0,
-        put,
-    }
-}
-
-// How many numbers a line has that is read to its end without a fault.
-fn number_count(scan: Scan, numbers: &[u64]) -> usize
-    ensures { IsPrefixLen result numbers.now }
-{
-    let before = scan.before;
-    if before < numbers.len() {
-        return before + 1;
-    }
-    numbers.len()
+// The numbers of a line, which stand in the first places that are lent, or what is wrong with it.
+fn numbers_of<'a>(line: &[u8], places: &'a mut [u64]) -> Result<&'a [u64], Fault> {
+    let scan = call_lines::read_numbers(line, places);
+    scan.fault()?;
+    let count = scan.before.saturating_add(1).min(places.len());
+    let numbers = &places[..count];
+    line_states::numbers_fault(numbers)?;
+    Ok(numbers)
 }
 
 // Answers one line, without its LF.
-fn answer_line(
-    shard: Shard,
-    line: &[u8],
-    numbers: &mut [u64],
-    out: &mut [u8],
-    at: usize,
-) -> Answered {
+fn answer_line(shard: &mut Shard, line: &[u8], places: &mut [u64], out: &mut Output) {
     if is_skipped(line) {
-        return Answered {
-            shard,
-            used: 0,
-            put: at,
-        };
+        return;
     }
-    let scan = call_lines::read_numbers(line, numbers);
-    let fault = scan.fault();
-    let count = number_count(scan, numbers);
-    if let Fault::NoFault = fault {
-        return answer_numbers(shard, &numbers[..count], out, at);
+    match numbers_of(line, places) {
+        Ok(numbers) => {
+            let answer = answer_of(*shard, numbers);
+            answer_lines::put_answer(out, &answer);
+            *shard = answer.shard;
+        }
+        Err(fault) => fault_lines::put_fault(out, fault),
     }
-    answer_fault(shard, fault, out, at)
 }
 
-// Answers the lines that end in the input, from a place on.
+// Answers the lines that end in the input, from a place on, and hands back how much of the input is used. A `while` and no `for` over lines: each turn goes on
+// by the length of a line, and the place that it comes to is handed back.
 fn answer_block(
-    old: Shard,
+    shard: &mut Shard,
     from: usize,
     input: &[u8],
-    numbers: &mut [u64],
-    out: &mut [u8],
-) -> Answered {
-    let mut shard = old;
+    places: &mut [u64],
+    out: &mut Output,
+) -> usize {
     let mut used = from;
-    let mut put = 0;
     while used < input.len() {
         let end = line_blocks::line_end(input, used);
         if end >= input.len() {
             break;
         }
-        put = line_blocks::with_room(out, put);
-        let answered = answer_line(shard, &input[used..end], numbers, out, put);
-        shard = answered.shard;
-        put = answered.put;
+        line_blocks::with_room(out);
+        answer_line(shard, &input[used..end], places, out);
         used = end + 1;
     }
-    line_blocks::write_output(out, put);
-    Answered { shard, used, put }
-}
-
-// Answers the last line, which no LF ends.
-fn answer_last(
-    between: BetweenBlocks,
-    input: &[u8],
-    numbers: &mut [u64],
-    out: &mut [u8],
-) -> BetweenBlocks {
-    let shard = between.shard;
-    let answered = answer_line(shard, input, numbers, out, 0);
-    let next = answered.shard;
-    line_blocks::write_output(out, answered.put);
-    BetweenBlocks {
-        shard: next,
-        kept: 0,
-        skipping: false,
-        goes_on: false,
-    }
+    line_blocks::write_output(out);
+    used
 }
 
 // A line that fills the whole buffer is answered before its end is seen.
-fn answer_too_long(input: &[u8], out: &mut [u8]) {
+fn answer_too_long(input: &[u8], out: &mut Output) {
     if !is_skipped(input) {
-        let put = fault_lines::put_fault(out, 0, Fault::TooLong);
-        line_blocks::write_output(out, put);
+        fault_lines::put_fault(out, Fault::TooLong);
+        line_blocks::write_output(out);
     }
 }
 
-// Reads one block and answers it.
+// Reads one block and answers it, and says whether the input may go on. The last line is one that no LF ends.
 fn take_block<R: Read>(
+    replay: &mut Replay,
     reader: &mut R,
-    between: BetweenBlocks,
     input: &mut [u8],
-    numbers: &mut [u64],
-    out: &mut [u8],
-) -> BetweenBlocks {
-    let kept = between.kept;
-    let end = line_blocks::read_behind(reader, input, kept);
-    if end <= kept {
-        return answer_last(between, &input[..end], numbers, out);
+    places: &mut [u64],
+    out: &mut Output,
+) -> bool {
+    let end = line_blocks::read_behind(reader, input, replay.kept);
+    if end <= replay.kept {
+        answer_line(&mut replay.shard, &input[..end], places, out);
+        line_blocks::write_output(out);
+        return false;
     }
-    let start = line_blocks::first_line(&input[..end], between.skipping);
-    let shard = between.shard;
-    let answered = answer_block(shard, start.from, &input[..end], numbers, out);
-    let next = answered.shard;
-    let left = line_blocks::move_to_start(input, answered.used, end);
-    if left >= input.len() {
+    let start = line_blocks::first_line(&input[..end], replay.skipping);
+    let used = answer_block(&mut replay.shard, start.from, &input[..end], places, out);
+    replay.kept = line_blocks::move_to_start(input, used, end);
+    replay.skipping = start.skipping;
+    if replay.kept >= input.len() {
         answer_too_long(input, out);
-        return BetweenBlocks {
-            shard: next,
-            kept: 0,
-            skipping: true,
-            goes_on: true,
-        };
+        replay.kept = 0;
+        replay.skipping = true;
     }
-    BetweenBlocks {
-        shard: next,
-        kept: left,
-        skipping: start.skipping,
-        goes_on: true,
-    }
+    true
 }
 
 // The shard before the first settings, which is not made.
 fn unmade() -> Shard {
-    let none = [0u64; 1];
-    Shard::new(line_states::settings_of(&none))
+    Shard::new(line_states::settings_of(&[0]))
 }
 
 fn main(rt: HostRuntime) {
     let mut stdin = rt.stdin();
-    let mut input_bytes = io::large_buffer();
+    let mut input = io::large_buffer();
     let mut output_bytes = io::large_buffer();
-    let mut line_numbers = [0u64; 2048];
-    let input: &mut [u8] = &mut input_bytes;
-    let out: &mut [u8] = &mut output_bytes;
-    let numbers: &mut [u64] = &mut line_numbers;
-    let mut between = BetweenBlocks {
+    let mut places = [0u64; 2048];
+    let mut out = Output::new(&mut output_bytes);
+    let mut replay = Replay {
         shard: unmade(),
         kept: 0,
         skipping: false,
-        goes_on: true,
     };
-    let mut turns: u64 = 18446744073709551615;
-    while turns > 0 {
-        if !between.goes_on {
+    for _ in 0..u64::MAX {
+        if !take_block(&mut replay, &mut stdin, &mut input, &mut places, &mut out) {
             break;
         }
-        between = take_block(&mut stdin, between, input, numbers, out);
-        turns -= 1;
     }
 }

@@ -1,17 +1,16 @@
 -- How long a reply is.
 -- Assumes nothing.
+use Rattle.std.specs.Prelude.{Option, None, Ok, Err, Some}
+use Rattle.message.specs.Outcomes.{Outcome}
+use Rattle.calls.specs.declared.CommittedSlot.{CommittedSlot}
 use mathlib.Core.List.{List}
 use Prim.Native.Nat.{◌≤◌}
 use native.Mathlib.Omega.{arith}
 use lib.ListN.{length, length-append}
 use Rattle.message.specs.Refusals.{refusal_number}
-use Rattle.message.specs.declared.Outcome.{Outcome}
-use Rattle.message.specs.declared.Outcome.TheVariants.{Done, Refused}
 use Rattle.message.specs.declared.Refusal.{Refusal}
 use Rattle.message.specs.declared.Refusal.TheVariants.{SettingsOutsideLimits, NumberTooLarge, NoSuchProcess, OtherLastValue, SlotAhead, ValueNotHeld, SourceNotLive, Panic, AcceptUnlikeHeld, SecondFastAnswer, ProposalNotAllowed, NoRoomForRead}
 use Rattle.read_tracker.specs.declared.ServedRead.{ServedRead}
-use Rattle.calls.specs.declared.OptionalCommit.{OptionalCommit}
-use Rattle.calls.specs.declared.OptionalCommit.TheVariants.{NoCommit, Committed}
 use Rattle.calls.specs.declared.Reply.{Reply}
 use Rattle.texts.specs.Text.{field, each, fields}
 use Rattle.reply_lines.specs.Reply.{outcome_text, commit_text, served_text, reply_text}
@@ -34,13 +33,13 @@ refusal_short NoRoomForRead = short 12 (omega arith)
 
 outcome : (o : Outcome) → length (outcome_text o) ≤ 10
 unfolding outcome_text fields each
-outcome Done = omega arith
-outcome (Refused why) = simp length-append (omega (arith, refusal_short why))
+outcome (Ok tt) = omega arith
+outcome (Err why) = simp length-append (omega (arith, refusal_short why))
 
-commit : (c : OptionalCommit) → length (commit_text c) ≤ 53
+commit : (c : Option CommittedSlot) → length (commit_text c) ≤ 53
 unfolding commit_text fields each
-commit NoCommit = omega arith
-commit (Committed slot v fast) = simp length-append (omega (arith, number slot, number v, flag fast))
+commit None = omega arith
+commit (Some c) = simp length-append (omega (arith, number c.slot, number c.v, flag c.fast))
 
 served : (r : ServedRead) → length (served_text r) ≤ 74
 unfolding served_text fields each

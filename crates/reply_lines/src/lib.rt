@@ -5,69 +5,56 @@ ghost use Rattle.std.specs.Prelude.{◌≡◌};
 ghost use Rattle.texts.specs.Text.{put, first_places};
 ghost use Rattle.reply_lines.specs.Reply.{outcome_text, commit_text, served_text, reply_text};
 
-use calls::{OptionalCommit, Reply};
+use calls::{CommittedSlot, Reply};
 use message::Outcome;
 use read_tracker::ServedRead;
+use texts::Output;
 
-fn put_outcome(out: &mut [u8], at: usize, outcome: Outcome) -> usize
-    ensures { (out.new, result) ≡ put (outcome_text outcome) (out.old, at) }
+#[tactic(auto, unfolding(crate::specs::Reply::outcome_text))]
+fn put_outcome(out: &mut Output, outcome: Outcome)
+    ensures { out.new ≡ put (outcome_text outcome) out.old }
 {
     match outcome {
-        Outcome::Done => texts::put_bytes(out, at, b"done"),
-        Outcome::Refused(why) => {
-            let number = why.number();
-            texts::put_fields(out, at, b"refused", &[number])
-        }
+        Ok(()) => out.put_bytes(b"done"),
+        Err(why) => out.put_fields(b"refused", &[why.number()]),
     }
 }
 
-fn put_commit(out: &mut [u8], at: usize, commit: OptionalCommit) -> usize
-    ensures { (out.new, result) ≡ put (commit_text commit) (out.old, at) }
+#[tactic(auto, using(texts::proofs::Putting::put_nothing), unfolding(crate::specs::Reply::commit_text))]
+fn put_commit(out: &mut Output, commit: Option<CommittedSlot>)
+    ensures { out.new ≡ put (commit_text commit) out.old }
 {
-    match commit {
-        OptionalCommit::NoCommit => at,
-        OptionalCommit::Committed { slot, v, fast } => {
-            let mark = texts::flag_number(fast);
-            texts::put_fields(out, at, b" | commit", &[slot, v, mark])
-        }
+    if let Some(CommittedSlot { slot, v, fast }) = commit {
+        out.put_fields(b" | commit", &[slot, v, texts::flag_number(fast)]);
     }
 }
 
-fn put_served_read(out: &mut [u8], at: usize, read: ServedRead) -> usize
-    ensures { (out.new, result) ≡ put (served_text read) (out.old, at) }
+#[tactic(auto, unfolding(crate::specs::Reply::served_text))]
+fn put_served_read(out: &mut Output, read: &ServedRead)
+    ensures { out.new ≡ put (served_text read.now) out.old }
 {
-    let id = read.id.0;
-    let tag = read.tag;
-    let waited_for = read.waited_for;
     let mark = texts::flag_number(read.fast);
-    texts::put_fields(out, at, b" | served", &[id, tag, waited_for, mark])
+    out.put_fields(b" | served", &[read.id.0, read.tag, read.waited_for, mark]);
 }
 
 // Puts the reads in the first served_count places, of which there are 128.
-fn put_served(out: &mut [u8], at: usize, served: [ServedRead; 128], served_count: u64) -> usize
-    ensures { (out.new, result) ≡ put (first_places served_text served served_count) (out.old, at) }
+// One loop for these and the open reads of `shard_lines` would be a trait that neither crate may implement for them, or a closure with its text as
+// a ghost value: no plainer than the two lines.
+fn put_served(out: &mut Output, served: &[ServedRead; 128], served_count: u64)
+    ensures { out.new ≡ put (first_places served_text served.now served_count) out.old }
 {
-    let mut next = at;
-    let mut i: usize = 0;
-    while i < 128 {
-        if i as u64 >= served_count {
-            return next;
-        }
-        let read = served[i];
-        next = put_served_read(out, next, read);
-        i += 1;
+    let reads = &served[..served_count.min(128) as usize];
+    for read in reads {
+        put_served_read(out, read);
     }
-    next
 }
 
-pub fn put_reply(out: &mut [u8], at: usize, reply: Reply, served: [ServedRead; 128]) -> usize
-    ensures { (out.new, result) ≡ put (reply_text reply served) (out.old, at) }
+#[tactic(auto, using(texts::proofs::Putting::put_then), unfolding(crate::specs::Reply::reply_text))]
+pub fn put_reply(out: &mut Output, reply: Reply, served: &[ServedRead; 128])
+    ensures { out.new ≡ put (reply_text reply served.now) out.old }
 {
-    let outcome = reply.outcome;
-    let messages = reply.messages;
-    let commit = reply.commit;
-    let second = put_outcome(out, at, outcome);
-    let third = message_lines::put_messages(out, second, messages);
-    let fourth = put_commit(out, third, commit);
-    put_served(out, fourth, served, reply.served_count)
+    put_outcome(out, reply.outcome);
+    message_lines::put_messages(out, reply.messages);
+    put_commit(out, reply.commit);
+    put_served(out, served, reply.served_count);
 }

@@ -1,12 +1,15 @@
 -- The report has at most 116 bytes, and at the start of so many zeros it makes the page.
 -- Assumes nothing.
-use mathlib.Core.Path.{◌≡◌, sym, ap, ◌∙◌}
-use mathlib.Core.List.{List, ◌++◌}
+use mathlib.Core.Path.{◌≡◌, refl, sym, ap, ◌∙◌}
+use mathlib.Core.List.{List, [], ◌∷◌, ◌++◌}
+use lib.Dec.{ltb}
+use Rattle.basics.proofs.Tests.{of-both}
 use Prim.Native.Nat.{ℕ, ◌+◌, ◌-◌, ◌≤◌}
 use native.Mathlib.Omega.{arith}
-use lib.ListN.{length, drop, replicate, length-append, length-replicate, replicate-append-replicate}
+use lib.ListN.{length, take, drop, replicate, length-append, length-replicate, replicate-append-replicate}
 use lib.Seq.{drop_at}
-use Rattle.texts.specs.Text.{Buffer, put}
+use Rattle.texts.specs.declared.Output.{Output}
+use Rattle.texts.specs.Text.{with_bytes, put_byte, put}
 use Rattle.texts.proofs.Lengths.{put_fits, decimal_length}
 use Rattle.register.specs.declared.Figures.{Figures}
 use Rattle.report.specs.declared.ReportPage.{ReportPage}
@@ -33,14 +36,21 @@ drop_zeros k h =
     ap (drop k) (sym (replicate-append-replicate k (116 - k) 0 ∙ ap (λ (m : ℕ). replicate m 0) e))
     ∙ drop_at (replicate k 0) (replicate (116 - k) 0) k (length-replicate k 0)
 
-abbrev page : List ℕ → ℕ → ReportPage
-page bytes len = record { bytes = bytes; len = len }
-
-pub put_page : (text : List ℕ) (len : ℕ) (bytes : List ℕ) → length text ≤ 116 → ◌≡◌ {A = Buffer} (bytes, len) (put text (replicate 116 0, 0))
-    → page bytes len ≡ page_holding text
+-- what is put into so many zeros
+pub put_page : (text : List ℕ) (o after : Output) → length text ≤ 116 → o.at ≡ 0 → o.bytes.now ≡ replicate 116 0 → after ≡ put text o
+    → ◌≡◌ {A = ReportPage} (record { bytes = after.bytes.now; len = after.at }) (page_holding text)
 unfolding page_holding
-put_page text len bytes short e =
-    let start : 0 + length text ≡ length text = omega arith in
-    let is : ◌≡◌ {A = Buffer} (bytes, len) (text ++ drop (length text) (replicate 116 0), length text) =
-    e ∙ put_fits text (replicate 116 0) 0 (omega arith) ∙ ap (λ (n : ℕ). (text ++ drop n (replicate 116 0), n)) start in
-    ap (λ (p : Buffer). page p.0 p.1) is ∙ ap (λ (z : List ℕ). page (text ++ z) (length text)) (drop_zeros (length text) short)
+put_page text o after short start zeros e =
+    let room : o.at + length text ≤ length o.bytes.now = rw zeros (omega (arith, start)) in
+    let is : after ≡ with_bytes o (take o.at o.bytes.now ++ text ++ drop (o.at + length text) o.bytes.now) (o.at + length text) = e ∙ put_fits text o room in
+    let none : 0 + length text ≡ length text = omega arith in
+    simp (is, start, zeros, none, drop_zeros (length text) short)
+
+-- what is put is put into what was lent
+named : (l : List ℕ) (o : Output) → (put l o).bytes.ghost_name ≡ o.bytes.ghost_name
+unfolding put
+named [] o = refl
+named (b ∷ bs) o = named bs (put_byte b o) ∙ of-both (λ (p : Output). p.bytes.ghost_name ≡ o.bytes.ghost_name) (ltb o.at (length o.bytes.now)) refl refl
+
+pub put_name : (text : List ℕ) (o after : Output) → after ≡ put text o → after.bytes.ghost_name ≡ o.bytes.ghost_name
+put_name text o after e = rw e (named text o)

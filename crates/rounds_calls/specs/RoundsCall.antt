@@ -1,6 +1,6 @@
 -- What a call that the core has passed on makes of the rounds, and whether it goes on with the reads.
 -- Assumes nothing.
-use Rattle.std.specs.Prelude.{Bool, true, false, cond, ℕ, ltb}
+use Rattle.std.specs.Prelude.{Bool, true, false, cond, ℕ, ltb, Result, Ok, Err}
 use Rattle.message.specs.Modes.{has_fast_path}
 use Rattle.message.specs.declared.ConsensusMsg.{ConsensusMsg}
 use Rattle.message.specs.declared.ConsensusMsg.TheVariants.{Prepare, Accept, ForwardRequest, Commit, ReadRequest, ReadResponse}
@@ -21,8 +21,6 @@ use Rattle.steps.specs.declared.Rounds.{Rounds}
 use Rattle.steps.specs.declared.RoundsStep.{RoundsStep}
 use Rattle.calls.specs.declared.Call.{Call}
 use Rattle.calls.specs.declared.Call.TheVariants.{Propose, StartRead, Receive}
-use Rattle.calls.specs.declared.Decision.{Decision}
-use Rattle.calls.specs.declared.Decision.TheVariants.{Refuse, Handle}
 use Rattle.calls.specs.declared.Taken.{Taken}
 use Rattle.core_calls.specs.CoreCall.{needs_more, on_fast_path}
 use Rattle.core_calls.specs.Replies.{refused_reply, sent_reply, committed_reply}
@@ -84,6 +82,6 @@ rounds_passed rounds t passed =
     cond (has_fast_path t.asked.mode) (rounds_taken t.asked t.heard rounds passed t.call) (with_fast rounds.fast passed)
 
 -- without the core's answer: in the classic modes, and for what concerns reads, a call needs more
-unfoldable pub rounds_call : Rounds → Decision → RoundsAnswer
-rounds_call rounds (Refuse why) = rounds_refuse rounds why
-rounds_call rounds (Handle t) = rounds_passed rounds t (needs_more rounds.core)
+unfoldable pub rounds_call : Rounds → Result Taken Refusal → RoundsAnswer
+rounds_call rounds (Err why) = rounds_refuse rounds why
+rounds_call rounds (Ok t) = rounds_passed rounds t (needs_more rounds.core)

@@ -3,9 +3,9 @@
 #![tactic(auto)]
 
 ghost use Rattle.std.specs.Prelude.{◌≡◌};
-ghost use Rattle.rounds_calls.specs.RoundsCall.{with_fast, rounds_send, rounds_refuse, next_slot, rounds_committed, rounds_finish_at, rounds_finish, rounds_handle, rounds_taken, rounds_passed, rounds_call};
+ghost use Rattle.rounds_calls.specs.RoundsCall.{with_fast, rounds_send, rounds_refuse, next_slot, rounds_committed, rounds_finish, rounds_handle, rounds_taken, rounds_passed, rounds_call};
 
-use calls::{Call, Decision, Reply, Taken};
+use calls::{Call, Reply, Taken};
 use core_calls::{CoreAnswer, committed_reply, refused_reply, sent_reply};
 use fast_state::FastState;
 use message::{ConsensusMsg, Refusal};
@@ -23,11 +23,9 @@ pub struct RoundsAnswer {
 pub fn with_fast(fast: FastState, a: CoreAnswer) -> RoundsAnswer
     ensures { result ≡ with_fast fast a }
 {
-    let core = a.core;
-    let reply = a.reply;
     RoundsAnswer {
-        rounds: Rounds { core, fast },
-        reply,
+        rounds: Rounds { core: a.core, fast },
+        reply: a.reply,
         deeper: a.deeper,
     }
 }
@@ -62,51 +60,31 @@ fn next_slot(a: Asked, v: u64, s: Rounds) -> Rounds
 }
 
 // The commit of a value. Open reads may have become ready by it.
+#[tactic(auto, unfolding(crate::specs::RoundsCall::rounds_committed))]
 fn rounds_committed(a: Asked, v: u64, s: Rounds, messages: Messages) -> RoundsAnswer
     ensures { result ≡ rounds_committed a v s messages }
 {
-    let core = s.core;
     RoundsAnswer {
         rounds: next_slot(a, v, s),
-        reply: committed_reply(a, v, core, messages),
-        deeper: core.tracker.open_count > 0,
+        reply: committed_reply(a, v, s.core, messages),
+        deeper: s.core.tracker.open_count > 0,
     }
 }
 
 // A step becomes an answer. What is refused leaves the old rounds, and a commit needs its value.
-fn rounds_finish_at(
-    a: Asked,
-    held: bool,
-    old: Rounds,
-    s: Rounds,
-    messages: Messages,
-    next: Next,
-) -> RoundsAnswer
-    ensures { result ≡ rounds_finish_at a held old s messages next }
+fn rounds_finish(a: Asked, held: bool, old: Rounds, step: RoundsStep) -> RoundsAnswer
+    ensures { result ≡ rounds_finish a held old step }
 {
-    match next {
-        Next::Stays => rounds_send(s, messages),
-        Next::Continues => rounds_send(s, messages),
-        Next::Commits(v) => {
-            if held {
-                return rounds_committed(a, v, s, messages);
-            }
-            rounds_refuse(old, Refusal::ValueNotHeld)
-        }
+    match step.next {
+        Next::Stays | Next::Continues => rounds_send(step.rounds, step.messages),
+        Next::Commits(v) if held => rounds_committed(a, v, step.rounds, step.messages),
+        Next::Commits(_) => rounds_refuse(old, Refusal::ValueNotHeld),
         Next::Refuses(why) => rounds_refuse(old, why),
     }
 }
 
-fn rounds_finish(a: Asked, held: bool, old: Rounds, step: RoundsStep) -> RoundsAnswer
-    ensures { result ≡ rounds_finish a held old step }
-{
-    let rounds = step.rounds;
-    let messages = step.messages;
-    let next = step.next;
-    rounds_finish_at(a, held, old, rounds, messages, next)
-}
-
 // A message in EPaxos or SwiftPaxos. What concerns reads is as the core has passed it on.
+#[tactic(auto, unfolding(crate::specs::RoundsCall::rounds_handle))]
 fn rounds_handle(
     a: Asked,
     heard: Heard,
@@ -117,35 +95,21 @@ fn rounds_handle(
 ) -> RoundsAnswer
     ensures { result ≡ rounds_handle a heard held rounds passed msg }
 {
-    let fast = rounds.fast;
     match msg {
-        ConsensusMsg::Prepare { slot, round, rv } => rounds_finish(
-            a,
-            held,
-            rounds,
-            paxos_family::process_fast(a, heard, ConsensusMsg::Prepare { slot, round, rv }, rounds),
-        ),
-        ConsensusMsg::Accept { slot, round, v } => rounds_finish(
-            a,
-            held,
-            rounds,
-            paxos_family::process_fast(a, heard, ConsensusMsg::Accept { slot, round, v }, rounds),
-        ),
-        ConsensusMsg::ForwardRequest { v } => rounds_finish(
-            a,
-            held,
-            rounds,
-            paxos_family::process_fast(a, heard, ConsensusMsg::ForwardRequest { v }, rounds),
-        ),
-        ConsensusMsg::Commit { slot: _, v } => rounds_committed(a, v, rounds, no_messages()),
-        ConsensusMsg::ReadRequest { id: _ } => with_fast(fast, passed),
-        ConsensusMsg::ReadResponse {
-            id: _,
-            next_readable_slot: _,
-        } => with_fast(fast, passed),
+        ConsensusMsg::Prepare { .. }
+        | ConsensusMsg::Accept { .. }
+        | ConsensusMsg::ForwardRequest { .. } => {
+            let step = paxos_family::process_fast(a, heard, msg, rounds);
+            rounds_finish(a, held, rounds, step)
+        }
+        ConsensusMsg::Commit { v, .. } => rounds_committed(a, v, rounds, no_messages()),
+        ConsensusMsg::ReadRequest { .. } | ConsensusMsg::ReadResponse { .. } => {
+            with_fast(rounds.fast, passed)
+        }
     }
 }
 
+#[tactic(auto, unfolding(crate::specs::RoundsCall::rounds_taken))]
 fn rounds_taken(
     a: Asked,
     heard: Heard,
@@ -155,43 +119,33 @@ fn rounds_taken(
 ) -> RoundsAnswer
     ensures { result ≡ rounds_taken a heard rounds passed call }
 {
-    let fast = rounds.fast;
     match call {
         Call::Propose(v) => rounds_finish(a, true, rounds, propose::propose_fast(a, v, rounds)),
-        Call::StartRead {
-            tag: _,
-            arrival_slot: _,
-        } => with_fast(fast, passed),
+        Call::StartRead { .. } => with_fast(rounds.fast, passed),
         Call::Receive(d) => {
-            let message = d.message;
-            let msg = message.msg;
-            rounds_handle(a, heard, d.said.value_held, rounds, passed, msg)
+            rounds_handle(a, heard, d.said.value_held, rounds, passed, d.message.msg)
         }
     }
 }
 
 // A call that the core has passed on with this answer. In the classic modes the core has done all that the rounds would.
+#[tactic(auto, unfolding(crate::specs::RoundsCall::rounds_passed))]
 pub fn rounds_passed(rounds: Rounds, taken: Taken, passed: CoreAnswer) -> RoundsAnswer
     ensures { result ≡ rounds_passed rounds taken passed }
 {
-    let asked = taken.asked;
-    let heard = taken.heard;
-    let call = taken.call;
-    let mode = asked.mode;
-    if mode.has_fast_path() {
-        return rounds_taken(asked, heard, rounds, passed, call);
+    if taken.asked.mode.has_fast_path() {
+        return rounds_taken(taken.asked, taken.heard, rounds, passed, taken.call);
     }
-    let fast = rounds.fast;
-    with_fast(fast, passed)
+    with_fast(rounds.fast, passed)
 }
 
 // A call that the core has passed on. In the classic modes, and for what concerns reads, it needs more than the rounds.
-pub fn rounds_call(rounds: Rounds, decision: Decision) -> RoundsAnswer
+#[tactic(auto, unfolding(crate::specs::RoundsCall::rounds_call))]
+pub fn rounds_call(rounds: Rounds, decision: Result<Taken, Refusal>) -> RoundsAnswer
     ensures { result ≡ rounds_call rounds decision }
 {
-    let core = rounds.core;
     match decision {
-        Decision::Refuse(why) => rounds_refuse(rounds, why),
-        Decision::Handle(taken) => rounds_passed(rounds, taken, core_calls::needs_more(core)),
+        Err(why) => rounds_refuse(rounds, why),
+        Ok(taken) => rounds_passed(rounds, taken, core_calls::needs_more(rounds.core)),
     }
 }

@@ -4,18 +4,21 @@ use mathlib.Core.Path.{◌≡◌, refl, sym, ap, ◌∙◌}
 use mathlib.Core.Logic.{◌⊎◌, inl, inr, ◌↔◌}
 use mathlib.Core.Bool.{Bool, true, false, cond, ◌&&◌, ◌||◌}
 use mathlib.Core.List.{List}
-use Prim.Native.Nat.{ℕ, zero, suc, ◌<◌}
+use Prim.Native.Nat.{ℕ, zero, suc, ◌+◌, ◌<◌}
+use native.Mathlib.Numerals.{add-one}
+use Rattle.run_checks.proofs.Counted.{allowed_first}
 use native.Mathlib.Nat.{le_of_suc-le-suc, not-suc-le-zero, eq-or-lt_of_le}
 use native.Mathlib.Omega.{arith}
 use lib.Dec.{eqb}
+use lib.ListN.{length, take}
 use borrow.Author.Tests.{eqb-true, eq-eqb}
 use Rattle.basics.proofs.Tests.{not_both, and_left, and_right, and_both, or_cases, or_left, or_right}
 use Rattle.run_checks.specs.declared.Event.{Event}
-use Rattle.run_checks.specs.Log.{event_at, slot_of, CommitAt, ProposedBefore, LogClaim, agrees, proposes, all_agree, one_proposes, before_of, allows, passes}
+use Rattle.run_checks.specs.Log.{event_at, is_commit, slot_of, CommitAt, ProposedBefore, LogClaim, agrees, proposes, all_agree, one_proposes, allows, passes}
 
 -- ---- what a test that passes says
 
-allowed : (c a p q : Bool) → cond c (cond a (cond p q false) false) true ≡ true → c ≡ true → (a ≡ true) × (p ≡ true) × (q ≡ true)
+allowed : (c a p q : Bool) → cond c (a && p && q) true ≡ true → c ≡ true → (a ≡ true) × (p ≡ true) × (q ≡ true)
 allowed true true true q h k = (refl, refl, h)
 allowed true true false q h k = absurd (not_both h refl)
 allowed true false p q h k = absurd (not_both h refl)
@@ -43,9 +46,9 @@ at_each test all step (suc n) i h l =
     go rest last (inl d) = ap test d ∙ last
     go rest last (inr k) = rest k
 
-passes_at : (es : List Event) (n i : ℕ) → passes es n ≡ true → i < n → allows (before_of (event_at es i) es i) (event_at es i) ≡ true
+passes_at : (es : List Event) (n i : ℕ) → passes es n ≡ true → i < n → allows (event_at es i) es i ≡ true
 unfolding passes
-passes_at es = at_each (λ i. allows (before_of (event_at es i) es i) (event_at es i)) (passes es) (λ i. refl)
+passes_at es = at_each (λ i. allows (event_at es i) es i) (passes es) (λ i. refl)
 
 agrees_at : (e : Event) (es : List Event) (n i : ℕ) → all_agree e es n ≡ true → i < n → agrees e (event_at es i) ≡ true
 unfolding all_agree
@@ -82,20 +85,20 @@ apart (suc i) (suc j) = up (apart i j)
 checked : (es : List Event) (n : ℕ) → passes es n ≡ true → (i : ℕ) → CommitAt es n i
     → (all_agree (event_at es i) es i ≡ true) × (one_proposes (event_at es i) es i ≡ true) × (eqb (slot_of (event_at es i).member es i) (event_at es i).slot ≡ true)
 unfolding allows
-checked es n h i c = allowed (event_at es i).commit _ _ _ (passes_at es n i h c.0) c.1
+checked es n h i c = allowed (is_commit (event_at es i)) _ _ _ (passes_at es n i h c.0) c.1
 
 -- a commit and an earlier one of its slot
 same_value_lem : (es : List Event) (n : ℕ) → passes es n ≡ true → (i j : ℕ) → i < j → CommitAt es n i → CommitAt es n j → (event_at es i).slot ≡ (event_at es j).slot
     → (event_at es i).v ≡ (event_at es j).v
 unfolding agrees
 same_value_lem es n h i j l c d s =
-    eqb-true _ _ (agreed (event_at es i).commit _ _ (agrees_at (event_at es j) es j i (checked es n h j d).0 l) c.1 (eq-eqb _ _ s))
+    eqb-true _ _ (agreed (is_commit (event_at es i)) _ _ (agrees_at (event_at es j) es j i (checked es n h j d).0 l) c.1 (eq-eqb _ _ s))
 
 proposal_of_lem : (es : List Event) (i : ℕ) → one_proposes (event_at es i) es i ≡ true → ProposedBefore es i
 unfolding proposes
 proposal_of_lem es i h =
     let r = proposes_at (event_at es i) es i h in
-    let p = proposed (event_at es r.0).commit _ _ r.2 in
+    let p = proposed (is_commit (event_at es r.0)) _ _ r.2 in
     record { at = r.0; earlier = r.1; proposal = p.0; slot = eqb-true _ _ p.1; v = eqb-true _ _ p.2 }
 
 passing_claim : (es : List Event) (n : ℕ) → passes es n ≡ true → LogClaim es n
@@ -118,10 +121,9 @@ all_of : (test : ℕ → Bool) (all : ℕ → Bool) → all zero ≡ true → ((
 all_of test all none step zero f = none
 all_of test all none step (suc n) f = step n ∙ and_both (all_of test all none step n (λ i l. f i (omega (arith, l)))) (f n (omega arith))
 
-allow : (c a p q : Bool) → (c ≡ true → (a ≡ true) × (p ≡ true) × (q ≡ true)) → cond c (cond a (cond p q false) false) true ≡ true
+allow : (c a p q : Bool) → (c ≡ true → (a ≡ true) × (p ≡ true) × (q ≡ true)) → cond c (a && p && q) true ≡ true
 allow false a p q f = refl
-allow true a p q f =
-    ap (λ (x : Bool). cond x (cond p q false) false) (f refl).0 ∙ ap (λ (x : Bool). cond x q false) (f refl).1 ∙ (f refl).2
+allow true a p q f = and_both (and_both (f refl).0 (f refl).1) (f refl).2
 
 agree_if : (c s w : Bool) → (c ≡ true → s ≡ true → w ≡ true) → cond c (cond s w true) true ≡ true
 agree_if true true w f = f refl refl
@@ -145,7 +147,7 @@ agrees_of : (es : List Event) (n : ℕ) → LogClaim es n → (i : ℕ) → Comm
 unfolding agrees all_agree
 agrees_of es n claim i c =
     all_of (λ j. agrees (event_at es i) (event_at es j)) (all_agree (event_at es i) es) refl (λ j. refl) i
-    (λ j l. agree_if (event_at es j).commit _ _ (λ k s. eq-eqb _ _ ((claim.agree j i (before_it j l, k) c).0 (eqb-true _ _ s)).1))
+    (λ j l. agree_if (is_commit (event_at es j)) _ _ (λ k s. eq-eqb _ _ ((claim.agree j i (before_it j l, k) c).0 (eqb-true _ _ s)).1))
   where
     before_it : (j : ℕ) → j < i → j < n
     before_it j l = let m = c.0 in omega (arith, l, m)
@@ -154,13 +156,32 @@ proposed_of : (es : List Event) (i : ℕ) → ProposedBefore es i → one_propos
 unfolding proposes
 proposed_of es i p =
     proposes_of (event_at es i) es i p.at p.earlier
-    (propose_if (event_at es p.at).commit _ _ p.proposal (eq-eqb _ _ p.slot) (eq-eqb _ _ p.v))
+    (propose_if (is_commit (event_at es p.at)) _ _ p.proposal (eq-eqb _ _ p.slot) (eq-eqb _ _ p.v))
 
 claim_passing : (es : List Event) (n : ℕ) → LogClaim es n → passes es n ≡ true
 unfolding passes allows
 claim_passing es n claim =
-    all_of (λ i. allows (before_of (event_at es i) es i) (event_at es i)) (passes es) refl (λ i. refl) n
-    (λ i l. allow (event_at es i).commit _ _ _ (λ k. (agrees_of es n claim i (l, k), proposed_of es i (claim.proposed i (l, k)), eq-eqb _ _ (sym (claim.own_slot i (l, k))))))
+    all_of (λ i. allows (event_at es i) es i) (passes es) refl (λ i. refl) n
+    (λ i l. allow (is_commit (event_at es i)) _ _ _ (λ k. (agrees_of es n claim i (l, k), proposed_of es i (claim.proposed i (l, k)), eq-eqb _ _ (sym (claim.own_slot i (l, k))))))
 
 pub passes_exactly : (es : List Event) (n : ℕ) → (passes es n ≡ true) ↔ LogClaim es n
 passes_exactly es n = (passing_claim es n, claim_passing es n)
+
+-- ---- event by event, as the code goes: b is whether the event at place i may follow those before it
+
+module _ (es : List Event) (i : ℕ) (h : i < length es) (b : Bool) (e : b ≡ allows (event_at es i) (take i es) (length (take i es))) where
+  answer_at : b ≡ allows (event_at es i) es i
+  answer_at = e ∙ allowed_first (event_at es i) es i (omega (arith, h))
+
+  -- it may: one more has passed
+  pub goes_on : passes es i ≡ true → b ≡ true → passes es (i + 1) ≡ true
+  unfolding passes
+  goes_on p t = ap (passes es) (add-one i) ∙ and_both p (sym answer_at ∙ t)
+
+  -- it may not: the log doesn't pass
+  pub stops : b ≡ false → (xs : List Event) → es ≡ xs → false ≡ passes xs (length xs)
+  stops f xs same = go (passes es (length es)) refl ∙ ap (λ (l : List Event). passes l (length l)) same
+    where
+      go : (t : Bool) → passes es (length es) ≡ t → false ≡ passes es (length es)
+      go true p = absurd (not_both (passes_at es (length es) i p h) (sym answer_at ∙ f))
+      go false p = sym p

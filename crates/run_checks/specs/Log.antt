@@ -1,16 +1,24 @@
 -- The log of a run, and demand 3's claim on it (document 01, "Group runs (demand 3)"; group's Claim.antt has the claim on runs). Events
 -- stand in their order: es has them, and the first n count.
 -- Assumes nothing.
-use Rattle.std.specs.Prelude.{◌≡◌, ◌↔◌, Bool, true, false, cond, ◌&&◌, ◌||◌, List, ℕ, zero, suc, ◌+◌, ◌<◌, min, eqb, ltb, get_or, set, replicate}
-use Rattle.run_checks.specs.declared.Before.{Before}
+use Rattle.std.specs.Prelude.{◌≡◌, ◌↔◌, Bool, true, false, cond, ◌&&◌, ◌||◌, List, [], ◌∷◌, ◌++◌, ℕ, zero, suc, ◌+◌, ◌<◌, eqb, ltb, get_or, length}
 use Rattle.run_checks.specs.declared.Event.{Event}
+use Rattle.run_checks.specs.declared.Kind.{Kind}
+use Rattle.run_checks.specs.declared.Kind.TheVariants.{Proposal, Commit}
 use Rattle.run_checks.specs.declared.Log.{Log}
 
 abbrev pub proposal_of : ℕ → ℕ → ℕ → Event
-proposal_of p s x = record { commit = false; member = p; slot = s; v = x }
+proposal_of p s x = record { kind = Proposal; member = p; slot = s; v = x }
 
 abbrev pub commit_of : ℕ → ℕ → ℕ → Event
-commit_of p s x = record { commit = true; member = p; slot = s; v = x }
+commit_of p s x = record { kind = Commit; member = p; slot = s; v = x }
+
+abbrev pub is_commit_kind : Kind → Bool
+is_commit_kind Proposal = false
+is_commit_kind Commit = true
+
+abbrev pub is_commit : Event → Bool
+is_commit x = is_commit_kind x.kind
 
 abbrev pub no_event : Event
 no_event = proposal_of 0 0 0
@@ -22,7 +30,7 @@ event_at es i = get_or es i no_event
 
 -- "A member's slot at a call is the number of commits that its earlier calls in the list handed back."
 abbrev pub is_commit_of : ℕ → Event → Bool
-is_commit_of p x = x.commit && eqb x.member p
+is_commit_of p x = is_commit x && eqb x.member p
 
 unfoldable pub slot_of : ℕ → List Event → ℕ → ℕ
 slot_of p es zero = 0
@@ -30,14 +38,14 @@ slot_of p es (suc i) = cond (is_commit_of p (event_at es i)) (slot_of p es i + 1
 
 -- the event at place i is a commit
 abbrev pub CommitAt : List Event → ℕ → ℕ → Type 0
-CommitAt es n i = (i < n) × ((event_at es i).commit ≡ true)
+CommitAt es n i = (i < n) × (is_commit (event_at es i) ≡ true)
 
 -- "A value counts as proposed in a slot where a proposal of it, not refused, was made to a member at that slot, in the very call that
 -- commits the value or in an earlier one." A call's proposal stands before its commit.
 pub record ProposedBefore (es : List Event) (i : ℕ) : Type 0 where
   pub at : ℕ
   pub earlier : at < i
-  pub proposal : (event_at es at).commit ≡ false
+  pub proposal : is_commit (event_at es at) ≡ false
   pub slot : (event_at es at).slot ≡ (event_at es i).slot
   pub v : (event_at es at).v ≡ (event_at es i).v
 
@@ -53,14 +61,14 @@ pub record LogClaim (es : List Event) (n : ℕ) : Type 0 where
 
 -- the commit e and an earlier event: where that is a commit of the slot, it has the value
 unfoldable pub agrees : Event → Event → Bool
-agrees e x = cond x.commit (cond (eqb x.slot e.slot) (eqb x.v e.v) true) true
+agrees e x = cond (is_commit x) (cond (eqb x.slot e.slot) (eqb x.v e.v) true) true
 
 -- the earlier event is a proposal of the commit's value in its slot
 abbrev pub is_same : Event → Event → Bool
 is_same e x = eqb x.slot e.slot && eqb x.v e.v
 
 unfoldable pub proposes : Event → Event → Bool
-proposes e x = cond x.commit false (is_same e x)
+proposes e x = cond (is_commit x) false (is_same e x)
 
 unfoldable pub all_agree : Event → List Event → ℕ → Bool
 all_agree e es zero = true
@@ -70,34 +78,22 @@ unfoldable pub one_proposes : Event → List Event → ℕ → Bool
 one_proposes e es zero = false
 one_proposes e es (suc i) = one_proposes e es i || proposes e (event_at es i)
 
--- what the first i events say of e
-abbrev pub before_of : Event → List Event → ℕ → Before
-before_of e es i = record { agree = all_agree e es i; proposed = one_proposes e es i; commits = slot_of e.member es i }
-
--- the same with the next event
-abbrev pub and_then : Before → Event → Event → Before
-and_then b e x =
-    record {
-      agree = b.agree && agrees e x;
-      proposed = b.proposed || proposes e x;
-      commits = cond (is_commit_of e.member x) (b.commits + 1) b.commits;
-    }
-
--- what they allow: each proposal, and a commit that agrees, was proposed, and is of its member's slot
-unfoldable pub allows : Before → Event → Bool
-allows b e = cond e.commit (cond b.agree (cond b.proposed (eqb b.commits e.slot) false) false) true
+-- what the first i events allow: each proposal, and a commit that agrees, was proposed, and is of its member's slot
+unfoldable pub allows : Event → List Event → ℕ → Bool
+allows e es i = cond (is_commit e) (all_agree e es i && one_proposes e es i && eqb (slot_of e.member es i) e.slot) true
 
 unfoldable pub passes : List Event → ℕ → Bool
 passes es zero = true
-passes es (suc i) = passes es i && allows (before_of (event_at es i) es i) (event_at es i)
+passes es (suc i) = passes es i && allows (event_at es i) es i
 
 -- ---- writing the log
 
 abbrev pub new_log : Log
-new_log = record { events = replicate 256 no_event; count = 0 }
+new_log = record { events = record { items = [] } }
 
+-- the log with one more event, where there is room for it
 unfoldable pub logged : Log → Event → Log
-logged l e = cond (ltb l.count 256) (record { events = set l.events l.count e; count = l.count + 1 }) l
+logged l e = cond (ltb (length l.events.items) 256) (record { events = record { items = l.events.items ++ e ∷ [] } }) l
 
 abbrev pub slot_in : Log → ℕ → ℕ
-slot_in l p = slot_of p l.events (min l.count 256)
+slot_in l p = slot_of p l.events.items (length l.events.items)

@@ -1,15 +1,15 @@
 -- Texts that are joined by blanks, one more at a time.
 -- Assumes nothing.
-use mathlib.Core.Path.{◌≡◌, refl, sym, ap, ◌∙◌}
+use mathlib.Core.Path.{◌≡◌, sym, ap, ◌∙◌}
 use mathlib.Core.Bool.{Bool, cond}
 use mathlib.Core.List.{List, [], ◌∷◌, ◌++◌, append_assoc, append-nil}
 use Prim.Native.Nat.{ℕ, zero, suc, ◌+◌, ◌<◌}
 use native.Mathlib.Nat.{not-suc-le-zero, le_of_suc-le-suc}
 use native.Mathlib.Numerals.{add-one}
-use native.Mathlib.Omega.{arith}
 use lib.Dec.{eqb-suc-zero}
 use lib.ListN.{length, take, get_or}
-use Rattle.texts.specs.Text.{Buffer, put, ascii, each}
+use Rattle.texts.specs.declared.Output.{Output}
+use Rattle.texts.specs.Text.{put, ascii, each}
 use Rattle.texts.proofs.Putting.{put_nothing, put_then}
 use Rattle.run_lines.specs.Lines.{joined_by_blanks, blank}
 
@@ -31,12 +31,12 @@ module _ {A : Type 0} where
       ∙ sym (append_assoc (text x) (each (λ y. ascii " " ++ text y) (take i xs)) (ascii " " ++ text (get_or xs i d)))
       ∙ ap (λ (t : Bool). (text x ++ each (λ y. ascii " " ++ text y) (take i xs)) ++ (cond t [] (ascii " ") ++ text (get_or xs i d))) (sym (eqb-suc-zero i))
 
-  pub joined_none : (text : A → List ℕ) (xs : List A) (p : Buffer) → p ≡ put (joined_by_blanks text (take 0 xs)) p
+  pub joined_none : (text : A → List ℕ) (xs : List A) (p : Output) → p ≡ put (joined_by_blanks text (take 0 xs)) p
   unfolding joined_by_blanks
   joined_none text xs p = sym (put_nothing p)
 
   -- the blank, and the text of the next one
-  pub joined_more : (text : A → List ℕ) (xs : List A) (i : ℕ) (d : A) (p : Buffer) {q r s : Buffer} → i < length xs → q ≡ put (joined_by_blanks text (take i xs)) p
+  pub joined_more : (text : A → List ℕ) (xs : List A) (i : ℕ) (d : A) (p : Output) {q r s : Output} → i < length xs → q ≡ put (joined_by_blanks text (take i xs)) p
       → r ≡ put (blank i) q → s ≡ put (text (get_or xs i d)) r → s ≡ put (joined_by_blanks text (take (i + 1) xs)) p
   joined_more text xs i d p h a b c =
       put_then (joined_by_blanks text (take i xs)) (blank i ++ text (get_or xs i d)) p a (put_then (blank i) (text (get_or xs i d)) _ b c)

@@ -2,7 +2,7 @@
 -- Assumes nothing.
 use Prim.Native.Nat.{ℕ, ◌+◌, ◌≤◌, ◌<◌}
 use mathlib.Core.Bool.{Bool, true, false, cond}
-use mathlib.Core.Path.{◌≡◌, refl, ◌∙◌}
+use mathlib.Core.Path.{◌≡◌, refl, ap, ◌∙◌}
 use mathlib.Core.List.{List, [], ◌∷◌, ◌++◌, append-nil}
 use native.Mathlib.Omega.{arith}
 use native.Mathlib.Numerals.{add-one}
@@ -14,8 +14,9 @@ use Rattle.read_tracker.specs.declared.ReadTracker.{ReadTracker}
 use Rattle.read_tracker.specs.declared.ReadTable.{ReadTable}
 use Rattle.serving.specs.declared.Tracked.{Tracked}
 use Rattle.read_tracker.specs.Reads.{has_quorum, after_commit, serve, open_places}
-use Rattle.serving.specs.Serving.{at_front, kept_by_commit, served_by_commit, commit_slot}
-use Rattle.serving.proofs.Lists.{front_push, front_later}
+use Rattle.places.specs.Places.{at_front}
+use Rattle.serving.specs.Serving.{kept_by_commit, served_by_commit, commit_slot}
+use Rattle.places.proofs.Lists.{front_push, front_later, front_length}
 
 cond_append : {A : Type 0} (b : Bool) (x y z : List A) → cond b x y ++ z ≡ cond b (x ++ z) (y ++ z)
 cond_append true x y z = refl
@@ -87,6 +88,17 @@ module _ {quorum slot n kept_count served_count i : ℕ} {places reads : List Op
         kept_within = omega (arith, h.kept_within);
         served_within = omega (arith, h.served_within);
       }
+
+-- the rows keep their lengths
+module _ {quorum slot n kept_count served_count i : ℕ} {places reads : List OpenRead} {served_places served : List ServedRead}
+    (h : Committed quorum slot places served_places n reads served kept_count served_count i) (fits : n ≤ 128) where
+  pub committed_reads : length places ≡ 128 → length reads ≡ 128
+  committed_reads long =
+      ap length h.reads_are ∙ front_length (kept_by_commit quorum (take i places)) places (omega (arith, h.kept_length, h.kept_within, h.within)) ∙ long
+
+  pub committed_served : length served_places ≡ 128 → length served ≡ 128
+  committed_served long =
+      ap length h.served_are ∙ front_length (served_by_commit quorum slot (take i places)) served_places (omega (arith, h.served_length, h.served_within, h.within)) ∙ long
 
 pub commit_start : {quorum slot : ℕ} {places : List OpenRead} {served_places : List ServedRead} {n : ℕ} → Committed quorum slot places served_places n places served_places 0 0 0
 unfolding at_front kept_by_commit served_by_commit

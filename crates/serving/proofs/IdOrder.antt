@@ -1,5 +1,6 @@
 -- The ids of the open reads rise, and stay below the next id. A response under another id changes nothing.
 -- Assumes nothing.
+use Rattle.std.specs.Prelude.{Ok}
 use Prim.Native.Nat.{ℕ, suc, ◌+◌, ◌≤◌, ◌<◌, min}
 use mathlib.Core.Bool.{Bool, true, false, cond}
 use mathlib.Core.Logic.{◌⊎◌, inl, inr}
@@ -19,10 +20,10 @@ use Rattle.read_tracker.specs.declared.ReadTracker.{ReadTracker}
 use Rattle.read_tracker.specs.declared.ReadTable.{ReadTable}
 use Rattle.serving.specs.declared.Tracked.{Tracked}
 use Rattle.read_tracker.specs.declared.Inserted.{Inserted}
-use Rattle.read_tracker.specs.declared.Opened.TheVariants.{Id}
 use Rattle.read_tracker.specs.Reads.{read_id, new_tracker, new_table, new_read, refused, inserted, insert, open_places, open_reads, after_response, after_commit}
-use Rattle.serving.specs.Serving.{at_front, served_reads, has_id, place, tracked, receive_ready, commit_slot}
-use Rattle.serving.proofs.Lists.{front_length}
+use Rattle.places.specs.Places.{at_front}
+use Rattle.serving.specs.Serving.{served_reads, has_id, place, tracked, receive_ready, commit_slot}
+use Rattle.places.proofs.Lists.{front_length}
 use Rattle.serving.proofs.Responses.{receive_unknown}
 use Rattle.serving.proofs.NothingLost.{Parted, nothing, keeps, serves, parted_length, KeptByReady, commit_loses_nothing, ready_loses_nothing, after_commit_same, after_response_same}
 
@@ -181,7 +182,7 @@ module _ (tracker : ReadTracker) (table : ReadTable) (tag arrival : ℕ) (local 
           })
 
   -- the id that is given is the next one, above those of all open reads
-  pub insert_next_id : InOrder tracker table → (id : ReadId) → (insert tracker table tag arrival local).opened ≡ Id id
+  pub insert_next_id : InOrder tracker table → (id : ReadId) → (insert tracker table tag arrival local).opened ≡ Ok id
       → (id ≡ read_id tracker.next_id) × ((m : ℕ) → Memᴰ m (ids (open_reads tracker table)) → m < id.0)
   insert_next_id o id e = go insert_cases
     where

@@ -1,4 +1,3 @@
-pub mod Lists
 pub mod Responses
 pub mod Commits
 pub mod NothingLost

@@ -7,7 +7,8 @@ use Rattle.message.specs.declared.ReadId.{ReadId}
 use Rattle.read_tracker.specs.declared.ReadTracker.{ReadTracker}
 use Rattle.read_tracker.specs.declared.ReadTable.{ReadTable}
 use Rattle.serving.specs.declared.Tracked.{Tracked}
-use Rattle.serving.specs.Serving.{at_front, kept_by_ready, served_by_ready, kept_by_commit, served_by_commit, receive_ready, commit_slot}
+use Rattle.places.specs.Places.{at_front}
+use Rattle.serving.specs.Serving.{kept_by_ready, served_by_ready, kept_by_commit, served_by_commit, receive_ready, commit_slot}
 
 -- tracker and table as they are, and none served
 abbrev pub untouched : ReadTracker → ReadTable → Tracked

@@ -10,7 +10,8 @@ use Rattle.read_tracker.specs.declared.ServedRead.{ServedRead}
 use Rattle.read_tracker.specs.declared.Inserted.{Inserted}
 use Rattle.serving.specs.declared.Tracked.{Tracked}
 use Rattle.read_tracker.specs.Reads.{read_id, new_tracker, new_table, new_read, insert, open_reads, has_quorum, serve, after_response, after_commit}
-use Rattle.serving.specs.Serving.{served_reads, kept_by_ready, served_by_ready, kept_by_commit, served_by_commit, at_front, receive_ready, commit_slot}
+use Rattle.places.specs.Places.{at_front}
+use Rattle.serving.specs.Serving.{served_reads, kept_by_ready, served_by_ready, kept_by_commit, served_by_commit, receive_ready, commit_slot}
 
 module _ (tag arrival : ℕ) where
   -- the first read of a new shard, with the own answer

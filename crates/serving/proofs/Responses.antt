@@ -1,4 +1,4 @@
--- The search of `find`, and what a response does to the open reads.
+-- Where a response finds its read, and what it does to the open reads.
 -- Assumes nothing.
 use Prim.Native.Nat.{ℕ, suc, ◌+◌, ◌-◌, ◌≤◌, ◌<◌}
 use mathlib.Core.Bool.{Bool, true, false, cond}
@@ -6,42 +6,64 @@ use mathlib.Core.Path.{◌≡◌, refl, ◌∙◌}
 use mathlib.Core.List.{List, [], ◌∷◌}
 use mathlib.Core.Logic.{◌⊎◌, inl, inr}
 use Rattle.basics.proofs.Tests.{either}
+use Rattle.std.proofs.Common.{Some, None, add_comm}
+use Rattle.std.proofs.lemmas.Bool.Decides.{nat_tests}
+use Rattle.std.specs.List.{position, position_or_len}
+use Rattle.std.proofs.lemmas.List.Recursion.{is_position_or_len}
+use Rattle.std.proofs.lemmas.List.Sums.{position_or_len_is}
+use native.Mathlib.Nat.{eq-or-lt_of_le}
+use borrow.Author.Tests.{lt-ltb, le-ltb}
 use native.Mathlib.Omega.{arith}
 use native.Mathlib.Numerals.{add-one}
-use lib.ListN.{length, get_or, set, take, drop, length-take, length-set, drop_of_length-le}
-use lib.Seq.{drop-cons, get_or-take}
+use lib.ListN.{length, get_or, set, take, length-take, length-set}
+use lib.Seq.{get_or-take}
 use Rattle.message.specs.declared.ReadId.{ReadId}
 use Rattle.read_tracker.specs.declared.OpenRead.{OpenRead}
 use Rattle.read_tracker.specs.declared.ServedRead.{ServedRead}
 use Rattle.read_tracker.specs.declared.ReadTracker.{ReadTracker}
 use Rattle.read_tracker.specs.declared.ReadTable.{ReadTable}
 use Rattle.serving.specs.declared.Tracked.{Tracked}
-use Rattle.read_tracker.specs.Reads.{has_quorum, after_response, serve, open_places, open_reads}
-use Rattle.serving.specs.Serving.{at_front, without, place, has_id, kept_by_ready, served_by_ready, receive_ready}
-use Rattle.serving.proofs.Lists.{front_none, front_first, front_own, front_set, without_length}
+use Rattle.read_tracker.specs.Reads.{new_read, has_quorum, after_response, serve, open_places, open_reads}
+use Rattle.places.specs.Places.{at_front, without}
+use Rattle.serving.specs.Serving.{place, has_id, kept_by_ready, served_by_ready, receive_ready}
+use Rattle.places.proofs.Lists.{front_none, front_first, front_own, front_set, without_length}
 
--- the search of `find` among the first n places: the read is not among the first i
-module _ (id : ReadId) (places : List OpenRead) (n i : ℕ) (d : OpenRead) (more : i < n) (fits : n ≤ 128) (long : length places ≡ 128)
-    (at : place id (take n places) ≡ i + place id (drop i (take n places))) where
-  next : drop i (take n places) ≡ get_or places i d ∷ drop (i + 1) (take n places)
-  next = rw add-one (drop-cons (take n places) i d (rw length-take (omega arith)) ∙ simp (get_or-take n places i d more))
+-- the search of `find`: none of the first i reads has the id
+abbrev pub NoneBefore : ReadId → List OpenRead → ℕ → Type 0
+NoneBefore id l i = (k : ℕ) (d : OpenRead) → k < i → has_id id (get_or l k d) ≡ false
 
-  pub search_found : has_id id (get_or places i d) ≡ true → place id (take n places) ≡ i
-  unfolding place
-  search_found t = at ∙ simp (next, t) (omega arith)
+pub search_more : (id : ReadId) (l : List OpenRead) (i : ℕ) (r : OpenRead) → ((d : OpenRead) → r ≡ get_or l i d) → has_id id r ≡ false → NoneBefore id l i → NoneBefore id l (i + 1)
+search_more id l i r is t before k d h = go (eq-or-lt_of_le (omega arith))
+  where
+    go : (k ≡ i) ⊎ (k < i) → has_id id (get_or l k d) ≡ false
+    go (inl e) = rw e (rw (← is d) t)
+    go (inr m) = before k d m
 
-  pub search_more : has_id id (get_or places i d) ≡ false → place id (take n places) ≡ (i + 1) + place id (drop (i + 1) (take n places))
-  unfolding place
-  search_more t =
-      let one : place id (drop i (take n places)) ≡ suc (place id (drop (i + 1) (take n places))) = simp (next, t) in
-      omega arith
+module _ (id : ReadId) (l : List OpenRead) (m i : ℕ) (fits : m ≤ length l) (before : NoneBefore id l i) where
+  pub search_found : (r : OpenRead) → ((d : OpenRead) → r ≡ get_or l i d) → has_id id r ≡ true → i < m → Some i ≡ position (has_id id) (take m l)
+  search_found r is t h =
+      let long : length (take m l) ≡ m = length-take m l ∙ omega arith in
+      let at : position_or_len (has_id id) (take m l) ≡ i =
+      position_or_len_is (has_id id) (take m l) i r (omega arith) (λ k j. rw (get_or-take m l k r (omega arith)) (before k r j)) (λ j. rw (get_or-take m l i r h) (rw (← is r) t)) in
+      simp (at, long, lt-ltb i m h)
 
-pub search_none : (id : ReadId) (places : List OpenRead) (n i : ℕ) → i ≤ n → n ≤ i → place id (take n places) ≡ i + place id (drop i (take n places)) → n ≡ place id (take n places)
+  pub search_none : m ≤ i → None ≡ position (has_id id) (take m l)
+  search_none h =
+      let long : length (take m l) ≡ m = length-take m l ∙ omega arith in
+      let at : position_or_len (has_id id) (take m l) ≡ m =
+      position_or_len_is (has_id id) (take m l) m (new_read id 0 0 false) (omega arith) (λ k j. rw (get_or-take m l k (new_read id 0 0 false) j) (before k (new_read id 0 0 false) (omega arith))) (λ j. absurd (omega arith)) in
+      simp (at, long, le-ltb m m (omega arith))
+
+-- the place of a read is where `position` finds it
+place_is_position : (id : ReadId) (l : List OpenRead) → place id l ≡ position_or_len (has_id id) l
 unfolding place
-search_none id places n i k h at =
-    let none : drop i (take n places) ≡ [] = drop_of_length-le (take n places) {i = i} (rw length-take (omega arith)) in
-    let z : place id (drop i (take n places)) ≡ 0 = simp none in
-    omega arith
+place_is_position id l = is_position_or_len (place id) (has_id id) refl (λ r rs. simp (add_comm 1 (place id rs), add-one)) l
+
+pub position_found : (id : ReadId) (l : List OpenRead) (at : ℕ) → position (has_id id) l ≡ Some at → (at ≡ place id l) × (at < length l)
+position_found id l at e = let p = place_is_position id l in (grind (arith, nat_tests), grind (arith, nat_tests))
+
+pub position_none : (id : ReadId) (l : List OpenRead) → position (has_id id) l ≡ None → length l ≤ place id l
+position_none id l e = let p = place_is_position id l in grind (arith, nat_tests)
 
 -- no open read has the id: nothing changes
 abbrev pub Unknown : ReadId → ℕ → ℕ → Bool → List OpenRead → Type 0
@@ -135,3 +157,16 @@ module _ (tracker : ReadTracker) (table : ReadTable) (id : ReadId) (quorum slot 
         let places : set table.served 0 v ≡ at_front (v ∷ []) table.served = front_first table.served v (omega arith) in
         let fewer : length (without at (take n table.reads)) ≡ n - 1 = omega (arith, without_length table.reads at n h (omega arith)) in
         simp (kept, one, e, places, fewer)
+
+-- the search among the first n places is one among the open reads
+module _ (tracker : ReadTracker) (reads : List OpenRead) (id : ReadId) (n : ℕ) (count : n ≡ open_places tracker) (long : length reads ≡ 128) where
+  open_length : length (take (open_places tracker) reads) ≡ n
+  open_length = length-take (open_places tracker) reads ∙ omega arith
+
+  pub found_at : (at : ℕ) → position (has_id id) (take n reads) ≡ Some at → (at ≡ place id (take (open_places tracker) reads)) × (at < n)
+  found_at at e =
+      let p : _ = position_found id (take (open_places tracker) reads) at (rw count at e) in
+      (p.0, omega (arith, p.1, open_length))
+
+  pub found_none : position (has_id id) (take n reads) ≡ None → n ≤ place id (take (open_places tracker) reads)
+  found_none e = omega (arith, position_none id (take (open_places tracker) reads) (rw count at e), open_length)

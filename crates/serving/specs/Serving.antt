@@ -1,13 +1,15 @@
 -- What a response and a commit do with the open reads (document 01, "Read"; the Rust's consensus/read_tracker.rs), as lists in the order
 -- of the ids.
 -- Assumes nothing.
-use Rattle.std.specs.Prelude.{ℕ, suc, Bool, false, cond, List, [], ◌∷◌, ◌++◌, eqb, length, take, drop}
+use Rattle.std.specs.Prelude.{ℕ, suc, Bool, false, cond, List, [], ◌∷◌, eqb, length, take}
 use Rattle.message.specs.declared.ReadId.{ReadId}
 use Rattle.read_tracker.specs.Reads.{open_reads, after_response, after_commit, has_quorum, serve}
 use Rattle.read_tracker.specs.declared.OpenRead.{OpenRead}
 use Rattle.read_tracker.specs.declared.ServedRead.{ServedRead}
 use Rattle.read_tracker.specs.declared.ReadTracker.{ReadTracker}
 use Rattle.read_tracker.specs.declared.ReadTable.{ReadTable}
+use Rattle.places.specs.Places.{at_front}
+use Rattle.serving.specs.declared.Counted.{Counted}
 use Rattle.serving.specs.declared.Tracked.{Tracked}
 
 -- whether the read is the one of that id
@@ -38,15 +40,6 @@ served_by_commit quorum slot [] = []
 served_by_commit quorum slot (r ∷ rs) =
     cond (has_quorum quorum (after_commit r)) (serve slot false (after_commit r) ∷ served_by_commit quorum slot rs) (served_by_commit quorum slot rs)
 
-module _ {A : Type 0} where
-  -- the list l in the first places, the others as they were
-  unfoldable pub at_front : List A → List A → List A
-  at_front l places = l ++ drop (length l) places
-
-  -- the list without the element at n
-  unfoldable pub without : ℕ → List A → List A
-  without n l = take n l ++ drop (suc n) l
-
 -- tracker and table once these reads are kept and those served
 abbrev pub tracked : ReadTracker → ReadTable → List OpenRead → List ServedRead → Tracked
 tracked tracker table kept served =
@@ -55,6 +48,10 @@ tracked tracker table kept served =
       table = record { reads = at_front kept table.reads; served = at_front served table.served };
       served_count = length served;
     }
+
+-- what a call leaves: the tracker and the count that it hands back, with the reads in their places
+abbrev pub with_table : Counted → List OpenRead → List ServedRead → Tracked
+with_table r opened served = record { tracker = r.tracker; table = record { reads = opened; served = served }; served_count = r.served_count }
 
 -- the reads that a call served
 abbrev pub served_reads : Tracked → List ServedRead

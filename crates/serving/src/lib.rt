@@ -2,14 +2,24 @@
 // `receive_ready` and `commit_slot`.
 #![tactic(auto)]
 
-ghost use Rattle.std.specs.Prelude.{◌≡◌, ◌<◌, ◌≤◌, take};
-ghost use Rattle.read_tracker.specs.Reads.{open_reads};
-ghost use Rattle.serving.specs.Serving.{place, without, at_front, receive_ready, commit_slot};
+ghost use Rattle.std.specs.Prelude.{ℕ, List, ◌≡◌, ◌<◌, ◌≤◌, length, position, slice_index_or, slice_set, take};
+ghost use Rattle.places.specs.Places.{at_front, without};
+ghost use Rattle.read_tracker.specs.declared.OpenRead.{OpenRead};
+ghost use Rattle.read_tracker.specs.declared.ServedRead.{ServedRead};
+ghost use Rattle.serving.specs.Serving.{has_id, with_table, receive_ready, commit_slot};
 
 use message::ReadId;
-use read_tracker::{OpenRead, ReadTable, ReadTracker};
+use places::remove_at;
+use read_tracker::{OpenRead, ReadTable, ReadTracker, ServedRead};
 
-// Tracker and table after a response or a commit, with the number of reads that it served.
+// The tracker after a response or a commit, with the number of reads that it served, which stand in the first places of the served ones.
+#[derive(Clone, Copy)]
+pub struct Counted {
+    pub tracker: ReadTracker,
+    pub served_count: u64,
+}
+
+// The same with the table.
 #[derive(Clone, Copy)]
 pub struct Tracked {
     pub tracker: ReadTracker,
@@ -17,38 +27,137 @@ pub struct Tracked {
     pub served_count: u64,
 }
 
-// The place of the first of the open reads that has this id, or their number where none has it.
-fn find(tracker: ReadTracker, table: ReadTable, id: ReadId) -> usize
-    ensures { result ≡ place id (open_reads tracker table) }
+impl Counted {
+    fn with_table(self, table: ReadTable) -> Tracked
+        ensures { result ≡ with_table self table.reads table.served }
+    {
+        Tracked {
+            tracker: self.tracker,
+            table,
+            served_count: self.served_count,
+        }
+    }
+}
+
+// A row of open reads, whatever it is made of.
+pub trait OpenReads {
+    ghost reads: { Self → List OpenRead };
+
+    // What a row that lends its places keeps: the reference that it holds.
+    ghost lent: { Self → ℕ };
+
+    fn get(&self, at: usize) -> OpenRead
+        requires { at < length (reads self.now) }
+        ensures { (d : OpenRead) → result ≡ slice_index_or (reads self.now) at d };
+
+    fn put(&mut self, at: usize, read: OpenRead)
+        requires { at < length (reads self.old) }
+        ensures reads { reads self.new ≡ slice_set (reads self.old) at read }
+        ensures same_reference { lent self.new ≡ lent self.old };
+
+    // The first `places` reads without the one at place `at`: the later ones move one place down.
+    fn remove(&mut self, at: usize, places: usize)
+        requires { (at < places) × (places ≤ length (reads self.old)) }
+        ensures reads { reads self.new ≡ at_front (without at (take places (reads self.old))) (reads self.old) }
+        ensures same_reference { lent self.new ≡ lent self.old };
+}
+
+// A row of served reads, whatever it is made of.
+pub trait ServedReads {
+    ghost served: { Self → List ServedRead };
+
+    ghost lent: { Self → ℕ };
+
+    fn put_served(&mut self, at: usize, read: ServedRead)
+        requires { at < length (served self.old) }
+        ensures served { served self.new ≡ slice_set (served self.old) at read }
+        ensures same_reference { lent self.new ≡ lent self.old };
+}
+
+impl OpenReads for [OpenRead; 128] {
+    ghost reads = { λ l. l };
+
+    ghost lent = { λ _. 0 };
+
+    fn get(&self, at: usize) -> OpenRead {
+        self[at]
+    }
+
+    fn put(&mut self, at: usize, read: OpenRead) {
+        self[at] = read;
+    }
+
+    fn remove(&mut self, at: usize, places: usize) {
+        remove_at(self, at, places);
+    }
+}
+
+impl ServedReads for [ServedRead; 128] {
+    ghost served = { λ l. l };
+
+    ghost lent = { λ _. 0 };
+
+    fn put_served(&mut self, at: usize, read: ServedRead) {
+        self[at] = read;
+    }
+}
+
+// The place of the first of the open reads that has this id. By index: a row of reads lends no slice of them.
+fn find<O: OpenReads>(open: &O, open_places: usize, id: ReadId) -> Option<usize>
+    requires { open_places ≤ length (O.reads «open».now) }
+    ensures { result ≡ position (has_id id) (take open_places (O.reads «open».now)) }
+{
+    for i in 0..open_places {
+        if open.get(i).id.0 == id.0 {
+            return Some(i);
+        }
+    }
+    None
+}
+
+// One response, to reads that stand in rows that are lent. `fast` says whether this one completed the quorum the moment it arrived.
+pub fn receive_ready_in<O: OpenReads, S: ServedReads>(
+    open: &mut O,
+    served: &mut S,
+    mut tracker: ReadTracker,
+    id: ReadId,
+    read_quorum: u64,
+    slot: u64,
+    fast: bool,
+) -> Counted
+    requires { (length (O.reads «open».old) ≡ 128) × (length (S.served served.old) ≡ 128) }
+    ensures same_open { O.lent «open».new ≡ O.lent «open».old }
+    ensures same_served { S.lent served.new ≡ S.lent served.old }
+    ensures answer { with_table result (O.reads «open».new) (S.served served.new) ≡ receive_ready tracker (record { reads = O.reads «open».old; served = S.served served.old }) id read_quorum slot fast }
 {
     let open_places = tracker.open_places();
-    let mut i: usize = 0;
-    while i < open_places {
-        let read = table.reads[i];
-        if read.id.0 == id.0 {
-            return i;
-        }
-        i += 1;
+    tracker.open_count = open_places as u64;
+    let Some(at) = find(open, open_places, id) else {
+        return Counted {
+            tracker,
+            served_count: 0,
+        };
+    };
+    let read = open.get(at).after_response();
+    if read.has_quorum(read_quorum) {
+        open.remove(at, open_places);
+        served.put_served(0, read.serve(slot, fast));
+        tracker.open_count -= 1;
+        return Counted {
+            tracker,
+            served_count: 1,
+        };
     }
-    open_places
+    open.put(at, read);
+    Counted {
+        tracker,
+        served_count: 0,
+    }
 }
 
-// The first `open_places` reads without the one at place `at`: the later ones move one place down.
-fn remove(mut reads: [OpenRead; 128], at: usize, open_places: usize) -> [OpenRead; 128]
-    requires { (at < open_places) × (open_places ≤ 128) }
-    ensures { result ≡ at_front (without at (take open_places reads)) reads }
-{
-    let mut i = at + 1;
-    while i < open_places {
-        reads[i - 1] = reads[i];
-        i += 1;
-    }
-    reads
-}
-
-// One response. `fast` says whether this one completed the quorum the moment it arrived.
+// One response.
 pub fn receive_ready(
-    mut tracker: ReadTracker,
+    tracker: ReadTracker,
     mut table: ReadTable,
     id: ReadId,
     read_quorum: u64,
@@ -57,65 +166,68 @@ pub fn receive_ready(
 ) -> Tracked
     ensures { result ≡ receive_ready tracker table id read_quorum slot fast }
 {
-    let open_places = tracker.open_places();
-    let at = find(tracker, table, id);
-    tracker.open_count = open_places as u64;
-    if at >= open_places {
-        return Tracked {
-            tracker,
-            table,
-            served_count: 0,
-        };
-    }
-    let read = table.reads[at].after_response();
-    if read.has_quorum(read_quorum) {
-        let reads = remove(table.reads, at, open_places);
-        table.reads = reads;
-        table.served[0] = read.serve(slot, fast);
-        let left = open_places - 1;
-        tracker.open_count = left as u64;
-        return Tracked {
-            tracker,
-            table,
-            served_count: 1,
-        };
-    }
-    table.reads[at] = read;
-    Tracked {
+    let counted = receive_ready_in(
+        &mut table.reads,
+        &mut table.served,
         tracker,
-        table,
-        served_count: 0,
-    }
+        id,
+        read_quorum,
+        slot,
+        fast,
+    );
+    counted.with_table(table)
 }
 
 // The reads that the newly committed slot has made ready are served in the order of their ids. No answer completed their quorum as it
 // arrived, so none of them is fast. The others move to the front.
-pub fn commit_slot(tracker: ReadTracker, table: ReadTable, read_quorum: u64, slot: u64) -> Tracked
-    ensures { result ≡ commit_slot tracker table read_quorum slot }
+pub fn commit_slot_in<O: OpenReads, S: ServedReads>(
+    open: &mut O,
+    served: &mut S,
+    tracker: ReadTracker,
+    read_quorum: u64,
+    slot: u64,
+) -> Counted
+    requires { (length (O.reads «open».old) ≡ 128) × (length (S.served served.old) ≡ 128) }
+    ensures same_open { O.lent «open».new ≡ O.lent «open».old }
+    ensures same_served { S.lent served.new ≡ S.lent served.old }
+    ensures answer { with_table result (O.reads «open».new) (S.served served.new) ≡ commit_slot tracker (record { reads = O.reads «open».old; served = S.served served.old }) read_quorum slot }
 {
-    let open_places = tracker.open_places();
-    let mut reads = table.reads;
-    let mut served = table.served;
     let mut kept_count: usize = 0;
     let mut served_count: usize = 0;
-    let mut i: usize = 0;
-    while i < open_places {
-        let read = reads[i].after_commit();
-        i += 1;
+    let open_places = tracker.open_places();
+    for i in 0..open_places {
+        let read = open.get(i).after_commit();
         if read.has_quorum(read_quorum) {
-            served[served_count] = read.serve(slot, false);
+            served.put_served(served_count, read.serve(slot, false));
             served_count += 1;
         } else {
-            reads[kept_count] = read;
+            open.put(kept_count, read);
             kept_count += 1;
         }
     }
-    Tracked {
+    Counted {
         tracker: ReadTracker {
             next_id: tracker.next_id,
             open_count: kept_count as u64,
         },
-        table: ReadTable { reads, served },
         served_count: served_count as u64,
     }
+}
+
+pub fn commit_slot(
+    tracker: ReadTracker,
+    mut table: ReadTable,
+    read_quorum: u64,
+    slot: u64,
+) -> Tracked
+    ensures { result ≡ commit_slot tracker table read_quorum slot }
+{
+    let counted = commit_slot_in(
+        &mut table.reads,
+        &mut table.served,
+        tracker,
+        read_quorum,
+        slot,
+    );
+    counted.with_table(table)
 }

@@ -4,13 +4,6 @@
 ghost use Rattle.std.specs.Prelude.{◌≡◌};
 ghost use Rattle.sets.specs.Sets.{contains, insert, size, fits, is_empty};
 
-// The Rust's Option<BitSet>.
-#[derive(Clone, Copy)]
-pub enum OptionalSet {
-    NoSet,
-    Set(u64),
-}
-
 // Whether process p is in s. No process number is above 63.
 pub fn contains(s: u64, p: u64) -> bool
     ensures { result ≡ contains s p }

@@ -1,14 +1,12 @@
 -- What the engine asks of the settings (the Rust's ConsensusShard and PaxosFamilyShard: replica, the delegates, get_committer,
 -- starting_round).
 -- Assumes nothing.
-use Rattle.std.specs.Prelude.{Bool, cond, List, ℕ}
+use Rattle.std.specs.Prelude.{Bool, cond, List, ℕ, Option, None, Some}
+use Rattle.message.specs.declared.PaxosRound.{PaxosRound}
 use Rattle.sets.specs.Sets.{contains}
 use Rattle.tables.specs.Tables.{look_up}
 use Rattle.message.specs.Modes.{is_swift_paxos}
 use Rattle.message.specs.Rounds.{starting_round}
-use Rattle.message.specs.declared.OptionalProcess.{OptionalProcess}
-use Rattle.message.specs.declared.OptionalProcess.TheVariants.{NoProcess, Process}
-use Rattle.message.specs.declared.OptionalRound.{OptionalRound}
 use Rattle.message.specs.declared.PFMode.{PFMode}
 use Rattle.message.specs.declared.PFMode.TheVariants.{Paxos, MultiPaxos, MultiPaxos3P, EPaxos, Pando, SwiftPaxos}
 use Rattle.quorum.specs.Quorum.{row_of}
@@ -39,16 +37,16 @@ abbrev pub delegate_of : Settings → PFMode → ℕ → ℕ
 delegate_of s mode leader = delegate_in s.delegates mode leader
 
 -- the committer of a requester, where there is a requester
-unfoldable pub committer_for : List ℕ → OptionalProcess → OptionalProcess
-committer_for committers NoProcess = NoProcess
-committer_for committers (Process p) = Process (look_up committers p)
+unfoldable pub committer_for : List ℕ → Option ℕ → Option ℕ
+committer_for committers None = None
+committer_for committers (Some p) = Some (look_up committers p)
 
 -- get_committer, with the requester that the host names for the value; the table counts where the settings have committers
-unfoldable pub committer_in : Bool → List ℕ → PFMode → OptionalProcess → OptionalProcess
-committer_in given committers mode requester = cond given (committer_for committers requester) (cond (is_swift_paxos mode) requester NoProcess)
+unfoldable pub committer_in : Bool → List ℕ → PFMode → Option ℕ → Option ℕ
+committer_in given committers mode requester = cond given (committer_for committers requester) (cond (is_swift_paxos mode) requester None)
 
-abbrev pub committer_of : Settings → OptionalProcess → OptionalProcess
+abbrev pub committer_of : Settings → Option ℕ → Option ℕ
 committer_of s requester = committer_in s.has_committers s.committers s.mode requester
 
-abbrev pub starting_round_of : Settings → OptionalRound
+abbrev pub starting_round_of : Settings → Option PaxosRound
 starting_round_of s = starting_round s.mode s.first_leader

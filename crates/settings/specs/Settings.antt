@@ -1,12 +1,10 @@
 -- The limits of the settings (document 01, "Group settings" and row 1 of its table of refusals).
 -- Assumes nothing.
-use Rattle.std.specs.Prelude.{Bool, true, cond, ◌&&◌, ℕ, ltb, leb}
+use Rattle.std.specs.Prelude.{Bool, true, cond, ◌&&◌, ℕ, ltb, leb, Option, None, Some}
 use Rattle.sets.specs.Sets.{size, fits}
 use Rattle.tables.specs.Tables.{all_below}
 use Rattle.message.specs.declared.PFMode.{PFMode}
 use Rattle.message.specs.declared.PFMode.TheVariants.{Paxos, MultiPaxos, MultiPaxos3P, EPaxos, Pando, SwiftPaxos}
-use Rattle.sets.specs.declared.OptionalSet.{OptionalSet}
-use Rattle.sets.specs.declared.OptionalSet.TheVariants.{NoSet, Set}
 use Rattle.settings.specs.declared.Settings.{Settings}
 
 -- "Processes 1 to 64; replica count 1 to processes"
@@ -25,9 +23,9 @@ members_fit s =
 unfoldable pub committers_fit : Settings → Bool
 committers_fit s = cond s.has_committers (all_below s.committers s.process_count) true
 
-unfoldable pub quorum_fits : OptionalSet → ℕ → Bool
-quorum_fits NoSet count = true
-quorum_fits (Set s) count = fits s count
+unfoldable pub quorum_fits : Option ℕ → ℕ → Bool
+quorum_fits None count = true
+quorum_fits (Some s) count = fits s count
 
 -- "Pando has a delegate per process. SwiftPaxos may have a fixed quorum set." What a mode does not have is not tested.
 unfoldable pub mode_fits : Settings → PFMode → Bool

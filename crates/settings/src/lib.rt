@@ -5,9 +5,8 @@ ghost use Rattle.std.specs.Prelude.{◌≡◌};
 ghost use Rattle.settings.specs.Settings.{counts_fit, members_fit, committers_fit, quorum_fits, mode_fits, within_limits};
 ghost use Rattle.settings.specs.Questions.{quorums_of, is_replica, is_live_replica, delegate_in, committer_for, committer_in, starting_round_of};
 
-use message::{OptionalProcess, OptionalRound, PFMode, PaxosRound};
+use message::{PFMode, PaxosRound};
 use quorum::QuorumRow;
-use sets::OptionalSet;
 
 // The tables have a place for each process. Committers are given for all processes or for none, as in the Rust;
 // delegates count in Pando alone, and the fixed quorum in SwiftPaxos alone.
@@ -19,7 +18,7 @@ pub struct Settings {
     pub alive_replicas: u64,
     pub first_leader: u64,
     pub mode: PFMode,
-    pub quorum: OptionalSet,
+    pub quorum: Option<u64>,
     pub has_committers: bool,
     pub committers: [u64; 64],
     pub delegates: [u64; 64],
@@ -27,35 +26,31 @@ pub struct Settings {
 
 // The delegate of a leader: in Pando that of the table, and else the leader itself. The tables are lent, here and below, since a host keeps them in
 // memory of its own.
+#[tactic(auto, unfolding(crate::specs::Questions::delegate_in))]
 pub fn delegate_in(delegates: &[u64; 64], mode: PFMode, leader: u64) -> u64
     ensures { result ≡ delegate_in delegates.now mode leader }
 {
     match mode {
-        PFMode::Paxos => leader,
-        PFMode::MultiPaxos => leader,
-        PFMode::MultiPaxos3P => leader,
-        PFMode::EPaxos => leader,
-        PFMode::Pando => tables::look_up_in(delegates, leader),
-        PFMode::SwiftPaxos => leader,
+        PFMode::Pando => tables::look_up(delegates, leader),
+        _ => leader,
     }
 }
 
-fn committer_for(committers: &[u64; 64], requester: OptionalProcess) -> OptionalProcess
+#[tactic(auto, unfolding(crate::specs::Questions::committer_for))]
+fn committer_for(committers: &[u64; 64], requester: Option<u64>) -> Option<u64>
     ensures { result ≡ committer_for committers.now requester }
 {
-    match requester {
-        OptionalProcess::NoProcess => OptionalProcess::NoProcess,
-        OptionalProcess::Process(p) => OptionalProcess::Process(tables::look_up_in(committers, p)),
-    }
+    requester.map(|p| tables::look_up(committers, p))
 }
 
 // The process that commits a value by the settings, from the value's requester.
+#[tactic(auto, unfolding(crate::specs::Questions::committer_in))]
 pub fn committer_in(
     given: bool,
     committers: &[u64; 64],
     mode: PFMode,
-    requester: OptionalProcess,
-) -> OptionalProcess
+    requester: Option<u64>,
+) -> Option<u64>
     ensures { result ≡ committer_in given committers.now mode requester }
 {
     if given {
@@ -64,91 +59,66 @@ pub fn committer_in(
     if mode.is_swift_paxos() {
         return requester;
     }
-    OptionalProcess::NoProcess
+    None
 }
 
-fn quorum_fits(quorum: OptionalSet, count: u64) -> bool
+#[tactic(auto, unfolding(crate::specs::Settings::quorum_fits))]
+fn quorum_fits(quorum: Option<u64>, count: u64) -> bool
     ensures { result ≡ quorum_fits quorum count }
 {
-    match quorum {
-        OptionalSet::NoSet => true,
-        OptionalSet::Set(s) => sets::fits(s, count),
-    }
+    quorum.is_none_or(|s| sets::fits(s, count))
 }
 
 impl Settings {
     // 1 to 64 processes, and 1 to as many replicas.
+    #[tactic(auto, unfolding(crate::specs::Settings::counts_fit))]
     fn counts_fit(self) -> bool
         ensures { result ≡ counts_fit self }
     {
-        if self.process_count < 1 {
-            return false;
-        }
-        if self.process_count > 64 {
-            return false;
-        }
-        if self.replica_count < 1 {
-            return false;
-        }
-        self.replica_count <= self.process_count
+        1 <= self.process_count
+            && self.process_count <= 64
+            && 1 <= self.replica_count
+            && self.replica_count <= self.process_count
     }
 
     // The own number, the first leader and the live set are below the process count, and the live set is no larger than the replica count.
+    #[tactic(auto, unfolding(crate::specs::Settings::members_fit))]
     fn members_fit(self) -> bool
         ensures { result ≡ members_fit self }
     {
-        if self.my_pid >= self.process_count {
-            return false;
-        }
-        if self.first_leader >= self.process_count {
-            return false;
-        }
-        if !sets::fits(self.alive_replicas, self.process_count) {
-            return false;
-        }
-        sets::size(self.alive_replicas) <= self.replica_count
+        self.my_pid < self.process_count
+            && self.first_leader < self.process_count
+            && sets::fits(self.alive_replicas, self.process_count)
+            && sets::size(self.alive_replicas) <= self.replica_count
     }
 
+    #[tactic(auto, unfolding(crate::specs::Settings::committers_fit))]
     fn committers_fit(self) -> bool
         ensures { result ≡ committers_fit self }
     {
         if self.has_committers {
-            let committers = self.committers;
-            return tables::all_below(committers, self.process_count);
+            return tables::all_below(&self.committers, self.process_count);
         }
         true
     }
 
+    #[tactic(auto, unfolding(crate::specs::Settings::mode_fits))]
     fn mode_fits(self) -> bool
         ensures { result ≡ mode_fits self self.mode }
     {
-        let mode = self.mode;
-        let quorum = self.quorum;
-        let delegates = self.delegates;
-        match mode {
-            PFMode::Paxos => true,
-            PFMode::MultiPaxos => true,
-            PFMode::MultiPaxos3P => true,
-            PFMode::EPaxos => true,
-            PFMode::Pando => tables::all_below(delegates, self.process_count),
-            PFMode::SwiftPaxos => quorum_fits(quorum, self.process_count),
+        match self.mode {
+            PFMode::Pando => tables::all_below(&self.delegates, self.process_count),
+            PFMode::SwiftPaxos => quorum_fits(self.quorum, self.process_count),
+            _ => true,
         }
     }
 
     // Whether the settings are within the limits; where they are not, no shard is made of them.
+    #[tactic(auto, unfolding(crate::specs::Settings::within_limits))]
     pub fn within_limits(self) -> bool
         ensures { result ≡ within_limits self }
     {
-        if !self.counts_fit() {
-            return false;
-        }
-        if !self.members_fit() {
-            return false;
-        }
-        if !self.committers_fit() {
-            return false;
-        }
-        self.mode_fits()
+        self.counts_fit() && self.members_fit() && self.committers_fit() && self.mode_fits()
     }
 
     // Whether process p is in the live set: what document 01 calls a live replica.
@@ -172,10 +142,9 @@ impl Settings {
     }
 
     // The round in which each slot starts.
-    pub fn starting_round(self) -> OptionalRound
+    pub fn starting_round(self) -> Option<PaxosRound>
         ensures { result ≡ starting_round_of self }
     {
-        let mode = self.mode;
-        PaxosRound::starting(mode, self.first_leader)
+        PaxosRound::starting(self.mode, self.first_leader)
     }
 }

@@ -1,12 +1,12 @@
 -- How long the text of a shard is.
 -- Assumes nothing.
+use Rattle.std.specs.Prelude.{Ok, Err}
+use Rattle.message.specs.Outcomes.{Outcome}
 use mathlib.Core.List.{List, [], ◌∷◌}
 use Prim.Native.Nat.{ℕ, zero, suc, ◌*◌, ◌≤◌, ◌<◌}
 use native.Mathlib.Omega.{arith}
 use lib.ListN.{length, length-append}
 use Rattle.basics.proofs.Tests.{of-both}
-use Rattle.message.specs.declared.Outcome.{Outcome}
-use Rattle.message.specs.declared.Outcome.TheVariants.{Done, Refused}
 use Rattle.fast_state.specs.declared.FastState.{FastState}
 use Rattle.read_tracker.specs.declared.OpenRead.{OpenRead}
 use Rattle.sets.specs.Sets.{contains}
@@ -77,5 +77,5 @@ made s reads =
 
 pub shard : (s : Rounds) (reads : List OpenRead) (o : Outcome) → length (shard_text s reads o) ≤ 17142
 unfolding shard_text
-shard s reads Done = made s reads
-shard s reads (Refused why) = omega arith
+shard s reads (Ok tt) = made s reads
+shard s reads (Err why) = omega arith

@@ -6,11 +6,12 @@ use Prim.Native.Nat.{ℕ, zero, suc, ◌+◌}
 use native.Mathlib.Numerals.{add-one}
 use Rattle.sets.proofs.Laws.{contains_empty}
 use Rattle.fast_state.specs.declared.FastState.{FastState}
-use Rattle.texts.specs.Text.{Buffer, put}
+use Rattle.texts.specs.declared.Output.{Output}
+use Rattle.texts.specs.Text.{put}
 use Rattle.texts.proofs.Putting.{put_append}
 use Rattle.shard_lines.specs.Shard.{if_proposer, proposers_below}
 
-pub one_proposer_more : (s : FastState) (k : ℕ) (p : Buffer) → put (proposers_below s (k + 1)) p ≡ put (if_proposer s k) (put (proposers_below s k) p)
+pub one_proposer_more : (s : FastState) (k : ℕ) (p : Output) → put (proposers_below s (k + 1)) p ≡ put (if_proposer s k) (put (proposers_below s k) p)
 unfolding proposers_below
 one_proposer_more s k p = rw (add-one, put_append)
 

@@ -1,10 +1,9 @@
 -- A shard (docs/ORACLE.md, "Answer lines", 5 to 7). Each text begins with a space, or with the bar that joins two parts.
 -- Assumes nothing.
-use Rattle.std.specs.Prelude.{cond, List, [], ◌∷◌, ◌++◌, ℕ, zero, suc}
+use Rattle.std.specs.Prelude.{cond, List, [], ◌∷◌, ◌++◌, ℕ, zero, suc, Ok, Err}
+use Rattle.message.specs.Outcomes.{Outcome}
 use Rattle.sets.specs.Sets.{contains}
 use Rattle.tables.specs.Tables.{look_up}
-use Rattle.message.specs.declared.Outcome.{Outcome}
-use Rattle.message.specs.declared.Outcome.TheVariants.{Done, Refused}
 use Rattle.fast_state.specs.declared.FastState.{FastState}
 use Rattle.read_tracker.specs.declared.OpenRead.{OpenRead}
 use Rattle.steps.specs.declared.Core.{Core}
@@ -56,5 +55,5 @@ made_text s reads =
     core_text s.core ++ sets_text s ++ proposers_below s.fast 64 ++ first_places open_text reads s.core.tracker.open_count
 
 unfoldable pub shard_text : Rounds → List OpenRead → Outcome → List ℕ
-shard_text s reads Done = made_text s reads
-shard_text s reads (Refused why) = ascii " | not_made"
+shard_text s reads (Ok tt) = made_text s reads
+shard_text s reads (Err why) = ascii " | not_made"

@@ -1,4 +1,3 @@
 -- The lemmas that the functions' proofs cite, and the laws of what is read.
-pub mod Putting
+pub mod Printed
 pub mod Decimal
-pub mod Answers

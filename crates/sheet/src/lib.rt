@@ -1,113 +1,77 @@
 // The quorum sheet: the quorums for 1 up to a number of replicas, as CSV (RFC 4180).
 #![tactic(auto)]
 
-ghost use Rattle.std.specs.Prelude.{◌≡◌, [], ◌∷◌, ◌+◌, ◌≤◌, ◌<◌, length};
-ghost use Rattle.sheet.specs.Text.{Put, text, field};
+ghost use Rattle.std.specs.Prelude.{◌≡◌, ◌++◌, ◌+◌, ◌≤◌, ◌<◌};
+ghost use Rattle.arrayvec.specs.ArrayString.{array_string_len};
+ghost use Rattle.sheet.specs.Text.{field};
 ghost use Rattle.sheet.specs.Sheet.{line_of, sheet_of};
-ghost use Rattle.sheet.specs.Answer.{answer_of, page_of};
+ghost use Rattle.sheet.specs.Answer.{refusal, answer_of};
 
-// An answer: its text at the start of bytes, zeros after it, and the length of the text. A header
-// of 31 bytes and 64 lines of at most 13 are 863 bytes, so there is room enough.
-#[derive(Clone, Copy)]
-pub struct Page {
-    pub bytes: [u8; 863],
-    pub len: usize,
-}
+use arrayvec::ArrayString;
+use itoa::Buffer;
 
-// Puts the byte b at the place at, and hands back the place after it. So do the other functions whose names begin
-// with put.
-fn put_byte(out: &mut [u8], at: usize, b: u8) -> usize
-    requires { at < length out.old }
-    ensures { Put out.old at (b ∷ []) out.new result }
+// An answer's text. A header of 31 bytes and 64 lines of at most 13 are 863 bytes, so there is room enough.
+pub type Page = ArrayString<863>;
+
+// Adds the number n, below 100, in decimal, and then the character end.
+#[tactic(auto, using(crate::proofs::Printed::decimal_text, crate::proofs::Printed::text_length, std::proofs::lemmas::Grind::common_steps), unfolding(crate::specs::Text::field))]
+fn put_field(page: &mut Page, n: u64, end: char)
+    requires room { array_string_len page.old + 3 ≤ 863 }
+    requires small { n < 100 }
+    requires ascii { end < 128 }
+    ensures text { page.new.bytes ≡ page.old.bytes ++ field n end }
+    ensures short { array_string_len page.new ≤ array_string_len page.old + 3 }
 {
-    out[at] = b;
-    at + 1
+    page.push_str(Buffer::new().format(n));
+    page.push(end);
 }
 
-// Puts the bytes of source.
-fn put_bytes(out: &mut [u8], at: usize, source: &[u8]) -> usize
-    requires { at + length source.now ≤ length out.old }
-    ensures { Put out.old at source.now out.new result }
-{
-    let mut next = at;
-    let mut i = 0;
-    while i < source.len() {
-        next = put_byte(out, next, source[i]);
-        i += 1;
-    }
-    next
-}
-
-// Puts the number n, below 100, in decimal.
-fn put_number(out: &mut [u8], at: usize, n: u64) -> usize
-    requires { (at + 2 ≤ length out.old) × (n < 100) }
-    ensures { Put out.old at (text n) out.new result }
-{
-    if n < 10 {
-        put_byte(out, at, 48 + n as u8)
-    } else {
-        let next = put_byte(out, at, 48 + (n / 10) as u8);
-        put_byte(out, next, 48 + (n % 10) as u8)
-    }
-}
-
-// Puts the number n, and then the byte end.
-fn put_field(out: &mut [u8], at: usize, n: u64, end: u8) -> usize
-    requires { (at + 3 ≤ length out.old) × (n < 100) }
-    ensures { Put out.old at (field n end) out.new result }
-{
-    let next = put_number(out, at, n);
-    put_byte(out, next, end)
-}
-
-// Puts the line for n replicas.
-fn put_line(out: &mut [u8], at: usize, n: u64) -> usize
-    requires { (at + 13 ≤ length out.old) × (n ≤ 64) }
-    ensures { Put out.old at (line_of n) out.new result }
+// Adds the line for n replicas.
+#[tactic(auto, unfolding(crate::specs::Sheet::line_of))]
+fn put_line(page: &mut Page, n: u64)
+    requires room { array_string_len page.old + 13 ≤ 863 }
+    requires small { n ≤ 64 }
+    ensures text { page.new.bytes ≡ page.old.bytes ++ line_of n }
+    ensures short { array_string_len page.new ≤ array_string_len page.old + 13 }
 {
     let row = quorum::row(n);
-    let second = put_field(out, at, n, b',');
-    let third = put_field(out, second, row.majority, b',');
-    let fourth = put_field(out, third, row.epaxos, b',');
-    let end = put_field(out, fourth, row.fast, b'\r');
-    put_byte(out, end, b'\n')
+    put_field(page, n, ',');
+    put_field(page, row.majority, ',');
+    put_field(page, row.epaxos, ',');
+    put_field(page, row.fast, '\r');
+    page.push('\n');
 }
 
-// Puts the header, and a line for each count from 1 to n.
-fn put_sheet(out: &mut [u8], n: u64) -> usize
-    requires { (n ≤ 64) × (863 ≤ length out.old) }
-    ensures { Put out.old 0 (sheet_of n) out.new result }
+// The header, and a line for each count from 1 to n.
+#[tactic(auto, unfolding(crate::specs::Sheet::sheet_of, crate::specs::Sheet::lines_of, crate::specs::Sheet::header))]
+fn sheet(n: u64) -> Page
+    requires { n ≤ 64 }
+    ensures { result.bytes ≡ sheet_of n }
 {
-    let mut at = put_bytes(out, 0, b"replicas,majority,epaxos,fast\r\n");
-    let mut count = 0;
-    while count < n {
-        count += 1;
-        at = put_line(out, at, count);
+    let mut page = Page::new();
+    page.push_str("replicas,majority,epaxos,fast\r\n");
+    for count in 1..=n {
+        put_line(&mut page, count);
     }
-    at
+    page
 }
 
-// Puts the answer to the input at the start of out.
-fn put_answer(out: &mut [u8], input: &[u8]) -> usize
-    requires { 863 ≤ length out.old }
-    ensures { Put out.old 0 (answer_of input.now) out.new result }
+#[tactic(auto, unfolding(crate::specs::Answer::refusal))]
+fn refusal() -> Page
+    ensures { result.bytes ≡ refusal }
 {
-    let count = sheet_count::count_asked(input);
-    if count == 0 {
-        put_bytes(out, 0, b"refused,1\r\n")
-    } else {
-        put_sheet(out, count)
-    }
+    let mut page = Page::new();
+    page.push_str("refused,1\r\n");
+    page
 }
 
 // What the program writes for the input: the sheet for the count on its first line, or the refusal.
+#[tactic(auto, using(sheet_count::proofs::Counting::count_range), unfolding(crate::specs::Answer::answer_of, crate::specs::Answer::answer_for))]
 pub fn answer(input: &[u8]) -> Page
-    ensures { result ≡ page_of input.now }
+    ensures { result.bytes ≡ answer_of input.now }
 {
-    let mut bytes = [0u8; 863];
-    let len = put_answer(&mut bytes, input);
-    Page {
-        bytes: bytes,
-        len: len,
+    match sheet_count::count_asked(input) {
+        Some(count) => sheet(count),
+        None => refusal(),
     }
 }

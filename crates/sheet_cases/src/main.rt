@@ -1,53 +1,55 @@
 // The answers of the quorum sheet to many inputs, one after the other.
 #![tactic(auto)]
 
-// Writes the answer to the input.
-fn write_answer(input: &[u8]) {
-    let page = sheet::answer(input);
-    let bytes = page.bytes;
-    let len = page.len;
-    io::write_all(1, &bytes[..len]);
-}
+// Inputs that ask for a count.
+const TAKEN: [&[u8]; 11] = [
+    b"5\n",
+    b"5",
+    b"1\nxyz",
+    b"1\n\n",
+    b"9",
+    b"10",
+    b"10\n7\n",
+    b"5\n\x00\xff garbage",
+    b"64\n",
+    b"64",
+    b"64\n65",
+];
 
-fn taken() {
-    write_answer(b"5\n");
-    write_answer(b"5");
-    write_answer(b"1\nxyz");
-    write_answer(b"1\n\n");
-    write_answer(b"9");
-    write_answer(b"10");
-    write_answer(b"10\n7\n");
-    write_answer(b"5\n\x00\xff garbage");
-    write_answer(b"64\n");
-    write_answer(b"64");
-    write_answer(b"64\n65");
-}
+// Inputs that ask for none.
+const REFUSED: [&[u8]; 21] = [
+    b"",
+    b"\n5\n",
+    b"\r\n",
+    b"0\n",
+    b"05\n",
+    b"65\n",
+    b"99",
+    b"100\n",
+    b"11111111111111111111111111111111111111111111111111",
+    b"+5\n",
+    b"-5\n",
+    b" 5\n",
+    b"5 \n",
+    b"5\t\n",
+    b"6 4\n",
+    b"5\r\n",
+    b"12\r\n",
+    b"\x00",
+    b"5\x00\n",
+    b"1a\n",
+    b"a\n",
+];
 
-fn refused() {
-    write_answer(b"");
-    write_answer(b"\n5\n");
-    write_answer(b"\r\n");
-    write_answer(b"0\n");
-    write_answer(b"05\n");
-    write_answer(b"65\n");
-    write_answer(b"99");
-    write_answer(b"100\n");
-    write_answer(b"11111111111111111111111111111111111111111111111111");
-    write_answer(b"+5\n");
-    write_answer(b"-5\n");
-    write_answer(b" 5\n");
-    write_answer(b"5 \n");
-    write_answer(b"5\t\n");
-    write_answer(b"6 4\n");
-    write_answer(b"5\r\n");
-    write_answer(b"12\r\n");
-    write_answer(b"\x00");
-    write_answer(b"5\x00\n");
-    write_answer(b"1a\n");
-    write_answer(b"a\n");
+// Writes the answer to each of the inputs.
+fn write_answers(inputs: &[&[u8]]) {
+    for input in inputs {
+        let page = sheet::answer(input);
+        io::write_all(1, page.as_str().as_bytes());
+    }
 }
 
 fn main() {
-    taken();
-    refused();
+    write_answers(&TAKEN);
+    write_answers(&REFUSED);
 }

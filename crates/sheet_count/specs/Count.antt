@@ -1,6 +1,6 @@
 -- The number of replicas that an input asks for.
 -- Assumes nothing.
-use Rattle.std.specs.Prelude.{Bool, ◌&&◌, cond, List, [], ◌∷◌, ℕ, ◌+◌, ◌-◌, ◌*◌, eqb, leb}
+use Rattle.std.specs.Prelude.{Bool, ◌&&◌, cond, List, [], ◌∷◌, Option, Some, None, ℕ, ◌+◌, ◌-◌, ◌*◌, eqb, leb}
 
 -- the first line of the input, without the LF, 10, that ends it
 unfoldable pub first_line : List ℕ → List ℕ
@@ -19,18 +19,13 @@ is_digit b = leb 48 b && leb b 57
 abbrev pub two_digits : ℕ → ℕ → ℕ
 two_digits a b = (a - 48) * 10 + (b - 48)
 
--- the count that a line asks for: a decimal number from 1 to 64 with no leading zero is that number, and any other line is 0
-unfoldable pub count_of_line : List ℕ → ℕ
-count_of_line [] = 0
-count_of_line (a ∷ []) = cond (is_leading_digit a) (a - 48) 0
-count_of_line (a ∷ b ∷ []) = cond (is_leading_digit a && is_digit b && leb (two_digits a b) 64) (two_digits a b) 0
-count_of_line (a ∷ b ∷ d ∷ rest) = 0
+-- the count that a line asks for: a decimal number from 1 to 64 with no leading zero asks for that number, and any other line for none
+unfoldable pub count_of_line : List ℕ → Option ℕ
+count_of_line [] = None
+count_of_line (a ∷ []) = cond (is_leading_digit a) (Some (a - 48)) None
+count_of_line (a ∷ b ∷ []) = cond (is_leading_digit a && is_digit b && leb (two_digits a b) 64) (Some (two_digits a b)) None
+count_of_line (a ∷ b ∷ d ∷ rest) = None
 
 -- the count that an input asks for: its first line is read
-unfoldable pub count_asked : List ℕ → ℕ
+unfoldable pub count_asked : List ℕ → Option ℕ
 count_asked s = count_of_line (first_line s)
-
--- the same by the first three bytes of the input alone, where an input that ends early counts as if LF stood past its end
-unfoldable pub count_of_bytes : ℕ → ℕ → ℕ → ℕ
-count_of_bytes a b d =
-    cond (is_leading_digit a) (cond (eqb b 10) (a - 48) (cond (is_digit b && eqb d 10 && leb (two_digits a b) 64) (two_digits a b) 0)) 0

@@ -1,52 +1,47 @@
 // The number of replicas that the first line of an input asks for.
 #![tactic(auto)]
 
-ghost use Rattle.std.specs.Prelude.{◌≡◌, get_or};
-ghost use Rattle.sheet_count.specs.Count.{count_of_bytes, count_asked};
+ghost use Rattle.std.specs.Prelude.{◌≡◌, ◌==◌};
+ghost use Rattle.std.specs.List.{position};
+ghost use Rattle.sheet_count.specs.Count.{first_line, count_of_line, count_asked};
 
-// The byte at place i, and LF past the end of the input, which ends a line as LF does.
-fn byte_at(input: &[u8], i: usize) -> u8
-    ensures { result ≡ get_or input.now i 10 }
+// Where the first LF stands, if there is one.
+fn line_end(input: &[u8]) -> Option<usize>
+    ensures { result ≡ position (λ b. b == 10) input.now }
 {
-    if i < input.len() { input[i] } else { b'\n' }
+    input.iter().position(|b| *b == b'\n')
 }
 
-// The count that an input with these first three bytes asks for, and 0 where it asks for none.
-fn count_of_bytes(first: u8, second: u8, third: u8) -> u64
-    ensures { result ≡ count_of_bytes first second third }
+// The input up to the first LF, or the whole of it where there is none.
+#[tactic(auto, using(crate::proofs::Counting::up_to, crate::proofs::Counting::whole))]
+fn first_line(input: &[u8]) -> &[u8]
+    ensures { result.now ≡ first_line input.now }
 {
-    if first < b'1' {
-        return 0;
+    match line_end(input) {
+        Some(end) => &input[..end],
+        None => input,
     }
-    if first > b'9' {
-        return 0;
-    }
-    let leading = first as u64 - 48;
-    if second == b'\n' {
-        return leading;
-    }
-    if second < b'0' {
-        return 0;
-    }
-    if second > b'9' {
-        return 0;
-    }
-    if third != b'\n' {
-        return 0;
-    }
-    let count = leading * 10 + (second as u64 - 48);
-    if count > 64 {
-        return 0;
-    }
-    count
 }
 
-// The count that the first line of the input asks for, and 0 where it asks for none.
-pub fn count_asked(input: &[u8]) -> u64
+// The count that a line asks for, if it asks for one.
+#[tactic(auto, unfolding(crate::specs::Count::count_of_line))]
+fn count_of_line(line: &[u8]) -> Option<u64>
+    ensures { result ≡ count_of_line line.now }
+{
+    match line {
+        [a @ b'1'..=b'9'] => Some((*a - b'0') as u64),
+        [a @ b'1'..=b'9', b @ b'0'..=b'9'] => {
+            let count = (*a - b'0') as u64 * 10 + (*b - b'0') as u64;
+            if count <= 64 { Some(count) } else { None }
+        }
+        _ => None,
+    }
+}
+
+// The count from 1 to 64 that the first line of the input asks for, if it asks for one.
+#[tactic(auto, unfolding(crate::specs::Count::count_asked))]
+pub fn count_asked(input: &[u8]) -> Option<u64>
     ensures { result ≡ count_asked input.now }
 {
-    let first = byte_at(input, 0);
-    let second = byte_at(input, 1);
-    let third = byte_at(input, 2);
-    count_of_bytes(first, second, third)
+    count_of_line(first_line(input))
 }

@@ -1,5 +1,7 @@
 -- A kept run holds shards, proposers, sent messages, events and commits; what it holds after each change.
 -- Assumes nothing.
+use Rattle.std.specs.Prelude.{Option, None, Some}
+use Rattle.calls.specs.declared.CommittedSlot.{CommittedSlot}
 use mathlib.Core.Path.{◌≡◌, refl, sym, ap, subst, ◌∙◌}
 use mathlib.Core.Bool.{Bool, true, cond, ◌||◌}
 use mathlib.Core.List.{List, [], ◌∷◌, ◌++◌, append_assoc, append-nil}
@@ -12,11 +14,7 @@ use Rattle.basics.proofs.Places.{get_set}
 use Rattle.sets.specs.Sets.{contains}
 use Rattle.sets.proofs.Laws.{contains_insert}
 use Rattle.steps.specs.declared.Messages.{Messages}
-use Rattle.steps.specs.declared.OptionalMessage.{OptionalMessage}
-use Rattle.steps.specs.declared.OptionalMessage.TheVariants.{NoMessage, Send}
 use Rattle.steps.specs.declared.Outgoing.{Outgoing}
-use Rattle.calls.specs.declared.OptionalCommit.{OptionalCommit}
-use Rattle.calls.specs.declared.OptionalCommit.TheVariants.{NoCommit, Committed}
 use Rattle.consensus.specs.declared.Answer.{Answer}
 use Rattle.consensus.specs.declared.Shard.{Shard}
 use Rattle.group.specs.Claim.{listed, messages_of}
@@ -63,20 +61,20 @@ with_sending_lem {s} {sent} x room h =
     where_passed (λ (r : SentSoFar). SentAre r (sent ++ (x ∷ []))) (ltb s.count 15) (record { places = set s.places s.count x; count = s.count + 1 }) s
     (lt-ltb _ _ below) (pushed x h below)
 
-with_message_lem : {s : SentSoFar} {sent : List Sending} (source : ℕ) (o : OptionalMessage) → length sent < 15 → SentAre s sent
+with_message_lem : {s : SentSoFar} {sent : List Sending} (source : ℕ) (o : Option Outgoing) → length sent < 15 → SentAre s sent
     → SentAre (with_message s source o) (sent ++ sendings source (listed o []))
 unfolding with_message
-with_message_lem {s} {sent} source NoMessage room h = subst (SentAre s) (sym (append-nil sent)) h
-with_message_lem source (Send o) room h = with_sending_lem (record { source = source; outgoing = o }) room h
+with_message_lem {s} {sent} source None room h = subst (SentAre s) (sym (append-nil sent)) h
+with_message_lem source (Some o) room h = with_sending_lem (record { source = source; outgoing = o }) room h
 
-one_at_most : (source : ℕ) (o : OptionalMessage) → length (sendings source (listed o [])) ≤ 1
-one_at_most source NoMessage = omega arith
-one_at_most source (Send o) = omega arith
+one_at_most : (source : ℕ) (o : Option Outgoing) → length (sendings source (listed o [])) ≤ 1
+one_at_most source None = omega arith
+one_at_most source (Some o) = omega arith
 
 -- the messages of a call, one after another
-listed_first : (source : ℕ) (o : OptionalMessage) (rest : List Outgoing) → sendings source (listed o []) ++ sendings source rest ≡ sendings source (listed o rest)
-listed_first source NoMessage rest = refl
-listed_first source (Send o) rest = refl
+listed_first : (source : ℕ) (o : Option Outgoing) (rest : List Outgoing) → sendings source (listed o []) ++ sendings source rest ≡ sendings source (listed o rest)
+listed_first source None rest = refl
+listed_first source (Some o) rest = refl
 
 pub three_at_most : (source : ℕ) (ms : Messages) → length (sendings source (messages_of ms)) ≤ 3
 three_at_most source ms =
@@ -120,19 +118,19 @@ with_event_lem {s} {events} e room h =
     where_passed (λ (r : EventsSoFar). EventsAre r (events ++ (record { event = e } ∷ []))) (ltb s.count 5)
     (record { places = set s.places s.count (record { event = e }); count = s.count + 1 }) s (lt-ltb _ _ below) (pushed (record { event = e }) h below)
 
-with_commit_by_lem : {s : CommitsSoFar} {commits : List CommitBy} (member : ℕ) (o : OptionalCommit) → length commits < 5 → CommitsAre s commits
+with_commit_by_lem : {s : CommitsSoFar} {commits : List CommitBy} (member : ℕ) (o : Option CommittedSlot) → length commits < 5 → CommitsAre s commits
     → CommitsAre (with_commit_by s member o) (commits ++ member_commits member o)
 unfolding with_commit_by
-with_commit_by_lem {s} {commits} member NoCommit room h = subst (CommitsAre s) (sym (append-nil commits)) h
-with_commit_by_lem {s} {commits} member (Committed slot v fast) room h =
+with_commit_by_lem {s} {commits} member None room h = subst (CommitsAre s) (sym (append-nil commits)) h
+with_commit_by_lem {s} {commits} member (Some commit) room h =
     let below : s.count < 5 = omega (arith, h.counted) in
-    let last : CommitBy = record { member = member; slot = slot; v = v } in
+    let last : CommitBy = record { member = member; slot = commit.slot; v = commit.v } in
     where_passed (λ (r : CommitsSoFar). CommitsAre r (commits ++ (last ∷ []))) (ltb s.count 5)
     (record { places = set s.places s.count last; count = s.count + 1 }) s (lt-ltb _ _ below) (pushed last h below)
 
-pub commit_at_most : (member : ℕ) (o : OptionalCommit) → length (member_commits member o) ≤ 1
-commit_at_most member NoCommit = omega arith
-commit_at_most member (Committed slot v fast) = omega arith
+pub commit_at_most : (member : ℕ) (o : Option CommittedSlot) → length (member_commits member o) ≤ 1
+commit_at_most member None = omega arith
+commit_at_most member (Some commit) = omega arith
 
 -- ---- the run
 

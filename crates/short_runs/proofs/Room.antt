@@ -1,6 +1,6 @@
 -- The sheet has 45,802 bytes, computed with the engine's definitions, so that a buffer of as many bytes holds all of it.
 -- Assumes nothing.
-use mathlib.Core.Path.{◌≡◌, refl, sym, ap, subst, ◌∙◌}
+use mathlib.Core.Path.{◌≡◌, refl, sym, ap, ◌∙◌}
 use mathlib.Core.List.{List, ◌++◌}
 use Prim.Native.Nat.{ℕ, ◌+◌, ◌≤◌}
 use native.Mathlib.Omega.{arith}
@@ -9,7 +9,7 @@ use lib.Seq.{take-append_seam}
 use Rattle.sets.specs.Sets.{contains, count, size, insert}
 use Rattle.tables.specs.Tables.{look_up, store, every}
 use Rattle.message.specs.Rounds.{increment, next_leader_round, round_before, round_equal}
-use Rattle.limits.specs.Limits.{round_numbers, rv_numbers, msg_numbers, value_numbers, process_numbers, rv_processes, msg_processes, requester_below}
+use Rattle.limits.specs.Limits.{round_numbers, rv_numbers, msg_numbers, number_given, rv_processes, msg_processes, requester_below}
 use Rattle.settings.specs.Settings.{counts_fit, members_fit, committers_fit, quorum_fits, mode_fits, within_limits}
 use Rattle.settings.specs.Questions.{delegate_in, committer_for, committer_in}
 use Rattle.round_state.specs.Paxos.{with_sender, with_own, held_after_promise, receive_promise, paxos_propose_v, accept_fits, receive_accept, accept_own, self_accept}
@@ -28,7 +28,8 @@ use Rattle.serving.specs.Serving.{kept_by_commit, served_by_commit, commit_slot 
 use Rattle.consensus.specs.Answers.{committed}
 use Rattle.consensus.specs.Handle.{on_commit, processed, process_message, handle}
 use Rattle.consensus.specs.Call.{new_shard, proposing, propose, receive, dispatch, unless_spent, call_with}
-use Rattle.texts.specs.Text.{Buffer, ascii, digit_count, decimal, each, put}
+use Rattle.texts.specs.declared.Output.{Output}
+use Rattle.texts.specs.Text.{with_bytes, ascii, digit_count, decimal, each, put}
 use Rattle.texts.proofs.Lengths.{put_fits}
 use Rattle.enabled_runs.specs.Listing.{each_below, is_commit_message, is_sent_to}
 use Rattle.enabled_runs.specs.Offices.{message_requester, held_requester}
@@ -42,7 +43,7 @@ use Rattle.short_runs.proofs.SheetIsListing.{sheet_is_listing}
 
 -- how many bytes the lines have, and the first of them
 lines_computed : ◌≡◌ {A = ℕ × List ℕ} (length (lines_after 5 new_run), take 5 (lines_after 5 new_run)) (45786, ascii "p0,\r\n")
-unfolding contains count size insert look_up store every increment next_leader_round round_before round_equal round_numbers rv_numbers msg_numbers value_numbers process_numbers rv_processes msg_processes requester_below counts_fit members_fit committers_fit quorum_fits mode_fits within_limits delegate_in committer_for committer_in with_sender with_own held_after_promise receive_promise paxos_propose_v accept_fits receive_accept accept_own self_accept in_round is_older from_live enter hold_first answer_prepare answers_nothing preparing prepared broadcast_accept accept_phase becomes_prepared gather is_committer committer_hears answer_accept tells_commit commit_messages try_commit heard follower accepted accept_answer counts_accepts accepting electing may_propose propose_prepare propose_accept propose_classic commit_slot in_prepare on_prepare on_accept process_classic other_last_value value_awaited ready admit numbers_fit processes_fit gatherer_in after_commit kept_by_commit served_by_commit reads_at_commit committed on_commit processed process_message handle new_shard proposing propose receive dispatch unless_spent call_with digit_count decimal each each_below is_commit_message is_sent_to message_requester held_requester value_proposed sending_at with_sending with_message with_messages with_event with_commit_by office_shard with_answer if_taken after_proposal after_message after_delivery trial_of pair event_text commit_by_text joined_by_blanks kept_line event_lines lines_after
+unfolding contains count size insert look_up store every increment next_leader_round round_before round_equal round_numbers rv_numbers msg_numbers number_given rv_processes msg_processes requester_below counts_fit members_fit committers_fit quorum_fits mode_fits within_limits delegate_in committer_for committer_in with_sender with_own held_after_promise receive_promise paxos_propose_v accept_fits receive_accept accept_own self_accept in_round is_older from_live enter hold_first answer_prepare answers_nothing preparing prepared broadcast_accept accept_phase becomes_prepared gather is_committer committer_hears answer_accept tells_commit commit_messages try_commit heard follower accepted accept_answer counts_accepts accepting electing may_propose propose_prepare propose_accept propose_classic commit_slot in_prepare on_prepare on_accept process_classic other_last_value value_awaited ready admit numbers_fit processes_fit gatherer_in after_commit kept_by_commit served_by_commit reads_at_commit committed on_commit processed process_message handle new_shard proposing propose receive dispatch unless_spent call_with digit_count decimal each each_below is_commit_message is_sent_to message_requester held_requester value_proposed sending_at with_sending with_message with_messages with_event with_commit_by office_shard with_answer if_taken after_proposal after_message after_delivery trial_of pair event_text commit_by_text joined_by_blanks kept_line event_lines lines_after
 lines_computed = refl
 
 -- "So the line after the header is `p0,`."
@@ -59,18 +60,15 @@ sheet_length =
     ∙ ap (λ (p : ℕ × List ℕ). 16 + p.0) lines_computed
 
 -- In a buffer of as many bytes nothing is left out: the bytes put are the sheet.
-pub sheet_whole : (out : List ℕ) → 45802 ≤ length out → put sheet (out, 0) ≡ (sheet ++ drop 45802 out, 45802)
-sheet_whole out room =
+pub sheet_whole : (o : Output) → o.at ≡ 0 → 45802 ≤ length o.bytes.now → put sheet o ≡ with_bytes o (sheet ++ drop 45802 o.bytes.now) 45802
+sheet_whole o start room =
     let end : 0 + length sheet ≡ 45802 = omega (arith, sheet_length) in
-    put_fits sheet out 0 (omega (arith, room, sheet_length)) ∙ ap {B = Buffer} (λ (n : ℕ). (sheet ++ drop n out, n)) end
+    put_fits sheet o (omega (arith, start, room, sheet_length))
+    ∙ ap (λ (k : ℕ). with_bytes o (take k o.bytes.now ++ sheet ++ drop (k + length sheet) o.bytes.now) (k + length sheet)) start
+    ∙ ap (λ (n : ℕ). with_bytes o (sheet ++ drop n o.bytes.now) n) end
 
-module _ (out bytes : List ℕ) (n : ℕ) (room : 45802 ≤ length out) (done : (bytes, n) ≡ put sheet (out, 0)) where
-  pub bytes_fit : n ≤ length bytes
-  bytes_fit =
-      subst (λ (p : Buffer). p.1 ≤ length p.0) (sym (done ∙ sheet_whole out room)) (omega (arith, sheet_length, length-append sheet (drop 45802 out)))
-
-  pub bytes_are_sheet : take n bytes ≡ sheet
-  bytes_are_sheet =
-      ap (λ (p : Buffer). take p.1 p.0) (done ∙ sheet_whole out room)
-      ∙ ap (λ (n : ℕ). take n (sheet ++ drop 45802 out)) (sym sheet_length)
-      ∙ take-append_seam sheet (drop 45802 out)
+pub bytes_are_sheet : (o r : Output) → o.at ≡ 0 → 45802 ≤ length o.bytes.now → r ≡ put sheet o → take r.at r.bytes.now ≡ sheet
+bytes_are_sheet o r start room done =
+    ap (λ (p : Output). take p.at p.bytes.now) (done ∙ sheet_whole o start room)
+    ∙ ap (λ (n : ℕ). take n (sheet ++ drop 45802 o.bytes.now)) (sym sheet_length)
+    ∙ take-append_seam sheet (drop 45802 o.bytes.now)

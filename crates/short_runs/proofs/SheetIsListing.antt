@@ -7,7 +7,8 @@ use mathlib.Core.Option.{Option, none, some, get_or}
 use Prim.Native.Nat.{ℕ, zero, suc, ◌+◌, ◌≤◌, ◌<◌, min}
 use native.Mathlib.Omega.{arith}
 use lib.ListN.{length, take, length-append}
-use Rattle.texts.specs.Text.{Buffer, ascii, each, put}
+use Rattle.texts.specs.declared.Output.{Output}
+use Rattle.texts.specs.Text.{ascii, each, put}
 use Rattle.texts.proofs.Putting.{put_then}
 use Rattle.consensus.specs.declared.Shard.{Shard}
 use Rattle.enabled_runs.specs.declared.RunEvent.{RunEvent}
@@ -182,5 +183,5 @@ unfolding sheet
 sheet_is_listing = ap (λ (l : List ℕ). ascii "events,commits\r\n" ++ l) (lines_listed 5 new_run before_events [] (omega arith) keeps_new)
 
 -- the header and the lines, put one after another
-pub sheet_put : (p : Buffer) {q r : Buffer} → q ≡ put (ascii "events,commits\r\n") p → r ≡ put (lines_after 5 new_run) q → r ≡ put sheet p
+pub sheet_put : (p : Output) {q r : Output} → q ≡ put (ascii "events,commits\r\n") p → r ≡ put (lines_after 5 new_run) q → r ≡ put sheet p
 sheet_put p a b = put_then (ascii "events,commits\r\n") (lines_after 5 new_run) p a b ∙ ap (λ (l : List ℕ). put l p) sheet_is_listing

@@ -1,5 +1,7 @@
 -- One event tried on the kept run is one event more of the run so far: the arrays hold what it holds, before and after.
 -- Assumes nothing.
+use Rattle.std.specs.Prelude.{Ok, Err}
+use Rattle.message.specs.Outcomes.{Outcome}
 use mathlib.Core.Path.{◌≡◌, refl, sym, ap, subst, ◌∙◌}
 use mathlib.Core.Bool.{Bool, true, false, cond, ◌&&◌, ◌||◌}
 use mathlib.Core.List.{List, [], ◌∷◌, ◌++◌}
@@ -11,8 +13,6 @@ use lib.Dec.{eqb}
 use lib.ListN.{length, get_or, length-append}
 use borrow.Author.Tests.{lt-ltb}
 use Rattle.sets.proofs.Laws.{contains_empty}
-use Rattle.message.specs.declared.Outcome.{Outcome}
-use Rattle.message.specs.declared.Outcome.TheVariants.{Done, Refused}
 use Rattle.calls.specs.declared.Call.{Call}
 use Rattle.calls.specs.declared.Call.TheVariants.{Propose, Receive}
 use Rattle.consensus.specs.Call.{call_of}
@@ -153,8 +153,8 @@ asked_delivery w member s i = delivery_counts_not (eqb member i) (has_proposed w
 by_outcome : (run after : OfficeRun) (w : RunSoFar Shard) (es : List RunEvent) (asked : Bool) (o : Outcome) → KeepsRun after w es
     → TrialAgrees (cond asked (may_not_come run) (cond (is_done o) (may_come after) (may_not_come run))) (cond asked none (if_done o w)) es
 by_outcome run after w es true o s = refl
-by_outcome run after w es false Done s = (refl, s)
-by_outcome run after w es false (Refused why) s = refl
+by_outcome run after w es false (Ok tt) s = (refl, s)
+by_outcome run after w es false (Err why) s = refl
 
 pub proposal_agrees : {run : OfficeRun} {w : RunSoFar Shard} {es : List RunEvent} (member : ℕ) → member < 3 → length es < 5 → KeepsRun run w es
     → TrialAgrees (trial_of run (Proposes member)) (extended_by engine_call heard_by w (Proposes member)) (es ++ (Proposes member ∷ []))

@@ -1,27 +1,24 @@
 -- What a call makes of the state: by the core, by the rounds where the core has passed it on, and by the table of the reads where it goes on
 -- with them.
 -- Assumes nothing.
-use Rattle.std.specs.Prelude.{Bool, cond, not, ℕ}
+use Rattle.std.specs.Prelude.{Bool, cond, not, ℕ, Result, Ok, Err, is_some}
+use Rattle.calls.specs.declared.Taken.{Taken}
+use Rattle.message.specs.declared.Refusal.{Refusal}
 use Rattle.message.specs.declared.ConsensusMsg.{ConsensusMsg}
 use Rattle.message.specs.declared.ConsensusMsg.TheVariants.{Prepare, Accept, ForwardRequest, Commit, ReadRequest, ReadResponse}
 use Rattle.message.specs.declared.ReadId.{ReadId}
 use Rattle.read_tracker.specs.Reads.{insert}
 use Rattle.serving.specs.Serving.{receive_ready, commit_slot}
 use Rattle.read_tracker.specs.declared.Inserted.{Inserted}
-use Rattle.read_tracker.specs.declared.Opened.{Opened}
-use Rattle.read_tracker.specs.declared.Opened.TheVariants.{Refused, Id}
 use Rattle.read_tracker.specs.declared.ReadTable.{ReadTable}
 use Rattle.read_tracker.specs.declared.ReadTracker.{ReadTracker}
 use Rattle.serving.specs.declared.Tracked.{Tracked}
-use Rattle.round_state.specs.Paxos.{is_held}
 use Rattle.steps.specs.Steps.{one_message, sends, to_all}
 use Rattle.steps.specs.declared.Asked.{Asked}
 use Rattle.steps.specs.declared.Core.{Core}
 use Rattle.steps.specs.declared.Rounds.{Rounds}
 use Rattle.calls.specs.declared.Call.{Call}
 use Rattle.calls.specs.declared.Call.TheVariants.{Propose, StartRead, Receive}
-use Rattle.calls.specs.declared.Decision.{Decision}
-use Rattle.calls.specs.declared.Decision.TheVariants.{Refuse, Handle}
 use Rattle.core_calls.specs.CoreCall.{core_call}
 use Rattle.core_calls.specs.Replies.{refused_reply, sent_reply}
 use Rattle.core_calls.specs.declared.CoreAnswer.{CoreAnswer}
@@ -58,9 +55,9 @@ count_response majority table a id fast = served a (receive_ready a.rounds.core.
 
 -- ---- a new read: start_read, with refusal 12
 
-abbrev pub after_insert : Asked → Rounds → ReadTable → Inserted → Opened → StateAnswer
-after_insert asked rounds old ins (Refused why) = record { state = record { rounds = rounds; table = old }; reply = refused_reply why }
-after_insert asked rounds old ins (Id id) =
+abbrev pub after_insert : Asked → Rounds → ReadTable → Inserted → Result ReadId Refusal → StateAnswer
+after_insert asked rounds old ins (Err why) = record { state = record { rounds = rounds; table = old }; reply = refused_reply why }
+after_insert asked rounds old ins (Ok id) =
     record {
       state =
           record { rounds = record { core = with_tracker ins.tracker rounds.core; fast = rounds.fast }; table = ins.table };
@@ -68,7 +65,7 @@ after_insert asked rounds old ins (Id id) =
     }
 
 abbrev pub inserted : ReadTable → Rounds → ℕ → ℕ → Inserted
-inserted table rounds tag arrival = insert rounds.core.tracker table tag arrival (not (is_held rounds.core.paxos.max_rv))
+inserted table rounds tag arrival = insert rounds.core.tracker table tag arrival (not (is_some rounds.core.paxos.max_rv))
 
 unfoldable pub open_read : Asked → ReadTable → Rounds → ℕ → ℕ → StateAnswer
 open_read asked table rounds tag arrival =
@@ -95,12 +92,12 @@ with_reads asked table c a = cond a.deeper (reads_taken asked table a c) (with_t
 
 -- ---- calls
 
-unfoldable pub state_passed : State → Decision → CoreAnswer → StateAnswer
-state_passed state (Refuse why) a = with_table state.table (with_fast state.rounds.fast a)
-state_passed state (Handle t) a = with_reads t.asked state.table t.call (rounds_passed state.rounds t a)
+unfoldable pub state_passed : State → Result Taken Refusal → CoreAnswer → StateAnswer
+state_passed state (Err why) a = with_table state.table (with_fast state.rounds.fast a)
+state_passed state (Ok t) a = with_reads t.asked state.table t.call (rounds_passed state.rounds t a)
 
-unfoldable pub state_after : State → Decision → CoreAnswer → StateAnswer
+unfoldable pub state_after : State → Result Taken Refusal → CoreAnswer → StateAnswer
 state_after state d a = cond a.deeper (state_passed state d a) (with_table state.table (with_fast state.rounds.fast a))
 
-abbrev pub state_call : State → Decision → StateAnswer
+abbrev pub state_call : State → Result Taken Refusal → StateAnswer
 state_call state d = state_after state d (core_call state.rounds.core d)

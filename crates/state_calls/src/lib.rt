@@ -2,15 +2,13 @@
 // where some may have become ready or one is opened.
 #![tactic(auto)]
 
-ghost use Rattle.std.specs.Prelude.{◌≡◌, not};
-ghost use Rattle.round_state.specs.Paxos.{is_held};
+ghost use Rattle.std.specs.Prelude.{◌≡◌};
 ghost use Rattle.state_calls.specs.StateCall.{with_tracker, with_table, served, serve_ready, count_response, after_insert, open_read, reads_handle, reads_taken, with_reads, state_passed, state_after, state_call};
 
-use calls::{Call, Decision, Reply};
+use calls::{Call, Reply, Taken};
 use core_calls::CoreAnswer;
-use message::{ConsensusMsg, ReadId};
-use read_tracker::{Inserted, Opened, ReadTable, ReadTracker};
-use round_state::HeldPromise;
+use message::{ConsensusMsg, ReadId, Refusal};
+use read_tracker::{Inserted, ReadTable, ReadTracker};
 use rounds_calls::RoundsAnswer;
 use serving::Tracked;
 use steps::{Asked, Core, Rounds, one_message};
@@ -95,42 +93,30 @@ fn count_response(
     served(a, reads)
 }
 
-fn nothing_held(held: HeldPromise) -> bool
-    ensures { result ≡ not (is_held held) }
-{
-    match held {
-        HeldPromise::NothingHeld => true,
-        HeldPromise::Held(_) => false,
-    }
-}
-
 fn after_insert(
     asked: Asked,
     rounds: Rounds,
     old: ReadTable,
     ins: Inserted,
-    opened: Opened,
+    opened: Result<ReadId, Refusal>,
 ) -> StateAnswer
     ensures { result ≡ after_insert asked rounds old ins opened }
 {
     match opened {
-        Opened::Refused(why) => StateAnswer {
+        Err(why) => StateAnswer {
             state: State { rounds, table: old },
             reply: core_calls::refused_reply(why),
         },
-        Opened::Id(id) => {
+        Ok(id) => {
             let core = rounds.core;
-            let fast = rounds.fast;
-            let tracker = ins.tracker;
-            let table = ins.table;
             let message = asked.sends(core, steps::to_all(), ConsensusMsg::ReadRequest { id });
             StateAnswer {
                 state: State {
                     rounds: Rounds {
-                        core: with_tracker(core, tracker),
-                        fast,
+                        core: with_tracker(core, ins.tracker),
+                        fast: rounds.fast,
                     },
-                    table,
+                    table: ins.table,
                 },
                 reply: core_calls::sent_reply(one_message(message)),
             }
@@ -139,6 +125,7 @@ fn after_insert(
 }
 
 // A new read, which everyone is asked for; the own answer counts at once where nothing is held.
+#[tactic(auto, unfolding(crate::specs::StateCall::open_read))]
 fn open_read(
     asked: Asked,
     table: ReadTable,
@@ -149,15 +136,13 @@ fn open_read(
     ensures { result ≡ open_read asked table rounds tag arrival_slot }
 {
     let core = rounds.core;
-    let tracker = core.tracker;
-    let paxos = core.paxos;
-    let held = paxos.max_rv;
-    let ins = read_tracker::insert(tracker, table, tag, arrival_slot, nothing_held(held));
-    let opened = ins.opened;
-    after_insert(asked, rounds, table, ins, opened)
+    let local_ready = core.paxos.max_rv.is_none();
+    let ins = read_tracker::insert(core.tracker, table, tag, arrival_slot, local_ready);
+    after_insert(asked, rounds, table, ins, ins.opened)
 }
 
 // A message comes this far as a response, or because it has committed.
+#[tactic(auto, unfolding(crate::specs::StateCall::reads_handle))]
 fn reads_handle(
     majority: u64,
     table: ReadTable,
@@ -168,26 +153,12 @@ fn reads_handle(
     ensures { result ≡ reads_handle majority table a fast msg }
 {
     match msg {
-        ConsensusMsg::Prepare {
-            slot: _,
-            round: _,
-            rv: _,
-        } => serve_ready(majority, table, a),
-        ConsensusMsg::Accept {
-            slot: _,
-            round: _,
-            v: _,
-        } => serve_ready(majority, table, a),
-        ConsensusMsg::ForwardRequest { v: _ } => serve_ready(majority, table, a),
-        ConsensusMsg::Commit { slot: _, v: _ } => serve_ready(majority, table, a),
-        ConsensusMsg::ReadRequest { id: _ } => serve_ready(majority, table, a),
-        ConsensusMsg::ReadResponse {
-            id,
-            next_readable_slot: _,
-        } => count_response(majority, table, a, id, fast),
+        ConsensusMsg::ReadResponse { id, .. } => count_response(majority, table, a, id, fast),
+        _ => serve_ready(majority, table, a),
     }
 }
 
+#[tactic(auto, unfolding(crate::specs::StateCall::reads_taken))]
 fn reads_taken(asked: Asked, table: ReadTable, a: RoundsAnswer, call: Call) -> StateAnswer
     ensures { result ≡ reads_taken asked table a call }
 {
@@ -195,18 +166,14 @@ fn reads_taken(asked: Asked, table: ReadTable, a: RoundsAnswer, call: Call) -> S
     match call {
         Call::Propose(_) => serve_ready(majority, table, a),
         Call::StartRead { tag, arrival_slot } => {
-            let rounds = a.rounds;
-            open_read(asked, table, rounds, tag, arrival_slot)
+            open_read(asked, table, a.rounds, tag, arrival_slot)
         }
-        Call::Receive(d) => {
-            let message = d.message;
-            let msg = message.msg;
-            reads_handle(majority, table, a, d.said.fast, msg)
-        }
+        Call::Receive(d) => reads_handle(majority, table, a, d.said.fast, d.message.msg),
     }
 }
 
 // What is left to do with the reads.
+#[tactic(auto, unfolding(crate::specs::StateCall::with_reads))]
 fn with_reads(asked: Asked, table: ReadTable, call: Call, a: RoundsAnswer) -> StateAnswer
     ensures { result ≡ with_reads asked table call a }
 {
@@ -217,40 +184,29 @@ fn with_reads(asked: Asked, table: ReadTable, call: Call, a: RoundsAnswer) -> St
 }
 
 // A call that the core has passed on with this answer.
-fn state_passed(state: State, decision: Decision, a: CoreAnswer) -> StateAnswer
+#[tactic(auto, unfolding(crate::specs::StateCall::state_passed))]
+fn state_passed(state: State, decision: Result<Taken, Refusal>, a: CoreAnswer) -> StateAnswer
     ensures { result ≡ state_passed state decision a }
 {
-    let rounds = state.rounds;
-    let table = state.table;
     match decision {
-        Decision::Refuse(_) => {
-            let fast = rounds.fast;
-            with_table(table, rounds_calls::with_fast(fast, a))
-        }
-        Decision::Handle(taken) => {
-            let asked = taken.asked;
-            let call = taken.call;
-            with_reads(
-                asked,
-                table,
-                call,
-                rounds_calls::rounds_passed(rounds, taken, a),
-            )
-        }
+        Err(_) => with_table(state.table, rounds_calls::with_fast(state.rounds.fast, a)),
+        Ok(taken) => with_reads(
+            taken.asked,
+            state.table,
+            taken.call,
+            rounds_calls::rounds_passed(state.rounds, taken, a),
+        ),
     }
 }
 
 // A call on the state.
-pub fn state_call(state: State, decision: Decision) -> StateAnswer
+#[tactic(auto, unfolding(crate::specs::StateCall::state_after))]
+pub fn state_call(state: State, decision: Result<Taken, Refusal>) -> StateAnswer
     ensures { result ≡ state_call state decision }
 {
-    let rounds = state.rounds;
-    let table = state.table;
-    let core = rounds.core;
-    let fast = rounds.fast;
-    let a = core_calls::core_call(core, decision);
+    let a = core_calls::core_call(state.rounds.core, decision);
     if a.deeper {
         return state_passed(state, decision, a);
     }
-    with_table(table, rounds_calls::with_fast(fast, a))
+    with_table(state.table, rounds_calls::with_fast(state.rounds.fast, a))
 }

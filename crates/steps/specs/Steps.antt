@@ -1,16 +1,11 @@
 -- Steps of a call, and the messages that they send (document 01, "Message and answer").
 -- Assumes nothing.
-use Rattle.std.specs.Prelude.{Bool, true, false, cond, ℕ, eqb}
+use Rattle.std.specs.Prelude.{Bool, true, false, cond, ℕ, eqb, Option, None, Some}
 use Rattle.message.specs.Promises.{value_of}
 use Rattle.message.specs.declared.ConsensusMsg.{ConsensusMsg}
-use Rattle.message.specs.declared.OptionalProcess.{OptionalProcess}
-use Rattle.message.specs.declared.OptionalProcess.TheVariants.{NoProcess, Process}
-use Rattle.message.specs.declared.OptionalRound.TheVariants.{NoRound}
 use Rattle.message.specs.declared.Refusal.{Refusal}
 use Rattle.message.specs.declared.RoundV.{RoundV}
 use Rattle.message.specs.declared.RoundV.TheVariants.{PaxosV}
-use Rattle.round_state.specs.declared.HeldPromise.{HeldPromise}
-use Rattle.round_state.specs.declared.HeldPromise.TheVariants.{NothingHeld, Held}
 use Rattle.round_state.specs.declared.PaxosState.{PaxosState}
 use Rattle.fast_state.specs.Fast.{changed, unchanged}
 use Rattle.fast_state.specs.declared.FastAnswers.{FastAnswers}
@@ -25,30 +20,28 @@ use Rattle.steps.specs.declared.Destination.TheVariants.{All}
 use Rattle.steps.specs.declared.Messages.{Messages}
 use Rattle.steps.specs.declared.Next.{Next}
 use Rattle.steps.specs.declared.Next.TheVariants.{Stays, Continues, Commits, Refuses}
-use Rattle.steps.specs.declared.OptionalMessage.{OptionalMessage}
-use Rattle.steps.specs.declared.OptionalMessage.TheVariants.{NoMessage, Send}
 use Rattle.steps.specs.declared.Outgoing.{Outgoing}
 use Rattle.steps.specs.declared.RoundsStep.{RoundsStep}
 
 -- ---- messages
 
 abbrev pub no_messages : Messages
-no_messages = record { first = NoMessage; second = NoMessage; third = NoMessage }
+no_messages = record { first = None; second = None; third = None }
 
 abbrev pub one_message : Outgoing → Messages
-one_message m = record { first = Send m; second = NoMessage; third = NoMessage }
+one_message m = record { first = Some m; second = None; third = None }
 
 abbrev pub two_messages : Outgoing → Outgoing → Messages
-two_messages m n = record { first = Send m; second = Send n; third = NoMessage }
+two_messages m n = record { first = Some m; second = Some n; third = None }
 
 -- one message more, behind those that there are; no call sends more than two, and document 01 leaves room for three
-abbrev pub also_behind : OptionalMessage → OptionalMessage → OptionalMessage → Outgoing → Messages
-also_behind first NoMessage third m = record { first = first; second = Send m; third = third }
-also_behind first (Send b) third m = record { first = first; second = Send b; third = Send m }
+abbrev pub also_behind : Option Outgoing → Option Outgoing → Option Outgoing → Outgoing → Messages
+also_behind first None third m = record { first = first; second = Some m; third = third }
+also_behind first (Some b) third m = record { first = first; second = Some b; third = Some m }
 
-abbrev pub also_at : OptionalMessage → OptionalMessage → OptionalMessage → Outgoing → Messages
-also_at NoMessage second third m = record { first = Send m; second = second; third = third }
-also_at (Send a) second third m = also_behind (Send a) second third m
+abbrev pub also_at : Option Outgoing → Option Outgoing → Option Outgoing → Outgoing → Messages
+also_at None second third m = record { first = Some m; second = second; third = third }
+also_at (Some a) second third m = also_behind (Some a) second third m
 
 abbrev pub also : Messages → Outgoing → Messages
 also ms m = also_at ms.first ms.second ms.third m
@@ -59,20 +52,20 @@ sends a core destination msg =
     record { destination = destination; message = record { msg = msg; src = a.member.my_pid; last_v = core.last_v } }
 
 abbrev pub to_all : Destination
-to_all = All NoProcess
+to_all = All None
 
 -- the process that a Commit is served to first: the requester of its value, where that is another process
-abbrev pub first_served : Asked → OptionalProcess → OptionalProcess
-first_served a NoProcess = NoProcess
-first_served a (Process p) = cond (eqb p a.member.my_pid) NoProcess (Process p)
+abbrev pub first_served : Asked → Option ℕ → Option ℕ
+first_served a None = None
+first_served a (Some p) = cond (eqb p a.member.my_pid) None (Some p)
 
 -- ---- what is held, where something is; the other case is not met (the Rust unwraps)
 
-abbrev pub held_rv : HeldPromise → RoundV
-held_rv NothingHeld = PaxosV NoRound 0
-held_rv (Held rv) = rv
+abbrev pub held_rv : Option RoundV → RoundV
+held_rv None = PaxosV None 0
+held_rv (Some rv) = rv
 
-abbrev pub held_v : HeldPromise → ℕ
+abbrev pub held_v : Option RoundV → ℕ
 held_v held = value_of (held_rv held)
 
 -- ---- parts of the state set anew

@@ -5,23 +5,19 @@
 
 ghost use Rattle.std.specs.Prelude.{◌≡◌};
 ghost use Rattle.fast_state.specs.Fast.{unchanged};
-ghost use Rattle.steps.specs.Steps.{no_messages, one_message, two_messages, also_behind, also, sends, to_all, first_served, held_rv, held_v, with_paxos, left_fast_path, stays, continues, commits, refuses, with_change, change_rounds, goes_on};
+ghost use Rattle.steps.specs.Steps.{no_messages, one_message, two_messages, also, sends, to_all, first_served, held_rv, held_v, with_paxos, left_fast_path, stays, continues, commits, refuses, with_change, change_rounds, goes_on};
 
 use fast_state::{FastAnswers, FastChange, FastState};
-use message::{
-    ConsensusMessage, ConsensusMsg, OptionalProcess, OptionalRound, OptionalValue, PFMode, Refusal,
-    RoundV,
-};
+use message::{ConsensusMessage, ConsensusMsg, PFMode, PaxosRound, Refusal, RoundV};
 use read_tracker::ReadTracker;
-use round_state::{HeldPromise, Member, PaxosState};
-use sets::OptionalSet;
+use round_state::{Member, PaxosState};
 
 // What every call may change: slot, last committed value, whether the slot has left the fast path, the first half of the round
 // state, and the next read id with the number of open reads.
 #[derive(Clone, Copy)]
 pub struct Core {
     pub slot: u64,
-    pub last_v: OptionalValue,
+    pub last_v: Option<u64>,
     pub slot_left_fast_path: bool,
     pub paxos: PaxosState,
     pub tracker: ReadTracker,
@@ -35,57 +31,51 @@ pub struct Rounds {
 }
 
 // What the handlers ask of the settings.
-#[derive(Clone, Copy)]
+#[derive(Clone, Copy, PartialEq, Eq, Debug)]
 pub struct Asked {
     pub member: Member,
     pub mode: PFMode,
-    pub starting_round: OptionalRound,
+    pub starting_round: Option<PaxosRound>,
     pub first_leader: u64,
-    pub quorum: OptionalSet,
+    pub quorum: Option<u64>,
 }
 
 // What the handlers ask of a Prepare or an Accept besides its fields: its source, whether that is a live replica, who gathers the
 // promises of its round, and the requesters that the host names for its value and for the value in the held promise, with the
 // committer of the first.
-#[derive(Clone, Copy)]
+#[derive(Clone, Copy, PartialEq, Eq, Debug)]
 pub struct Heard {
     pub src: u64,
     pub source_live: bool,
     pub delegate: u64,
-    pub requester: OptionalProcess,
-    pub committer: OptionalProcess,
-    pub held_requester: OptionalProcess,
+    pub requester: Option<u64>,
+    pub committer: Option<u64>,
+    pub held_requester: Option<u64>,
 }
 
 // Where a message goes: to one process, or to every other process, with the one that is served first.
-#[derive(Clone, Copy)]
+#[derive(Clone, Copy, PartialEq, Eq, Debug)]
 pub enum Destination {
     One(u64),
-    All(OptionalProcess),
+    All(Option<u64>),
 }
 
-#[derive(Clone, Copy)]
+#[derive(Clone, Copy, PartialEq, Eq, Debug)]
 pub struct Outgoing {
     pub destination: Destination,
     pub message: ConsensusMessage,
 }
 
-#[derive(Clone, Copy)]
-pub enum OptionalMessage {
-    NoMessage,
-    Send(Outgoing),
-}
-
 // At most three messages, in the order in which they are sent.
-#[derive(Clone, Copy)]
+#[derive(Clone, Copy, PartialEq, Eq, Debug)]
 pub struct Messages {
-    pub first: OptionalMessage,
-    pub second: OptionalMessage,
-    pub third: OptionalMessage,
+    pub first: Option<Outgoing>,
+    pub second: Option<Outgoing>,
+    pub third: Option<Outgoing>,
 }
 
 // How a call goes on after a step: not at all, with the next step, with the commit of a value, or it is refused.
-#[derive(Clone, Copy)]
+#[derive(Clone, Copy, PartialEq, Eq, Debug)]
 pub enum Next {
     Stays,
     Continues,
@@ -98,12 +88,7 @@ impl Next {
     pub fn goes_on(self) -> bool
         ensures { result ≡ goes_on self }
     {
-        match self {
-            Next::Stays => false,
-            Next::Continues => true,
-            Next::Commits(_) => false,
-            Next::Refuses(_) => false,
-        }
+        matches!(self, Next::Continues)
     }
 }
 
@@ -134,9 +119,9 @@ pub fn no_messages() -> Messages
     ensures { result ≡ no_messages }
 {
     Messages {
-        first: OptionalMessage::NoMessage,
-        second: OptionalMessage::NoMessage,
-        third: OptionalMessage::NoMessage,
+        first: None,
+        second: None,
+        third: None,
     }
 }
 
@@ -144,9 +129,9 @@ pub fn one_message(m: Outgoing) -> Messages
     ensures { result ≡ one_message m }
 {
     Messages {
-        first: OptionalMessage::Send(m),
-        second: OptionalMessage::NoMessage,
-        third: OptionalMessage::NoMessage,
+        first: Some(m),
+        second: None,
+        third: None,
     }
 }
 
@@ -154,51 +139,25 @@ pub fn two_messages(m: Outgoing, n: Outgoing) -> Messages
     ensures { result ≡ two_messages m n }
 {
     Messages {
-        first: OptionalMessage::Send(m),
-        second: OptionalMessage::Send(n),
-        third: OptionalMessage::NoMessage,
-    }
-}
-
-// One message more, where there is a first one.
-fn also_behind(
-    first: OptionalMessage,
-    second: OptionalMessage,
-    third: OptionalMessage,
-    m: Outgoing,
-) -> Messages
-    ensures { result ≡ also_behind first second third m }
-{
-    match second {
-        OptionalMessage::NoMessage => Messages {
-            first,
-            second: OptionalMessage::Send(m),
-            third,
-        },
-        OptionalMessage::Send(_) => Messages {
-            first,
-            second,
-            third: OptionalMessage::Send(m),
-        },
+        first: Some(m),
+        second: Some(n),
+        third: None,
     }
 }
 
 impl Messages {
     // One message more, behind those that there are. No call sends more than two; document 01 leaves room for three.
-    pub fn also(self, m: Outgoing) -> Messages
+    pub fn also(mut self, m: Outgoing) -> Messages
         ensures { result ≡ also self m }
     {
-        let first = self.first;
-        let second = self.second;
-        let third = self.third;
-        match first {
-            OptionalMessage::NoMessage => Messages {
-                first: OptionalMessage::Send(m),
-                second,
-                third,
-            },
-            OptionalMessage::Send(_) => also_behind(first, second, third, m),
+        if self.first.is_none() {
+            self.first = Some(m);
+        } else if self.second.is_none() {
+            self.second = Some(m);
+        } else {
+            self.third = Some(m);
         }
+        self
     }
 }
 
@@ -206,23 +165,20 @@ impl Messages {
 pub fn to_all() -> Destination
     ensures { result ≡ to_all }
 {
-    Destination::All(OptionalProcess::NoProcess)
+    Destination::All(None)
 }
 
 // What is held. No caller comes here with nothing held: the Rust unwraps.
-pub fn held_rv(held: HeldPromise) -> RoundV
+pub fn held_rv(held: Option<RoundV>) -> RoundV
     ensures { result ≡ held_rv held }
 {
-    match held {
-        HeldPromise::NothingHeld => RoundV::PaxosV {
-            accept_round: OptionalRound::NoRound,
-            v: 0,
-        },
-        HeldPromise::Held(rv) => rv,
-    }
+    held.unwrap_or(RoundV::PaxosV {
+        accept_round: None,
+        v: 0,
+    })
 }
 
-pub fn held_v(held: HeldPromise) -> u64
+pub fn held_v(held: Option<RoundV>) -> u64
     ensures { result ≡ held_v held }
 {
     held_rv(held).get_v()
@@ -313,13 +269,10 @@ impl CoreStep {
     pub fn with_change(self, change: FastChange) -> ChangeStep
         ensures { result ≡ with_change change self }
     {
-        let core = self.core;
-        let messages = self.messages;
-        let next = self.next;
         ChangeStep {
-            core,
-            messages,
-            next,
+            core: self.core,
+            messages: self.messages,
+            next: self.next,
             change,
         }
     }
@@ -337,17 +290,13 @@ impl ChangeStep {
     pub fn change_rounds(self, fast: FastState) -> RoundsStep
         ensures { result ≡ change_rounds fast self }
     {
-        let core = self.core;
-        let messages = self.messages;
-        let next = self.next;
-        let change = self.change;
         RoundsStep {
             rounds: Rounds {
-                core,
-                fast: fast.changed(change),
+                core: self.core,
+                fast: fast.changed(self.change),
             },
-            messages,
-            next,
+            messages: self.messages,
+            next: self.next,
         }
     }
 }
@@ -357,29 +306,20 @@ impl Asked {
     pub fn sends(self, core: Core, destination: Destination, msg: ConsensusMsg) -> Outgoing
         ensures { result ≡ sends self core destination msg }
     {
-        let last_v = core.last_v;
         Outgoing {
             destination,
             message: ConsensusMessage {
                 msg,
                 src: self.member.my_pid,
-                last_v,
+                last_v: core.last_v,
             },
         }
     }
 
     // Whom a Commit is served to first: the requester of its value, where that is another process.
-    pub fn first_served(self, requester: OptionalProcess) -> OptionalProcess
+    pub fn first_served(self, requester: Option<u64>) -> Option<u64>
         ensures { result ≡ first_served self requester }
     {
-        match requester {
-            OptionalProcess::NoProcess => OptionalProcess::NoProcess,
-            OptionalProcess::Process(p) => {
-                if p == self.member.my_pid {
-                    return OptionalProcess::NoProcess;
-                }
-                OptionalProcess::Process(p)
-            }
-        }
+        requester.filter(|p| *p != self.member.my_pid)
     }
 }

@@ -6,6 +6,7 @@ use Rattle.register_arrays.specs.Columns.{cells_in, figures_in}
 use Rattle.stored_register.specs.Stored.{stored_cell}
 use Rattle.stored_register.specs.declared.StoredCell.{StoredCell}
 use Rattle.stored_register.specs.declared.StoredRegister.{StoredRegister}
+use Rattle.stored_arrays.specs.declared.StoredColumns.{StoredColumns}
 
 -- a cell of the columns, as a stored one
 abbrev pub as_stored : Cell → StoredCell
@@ -15,3 +16,7 @@ as_stored c = stored_cell c.number c.assignment
 abbrev pub stored_in : List ℕ → List ℕ → List ℕ → List ℕ → StoredRegister
 stored_in cells carriers widths figures =
     record { next_slot = get_or figures 0 0; figures = figures_in figures; live_count = get_or figures 4 0; cells = map as_stored (cells_in cells carriers widths) }
+
+-- in the lent arrays
+abbrev pub stored_of_columns : StoredColumns → StoredRegister
+stored_of_columns c = stored_in c.cells.now c.carriers.now c.widths.now c.figures.now

@@ -3,36 +3,40 @@
 
 ghost use Rattle.std.specs.Prelude.{◌≡◌, length};
 ghost use Rattle.stored_register.specs.Stored.{widened};
-ghost use Rattle.register_arrays.specs.Columns.{register_of};
-ghost use Rattle.stored_arrays.specs.Columns.{stored_in};
+ghost use Rattle.register_arrays.specs.Columns.{register_in, SameArrays};
+ghost use Rattle.stored_arrays.specs.Columns.{stored_of_columns};
+
+use register_arrays::Columns;
+
+// The lent arrays of a stored register.
+#[derive(Clone, Copy)]
+pub struct StoredColumns<'a> {
+    pub cells: &'a [u16; 512],
+    pub carriers: &'a [u64; 512],
+    pub widths: &'a [u64; 512],
+    pub figures: &'a [u64; 5],
+}
 
 // The stored numbers, each with 64 bits.
 fn widen_numbers(stored: &[u16], numbers: &mut [u64])
-    requires { (length stored.now ≡ 512) × (length numbers.old ≡ 512) }
+    requires { length stored.now ≡ length numbers.old }
     ensures { numbers.new ≡ stored.now }
 {
-    let mut i: usize = 0;
-    while i < 512 {
-        numbers[i] = stored[i] as u64;
-        i += 1;
+    for (i, number) in numbers.iter_mut().enumerate() {
+        *number = u64::from(stored[i]);
     }
 }
 
-// The register that the stored one becomes, in the four arrays behind it.
-pub fn widen(
-    stored_cells: &[u16; 512],
-    stored_carriers: &[u64; 512],
-    stored_widths: &[u64; 512],
-    stored_figures: &[u64; 5],
-    cells: &mut [u64; 512],
-    carriers: &mut [u64; 512],
-    widths: &mut [u64; 512],
-    figures: &mut [u64; 5],
-)
-    ensures { register_of cells.new carriers.new widths.new figures.new ≡ widened (stored_in stored_cells.now stored_carriers.now stored_widths.now stored_figures.now) }
-{
-    widen_numbers(stored_cells, cells);
-    *carriers = *stored_carriers;
-    *widths = *stored_widths;
-    *figures = *stored_figures;
+impl StoredColumns<'_> {
+    // The register that the stored one becomes, in the arrays of a register.
+    pub fn widen(self, columns: &mut Columns<'_>)
+        ensures same { SameArrays columns.old columns.new }
+        ensures widened { register_in columns.new ≡ widened (stored_of_columns self.entry) }
+    {
+        let cells = self.cells;
+        widen_numbers(cells, columns.cells);
+        *columns.carriers = *self.carriers;
+        *columns.widths = *self.widths;
+        *columns.figures = *self.figures;
+    }
 }

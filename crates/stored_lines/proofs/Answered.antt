@@ -1,6 +1,6 @@
 -- The answer to a line.
 -- Assumes nothing.
-use mathlib.Core.Path.{◌≡◌, refl, sym, ap, ◌∙◌}
+use mathlib.Core.Path.{◌≡◌, refl, ap, ◌∙◌}
 use mathlib.Core.Bool.{Bool, true, false, cond}
 use mathlib.Core.List.{List}
 use Prim.Native.Nat.{ℕ, ◌-◌, ◌≤◌}
@@ -10,14 +10,14 @@ use lib.ListN.{length, take, drop, length-drop}
 use lib.Seq.{take_all}
 use borrow.Author.Tests.{ltb-false}
 use Rattle.basics.proofs.Tests.{not_both}
-use Rattle.texts.specs.Text.{Buffer, put, ascii}
+use Rattle.texts.specs.declared.Output.{Output}
+use Rattle.texts.specs.Text.{put, ascii}
 use Rattle.line_fields.specs.Fields.{begins, same_to}
 use Rattle.planning_lines.specs.Questions.{question_of}
-use Rattle.planning_lines.specs.Answers.{bad_line_text, after_line, answer_text}
+use Rattle.planning_lines.specs.Answers.{after_line, answer_text}
 use Rattle.register.specs.declared.Register.{Register}
 use Rattle.stored_lines.specs.Answers.{after_stored, stored_text, register_after_line, line_answer}
 use Rattle.stored_lines.specs.Lines.{stored_line}
-use Rattle.stored_lines.specs.declared.StoredLine.{StoredLine}
 
 -- a line that begins with a word is as long as the word
 pub begins_long : (word line : List ℕ) → begins word line ≡ true → length word ≤ length line
@@ -28,20 +28,7 @@ begins_long word line h = go (ltb (length line) (length word)) refl h
     go true e k = absurd (not_both k refl)
     go false e k = ltb-false (length line) (length word) e
 
-module _ (r : Register) (bytes : List ℕ) (line : StoredLine) (p s : Buffer) (read : line ≡ stored_line bytes) where
-  taken : {t : Bool} → line.taken ≡ t → (stored_line bytes).taken ≡ t
-  taken h = ap (λ (l : StoredLine). l.taken) (sym read) ∙ h
-
-  pub stored_answered : line.taken ≡ true → s ≡ put (ascii "made\n") p
-      → (line.register ≡ after_stored r (stored_line bytes)) × (s ≡ put (stored_text (stored_line bytes)) p)
-  unfolding after_stored stored_text
-  stored_answered h e = (simp (taken h) (ap (λ (l : StoredLine). l.register) read), simp (taken h) e)
-
-  pub bad_answered : line.taken ≡ false → s ≡ put bad_line_text p → (r ≡ after_stored r (stored_line bytes)) × (s ≡ put (stored_text (stored_line bytes)) p)
-  unfolding after_stored stored_text
-  bad_answered h e = (simp (taken h), simp (taken h) e)
-
-module _ (r after : Register) (line : List ℕ) (p s : Buffer) where
+module _ (r after : Register) (line : List ℕ) (p s : Output) where
   pub line_stored : (bytes : List ℕ) → bytes ≡ take (length line - 7) (drop 7 line) → begins (ascii "stored ") line ≡ true
       → after ≡ after_stored r (stored_line bytes) → s ≡ put (stored_text (stored_line bytes)) p → (after ≡ register_after_line r line) × (s ≡ put (line_answer r line) p)
   unfolding register_after_line line_answer

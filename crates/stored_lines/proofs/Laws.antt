@@ -1,7 +1,7 @@
 -- What a line `stored` begins, where it is one: the cells that stand in it are live, with their numbers and assignments.
 -- Assumes nothing.
-use mathlib.Core.Path.{◌≡◌, refl, ap, subst}
-use mathlib.Core.Bool.{Bool, true, false, cond, ◌&&◌}
+use mathlib.Core.Path.{◌≡◌, refl, ap, subst, sym}
+use mathlib.Core.Bool.{true, false, ◌&&◌}
 use mathlib.Core.List.{List, [], ◌∷◌, ◌++◌}
 use mathlib.Core.Logic.{◌⊎◌, inl, inr}
 use Prim.Native.Nat.{ℕ, zero, suc, ◌+◌, ◌*◌, ◌≤◌, ◌<◌, min}
@@ -14,14 +14,16 @@ use borrow.Author.Tests.{ltb-true, ltb-false, leb-true}
 use Rattle.basics.specs.Lists.{In}
 use Rattle.basics.proofs.Tests.{either, and_left, and_right}
 use Rattle.call_lines.specs.Reading.{scan_of}
-use Rattle.serving.specs.Serving.{at_front}
+use Rattle.places.specs.Places.{at_front}
 use Rattle.register.specs.Cells.{cell_of}
-use Rattle.register.specs.Register.{new_register, live_cells}
+use Rattle.register.specs.Register.{live_cells}
 use Rattle.stored_register.specs.Stored.{stored_cell, stored_live_cells, widened}
 use Rattle.stored_register.specs.declared.StoredCell.{StoredCell}
 use Rattle.stored_register.proofs.Laws.{cell_kept}
 use Rattle.stored_lines.specs.Lines.{stored_number_at, stored_assignment_at, is_read, is_cell_at, are_cells, stored_cell_at, stored_cells, stored_of_numbers, is_stored, stored_numbers, stored_line}
-use Rattle.stored_lines.specs.declared.StoredLine.{StoredLine}
+use Rattle.std.specs.Prelude.{Some}
+use Rattle.std.proofs.lemmas.Option.{cond_some}
+use Rattle.register.specs.declared.Register.{Register}
 use Rattle.stored_lines.proofs.Turns.{each_cell, stored_count, few_cells}
 
 module _ (ns : List ℕ) where
@@ -58,28 +60,26 @@ module _ (ns : List ℕ) where
       let few : min (get_or ns 4 0) 512 ≡ get_or ns 4 0 = omega arith in
       simp few (take_at (stored_cells ns (get_or ns 4 0)) _ (get_or ns 4 0) (stored_count ns (get_or ns 4 0)))
 
-module _ (bytes : List ℕ) (taken : (stored_line bytes).taken ≡ true) where
+module _ (bytes : List ℕ) (r : Register) (taken : stored_line bytes ≡ Some r) where
   abbrev numbers : List ℕ
   numbers = stored_numbers bytes
 
-  is_stored_lem : is_stored (scan_of bytes) numbers ≡ true
+  line : (is_stored (scan_of bytes) numbers ≡ true) × (widened (stored_of_numbers numbers) ≡ r)
   unfolding stored_line
-  is_stored_lem = go (is_stored (scan_of bytes) numbers) taken
-    where
-      go : (t : Bool) → (cond {A = StoredLine} t (record { taken = true; register = widened (stored_of_numbers numbers) }) (record { taken = false; register = new_register })).taken ≡ true → t ≡ true
-      go true h = refl
-      go false h = h
+  line = cond_some (is_stored (scan_of bytes) numbers) (widened (stored_of_numbers numbers)) r taken
 
-  begun : (stored_line bytes).register ≡ widened (stored_of_numbers numbers)
-  unfolding stored_line
-  begun = simp is_stored_lem
+  is_stored_lem : is_stored (scan_of bytes) numbers ≡ true
+  is_stored_lem = line.0
+
+  begun : r ≡ widened (stored_of_numbers numbers)
+  begun = sym line.1
 
   cells : are_cells numbers (get_or numbers 4 0) ≡ true
   unfolding is_stored
   cells = and_right (leb (get_or numbers 4 0) 512 && eqb (scan_of bytes).before (3 * get_or numbers 4 0 + 4) && is_read (scan_of bytes)) (are_cells numbers (get_or numbers 4 0)) is_stored_lem
 
   -- each cell of the line is live, with its number and its assignment
-  pub cell_read : (i : ℕ) → i < get_or numbers 4 0 → In (cell_of (stored_number_at numbers i) (stored_assignment_at numbers i)) (live_cells (stored_line bytes).register)
+  pub cell_read : (i : ℕ) → i < get_or numbers 4 0 → In (cell_of (stored_number_at numbers i) (stored_assignment_at numbers i)) (live_cells r)
   cell_read i h =
       let s = stored_of_numbers numbers in
       let stands : In (stored_cell (stored_number_at numbers i) (stored_assignment_at numbers i)) (stored_cells numbers (get_or numbers 4 0)) =

@@ -1,7 +1,7 @@
 -- The loops over the cells of a line, and the line.
 -- Assumes nothing.
 use mathlib.Core.Path.{◌≡◌, refl, sym, ap, ap₂, ◌∙◌}
-use mathlib.Core.Bool.{Bool, true, false}
+use mathlib.Core.Bool.{true, false}
 use mathlib.Core.List.{List, [], ◌∷◌}
 use mathlib.Core.Logic.{◌⊎◌, inl, inr}
 use Prim.Native.Nat.{ℕ, zero, suc, ◌+◌, ◌≤◌, ◌<◌}
@@ -13,14 +13,13 @@ use borrow.Author.Tests.{ltb-true, ltb-false, leb-true}
 use Rattle.basics.proofs.Tests.{either, not_both, fails, and_left, and_right}
 use Rattle.call_lines.specs.Reading.{scan_of}
 use Rattle.call_lines.specs.declared.Scan.{Scan}
-use Rattle.serving.specs.Serving.{at_front}
-use Rattle.serving.proofs.Lists.{front_push}
-use Rattle.register.specs.Register.{new_register}
+use Rattle.places.specs.Places.{at_front}
+use Rattle.places.proofs.Lists.{front_push}
+use Rattle.std.specs.Prelude.{Some, None}
 use Rattle.register.specs.declared.Register.{Register}
 use Rattle.stored_register.specs.Stored.{widened}
 use Rattle.stored_register.specs.declared.StoredCell.{StoredCell}
 use Rattle.stored_register.specs.declared.StoredRegister.{StoredRegister}
-use Rattle.stored_lines.specs.declared.StoredLine.{StoredLine}
 use Rattle.stored_lines.specs.Lines.{is_cell_at, are_cells, stored_cell_at, stored_cells, empty_cells, stored_of_numbers, is_stored, stored_numbers, stored_line}
 
 module _ (ns : List ℕ) where
@@ -62,13 +61,10 @@ module _ (bytes ns : List ℕ) (s : Scan) (scanned : s ≡ scan_of bytes) (read 
   same : is_stored s ns ≡ is_stored (scan_of bytes) (stored_numbers bytes)
   same = ap₂ is_stored scanned read
 
-  abbrev line_with : Bool → Register → StoredLine
-  line_with t r = record { taken = t; register = r }
-
-  pub line_taken : (stored : StoredRegister) (r : Register) → is_stored s ns ≡ true → stored ≡ stored_of_numbers ns → r ≡ widened stored → line_with true r ≡ stored_line bytes
+  pub line_taken : (stored : StoredRegister) (r : Register) → is_stored s ns ≡ true → stored ≡ stored_of_numbers ns → r ≡ widened stored → Some r ≡ stored_line bytes
   unfolding stored_line
-  line_taken stored r h p q = simp (sym same ∙ h) (ap (line_with true) (q ∙ ap widened (p ∙ ap stored_of_numbers read)))
+  line_taken stored r h p q = simp (sym same ∙ h) (ap (λ (x : Register). Some x) (q ∙ ap widened (p ∙ ap stored_of_numbers read)))
 
-  pub line_left : (r : Register) → is_stored s ns ≡ false → r ≡ new_register → line_with false r ≡ stored_line bytes
+  pub line_left : is_stored s ns ≡ false → None ≡ stored_line bytes
   unfolding stored_line
-  line_left r h p = simp (sym same ∙ h) (ap (line_with false) p)
+  line_left h = simp (sym same ∙ h)

@@ -1,20 +1,21 @@
 -- A line of `planning`: the line `stored` (E7), or one of the requests before (crates/planning_lines).
 -- Assumes nothing.
-use Rattle.std.specs.Prelude.{cond, List, ℕ, drop}
+use Rattle.std.specs.Prelude.{cond, List, ℕ, drop, Option, Some, None}
 use Rattle.texts.specs.Text.{ascii}
 use Rattle.line_fields.specs.Fields.{begins}
 use Rattle.planning_lines.specs.Questions.{question_of}
 use Rattle.planning_lines.specs.Answers.{bad_line_text, after_line, answer_text}
 use Rattle.register.specs.declared.Register.{Register}
 use Rattle.stored_lines.specs.Lines.{stored_line}
-use Rattle.stored_lines.specs.declared.StoredLine.{StoredLine}
 
 -- "begins the register that a stored 16-bit one widens to"; a bad line "changes nothing"
-unfoldable pub after_stored : Register → StoredLine → Register
-after_stored r line = cond line.taken line.register r
+unfoldable pub after_stored : Register → Option Register → Register
+after_stored r (Some begun) = begun
+after_stored r None = r
 
-unfoldable pub stored_text : StoredLine → List ℕ
-stored_text line = cond line.taken (ascii "made\n") bad_line_text
+unfoldable pub stored_text : Option Register → List ℕ
+stored_text (Some begun) = ascii "made\n"
+stored_text None = bad_line_text
 
 -- the register after a line
 unfoldable pub register_after_line : Register → List ℕ → Register

@@ -1,16 +1,16 @@
 -- The numbers behind the word of a line `stored`, and the register that they begin (docs/PLANNING.md; document 02, E7).
 -- Assumes nothing.
-use Rattle.std.specs.Prelude.{Bool, true, false, cond, ◌&&◌, not, List, [], ◌∷◌, ◌++◌, ℕ, zero, suc, ◌+◌, ◌*◌, eqb, ltb, leb, get_or, replicate}
+use Rattle.std.specs.Prelude.{Bool, true, cond, ◌&&◌, not, List, [], ◌∷◌, ◌++◌, ℕ, zero, suc, ◌+◌, ◌*◌, eqb, ltb, leb, get_or, replicate, Option, Some, None}
 use Rattle.call_lines.specs.Reading.{scan_of, numbers_of}
 use Rattle.call_lines.specs.declared.Scan.{Scan}
-use Rattle.serving.specs.Serving.{at_front}
+use Rattle.places.specs.Places.{at_front}
 use Rattle.register.specs.Cells.{cell_of}
-use Rattle.register.specs.Register.{new_register, assignable}
+use Rattle.register.specs.Register.{assignable}
 use Rattle.register.specs.declared.Assignment.{Assignment}
+use Rattle.register.specs.declared.Register.{Register}
 use Rattle.stored_register.specs.Stored.{stored_cell, stored_cell_of, widened}
 use Rattle.stored_register.specs.declared.StoredCell.{StoredCell}
 use Rattle.stored_register.specs.declared.StoredRegister.{StoredRegister}
-use Rattle.stored_lines.specs.declared.StoredLine.{StoredLine}
 
 -- the bytes are numbers of 64 bits with single blanks between them
 unfoldable pub is_read : Scan → Bool
@@ -66,7 +66,6 @@ is_stored s ns = leb (get_or ns 4 0) 512 && eqb s.before (3 * get_or ns 4 0 + 4)
 abbrev pub stored_numbers : List ℕ → List ℕ
 stored_numbers bytes = numbers_of bytes (replicate 1541 0)
 
-unfoldable pub stored_line : List ℕ → StoredLine
-stored_line bytes =
-    cond (is_stored (scan_of bytes) (stored_numbers bytes)) (record { taken = true; register = widened (stored_of_numbers (stored_numbers bytes)) })
-    (record { taken = false; register = new_register })
+-- the register that the line begins, where it is one
+unfoldable pub stored_line : List ℕ → Option Register
+stored_line bytes = cond (is_stored (scan_of bytes) (stored_numbers bytes)) (Some (widened (stored_of_numbers (stored_numbers bytes)))) None

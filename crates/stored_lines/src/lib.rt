@@ -3,34 +3,22 @@
 #![tactic(auto)]
 
 ghost use Rattle.std.specs.Prelude.{◌≡◌, ◌<◌, ◌≤◌, length, get_or};
-ghost use Rattle.serving.specs.Serving.{at_front};
+ghost use Rattle.places.specs.Places.{at_front};
 ghost use Rattle.texts.specs.Text.{put};
 ghost use Rattle.stored_lines.specs.Answers.{after_stored, stored_text, register_after_line, line_answer};
 ghost use Rattle.stored_lines.specs.Lines.{is_read, rises_at, is_cell_at, are_cells, stored_cell_at, stored_cells, empty_cells, stored_of_numbers, is_stored, stored_line};
 
 use call_lines::Scan;
-use planning_lines::Answered;
 use register::{Assignment, Figures, Register};
 use stored_register::{StoredCell, StoredRegister};
-
-// Whether the bytes behind the line's word are such numbers, and the register that they begin; a new one where they are not.
-#[derive(Clone, Copy)]
-pub struct StoredLine {
-    pub taken: bool,
-    pub register: Register,
-}
+use texts::Output;
 
 // Whether the bytes are numbers of 64 bits with single blanks between them.
+#[tactic(auto, unfolding(crate::specs::Lines::is_read))]
 fn is_read(scan: Scan) -> bool
     ensures { result ≡ is_read scan }
 {
-    if scan.malformed {
-        return false;
-    }
-    if scan.above_limit {
-        return false;
-    }
-    scan.has_digit
+    !scan.malformed && !scan.above_limit && scan.has_digit
 }
 
 // Whether the number of cell i is above that of the cell before it.
@@ -66,11 +54,8 @@ fn are_cells(numbers: &[u64], count: usize) -> bool
     requires { (length numbers.now ≡ 1541) × (count ≤ 512) }
     ensures { result ≡ are_cells numbers.now count }
 {
-    let mut i: usize = 0;
-    while i < count {
-        if is_cell_at(numbers, i) {
-            i += 1;
-        } else {
+    for i in 0..count {
+        if !is_cell_at(numbers, i) {
             return false;
         }
     }
@@ -103,10 +88,8 @@ fn stored_cells(numbers: &[u64], count: usize) -> [StoredCell; 512]
         },
     };
     let mut cells = [nothing; 512];
-    let mut i: usize = 0;
-    while i < count {
+    for i in 0..count {
         cells[i] = stored_cell_at(numbers, i);
-        i += 1;
     }
     cells
 }
@@ -145,8 +128,8 @@ fn stored_of_numbers(numbers: &[u64]) -> StoredRegister
     }
 }
 
-// The bytes of a line behind `stored` and a blank.
-pub fn stored_line(bytes: &[u8]) -> StoredLine
+// The register that the bytes of a line behind `stored` and a blank begin, where they are such numbers.
+pub fn stored_line(bytes: &[u8]) -> Option<Register>
     ensures { result ≡ stored_line bytes.now }
 {
     let mut places = [0u64; 1541];
@@ -154,42 +137,36 @@ pub fn stored_line(bytes: &[u8]) -> StoredLine
     let scan = call_lines::read_numbers(bytes, numbers);
     if is_stored(scan, numbers) {
         let stored = stored_of_numbers(numbers);
-        return StoredLine {
-            taken: true,
-            register: stored_register::widened(stored),
-        };
+        return Some(Register::from(stored));
     }
-    StoredLine {
-        taken: false,
-        register: Register::new(),
-    }
+    None
 }
 
 // A line that is one begins its register; any other is a bad line, and the register stays.
-fn answer_stored(register: Register, bytes: &[u8], out: &mut [u8], at: usize) -> Answered
-    ensures register_value { result.register ≡ after_stored register (stored_line bytes.now) }
-    ensures put_after { (out.new, result.put) ≡ put (stored_text (stored_line bytes.now)) (out.old, at) }
+#[tactic(auto, unfolding(crate::specs::Answers::after_stored, crate::specs::Answers::stored_text))]
+fn answer_stored(register: Register, bytes: &[u8], out: &mut Output<'_>) -> Register
+    ensures register { result ≡ after_stored register (stored_line bytes.now) }
+    ensures put { out.new ≡ put (stored_text (stored_line bytes.now)) out.old }
 {
-    let line = stored_line(bytes);
-    if line.taken {
-        let put = texts::put_bytes(out, at, b"made\n");
-        let begun = line.register;
-        return Answered {
-            register: begun,
-            put,
-        };
+    match stored_line(bytes) {
+        Some(begun) => {
+            out.put_bytes(b"made\n");
+            begun
+        }
+        None => {
+            planning_lines::put_bad_line(out);
+            register
+        }
     }
-    let put = planning_lines::put_bad_line(out, at);
-    Answered { register, put }
 }
 
 // The answer to a line of `planning`, and the register that the line leaves.
-pub fn answer_line(register: Register, line: &[u8], out: &mut [u8], at: usize) -> Answered
-    ensures register_value { result.register ≡ register_after_line register line.now }
-    ensures put_after { (out.new, result.put) ≡ put (line_answer register line.now) (out.old, at) }
+pub fn answer_line(register: Register, line: &[u8], out: &mut Output<'_>) -> Register
+    ensures register { result ≡ register_after_line register line.now }
+    ensures put { out.new ≡ put (line_answer register line.now) out.old }
 {
     if line_fields::begins(line, b"stored ") {
-        return answer_stored(register, &line[7..], out, at);
+        return answer_stored(register, &line[7..], out);
     }
-    planning_lines::answer_line(register, line, out, at)
+    planning_lines::answer_line(register, line, out)
 }

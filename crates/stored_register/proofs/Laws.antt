@@ -5,7 +5,6 @@ use mathlib.Core.List.{List, [], ◌∷◌, ◌++◌, map, reverse_aux}
 use mathlib.Core.Logic.{inl, inr}
 use Prim.Native.Nat.{ℕ, min}
 use native.Mathlib.Nat.{mod-eq_of_lt}
-use lib.ListN.{take}
 use Rattle.basics.specs.Lists.{In}
 use Rattle.register.specs.Cells.{cell_of}
 use Rattle.register.specs.Register.{new_register, live_cells, apply}
@@ -21,7 +20,7 @@ use Rattle.report.proofs.Counted.{report_counted}
 use Rattle.stored_register.specs.Stored.{stored_cell, stored_cell_of, stored_of, stored_live_cells, OldEntries, widened_cell, widened}
 use Rattle.stored_register.specs.declared.StoredCell.{StoredCell}
 use Rattle.stored_register.specs.declared.StoredRegister.{StoredRegister}
-use Rattle.stored_register.proofs.Cells.{map_take}
+use Rattle.std.proofs.lemmas.List.{take-map}
 use Rattle.stored_register.proofs.Old.{OldCells, old_after}
 
 -- ---- "Stored cells keep number and assignment", whatever a stored register holds: each live one is live, and no other is
@@ -36,7 +35,7 @@ map_in n a (d ∷ cs) (inl h) = inl (ap₂ stored_cell (ap (λ (c : Cell). c.num
 map_in n a (d ∷ cs) (inr h) = inr (map_in n a cs h)
 
 pub live_widened : (s : StoredRegister) → live_cells (widened s) ≡ map widened_cell (stored_live_cells s)
-live_widened s = sym (map_take widened_cell (min s.live_count 512) s.cells)
+live_widened s = take-map widened_cell (min s.live_count 512) s.cells
 
 module _ (s : StoredRegister) (n : ℕ) (a : Assignment) where
   pub cell_kept : In (stored_cell n a) (stored_live_cells s) → In (cell_of n a) (live_cells (widened s))

@@ -1,4 +1,3 @@
-pub mod Cells
 pub mod Old
 pub mod Laws
 pub mod Behind

@@ -1,7 +1,7 @@
 // A register of cells as E6 stored it, with cell numbers of 16 bits, and the register that it becomes (document 02, E7).
 #![tactic(auto)]
 
-ghost use Rattle.std.specs.Prelude.{◌≡◌, map};
+ghost use Rattle.std.specs.Prelude.{◌≡◌};
 ghost use Rattle.stored_register.specs.Stored.{widened_cell, widened};
 
 use register::{Assignment, Cell, CellNumber, Figures, Register};
@@ -22,38 +22,33 @@ pub struct StoredRegister {
     pub cells: [StoredCell; 512],
 }
 
-fn widened_cell(cell: StoredCell) -> Cell
-    ensures { result ≡ widened_cell cell }
-{
-    let number = cell.number as CellNumber;
-    let assignment = cell.assignment;
-    Cell { number, assignment }
-}
+impl From<StoredCell> for Cell {
+    ghost from_gives = { λ cell result. result ≡ widened_cell cell };
 
-fn widened_cells(stored: [StoredCell; 512]) -> [Cell; 512]
-    ensures { result ≡ map widened_cell stored }
-{
-    let new = Register::new();
-    let mut cells = new.cells;
-    let mut i: usize = 0;
-    while i < 512 {
-        let cell = stored[i];
-        cells[i] = widened_cell(cell);
-        i += 1;
+    fn from(cell: StoredCell) -> Cell {
+        let assignment = cell.assignment;
+        Cell {
+            number: CellNumber::from(cell.number),
+            assignment,
+        }
     }
-    cells
 }
 
 // The register with the stored one's next slot, figures, live count and cells.
-pub fn widened(stored: StoredRegister) -> Register
-    ensures { result ≡ widened stored }
-{
-    let figures = stored.figures;
-    let cells = stored.cells;
-    Register {
-        next_slot: stored.next_slot,
-        figures,
-        live_count: stored.live_count,
-        cells: widened_cells(cells),
+impl From<StoredRegister> for Register {
+    ghost from_gives = { λ stored result. result ≡ widened stored };
+
+    fn from(stored: StoredRegister) -> Register {
+        let cells = stored.cells.map(
+            |cell: StoredCell| -> Cell
+                ensures { result ≡ widened_cell cell }
+            { Cell::from(cell) },
+        );
+        Register {
+            next_slot: stored.next_slot,
+            figures: stored.figures,
+            live_count: stored.live_count,
+            cells,
+        }
     }
 }

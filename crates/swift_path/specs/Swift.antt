@@ -1,20 +1,17 @@
 -- Where SwiftPaxos parts from the other modes (the Rust's process_message and process_answers_at_swift_paxos_client).
 -- Assumes nothing.
-use Rattle.std.specs.Prelude.{Bool, true, false, cond, ◌&&◌, List, ℕ, eqb}
-use Rattle.sets.specs.declared.OptionalSet.{OptionalSet}
-use Rattle.sets.specs.declared.OptionalSet.TheVariants.{NoSet, Set}
+use Rattle.std.specs.Prelude.{Bool, true, false, cond, ◌&&◌, List, ℕ, eqb, Ok, Err, is_some, Result}
+use Rattle.message.specs.declared.Refusal.{Refusal}
 use Rattle.message.specs.Promises.{is_process}
-use Rattle.message.specs.declared.Outcome.{Outcome}
-use Rattle.message.specs.declared.Outcome.TheVariants.{Done, Refused}
 use Rattle.message.specs.declared.PaxosRound.{PaxosRound}
 use Rattle.message.specs.declared.Refusal.TheVariants.{Panic}
 use Rattle.message.specs.declared.RoundV.{RoundV}
 use Rattle.message.specs.declared.RoundV.TheVariants.{FastV, PaxosV}
 use Rattle.round_state.specs.Paxos.{paxos_can_commit, receive_accept}
 use Rattle.round_state.specs.declared.PaxosState.{PaxosState}
-use Rattle.fast_state.specs.Fast.{unchanged, taken, swift_answered, swift_can_commit}
+use Rattle.fast_state.specs.Fast.{unchanged, swift_answered, swift_can_commit}
 use Rattle.fast_state.specs.declared.FastAnswers.{FastAnswers}
-use Rattle.fast_state.specs.declared.FastStep.{FastStep}
+use Rattle.fast_state.specs.declared.FastChange.{FastChange}
 use Rattle.accept.specs.Accept.{try_commit}
 use Rattle.steps.specs.Steps.{no_messages, with_paxos, stays, commits, refuses, with_change}
 use Rattle.steps.specs.declared.Asked.{Asked}
@@ -24,31 +21,26 @@ use Rattle.steps.specs.declared.CoreStep.{CoreStep}
 use Rattle.steps.specs.declared.Heard.{Heard}
 use Rattle.steps.specs.declared.Messages.{Messages}
 
--- `quorum.is_some()`
-abbrev pub is_fixed : OptionalSet → Bool
-is_fixed NoSet = false
-is_fixed (Set s) = true
-
 -- `self.round_state.swift_can_commit(quorum.is_some())`
 abbrev pub swift_commits : Asked → FastAnswers → Bool
-swift_commits a answers = swift_can_commit a.member (is_fixed a.quorum) answers
+swift_commits a answers = swift_can_commit a.member (is_some a.quorum) answers
 
--- a step of the fast half, and the rest of the handler with the answers and the outcome that it leaves
-abbrev pub after_step : (FastAnswers → Outcome → CoreStep) → FastStep → ChangeStep
-after_step rest step = with_change step.change (rest step.change.answers step.outcome)
+-- a step of the fast half, and the rest of the handler with the answers that it leaves; where the step is refused, so is the call
+abbrev pub after_step : Core → FastAnswers → (FastAnswers → CoreStep) → Result FastChange Refusal → ChangeStep
+after_step core answers rest (Ok change) = with_change change (rest change.answers)
+after_step core answers rest (Err why) = with_change (unchanged answers) (refuses why core)
 
 -- ---- process_answers_at_swift_paxos_client, Prepare
 
 -- swift_answered was taken: `if self.round_state.swift_can_commit()`
-abbrev pub after_swift_answer : Asked → ℕ → Core → FastAnswers → Outcome → CoreStep
-after_swift_answer a v core answers Done = cond (swift_commits a answers) (commits v core no_messages) (stays core no_messages)
-after_swift_answer a v core answers (Refused why) = refuses why core
+abbrev pub after_swift_answer : Asked → ℕ → Core → FastAnswers → CoreStep
+after_swift_answer a v core answers = cond (swift_commits a answers) (commits v core no_messages) (stays core no_messages)
 
 -- an answer to the fast proposal; "leaders don't respond with prepare messages", and a promise without a proposer is no answer
 unfoldable pub swift_answer : Asked → Heard → PaxosRound → RoundV → Core → FastAnswers → List ℕ → ChangeStep
 swift_answer a h round (FastV proposer v) core answers scores =
     cond (eqb h.src round.leader) (with_change (unchanged answers) (refuses Panic core))
-    (after_step (after_swift_answer a v core) (swift_answered a.member h.src proposer v a.quorum false answers scores))
+    (after_step core answers (after_swift_answer a v core) (swift_answered a.member h.src proposer v a.quorum false answers scores))
 swift_answer a h round (PaxosV at v) core answers scores = with_change (unchanged answers) (refuses Panic core)
 
 -- `if self.get_committer(msg.get_v()) != Some(self.my_pid) { return None }`
@@ -60,18 +52,16 @@ swift_client_prepare a h round rv core answers scores =
 -- ---- process_answers_at_swift_paxos_client, Accept
 
 -- receive_accept was taken: `if self.round_state.paxos_can_commit()`
-abbrev pub after_client_accept : Asked → ℕ → Core → PaxosState → Outcome → CoreStep
-after_client_accept a v core p Done = cond (paxos_can_commit a.member p) (commits v (with_paxos p core) no_messages) (stays (with_paxos p core) no_messages)
-after_client_accept a v core p (Refused why) = refuses why core
+abbrev pub after_client_accept : Asked → ℕ → Core → Result PaxosState Refusal → CoreStep
+after_client_accept a v core (Ok p) = cond (paxos_can_commit a.member p) (commits v (with_paxos p core) no_messages) (stays (with_paxos p core) no_messages)
+after_client_accept a v core (Err why) = refuses why core
 
 -- an Accept that is received as an accept
 unfoldable pub client_accept : Asked → Heard → PaxosRound → ℕ → Core → CoreStep
-client_accept a h round v core =
-    after_client_accept a v core (receive_accept a.member h.src round v core.paxos).state
-    (receive_accept a.member h.src round v core.paxos).outcome
+client_accept a h round v core = after_client_accept a v core (receive_accept a.member h.src round v core.paxos)
 
 -- the leader's Accept is its answer on the fast path: swift_answered, with oneself as the proposer
-unfoldable pub leader_answered : Asked → Heard → ℕ → FastAnswers → List ℕ → FastStep
+unfoldable pub leader_answered : Asked → Heard → ℕ → FastAnswers → List ℕ → Result FastChange Refusal
 leader_answered a h v answers scores = swift_answered a.member h.src a.member.my_pid v a.quorum true answers scores
 
 -- `src == round.leader`
@@ -79,18 +69,17 @@ abbrev pub from_leader : Heard → PaxosRound → Bool
 from_leader h round = eqb h.src round.leader
 
 -- an Accept of another is no answer
-unfoldable pub accept_answered : Asked → Heard → PaxosRound → ℕ → FastAnswers → List ℕ → FastStep
-accept_answered a h round v answers scores = cond (from_leader h round) (leader_answered a h v answers scores) (taken (unchanged answers))
+unfoldable pub accept_answered : Asked → Heard → PaxosRound → ℕ → FastAnswers → List ℕ → Result FastChange Refusal
+accept_answered a h round v answers scores = cond (from_leader h round) (leader_answered a h v answers scores) (Ok (unchanged answers))
 
 -- the leader's Accept commits on the fast path where that is complete; otherwise, and from any other source, it is received as an accept
-abbrev pub after_accept_answer : Asked → Heard → PaxosRound → ℕ → Core → FastAnswers → Outcome → CoreStep
-after_accept_answer a h round v core answers Done =
+abbrev pub after_accept_answer : Asked → Heard → PaxosRound → ℕ → Core → FastAnswers → CoreStep
+after_accept_answer a h round v core answers =
     cond (from_leader h round && swift_commits a answers) (commits v core no_messages) (client_accept a h round v core)
-after_accept_answer a h round v core answers (Refused why) = refuses why core
 
 -- an Accept at a client that is the committer
 unfoldable pub swift_accept : Asked → Heard → PaxosRound → ℕ → Core → FastAnswers → List ℕ → ChangeStep
-swift_accept a h round v core answers scores = after_step (after_accept_answer a h round v core) (accept_answered a h round v answers scores)
+swift_accept a h round v core answers scores = after_step core answers (after_accept_answer a h round v core) (accept_answered a h round v answers scores)
 
 -- `if self.get_committer(msg.get_v()) != Some(self.my_pid) { return None }`
 unfoldable pub swift_client_accept : Asked → Heard → PaxosRound → ℕ → Core → FastAnswers → List ℕ → ChangeStep
@@ -101,12 +90,11 @@ swift_client_accept a h round v core answers scores =
 -- ---- process_message, Accept, at a replica
 
 -- swift_answered was taken: `if self.round_state.swift_can_commit()`, and else the accepts are counted
-abbrev pub after_replica_answer : Asked → Heard → PaxosRound → ℕ → Core → Messages → FastAnswers → Outcome → CoreStep
-after_replica_answer a h round v core messages answers Done =
+abbrev pub after_replica_answer : Asked → Heard → PaxosRound → ℕ → Core → Messages → FastAnswers → CoreStep
+after_replica_answer a h round v core messages answers =
     cond (swift_commits a answers) (commits v core messages) (try_commit a h round v core messages)
-after_replica_answer a h round v core messages answers (Refused why) = refuses why core
 
 -- a replica that is the committer has answered the leader's Accept, and counts it on the fast path
 unfoldable pub swift_answered_accept : Asked → Heard → PaxosRound → ℕ → Core → Messages → FastAnswers → List ℕ → ChangeStep
 swift_answered_accept a h round v core messages answers scores =
-    after_step (after_replica_answer a h round v core messages) (leader_answered a h v answers scores)
+    after_step core answers (after_replica_answer a h round v core messages) (leader_answered a h v answers scores)

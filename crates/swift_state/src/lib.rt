@@ -4,12 +4,12 @@
 ghost use Rattle.std.specs.Prelude.{◌≡◌};
 ghost use Rattle.fast_state.specs.Fast.{swift_quorum, in_quorum, leader_answer_after, swift_counted, swift_recorded, swift_uncounted, swift_first, swift_answered, swift_own, swift_unanswered, swift_propose_v, swift_can_commit};
 
-use fast_state::{Entry, FastAnswers, FastChange, FastStep};
-use message::{OptionalValue, Refusal};
+use fast_state::{Entry, FastAnswers, FastChange};
+use message::Refusal;
 use round_state::Member;
-use sets::OptionalSet;
 
 // With a fixed quorum a majority of preaccepts is enough, and without one the fast quorum is needed.
+#[tactic(auto, unfolding(fast_state::specs::Fast::swift_quorum))]
 fn swift_quorum(me: Member, fixed: bool) -> u64
     ensures { result ≡ swift_quorum me fixed }
 {
@@ -19,20 +19,18 @@ fn swift_quorum(me: Member, fixed: bool) -> u64
     me.quorums.fast
 }
 
-fn in_quorum(quorum: OptionalSet, src: u64) -> bool
+fn in_quorum(quorum: Option<u64>, src: u64) -> bool
     ensures { result ≡ in_quorum quorum src }
 {
-    match quorum {
-        OptionalSet::NoSet => true,
-        OptionalSet::Set(set) => sets::contains(set, src),
-    }
+    quorum.is_none_or(|set| sets::contains(set, src))
 }
 
-fn leader_answer_after(leader: bool, v: u64, old: OptionalValue) -> OptionalValue
+#[tactic(auto, unfolding(fast_state::specs::Fast::leader_answer_after))]
+fn leader_answer_after(leader: bool, v: u64, old: Option<u64>) -> Option<u64>
     ensures { result ≡ leader_answer_after leader v old }
 {
     if leader {
-        return OptionalValue::Value(v);
+        return Some(v);
     }
     old
 }
@@ -48,13 +46,12 @@ fn swift_counted(
 ) -> FastChange
     ensures { result ≡ swift_counted me src proposer v leader answers scores.now }
 {
-    let answer = answers.swift_leader_answer;
-    let score = tables::look_up_in(scores, proposer);
+    let score = tables::look_up(scores, proposer);
     let counted = FastAnswers {
         fast_answer_set: sets::insert(answers.fast_answer_set, src),
         fast_preaccepted: fast_state::preaccepted_after(me, proposer, answers.fast_preaccepted),
         fast_proposers: sets::insert(answers.fast_proposers, proposer),
-        swift_leader_answer: leader_answer_after(leader, v, answer),
+        swift_leader_answer: leader_answer_after(leader, v, answers.swift_leader_answer),
     };
     FastChange {
         answers: counted,
@@ -69,12 +66,10 @@ fn swift_counted(
 fn swift_recorded(answers: FastAnswers, src: u64, proposer: u64, v: u64) -> FastChange
     ensures { result ≡ swift_recorded src proposer v answers }
 {
-    let answer = answers.swift_leader_answer;
     let recorded = FastAnswers {
         fast_answer_set: sets::insert(answers.fast_answer_set, src),
-        fast_preaccepted: answers.fast_preaccepted,
         fast_proposers: sets::insert(answers.fast_proposers, proposer),
-        swift_leader_answer: answer,
+        ..answers
     };
     FastChange {
         answers: recorded,
@@ -83,16 +78,24 @@ fn swift_recorded(answers: FastAnswers, src: u64, proposer: u64, v: u64) -> Fast
 }
 
 // An answer from outside the fixed quorum: its proposer is recorded all the same.
-fn swift_uncounted(answers: FastAnswers, src: u64, proposer: u64, v: u64, leader: bool) -> FastStep
+#[tactic(auto, unfolding(fast_state::specs::Fast::swift_uncounted))]
+fn swift_uncounted(
+    answers: FastAnswers,
+    src: u64,
+    proposer: u64,
+    v: u64,
+    leader: bool,
+) -> Result<FastChange, Refusal>
     ensures { result ≡ swift_uncounted src proposer v leader answers }
 {
     if leader {
-        return answers.refused(Refusal::Panic);
+        return Err(Refusal::Panic);
     }
-    swift_recorded(answers, src, proposer, v).taken()
+    Ok(swift_recorded(answers, src, proposer, v))
 }
 
 // The first answer of a process.
+#[tactic(auto, unfolding(fast_state::specs::Fast::swift_first))]
 fn swift_first(
     answers: FastAnswers,
     scores: &[u64; 64],
@@ -100,17 +103,18 @@ fn swift_first(
     src: u64,
     proposer: u64,
     v: u64,
-    quorum: OptionalSet,
+    quorum: Option<u64>,
     leader: bool,
-) -> FastStep
+) -> Result<FastChange, Refusal>
     ensures { result ≡ swift_first me src proposer v quorum leader answers scores.now }
 {
     if in_quorum(quorum, src) {
-        return swift_counted(answers, scores, me, src, proposer, v, leader).taken();
+        return Ok(swift_counted(answers, scores, me, src, proposer, v, leader));
     }
     swift_uncounted(answers, src, proposer, v, leader)
 }
 
+#[tactic(auto, unfolding(fast_state::specs::Fast::swift_answered))]
 pub fn swift_answered(
     answers: FastAnswers,
     scores: &[u64; 64],
@@ -118,9 +122,9 @@ pub fn swift_answered(
     src: u64,
     proposer: u64,
     v: u64,
-    quorum: OptionalSet,
+    quorum: Option<u64>,
     leader: bool,
-) -> FastStep
+) -> Result<FastChange, Refusal>
     ensures { result ≡ swift_answered me src proposer v quorum leader answers scores.now }
 {
     if sets::contains(answers.fast_answer_set, src) {
@@ -130,60 +134,54 @@ pub fn swift_answered(
 }
 
 // A replica answers its own proposal.
+#[tactic(auto, unfolding(fast_state::specs::Fast::swift_own))]
 fn swift_own(
     answers: FastAnswers,
     scores: &[u64; 64],
     me: Member,
     v: u64,
-    quorum: OptionalSet,
+    quorum: Option<u64>,
     leader: bool,
-) -> FastStep
+) -> Result<FastChange, Refusal>
     ensures { result ≡ swift_own me v quorum leader answers scores.now }
 {
     if me.replica {
         return swift_answered(answers, scores, me, me.my_pid, me.my_pid, v, quorum, leader);
     }
-    answers.unchanged().taken()
+    Ok(answers.unchanged())
 }
 
+#[tactic(auto, unfolding(fast_state::specs::Fast::swift_unanswered))]
 fn swift_unanswered(answers: FastAnswers, scores: &[u64; 64], me: Member) -> bool
     ensures { result ≡ swift_unanswered me answers scores.now }
 {
-    let answer = answers.swift_leader_answer;
-    if answer.is_some() {
-        return false;
-    }
-    if answers.is_unanswered() {
-        return tables::look_up_in(scores, me.my_pid) == 0;
-    }
-    false
+    answers.swift_leader_answer.is_none()
+        && answers.is_unanswered()
+        && tables::look_up(scores, me.my_pid) == 0
 }
 
+#[tactic(auto, unfolding(fast_state::specs::Fast::swift_propose_v))]
 pub fn swift_propose_v(
     answers: FastAnswers,
     scores: &[u64; 64],
     me: Member,
     v: u64,
-    quorum: OptionalSet,
+    quorum: Option<u64>,
     leader: bool,
-) -> FastStep
+) -> Result<FastChange, Refusal>
     ensures { result ≡ swift_propose_v me v quorum leader answers scores.now }
 {
     if swift_unanswered(answers, scores, me) {
         return swift_own(answers, scores, me, v, quorum, leader);
     }
-    answers.refused(Refusal::Panic)
+    Err(Refusal::Panic)
 }
 
+#[tactic(auto, unfolding(fast_state::specs::Fast::swift_can_commit))]
 pub fn swift_can_commit(answers: FastAnswers, me: Member, fixed: bool) -> bool
     ensures { result ≡ swift_can_commit me fixed answers }
 {
-    let answer = answers.swift_leader_answer;
-    if answer.is_some() {
-        if sets::size(answers.fast_proposers) == 1 {
-            return answers.fast_preaccepted >= swift_quorum(me, fixed);
-        }
-        return false;
-    }
-    false
+    answers.swift_leader_answer.is_some()
+        && sets::size(answers.fast_proposers) == 1
+        && answers.fast_preaccepted >= swift_quorum(me, fixed)
 }

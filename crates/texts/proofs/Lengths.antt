@@ -1,32 +1,82 @@
 -- How long the texts are, and that nothing is left out where there is room.
 -- Assumes nothing.
-use mathlib.Core.Path.{◌≡◌, refl, ap, ◌∙◌}
+use mathlib.Core.Logic.{inl, inr}
+use mathlib.Core.Path.{◌≡◌, refl, sym, ap, ◌∙◌}
 use mathlib.Core.Bool.{Bool, true, false}
-use mathlib.Core.List.{List, [], ◌∷◌, ◌++◌}
-use Prim.Native.Nat.{ℕ, zero, suc, ◌+◌, ◌*◌, ◌/◌, ◌≤◌, ◌<◌, min}
-use native.Mathlib.Nat.{mul-le-mul_left, le_trans}
+use mathlib.Core.List.{List, [], ◌∷◌, ◌++◌, append_assoc}
+use Prim.Native.Nat.{ℕ, zero, suc, ◌+◌, ◌-◌, ◌*◌, ◌/◌, ◌≤◌, ◌<◌, min}
+use native.Mathlib.Nat.{eq-zero-or-pos, mul-le-mul_left, le_trans}
 use native.Mathlib.Numerals.{add-one}
+use Rattle.std.proofs.Common.{add-zero}
 use native.Mathlib.Omega.{arith}
 use lib.Dec.{ltb}
-use lib.ListN.{length, take, drop, set, length-append, length-take, length-set}
-use lib.Seq.{sets, sets-eq}
-use borrow.Author.Tests.{lt-ltb}
+use lib.ListN.{length, take, drop, set, take-append-drop, drop_of_length-le, length-append, length-take, length-drop, length-set}
+use lib.Seq.{sets, sets-eq, drop-drop}
+use borrow.Author.Tests.{lt-ltb, le-ltb}
+use borrow.Rule.Slice.PartMut.{put_mid}
 use Rattle.io.specs.Digits.{last_digits}
+use Rattle.texts.proofs.Putting.{put_nothing, put_append}
 use Rattle.basics.proofs.Tests.{of-both}
-use Rattle.texts.specs.Text.{put, digit_count, decimal, field, each, fields, flag_number, first_places}
+use Rattle.texts.specs.declared.Output.{Output}
+use Rattle.texts.specs.Text.{with_bytes, put, digit_count, decimal, field, each, fields, flag_number, first_places}
 
 -- ---- where there is room, nothing is left out
 
-stored : (bytes out : List ℕ) (at : ℕ) → at + length bytes ≤ length out → put bytes (out, at) ≡ (sets out at bytes, at + length bytes)
+stored : (bytes : List ℕ) (o : Output) → o.at + length bytes ≤ length o.bytes.now
+    → put bytes o ≡ with_bytes o (sets o.bytes.now o.at bytes) (o.at + length bytes)
 unfolding put
-stored [] out at h = ap (λ (n : ℕ). (out, n)) (omega arith)
-stored (b ∷ bytes) out at h =
-    simp (lt-ltb at (length out) (omega arith), add-one)
-    (stored bytes (set out at b) (suc at) (rw length-set (omega arith)) ∙ ap (λ (n : ℕ). (sets (set out at b) (suc at) bytes, n)) (omega arith))
+stored [] o h = ap (λ (n : ℕ). with_bytes o o.bytes.now n) (omega arith)
+stored (b ∷ bytes) o h =
+    let next : Output = with_bytes o (set o.bytes.now o.at b) (suc o.at) in
+    simp (lt-ltb o.at (length o.bytes.now) (omega arith), add-one)
+    (stored bytes next (rw length-set (omega arith))
+    ∙ ap (λ (n : ℕ). with_bytes o (sets (set o.bytes.now o.at b) (suc o.at) bytes) n) (omega arith))
 
-pub put_fits : (bytes out : List ℕ) (at : ℕ) → at + length bytes ≤ length out
-    → put bytes (out, at) ≡ (take at out ++ bytes ++ drop (at + length bytes) out, at + length bytes)
-put_fits bytes out at h = stored bytes out at h ∙ ap (λ (l : List ℕ). (l, at + length bytes)) (sets-eq bytes out at h)
+pub put_fits : (bytes : List ℕ) (o : Output) → o.at + length bytes ≤ length o.bytes.now
+    → put bytes o ≡ with_bytes o (take o.at o.bytes.now ++ bytes ++ drop (o.at + length bytes) o.bytes.now) (o.at + length bytes)
+put_fits bytes o h = stored bytes o h ∙ ap (λ (l : List ℕ). with_bytes o l (o.at + length bytes)) (sets-eq bytes o.bytes.now o.at h)
+
+-- ---- where there is no room for all, as much is put as fits
+
+full : (bytes : List ℕ) (o : Output) → length o.bytes.now ≤ o.at → put bytes o ≡ o
+unfolding put
+full [] o h = refl
+full (b ∷ bytes) o h = simp (le-ltb o.at (length o.bytes.now) h) (full bytes o h)
+
+module _ (bytes : List ℕ) (o : Output) (n : ℕ) (within : o.at ≤ length o.bytes.now) (most : n ≡ min (length bytes) (length o.bytes.now - o.at)) where
+  abbrev first : Output
+  first = put (take n bytes) o
+
+  first_length : length (take n bytes) ≡ n
+  first_length = length-take n bytes ∙ omega (arith, most)
+
+  first_is : first ≡ with_bytes o (put_mid o.at n o.bytes.now (take n bytes)) (o.at + n)
+  first_is =
+      put_fits (take n bytes) o (rw first_length (omega (arith, most)))
+      ∙ ap (λ (k : ℕ). with_bytes o (take o.at o.bytes.now ++ take n bytes ++ drop (o.at + k) o.bytes.now) (o.at + k)) first_length
+      ∙ ap (λ (l : List ℕ). with_bytes o l (o.at + n))
+      (append_assoc (take o.at o.bytes.now) (take n bytes) (drop (o.at + n) o.bytes.now)
+      ∙ ap (λ (l : List ℕ). take o.at o.bytes.now ++ (take n bytes ++ l)) (sym (drop-drop n o.at o.bytes.now)))
+
+  nothing_more : put (drop n bytes) first ≡ first
+  nothing_more =
+      elim (eq-zero-or-pos (length bytes - n)) [
+        | inl e ↦ rw (drop_of_length-le bytes {i = n} (omega (arith, e)), put_nothing) refl
+        | inr g ↦ full (drop n bytes) first (rw first_is (simp (length-append, length-take, length-drop) (omega (arith, most, g))))
+      ]
+
+  part_within : put bytes o ≡ with_bytes o (put_mid o.at n o.bytes.now (take n bytes)) (o.at + n)
+  part_within = ap (λ (l : List ℕ). put l o) (sym (take-append-drop n bytes)) ∙ put_append (take n bytes) (drop n bytes) o ∙ nothing_more ∙ first_is
+
+pub put_part : (bytes : List ℕ) (o : Output) (a n k : ℕ) → a ≡ min o.at (length o.bytes.now) → n ≡ min (length bytes) (length o.bytes.now - a) → k ≡ n
+    → with_bytes o (put_mid a k o.bytes.now (take n bytes)) (o.at + n) ≡ put bytes o
+put_part bytes o a n k e most same =
+    elim (eq-zero-or-pos (o.at - length o.bytes.now)) [
+      | inl z ↦ let here : a ≡ o.at = omega (arith, e, z) in
+          rw (same, here) (sym (part_within bytes o n (omega (arith, z)) (omega (arith, most, here))))
+      | inr g ↦ let none : n ≡ 0 = omega (arith, most, e, g) in let all : a ≡ length o.bytes.now = omega (arith, e, g) in
+          rw (same, none, all) (simp (take-append-drop, add-zero) (sym (full bytes o (omega (arith, g)))))
+    ]
 
 -- ---- numbers
 

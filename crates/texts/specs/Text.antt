@@ -3,18 +3,19 @@
 use Rattle.std.specs.Prelude.{Bool, cond, List, [], ◌∷◌, ◌++◌, ℕ, zero, suc, ◌+◌, ◌/◌, min, ltb, length, take, set}
 use Prim.Native.Char.{code}
 use Prim.Native.String.{String, [] as empty, ◌∷◌ as ◌before◌}
+use Rattle.texts.specs.declared.Output.{Output}
 use Rattle.io.specs.Digits.{last_digits}
 
--- the bytes of a buffer, and the place in it where the next byte goes
-abbrev pub Buffer : Type 0
-Buffer = List ℕ × ℕ
+-- a buffer with these bytes in it, and the next byte's place
+abbrev pub with_bytes : Output → List ℕ → ℕ → Output
+with_bytes o bytes at = record { bytes = record o.bytes { now = bytes }; at = at }
 
 -- a byte for which there is no room is left out
-abbrev pub put_byte : ℕ → Buffer → Buffer
-put_byte b p = cond (ltb p.1 (length p.0)) (set p.0 p.1 b, p.1 + 1) p
+abbrev pub put_byte : ℕ → Output → Output
+put_byte b o = cond (ltb o.at (length o.bytes.now)) (with_bytes o (set o.bytes.now o.at b) (o.at + 1)) o
 
 -- bytes one after another
-unfoldable pub put : List ℕ → Buffer → Buffer
+unfoldable pub put : List ℕ → Output → Output
 put [] p = p
 put (b ∷ bs) p = put bs (put_byte b p)
 

@@ -1,64 +1,80 @@
-// Texts put into a buffer: bytes, and numbers in decimal. Each function whose name begins with put writes at the place `at` of the buffer and
-// hands back the place after what it wrote; its contract says which text that is. A byte for which there is no room is left out, so that no
-// function asks how much room there is; where there is room the text is put whole (`put_fits`, proofs/Lengths.antt).
+// Texts put into a buffer: bytes, and numbers in decimal. Each function that puts writes behind what is put already; its contract says which text
+// that is. A byte for which there is no room is left out, so that no function asks how much room there is; where there is room the text is put
+// whole (`put_fits`, proofs/Lengths.antt).
 #![tactic(auto)]
 
-ghost use Rattle.std.specs.Prelude.{◌≡◌, [], ◌∷◌};
+ghost use Rattle.std.specs.Prelude.{◌≡◌, [], ◌∷◌, take};
 ghost use Rattle.texts.specs.Text.{put, decimal, field, fields, flag_number};
 
-pub fn put_byte(out: &mut [u8], at: usize, b: u8) -> usize
-    ensures { (out.new, result) ≡ put (b ∷ []) (out.old, at) }
-{
-    if at < out.len() {
-        out[at] = b;
-        return at + 1;
+// A buffer, and the place in it where the next byte goes.
+#[derive(Drop)]
+pub struct Output<'a> {
+    pub bytes: &'a mut [u8],
+    pub at: usize,
+}
+
+impl<'a> Output<'a> {
+    // The buffer with nothing put.
+    pub fn new(bytes: &'a mut [u8]) -> Output<'a>
+        ensures { result ≡ record { bytes = bytes.entry; at = 0 } }
+    {
+        Output { bytes, at: 0 }
     }
-    at
-}
 
-pub fn put_bytes(out: &mut [u8], at: usize, source: &[u8]) -> usize
-    ensures { (out.new, result) ≡ put source.now (out.old, at) }
-{
-    let mut next = at;
-    let mut i = 0;
-    while i < source.len() {
-        next = put_byte(out, next, source[i]);
-        i += 1;
+    // What is put. There is never more than fits, whatever the place says.
+    pub fn text(&self) -> &[u8]
+        ensures { result.now ≡ take self.now.at self.now.bytes.now }
+    {
+        &self.bytes[..self.at.min(self.bytes.len())]
     }
-    next
-}
 
-pub fn put_number(out: &mut [u8], at: usize, n: u64) -> usize
-    ensures { (out.new, result) ≡ put (decimal n) (out.old, at) }
-{
-    let mut text = [0u8; 20];
-    let k = io::decimal(n, &mut text);
-    put_bytes(out, at, &text[..k])
-}
-
-// A space and the number.
-pub fn put_field(out: &mut [u8], at: usize, n: u64) -> usize
-    ensures { (out.new, result) ≡ put (field n) (out.old, at) }
-{
-    let next = put_byte(out, at, b' ');
-    put_number(out, next, n)
-}
-
-// A word, and each number behind a space.
-pub fn put_fields(out: &mut [u8], at: usize, word: &[u8], numbers: &[u64]) -> usize
-    ensures { (out.new, result) ≡ put (fields word.now numbers.now) (out.old, at) }
-{
-    let mut next = put_bytes(out, at, word);
-    let mut i = 0;
-    while i < numbers.len() {
-        next = put_field(out, next, numbers[i]);
-        i += 1;
+    pub fn put_byte(&mut self, b: u8)
+        ensures { self.new ≡ put (b ∷ []) self.old }
+    {
+        if self.at < self.bytes.len() {
+            self.bytes[self.at] = b;
+            self.at += 1;
+        }
     }
-    next
+
+    pub fn put_bytes(&mut self, source: &[u8])
+        ensures { self.new ≡ put source.now self.old }
+    {
+        let from = self.at.min(self.bytes.len());
+        let count = source.len().min(self.bytes.len() - from);
+        self.bytes[from..from + count].copy_from_slice(&source[..count]);
+        self.at += count;
+    }
+
+    pub fn put_number(&mut self, n: u64)
+        ensures { self.new ≡ put (decimal n) self.old }
+    {
+        let mut text = [0u8; 20];
+        let k = io::decimal(n, &mut text);
+        self.put_bytes(&text[..k]);
+    }
+
+    // A space and the number.
+    pub fn put_field(&mut self, n: u64)
+        ensures { self.new ≡ put (field n) self.old }
+    {
+        self.put_byte(b' ');
+        self.put_number(n);
+    }
+
+    // A word, and each number behind a space.
+    pub fn put_fields(&mut self, word: &[u8], numbers: &[u64])
+        ensures { self.new ≡ put (fields word.now numbers.now) self.old }
+    {
+        self.put_bytes(word);
+        for n in numbers {
+            self.put_field(*n);
+        }
+    }
 }
 
 pub fn flag_number(flag: bool) -> u64
     ensures { result ≡ flag_number flag }
 {
-    if flag { 1 } else { 0 }
+    u64::from(flag)
 }

@@ -1,6 +1,7 @@
 -- What the check and the question answer: "whether it is inside some window, and otherwise the first minute of the nearest later one, or that
 -- none follows".
 -- Assumes nothing.
+use Rattle.std.specs.Prelude.{Result, Ok, Err}
 use mathlib.Core.Path.{◌≡◌, refl, sym, ap, subst, ◌∙◌}
 use mathlib.Core.Bool.{Bool, true, false, cond, ◌&&◌}
 use mathlib.Core.List.{List, [], ◌∷◌, map}
@@ -14,14 +15,13 @@ use Rattle.basics.specs.Lists.{In}
 use Rattle.basics.proofs.Tests.{either, fails, not_both, and_left, and_right, and_both, or_cases, or_left, or_right}
 use Rattle.calendar.specs.Calendar.{is_date}
 use Rattle.calendar.proofs.Dates.{numbers, minute_bound}
-use Rattle.windows.specs.Windows.{start_of, end_of, is_window, all_fit, agreed, check_windows, holds_minute, some_holds, nearer, nearest_start, next_after, ask_minutes, ask_checked, ask_windows, check_number, ask_number, Fitting, InWindow, NextStart}
+use Rattle.windows.specs.Windows.{start_of, end_of, is_window, all_fit, agreed, check_windows, holds_minute, some_holds, nearer, nearest_start, next_after, ask_minutes, ask_checked, ask_windows, refusal_number, Fitting, InWindow, NextStart}
 use Rattle.windows.specs.declared.Window.{Window}
 use Rattle.windows.specs.declared.Windows.{Windows}
 use Rattle.windows.specs.declared.WindowRefusal.{WindowRefusal}
 use Rattle.windows.specs.declared.WindowRefusal.TheVariants.{TooManyWindows, NotInCalendar}
-use Rattle.windows.specs.declared.WindowCheck.{WindowCheck}
-use Rattle.windows.specs.declared.WindowCheck.TheVariants as checked
-use Rattle.windows.specs.declared.WindowAnswer.TheVariants.{Refused, Inside, Next, NoneFollows}
+use Rattle.windows.specs.declared.WindowAnswer.{WindowAnswer}
+use Rattle.windows.specs.declared.WindowAnswer.TheVariants.{Inside, Next, NoneFollows}
 use Rattle.windows.proofs.Turns.{made, start_fits, end_fits}
 
 -- ---- the check
@@ -51,20 +51,20 @@ all_fit_so [] h = refl
 all_fit_so (v ∷ ws) h = and_both (h v (inl refl)) (all_fit_so ws (λ w i. h w (inr i)))
 
 -- "More than 128 windows give 1", whatever they are
-pub too_many : (ws : Windows) → 128 < ws.count → check_number (check_windows ws) ≡ 1
+pub too_many : (ws : Windows) → 128 < ws.count → refusal_number (check_windows ws) ≡ 1
 unfolding check_windows
 too_many ws h = simp (lt-ltb 128 ws.count h)
 
 -- windows are made exactly where there are at most 128 and each is one
-pub made_only : (ws : Windows) → check_windows ws ≡ checked.Made → (ws.count ≤ 128) × ((w : Window) → In w (agreed ws) → Fitting w)
+pub made_only : (ws : Windows) → check_windows ws ≡ Ok tt → (ws.count ≤ 128) × ((w : Window) → In w (agreed ws) → Fitting w)
 made_only ws e = let m = made ws e in (m.few, λ w i. fitting w (each_fits (agreed ws) m.fitting w i))
 
-pub made_always : (ws : Windows) → ws.count ≤ 128 → ((w : Window) → In w (agreed ws) → Fitting w) → check_windows ws ≡ checked.Made
+pub made_always : (ws : Windows) → ws.count ≤ 128 → ((w : Window) → In w (agreed ws) → Fitting w) → check_windows ws ≡ Ok tt
 unfolding check_windows
 made_always ws few h = simp (le-ltb 128 ws.count few, all_fit_so (agreed ws) (λ w i. fits_so w (h w i)))
 
 -- and give 17 where one is none
-pub not_a_window : (ws : Windows) → ws.count ≤ 128 → (w : Window) → In w (agreed ws) → (Fitting w → ⊥) → check_number (check_windows ws) ≡ 17
+pub not_a_window : (ws : Windows) → ws.count ≤ 128 → (w : Window) → In w (agreed ws) → (Fitting w → ⊥) → refusal_number (check_windows ws) ≡ 17
 unfolding check_windows
 not_a_window ws few w i h =
     simp (le-ltb 128 ws.count few, fails {t = all_fit (agreed ws)} (λ t. h (fitting w (each_fits (agreed ws) t w i))))
@@ -74,13 +74,14 @@ module _ (a b : Windows) (same_count : a.count ≡ b.count) (same-windows : agre
   pub same_check : check_windows a ≡ check_windows b
   unfolding check_windows
   same_check =
-      ap (λ (n : ℕ). cond (ltb 128 n) (checked.Refused TooManyWindows) (cond (all_fit (agreed a)) checked.Made (checked.Refused NotInCalendar))) same_count
-      ∙ ap (λ (l : List Window). cond (ltb 128 b.count) (checked.Refused TooManyWindows) (cond (all_fit l) checked.Made (checked.Refused NotInCalendar))) same-windows
+      let ok : Result (Unit {0}) WindowRefusal = Ok tt in
+      ap (λ (n : ℕ). cond (ltb 128 n) (Err TooManyWindows) (cond (all_fit (agreed a)) ok (Err NotInCalendar))) same_count
+      ∙ ap (λ (l : List Window). cond (ltb 128 b.count) (Err TooManyWindows) (cond (all_fit l) ok (Err NotInCalendar))) same-windows
 
   pub same_answer : (minute : ℕ) → ask_windows a minute ≡ ask_windows b minute
   unfolding ask_windows
   same_answer minute =
-      ap (λ (c : WindowCheck). ask_checked c (map start_of (agreed a)) (map end_of (agreed a)) minute) same_check
+      ap (λ (c : Result (Unit {0}) WindowRefusal). ask_checked c (map start_of (agreed a)) (map end_of (agreed a)) minute) same_check
       ∙ ap (λ (l : List Window). ask_checked (check_windows b) (map start_of l) (map end_of l) minute) same-windows
 
 -- ---- a minute inside a window
@@ -118,7 +119,7 @@ some_so minute (v ∷ ws) w (inl e) h = or_left (one_holds minute ws) (ap (λ (x
 some_so minute (v ∷ ws) w (inr i) h = or_right (holds_minute minute (start_of v) (end_of v)) (some_so minute ws w i h)
 
 -- no window holds the last minute of the year 9999: no end after it can be written
-pub never_last : (ws : Windows) → check_windows ws ≡ checked.Made → (w : Window) → In w (agreed ws) → InWindow 4223371679 w → ⊥
+pub never_last : (ws : Windows) → check_windows ws ≡ Ok tt → (w : Window) → In w (agreed ws) → InWindow 4223371679 w → ⊥
 never_last ws e w i h =
     let bound = minute_bound w.end (numbers w.end (end_fits w (each_fits (agreed ws) (made ws e).fitting w i))) in
     let past = h.1 in
@@ -188,52 +189,56 @@ module _ (minute : ℕ) where
 -- ---- the question
 
 -- windows that are not made give their number, whatever is asked
-pub unmade : (ws : Windows) (why : WindowRefusal) → check_windows ws ≡ checked.Refused why → (minute : ℕ) → ask_windows ws minute ≡ Refused why
+pub unmade : (ws : Windows) (why : WindowRefusal) → check_windows ws ≡ Err why → (minute : ℕ) → ask_windows ws minute ≡ Err why
 unfolding ask_windows ask_checked
 unmade ws why e minute = simp e
 
 -- "a minute past the year 9999, however large, .. gives 17, also when asked of windows"
-pub late : (ws : Windows) → check_windows ws ≡ checked.Made → (minute : ℕ) → 4223371680 ≤ minute → ask_number (ask_windows ws minute) ≡ 17
+pub late : (ws : Windows) → check_windows ws ≡ Ok tt → (minute : ℕ) → 4223371680 ≤ minute → refusal_number (ask_windows ws minute) ≡ 17
 unfolding ask_windows ask_checked ask_minutes
 late ws e minute h = simp (e, le-leb 4223371680 minute h)
 
+-- what follows a minute that no window holds
+abbrev follows : ℕ → Result WindowAnswer WindowRefusal
+follows nearest = Ok (next_after nearest)
+
 -- the nearest start that there is, and none
-next_of : (nearest : ℕ) → nearest < 4223371680 → next_after nearest ≡ Next nearest
+next_of : (nearest : ℕ) → nearest < 4223371680 → follows nearest ≡ Ok (Next nearest)
 unfolding next_after
 next_of nearest h = simp (lt-ltb nearest 4223371680 h)
 
-none_of : (nearest : ℕ) → 4223371680 ≤ nearest → next_after nearest ≡ NoneFollows
+none_of : (nearest : ℕ) → 4223371680 ≤ nearest → follows nearest ≡ Ok NoneFollows
 unfolding next_after
 none_of nearest h = simp (le-ltb nearest 4223371680 h)
 
-is_next : (nearest next : ℕ) → next_after nearest ≡ Next next → (nearest ≡ next) × (nearest < 4223371680)
+is_next : (nearest next : ℕ) → follows nearest ≡ Ok (Next next) → (nearest ≡ next) × (nearest < 4223371680)
 is_next nearest next e = go (either (ltb nearest 4223371680))
   where
     go : (ltb nearest 4223371680 ≡ true) ⊎ (ltb nearest 4223371680 ≡ false) → (nearest ≡ next) × (nearest < 4223371680)
     go (inl t) = let l = ltb-true nearest 4223371680 t in let f = sym (next_of nearest l) ∙ e in (cc, l)
-    go (inr t) = let f = sym (none_of nearest (ltb-false nearest 4223371680 t)) ∙ e in let z : ◌≡◌ {A = ℕ} 0 1 = cc in absurd (omega arith)
+    go (inr t) = let f = sym (none_of nearest (ltb-false nearest 4223371680 t)) ∙ e in cc
 
-is_none : (nearest : ℕ) → next_after nearest ≡ NoneFollows → 4223371680 ≤ nearest
+is_none : (nearest : ℕ) → follows nearest ≡ Ok NoneFollows → 4223371680 ≤ nearest
 is_none nearest e = go (either (ltb nearest 4223371680))
   where
     go : (ltb nearest 4223371680 ≡ true) ⊎ (ltb nearest 4223371680 ≡ false) → 4223371680 ≤ nearest
-    go (inl t) = let f = sym (next_of nearest (ltb-true nearest 4223371680 t)) ∙ e in let z : ◌≡◌ {A = ℕ} 0 1 = cc in absurd (omega arith)
+    go (inl t) = let f = sym (next_of nearest (ltb-true nearest 4223371680 t)) ∙ e in cc
     go (inr t) = ltb-false nearest 4223371680 t
 
-not_inside : (nearest : ℕ) → next_after nearest ≡ Inside → ⊥
+not_inside : (nearest : ℕ) → follows nearest ≡ Ok Inside → ⊥
 not_inside nearest e = go (either (ltb nearest 4223371680))
   where
     go : (ltb nearest 4223371680 ≡ true) ⊎ (ltb nearest 4223371680 ≡ false) → ⊥
-    go (inl t) = let f = sym (next_of nearest (ltb-true nearest 4223371680 t)) ∙ e in let z : ◌≡◌ {A = ℕ} 0 1 = cc in omega arith
-    go (inr t) = let f = sym (none_of nearest (ltb-false nearest 4223371680 t)) ∙ e in let z : ◌≡◌ {A = ℕ} 0 1 = cc in omega arith
+    go (inl t) = let f = sym (next_of nearest (ltb-true nearest 4223371680 t)) ∙ e in cc
+    go (inr t) = let f = sym (none_of nearest (ltb-false nearest 4223371680 t)) ∙ e in cc
 
-module _ (ws : Windows) (is_made : check_windows ws ≡ checked.Made) (minute : ℕ) (in-years : minute < 4223371680) where
+module _ (ws : Windows) (is_made : check_windows ws ≡ Ok tt) (minute : ℕ) (in-years : minute < 4223371680) where
   -- by whether some window holds the minute
-  asked_inside : one_holds minute (agreed ws) ≡ true → ask_windows ws minute ≡ Inside
+  asked_inside : one_holds minute (agreed ws) ≡ true → ask_windows ws minute ≡ Ok Inside
   unfolding ask_windows ask_checked ask_minutes
   asked_inside t = simp (is_made, lt-leb 4223371680 minute in-years, t)
 
-  asked_outside : one_holds minute (agreed ws) ≡ false → ask_windows ws minute ≡ next_after (nearest_of minute (agreed ws) 4223371680)
+  asked_outside : one_holds minute (agreed ws) ≡ false → ask_windows ws minute ≡ follows (nearest_of minute (agreed ws) 4223371680)
   unfolding ask_windows ask_checked ask_minutes
   asked_outside t = simp (is_made, lt-leb 4223371680 minute in-years, t)
 
@@ -241,28 +246,25 @@ module _ (ws : Windows) (is_made : check_windows ws ≡ checked.Made) (minute : 
   start_bound w i = minute_bound w.start (numbers w.start (start_fits w (each_fits (agreed ws) (made ws is_made).fitting w i)))
 
   -- inside exactly where some window holds the minute
-  pub inside_only : ask_windows ws minute ≡ Inside → (w : Window) × (In w (agreed ws) × InWindow minute w)
+  pub inside_only : ask_windows ws minute ≡ Ok Inside → (w : Window) × (In w (agreed ws) × InWindow minute w)
   inside_only e = go (either (one_holds minute (agreed ws)))
     where
       go : (one_holds minute (agreed ws) ≡ true) ⊎ (one_holds minute (agreed ws) ≡ false) → (w : Window) × (In w (agreed ws) × InWindow minute w)
       go (inl t) = one_of minute (agreed ws) t
       go (inr t) = absurd (not_inside (nearest_of minute (agreed ws) 4223371680) (sym (asked_outside t) ∙ e))
 
-  pub inside_always : (w : Window) → In w (agreed ws) → InWindow minute w → ask_windows ws minute ≡ Inside
+  pub inside_always : (w : Window) → In w (agreed ws) → InWindow minute w → ask_windows ws minute ≡ Ok Inside
   inside_always w i h = asked_inside (some_so minute (agreed ws) w i h)
 
-  outside : (ask_windows ws minute ≡ Inside → ⊥) → ask_windows ws minute ≡ next_after (nearest_of minute (agreed ws) 4223371680)
+  outside : (ask_windows ws minute ≡ Ok Inside → ⊥) → ask_windows ws minute ≡ follows (nearest_of minute (agreed ws) 4223371680)
   outside h = asked_outside (fails {t = one_holds minute (agreed ws)} (λ t. h (asked_inside t)))
 
   -- the next is a start after it and no start after it is nearer
-  pub next_only : (next : ℕ) → ask_windows ws minute ≡ Next next → NextStart minute (agreed ws) next
-  next_only next e = from (is_next nearest next (sym (outside (λ f. different (sym f ∙ e))) ∙ e)) (nearest_which minute (agreed ws) 4223371680)
+  pub next_only : (next : ℕ) → ask_windows ws minute ≡ Ok (Next next) → NextStart minute (agreed ws) next
+  next_only next e = from (is_next nearest next (sym (outside (λ f. let g = sym f ∙ e in cc)) ∙ e)) (nearest_which minute (agreed ws) 4223371680)
     where
       nearest : ℕ
       nearest = nearest_of minute (agreed ws) 4223371680
-
-      different : Inside ≡ Next next → ⊥
-      different f = let z : ◌≡◌ {A = ℕ} 0 1 = cc in omega arith
 
       from : (nearest ≡ next) × (nearest < 4223371680)
           → (nearest ≡ 4223371680) ⊎ ((w : Window) × (In w (agreed ws) × ((start_of w ≡ nearest) × (minute < start_of w))))
@@ -276,27 +278,24 @@ module _ (ws : Windows) (is_made : check_windows ws ≡ checked.Made) (minute : 
           }
 
   -- none exactly where no start is after it, and it is inside no window
-  pub none_only : ask_windows ws minute ≡ NoneFollows → (w : Window) → In w (agreed ws) → start_of w ≤ minute
+  pub none_only : ask_windows ws minute ≡ Ok NoneFollows → (w : Window) → In w (agreed ws) → start_of w ≤ minute
   none_only e w i = go (either (ltb minute (start_of w)))
     where
-      different : Inside ≡ NoneFollows → ⊥
-      different f = let z : ◌≡◌ {A = ℕ} 0 1 = cc in omega arith
-
       go : (ltb minute (start_of w) ≡ true) ⊎ (ltb minute (start_of w) ≡ false) → start_of w ≤ minute
       go (inl t) =
           let low = nearest_low minute (agreed ws) 4223371680 w i (ltb-true minute (start_of w) t) in
-          let none = is_none (nearest_of minute (agreed ws) 4223371680) (sym (outside (λ f. different (sym f ∙ e))) ∙ e) in
+          let none = is_none (nearest_of minute (agreed ws) 4223371680) (sym (outside (λ f. let g = sym f ∙ e in cc)) ∙ e) in
           let bound = start_bound w i in
           absurd (omega arith)
       go (inr t) = ltb-false minute (start_of w) t
 
-  pub none_always : ((w : Window) → In w (agreed ws) → (InWindow minute w → ⊥) × (start_of w ≤ minute)) → ask_windows ws minute ≡ NoneFollows
+  pub none_always : ((w : Window) → In w (agreed ws) → (InWindow minute w → ⊥) × (start_of w ≤ minute)) → ask_windows ws minute ≡ Ok NoneFollows
   none_always h = outside not_in ∙ none_of nearest (at_end (nearest_which minute (agreed ws) 4223371680))
     where
       nearest : ℕ
       nearest = nearest_of minute (agreed ws) 4223371680
 
-      not_in : ask_windows ws minute ≡ Inside → ⊥
+      not_in : ask_windows ws minute ≡ Ok Inside → ⊥
       not_in e = let i = inside_only e in (h i.0 i.1.0).0 i.1.1
 
       at_end : (nearest ≡ 4223371680) ⊎ ((w : Window) × (In w (agreed ws) × ((start_of w ≡ nearest) × (minute < start_of w)))) → 4223371680 ≤ nearest
@@ -304,7 +303,7 @@ module _ (ws : Windows) (is_made : check_windows ws ≡ checked.Made) (minute : 
       at_end (inr (w, (i, (s, a)))) = let l = (h w i).1 in absurd (omega arith)
 
   -- where a start is after the minute, and it is inside no window, the answer is a next one
-  pub next_always : (ask_windows ws minute ≡ Inside → ⊥) → (w : Window) → In w (agreed ws) → minute < start_of w → (next : ℕ) × (ask_windows ws minute ≡ Next next)
+  pub next_always : (ask_windows ws minute ≡ Ok Inside → ⊥) → (w : Window) → In w (agreed ws) → minute < start_of w → (next : ℕ) × (ask_windows ws minute ≡ Ok (Next next))
   next_always h w i a =
       let low = nearest_low minute (agreed ws) 4223371680 w i a in
       let bound = start_bound w i in

@@ -2,20 +2,21 @@
 // not, when the next begins. A question looks at the kept minutes alone, and at no date.
 #![tactic(auto)]
 
-ghost use Rattle.std.specs.Prelude.{◌≡◌, true, map, ◌≤◌, length, take};
-ghost use Rattle.windows.specs.Windows.{start_of, end_of, is_window, all_fit, agreed, check_windows, holds_minute, some_holds, nearer, nearest_start, ask_minutes, window_refusal_number, check_number, minute_places, no_windows, kept_of, kept_in, ask_kept};
+ghost use Rattle.std.specs.Prelude.{◌≡◌, ◌≤◌, cond, ltb};
+ghost use Rattle.windows.specs.Windows.{start_of, end_of, is_window, all_fit, agreed, check_windows, holds_minute, some_holds, nearest_start, ask_minutes, window_refusal_number, refusal_number, minute_places, made_of, kept_of, kept_arrays, kept_in, ask_kept};
 
 use calendar::Date;
 
 // The first minute belongs to the window and the last does not.
 #[repr(C)]
-#[derive(Clone, Copy)]
+#[derive(Clone, Copy, PartialEq, Eq, Debug, Default)]
 pub struct Window {
     pub start: Date,
     pub end: Date,
 }
 
 // The first `count` places hold the windows, in any order; they may overlap. The other places are never looked at.
+// An array with a count, and no Vec: fixed memory without heap, laid out as C has it.
 #[repr(C)]
 #[derive(Clone, Copy)]
 pub struct Windows {
@@ -23,281 +24,221 @@ pub struct Windows {
     pub count: u64,
 }
 
-// What is kept of windows: document 02's number where they are refused, and 0 where they are made; then how many there are, and in the first places
-// the minutes in which each starts and ends.
+// What is kept of windows that are made: how many there are, and in the first places the minutes in which each starts and ends.
+// Two arrays with a count: fixed memory without heap, and the same arrays as a host lends.
 #[derive(Clone, Copy)]
 pub struct KeptWindows {
     pub starts: [u64; 128],
     pub ends: [u64; 128],
-    pub number: u64,
     pub count: u64,
 }
 
-// Why windows, or a question about them, are refused.
-#[derive(Clone, Copy)]
+// Why windows, or a question about them, are refused, with document 02's numbers.
+#[derive(Clone, Copy, PartialEq, Eq, Debug)]
 pub enum WindowRefusal {
     // More than 128 windows.
-    TooManyWindows,
+    TooManyWindows = 1,
     // A date or a time that there is not, a window whose end is not after its start, a minute past the year 9999.
-    NotInCalendar,
-}
-
-// What the check of windows gives when settings are made.
-#[derive(Clone, Copy)]
-pub enum WindowCheck {
-    Made,
-    Refused(WindowRefusal),
+    NotInCalendar = 17,
 }
 
 // What is said of a minute: it is inside a window, or the first minute of the nearest later window, or that none follows.
-#[derive(Clone, Copy)]
+#[derive(Clone, Copy, PartialEq, Eq, Debug)]
 pub enum WindowAnswer {
-    Refused(WindowRefusal),
     Inside,
     Next(u64),
     NoneFollows,
 }
 
-pub fn window_refusal_number(why: WindowRefusal) -> u64
-    ensures { result ≡ window_refusal_number why }
-{
-    match why {
-        WindowRefusal::TooManyWindows => 1,
-        WindowRefusal::NotInCalendar => 17,
+// The first minute past the year 9999.
+const PAST_LAST_YEAR: u64 = 4223371680;
+
+impl From<WindowRefusal> for u64 {
+    ghost from_gives = { λ why number. number ≡ window_refusal_number why };
+
+    // Document 02's number.
+    fn from(why: WindowRefusal) -> u64 {
+        why as u64
     }
 }
 
-impl WindowCheck {
-    // Document 02's number, and 0 where the windows are made.
-    pub fn number(self) -> u64
-        ensures { result ≡ check_number self }
-    {
-        match self {
-            WindowCheck::Made => 0,
-            WindowCheck::Refused(why) => window_refusal_number(why),
-        }
+// Document 02's number of what the check or a question gives, and 0 where it is no refusal.
+pub fn refusal_number<T: Drop>(given: Result<T, WindowRefusal>) -> u64
+    ensures { result ≡ refusal_number given }
+{
+    match given {
+        Ok(_) => 0,
+        Err(why) => u64::from(why),
     }
 }
 
 impl Window {
-    fn is_window(self) -> bool
-        ensures { result ≡ is_window self }
+    #[tactic(auto, unfolding(crate::specs::Windows::is_window))]
+    fn is_window(&self) -> bool
+        ensures { result ≡ is_window self.now }
     {
-        let start = self.start;
-        let end = self.end;
-        if !start.is_date() {
-            return false;
-        }
-        if !end.is_date() {
-            return false;
-        }
-        start.minutes() < end.minutes()
+        self.start.is_date() && self.end.is_date() && self.start.minutes() < self.end.minutes()
     }
 }
 
 impl Windows {
-    fn all_fit(self) -> bool
-        requires { self.count ≤ 128 }
-        ensures { result ≡ all_fit (agreed self) }
+    // The windows, without the places that are never looked at.
+    fn agreed(&self) -> &[Window]
+        requires { self.now.count ≤ 128 }
+        ensures { result.now ≡ agreed self.now }
     {
-        let end = self.count as usize;
-        let mut i: usize = 0;
-        while i < end {
-            let window = self.places[i];
-            if !window.is_window() {
-                return false;
-            }
-            i += 1;
-        }
-        true
+        &self.places[..self.count as usize]
+    }
+
+    #[tactic(auto, unfolding(crate::specs::Windows::all_fit))]
+    fn all_fit(&self) -> bool
+        requires { self.now.count ≤ 128 }
+        ensures { result ≡ all_fit (agreed self.now) }
+    {
+        self.agreed().iter().all(|window| window.is_window())
     }
 
     // More than 128 windows are refused before any date is looked at.
-    pub fn check(self) -> WindowCheck
-        ensures { result ≡ check_windows self }
+    #[tactic(auto, unfolding(crate::specs::Windows::check_windows))]
+    pub fn check(&self) -> Result<(), WindowRefusal>
+        ensures { result ≡ check_windows self.now }
     {
         if self.count > 128 {
-            return WindowCheck::Refused(WindowRefusal::TooManyWindows);
+            return Err(WindowRefusal::TooManyWindows);
         }
         if self.all_fit() {
-            return WindowCheck::Made;
+            Ok(())
+        } else {
+            Err(WindowRefusal::NotInCalendar)
         }
-        WindowCheck::Refused(WindowRefusal::NotInCalendar)
     }
 
-    fn starts(self) -> [u64; 128]
-        requires { check_windows self ≡ WindowCheck.Made }
-        ensures { result ≡ minute_places (map start_of (agreed self)) }
+    // The minutes in which each window starts and ends.
+    #[tactic(auto, using(crate::proofs::Turns::made, crate::proofs::Turns::fits_at, crate::proofs::Turns::start_fits, crate::proofs::Turns::end_fits))]
+    fn minutes(&self) -> KeptWindows
+        requires { check_windows self.now ≡ Ok tt }
+        ensures { result ≡ made_of (agreed self.now) }
     {
-        let end = self.count as usize;
-        let mut starts = [0u64; 128];
-        let mut i: usize = 0;
-        while i < end {
-            let window = self.places[i];
-            let start = window.start;
-            starts[i] = start.minutes();
-            i += 1;
+        let mut starts = [0; 128];
+        let mut ends = [0; 128];
+        for (i, window) in self.agreed().iter().enumerate() {
+            starts[i] = window.start.minutes();
+            ends[i] = window.end.minutes();
         }
-        starts
-    }
-
-    fn ends(self) -> [u64; 128]
-        requires { check_windows self ≡ WindowCheck.Made }
-        ensures { result ≡ minute_places (map end_of (agreed self)) }
-    {
-        let end = self.count as usize;
-        let mut ends = [0u64; 128];
-        let mut i: usize = 0;
-        while i < end {
-            let window = self.places[i];
-            let last = window.end;
-            ends[i] = last.minutes();
-            i += 1;
+        KeptWindows {
+            starts,
+            ends,
+            count: self.count,
         }
-        ends
     }
 
     // Checks the windows, and keeps their minutes where they are made.
-    pub fn kept(self) -> KeptWindows
-        ensures { result ≡ kept_of self }
+    #[tactic(auto, using(crate::proofs::Kept::kept_made, crate::proofs::Kept::kept_refused))]
+    pub fn kept(&self) -> Result<KeptWindows, WindowRefusal>
+        ensures { kept_arrays result ≡ kept_of self.now }
     {
-        match self.check() {
-            WindowCheck::Made => KeptWindows {
-                starts: self.starts(),
-                ends: self.ends(),
-                number: 0,
-                count: self.count,
-            },
-            WindowCheck::Refused(why) => KeptWindows::no_windows(window_refusal_number(why)),
-        }
+        self.check()?;
+        Ok(self.minutes())
     }
 }
 
+#[tactic(auto, unfolding(crate::specs::Windows::holds_minute))]
 fn holds(minute: u64, start: u64, end: u64) -> bool
     ensures { result ≡ holds_minute minute start end }
 {
-    if minute < start {
-        return false;
-    }
-    minute < end
+    start <= minute && minute < end
 }
 
-fn some_holds(minute: u64, starts: &[u64], ends: &[u64], count: usize) -> bool
-    requires { (length starts.now ≡ 128) × (length ends.now ≡ 128) × (count ≤ 128) }
-    ensures { result ≡ some_holds minute (take count starts.now) (take count ends.now) }
+#[tactic(auto, unfolding(crate::specs::Windows::some_holds))]
+fn some_holds(minute: u64, starts: &[u64], ends: &[u64]) -> bool
+    ensures { result ≡ some_holds minute starts.now ends.now }
 {
-    let mut i: usize = 0;
-    while i < count {
-        if holds(minute, starts[i], ends[i]) {
-            return true;
-        }
-        i += 1;
-    }
-    false
+    starts
+        .iter()
+        .zip(ends)
+        .any(|(start, end)| holds(minute, *start, *end))
 }
 
-fn nearer(minute: u64, start: u64, nearest: u64) -> u64
-    ensures { result ≡ nearer minute start nearest }
+// The nearest start after the minute, or none where no window begins after it up to the year 9999.
+fn nearest_start(minute: u64, starts: &[u64]) -> Option<u64>
+    ensures { let nearest = nearest_start minute starts.now 4223371680 in result ≡ cond (ltb nearest 4223371680) (Some nearest) None }
 {
-    if minute < start {
-        if start < nearest {
-            return start;
-        }
-        return nearest;
-    }
-    nearest
+    starts
+        .iter()
+        .copied()
+        .filter(|start| minute < *start && *start < PAST_LAST_YEAR)
+        .min()
 }
 
-// The nearest start after the minute, or the first minute past the year 9999 where no start is after it.
-fn nearest_start(minute: u64, starts: &[u64], count: usize) -> u64
-    requires { (length starts.now ≡ 128) × (count ≤ 128) }
-    ensures { result ≡ nearest_start minute (take count starts.now) 4223371680 }
+#[tactic(auto, unfolding(crate::specs::Windows::ask_minutes, crate::specs::Windows::next_after))]
+fn ask_minutes(starts: &[u64], ends: &[u64], minute: u64) -> Result<WindowAnswer, WindowRefusal>
+    ensures { result ≡ ask_minutes starts.now ends.now minute }
 {
-    let mut nearest: u64 = 4223371680;
-    let mut i: usize = 0;
-    while i < count {
-        nearest = nearer(minute, starts[i], nearest);
-        i += 1;
+    if minute >= PAST_LAST_YEAR {
+        return Err(WindowRefusal::NotInCalendar);
     }
-    nearest
+    if some_holds(minute, starts, ends) {
+        return Ok(WindowAnswer::Inside);
+    }
+    match nearest_start(minute, starts) {
+        Some(next) => Ok(WindowAnswer::Next(next)),
+        None => Ok(WindowAnswer::NoneFollows),
+    }
 }
 
-fn ask_minutes(starts: &[u64], ends: &[u64], count: usize, minute: u64) -> WindowAnswer
-    requires { (length starts.now ≡ 128) × (length ends.now ≡ 128) × (count ≤ 128) }
-    ensures { result ≡ ask_minutes (take count starts.now) (take count ends.now) minute }
-{
-    if minute >= 4223371680 {
-        return WindowAnswer::Refused(WindowRefusal::NotInCalendar);
-    }
-    if some_holds(minute, starts, ends, count) {
-        return WindowAnswer::Inside;
-    }
-    let next = nearest_start(minute, starts, count);
-    if next < 4223371680 {
-        return WindowAnswer::Next(next);
-    }
-    WindowAnswer::NoneFollows
-}
-
-// A minute asked of what is kept in arrays of numbers, whatever they hold.
+// A minute asked of what is kept in arrays of numbers, whatever they hold. The first figure is the number of a refusal and no Result: a host lends it.
+#[tactic(auto, unfolding(crate::specs::Windows::ask_kept, crate::specs::Windows::check_kept, crate::specs::Windows::ask_checked))]
 pub fn ask_arrays(
     starts: &[u64; 128],
     ends: &[u64; 128],
     figures: &[u64; 2],
     minute: u64,
-) -> WindowAnswer
+) -> Result<WindowAnswer, WindowRefusal>
     ensures { result ≡ ask_kept (kept_in starts.now ends.now figures.now) minute }
 {
-    let number = figures[0];
-    let count = figures[1];
-    if number == 17 {
-        return WindowAnswer::Refused(WindowRefusal::NotInCalendar);
+    match *figures {
+        [17, _] => Err(WindowRefusal::NotInCalendar),
+        [0, count] if count <= 128 => {
+            let end = count as usize;
+            ask_minutes(&starts[..end], &ends[..end], minute)
+        }
+        _ => Err(WindowRefusal::TooManyWindows),
     }
-    if number != 0 {
-        return WindowAnswer::Refused(WindowRefusal::TooManyWindows);
-    }
-    if count > 128 {
-        return WindowAnswer::Refused(WindowRefusal::TooManyWindows);
-    }
-    ask_minutes(starts, ends, count as usize, minute)
 }
 
 impl KeptWindows {
-    // No window, with a number that refuses, or 0.
-    pub fn no_windows(number: u64) -> KeptWindows
-        ensures { result ≡ no_windows number }
+    pub fn ask(&self, minute: u64) -> Result<WindowAnswer, WindowRefusal>
+        ensures { result ≡ ask_kept (kept_arrays (Ok self.now)) minute }
     {
-        KeptWindows {
-            starts: [0; 128],
-            ends: [0; 128],
-            number,
-            count: 0,
-        }
-    }
-
-    pub fn ask(self, minute: u64) -> WindowAnswer
-        ensures { result ≡ ask_kept self minute }
-    {
-        let starts = self.starts;
-        let ends = self.ends;
-        let figures = [self.number, self.count];
-        ask_arrays(&starts, &ends, &figures, minute)
+        ask_arrays(&self.starts, &self.ends, &[0, self.count], minute)
     }
 }
 
-// What is kept of windows, in arrays of numbers that a host lends.
+// What is kept of windows, in arrays of numbers that a host lends: the figures are document 02's number, 0 where the windows are made, and how many
+// windows are kept.
 pub fn keep(
-    windows: Windows,
+    windows: &Windows,
     starts: &mut [u64; 128],
     ends: &mut [u64; 128],
     figures: &mut [u64; 2],
 )
-    ensures { kept_in starts.new ends.new figures.new ≡ kept_of windows }
+    ensures { kept_in starts.new ends.new figures.new ≡ kept_of windows.now }
 {
-    let kept = windows.kept();
-    let all_starts = kept.starts;
-    let all_ends = kept.ends;
-    *starts = all_starts;
-    *ends = all_ends;
-    *figures = [kept.number, kept.count];
+    match windows.kept() {
+        Ok(kept) => {
+            let KeptWindows {
+                starts: all_starts,
+                ends: all_ends,
+                count,
+            } = kept;
+            *starts = all_starts;
+            *ends = all_ends;
+            *figures = [0, count];
+        }
+        Err(why) => {
+            *starts = [0; 128];
+            *ends = [0; 128];
+            *figures = [u64::from(why), 0];
+        }
+    }
 }

@@ -3,10 +3,10 @@
 use Rattle.arrays.specs.Arrays.{put_message}
 use Rattle.arrays.proofs.put_message.Goals as goal
 
-pub returns-in-NoMessage : goal.returns-in-NoMessage
+pub returns-in-None : goal.returns-in-None
 unfolding put_message
-returns-in-NoMessage c = simp c.in-NoMessage.is
+returns-in-None c = simp c.in-None.is
 
-pub returns-in-Send : goal.returns-in-Send
+pub returns-in-Some : goal.returns-in-Some
 unfolding put_message
-returns-in-Send c = simp (c.in-Send.is, ← c.put_sent.ensures)
+returns-in-Some c = simp (c.in-Some.is, ← c.put_sent.ensures)

@@ -1,35 +1,28 @@
 -- `catch_up::join_in_order` meets its contract.
 -- Assumes nothing.
-use mathlib.Core.Bool.{true, false}
-use Rattle.catch_up.specs.Causes.{CommitList}
-use Rattle.catch_up.specs.Joining.{list_of}
+use Rattle.std.proofs.Common.{true, false, refl}
+use Rattle.catch_up.specs.Joining.{lent_list}
 use Rattle.catch_up.proofs.Answers.{refuses, order_gap, order_two, apart_is, disagree_is, order_writes}
 use Rattle.catch_up.proofs.join_in_order.Goals as goal
 
-pub returns-then-begins_past : goal.returns-then-begins_past
-returns-then-begins_past c =
-    let earlier : CommitList = list_of c.args.earlier_slots.now c.args.earlier_values.now in
-    let later : CommitList = list_of c.args.later_slots.now c.args.later_values.now in
+pub returns-then-begins_past-clause-joined : goal.returns-then-begins_past-clause-joined
+returns-then-begins_past-clause-joined c =
     refuses _ _ _
     (order_gap _ _
-    (apart_is earlier later _ _ c.first_slot.ensures c.first_slot-2.ensures c.begins_past.result true c.begins_past.ensures c.if-begins_past.true))
+    (apart_is (lent_list c.args.earlier) (lent_list c.args.later) _ _ c.first_slot.ensures c.first_slot-2.ensures c.begins_past.result true c.begins_past.ensures c.if-begins_past.true))
 
-pub returns-then-values_differ : goal.returns-then-values_differ
-returns-then-values_differ c =
-    let earlier : CommitList = list_of c.args.earlier_slots.now c.args.earlier_values.now in
-    let later : CommitList = list_of c.args.later_slots.now c.args.later_values.now in
+pub returns-then-values_differ-clause-joined : goal.returns-then-values_differ-clause-joined
+returns-then-values_differ-clause-joined c =
     refuses _ _ _
     (order_two _ _
-    (apart_is earlier later _ _ c.first_slot.ensures c.first_slot-2.ensures c.begins_past.result false c.begins_past.ensures c.if-begins_past.false)
-    (disagree_is earlier later _ _ c.first_slot.ensures c.first_slot-2.ensures c.values_differ.result true c.values_differ.ensures
+    (apart_is (lent_list c.args.earlier) (lent_list c.args.later) _ _ c.first_slot.ensures c.first_slot-2.ensures c.begins_past.result false c.begins_past.ensures c.if-begins_past.false)
+    (disagree_is (lent_list c.args.earlier) (lent_list c.args.later) _ _ c.first_slot.ensures c.first_slot-2.ensures c.values_differ.result true c.min-shared.result _ c.min-shared.ensures refl c.values_differ.ensures
     c.if-values_differ.true))
 
-pub returns : goal.returns
-returns c =
-    let earlier : CommitList = list_of c.args.earlier_slots.now c.args.earlier_values.now in
-    let later : CommitList = list_of c.args.later_slots.now c.args.later_values.now in
-    order_writes earlier later _ _ c.first_slot.ensures c.first_slot-2.ensures _ _ c.less-known.result _
-    (apart_is earlier later _ _ c.first_slot.ensures c.first_slot-2.ensures c.begins_past.result false c.begins_past.ensures c.if-begins_past.false)
-    (disagree_is earlier later _ _ c.first_slot.ensures c.first_slot-2.ensures c.values_differ.result false c.values_differ.ensures
+pub returns-clause-joined : goal.returns-clause-joined
+returns-clause-joined c =
+    order_writes (lent_list c.args.earlier) (lent_list c.args.later) _ _ c.first_slot.ensures c.first_slot-2.ensures _ _ c.saturating_sub-known.result _
+    (apart_is (lent_list c.args.earlier) (lent_list c.args.later) _ _ c.first_slot.ensures c.first_slot-2.ensures c.begins_past.result false c.begins_past.ensures c.if-begins_past.false)
+    (disagree_is (lent_list c.args.earlier) (lent_list c.args.later) _ _ c.first_slot.ensures c.first_slot-2.ensures c.values_differ.result false c.min-shared.result _ c.min-shared.ensures refl c.values_differ.ensures
     c.if-values_differ.false)
-    c.less-known.ensures c.store_both-count.ensures.0 c.store_both-count.ensures.1 c.store_both.ensures.0
+    c.saturating_sub-known.ensures c.store_both-count.ensures.stored c.store_both-count.ensures.count c.store_both.ensures.stored

@@ -1,10 +1,8 @@
 -- `catch_up::store_both` meets its contract.
 -- Assumes nothing.
+use Rattle.std.proofs.Common.{arith}
 use Rattle.catch_up.proofs.Loops.{both_stored}
 use Rattle.catch_up.proofs.store_both.Goals as goal
 
-pub returns : goal.returns
-returns c =
-    both_stored c.args.earlier.now c.args.later.now c.args.out.now c.store_from-next.new.out c.store_from.new.out c.args.known
-    c.store_from-next.result c.at_most-start.result c.store_from.result c.requires
-    c.store_from-next.ensures.0 c.store_from-next.ensures.1 c.at_most-start.ensures c.store_from.ensures.0 c.store_from.ensures.1
+pub returns-clause-stored : goal.returns-clause-stored
+returns-clause-stored c = both_stored c.args.earlier.now c.args.later.now c.args.out.now _ _ c.args.known c.min-begin.result _ c.copy_from_slice.ensures.after c.copy_from_slice-2.ensures.after c.min-begin.ensures (omega arith)

@@ -3,10 +3,10 @@
 use Rattle.direct_core.specs.Handled.{put_outcome}
 use Rattle.direct_core.proofs.put_answer.Goals as goal
 
-pub returns-in-Done : goal.returns-in-Done
+pub returns-in-Ok : goal.returns-in-Ok
 unfolding put_outcome
-returns-in-Done c = simp (c.in-Done.is, c.put_core.ensures, c.encode_core.ensures, ← c.put_reply.ensures)
+returns-in-Ok c = simp (c.in-Ok.is, c.put_core.ensures, c.encode_core.ensures, ← c.put_reply.ensures)
 
-pub returns-in-Refused : goal.returns-in-Refused
+pub returns-in-Err : goal.returns-in-Err
 unfolding put_outcome
-returns-in-Refused c = simp (c.in-Refused.is, ← c.number.ensures, c.with_number.ensures)
+returns-in-Err c = simp (c.in-Err.is, ← c.number.ensures, c.with_number.ensures)

@@ -3,4 +3,4 @@
 use Rattle.flat_calls.proofs.asked_of.Goals as goal
 
 pub returns : goal.returns
-returns c = simp (← c.decode_mode-mode.ensures, ← c.contains.ensures, ← c.row.ensures, ← c.starting.ensures, ← c.decode_set.ensures)
+returns c = simp (← c.decode_mode-mode.ensures, ← c.contains.ensures, ← c.row.ensures, ← c.starting.ensures, ← c.decode_option.ensures)

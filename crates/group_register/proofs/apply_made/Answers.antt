@@ -3,17 +3,8 @@
 use mathlib.Core.Path.{sym, ◌∙◌}
 use native.Mathlib.Omega.{arith}
 use Rattle.group_register.proofs.GroupLaws.{odd_slot}
-use Rattle.group_register.specs.GroupRegister.{apply_made}
 use Rattle.group_register.proofs.apply_made.Goals as goal
 
 pub overflow_add-register : goal.overflow_add-register
 overflow_add-register c =
     omega (arith, odd_slot _ _ _ (sym c.gives_odd_width.ensures ∙ c.if-gives_odd_width.true))
-
-pub returns-then-gives_odd_width : goal.returns-then-gives_odd_width
-unfolding apply_made
-returns-then-gives_odd_width c = simp (← c.gives_odd_width.ensures, c.if-gives_odd_width.true)
-
-pub returns : goal.returns
-unfolding apply_made
-returns c = simp (← c.gives_odd_width.ensures, c.if-gives_odd_width.false, ← c.apply-applied.ensures)

@@ -6,5 +6,4 @@ use Rattle.line_fields.proofs.Places.{from_place}
 use Rattle.line_fields.proofs.begins_at.Goals as goal
 
 pub returns : goal.returns
-returns c =
-    c.begins.ensures ∙ ap (begins c.args.word.now) (from_place _ c.args.at c.args.line.now c.place_in-from.ensures)
+returns c = c.begins.ensures ∙ ap (begins c.args.word.now) (from_place _ c.args.at c.args.line.now c.min.ensures)

@@ -6,12 +6,12 @@ use Prim.Native.Nat.{ℕ}
 use lib.ListN.{take}
 use Rattle.call_lines.specs.Reading.{scan_of}
 use Rattle.line_fields.specs.declared.NumberField.{NumberField}
-use Rattle.line_fields.specs.declared.OptionalNumber.{OptionalNumber}
+use Rattle.std.specs.Prelude.{Option}
 use Rattle.line_fields.specs.Fields.{one_number, number_from, field_end, number_field}
 use Rattle.line_fields.proofs.Places.{field_bytes}
 use Rattle.line_fields.proofs.number_field.Goals as goal
 
-field_read : (line : List ℕ) (at end : ℕ) (number : OptionalNumber) → end ≡ field_end line at → number ≡ number_from (take end line) at
+field_read : (line : List ℕ) (at end : ℕ) (number : Option ℕ) → end ≡ field_end line at → number ≡ number_from (take end line) at
     → ◌≡◌ {A = NumberField} (record { number = number; end = end }) (number_field line at)
 unfolding number_from number_field
 field_read line at end number e f =

@@ -9,6 +9,8 @@ unfolding cell_text
 returns c =
     put_then _ _ _
     (put_then _ _ _
-    (put_then _ _ _ (put_then _ _ _ c.put_bytes-first.ensures c.put_number-second.ensures) c.put_field-third.ensures)
-    c.put_field-fourth.ensures)
-    c.put_bytes.ensures
+    (put_then _ _ _
+    (put_then _ _ _ c.put_bytes.ensures c.put_number.ensures)
+    c.put_field.ensures)
+    c.put_field-2.ensures)
+    c.put_bytes-2.ensures

@@ -1,22 +1,15 @@
--- `register_lines::put_cells` meets its contract: after i turns the first i live cells are put. The measure is the number of places left.
+-- `register_lines::put_cells` meets its contract: after so many turns so many live cells are put.
 -- Assumes nothing.
-use mathlib.Core.Path.{refl}
 use native.Mathlib.Omega.{arith}
-use lib.ListN.{length-take}
-use Rattle.texts.proofs.Putting.{put_then, reached_none, reached_all}
+use Rattle.texts.proofs.Putting.{put_then, reached_next, reached_all}
 use Rattle.register_lines.specs.Answers.{cells_text}
-use Rattle.register_lines.proofs.CellsPut.{cell_put}
 use Rattle.register_lines.proofs.put_cells.Goals as goal
 
-pub loop-i-init : goal.loop-i-init
-loop-i-init c = (omega arith, refl, reached_none)
-
-pub loop-i-preserved : goal.loop-i-preserved
-loop-i-preserved c =
-    (omega arith, omega arith, cell_put _ _ _ c.loop-i.invariant.2 c.put_cell-next.ensures c.loop-i-test.true (omega arith))
+pub loop-cell-preserved : goal.loop-cell-preserved
+loop-cell-preserved c = reached_next _ c.loop-cell.invariant c.put_cell.ensures (omega arith)
 
 pub returns : goal.returns
 unfolding cells_text
 returns c =
-    simp (← c.live_places-live_places.ensures)
-    (put_then _ _ _ (put_then _ _ _ c.put_number-next.ensures (reached_all c.loop-i.invariant.2 (rw length-take (omega arith)))) c.put_byte.ensures)
+    simp (← c.live_places-places.ensures)
+    (put_then _ _ _ (put_then _ _ _ c.put_number.ensures (reached_all c.loop-cell.invariant (omega arith))) c.put_byte.ensures)

@@ -6,5 +6,4 @@ use Rattle.report.proofs.put_report.Goals as goal
 
 pub returns : goal.returns
 unfolding report_header report_text
-returns c =
-    put_then _ _ _ (put_then _ _ _ c.put_bytes-at.ensures c.put_figures-end.ensures) c.put_bytes.ensures
+returns c = put_then _ _ _ (put_then _ _ _ c.put_bytes.ensures c.put_figures.ensures) c.put_bytes-2.ensures

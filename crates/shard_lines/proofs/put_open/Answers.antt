@@ -1,20 +1,13 @@
--- `shard_lines::put_open` meets its contract: after i turns the reads in the first i places are put. The measure is the number of places left.
+-- `shard_lines::put_open` meets its contract: after so many turns so many reads are put.
 -- Assumes nothing.
-use mathlib.Core.Path.{refl}
 use native.Mathlib.Omega.{arith}
-use borrow.Author.Rules.{rules}
-use Rattle.texts.proofs.Putting.{reached_none, reached_place, reached_places}
+use Rattle.texts.specs.Text.{first_places}
+use Rattle.texts.proofs.Putting.{reached_next, reached_all}
 use Rattle.shard_lines.proofs.put_open.Goals as goal
 
-pub loop-i-init : goal.loop-i-init
-loop-i-init c = (omega arith, refl, reached_none)
-
-pub returns-then-i-open_count : goal.returns-then-i-open_count
-returns-then-i-open_count c = reached_places _ _ c.loop-i.invariant.2 (omega arith)
-
-pub loop-i-preserved : goal.loop-i-preserved
-loop-i-preserved c =
-    (omega arith, omega arith, reached_place c.args.reads c.args.open_count _ c.loop-i.invariant.2 c.put_open_read-next.ensures (omega arith) (omega arith) (search rules))
+pub loop-read-preserved : goal.loop-read-preserved
+loop-read-preserved c = reached_next _ c.loop-read.invariant c.put_open_read.ensures (omega arith)
 
 pub returns : goal.returns
-returns c = reached_places _ _ c.loop-i.invariant.2 (omega arith)
+unfolding first_places
+returns c = rw (← c.min.ensures) (reached_all c.loop-read.invariant (omega arith))

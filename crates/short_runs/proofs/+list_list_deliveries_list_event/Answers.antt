@@ -1,7 +1,7 @@
 -- `short_runs::list`, `list_deliveries` and `list_event` meet their contracts.
 -- Assumes nothing.
 use Prim.Native.Nat.{ℕ, ◌+◌, ◌*◌, ◌-◌, ◌<◌}
-use mathlib.Core.Path.{◌≡◌, refl, ◌∙◌}
+use mathlib.Core.Path.{◌≡◌}
 use mathlib.Core.List.{[]}
 use native.Mathlib.Omega.{arith}
 use native.Mathlib.Nat.{pos_of_ne-zero}
@@ -30,66 +30,47 @@ pub list-returns-then-left-eq0 : goal.list-returns-then-left-eq0
 list-returns-then-left-eq0 t c = no_events_left c.args.left c.args.run _ c.if-left-eq0.true
 
 pub list-loop-proposer-init : goal.list-loop-proposer-init
-list-loop-proposer-init t c = (omega arith, refl, begins _ _)
+list-loop-proposer-init t c = begins _ _
 
-pub list-list_event-next-requires : goal.list-list_event-next-requires
-list-list_event-next-requires t c = (event_below_list c.args.left t c.if-left-eq0.false c.decreases, tt)
+pub list-list_event-requires : goal.list-list_event-requires
+list-list_event-requires t c = (event_below_list c.args.left t c.if-left-eq0.false c.decreases, tt)
 
 pub list-loop-proposer-preserved : goal.list-loop-proposer-preserved
-list-loop-proposer-preserved t c = (
-  omega (arith, c.loop-proposer-test.true),
-  c.list_event-next.auto.out ∙ c.loop-proposer.invariant.1,
-  one_more _ _ _ c.loop-proposer.invariant.2 c.list_event-next.ensures,
-)
+list-loop-proposer-preserved t c = one_more _ _ _ c.loop-proposer.invariant c.list_event.ensures
 
 pub list-loop-member-init : goal.list-loop-member-init
-list-loop-member-init t c = (omega arith, refl, begins _ _)
+list-loop-member-init t c = begins _ _
 
-pub list-list_deliveries-next-requires : goal.list-list_deliveries-next-requires
-list-list_deliveries-next-requires t c = (deliveries_below_list c.args.left t c.if-left-eq0.false c.decreases, tt)
+pub list-list_deliveries-requires : goal.list-list_deliveries-requires
+list-list_deliveries-requires t c = (deliveries_below_list c.args.left t c.if-left-eq0.false c.decreases, tt)
 
 pub list-loop-member-preserved : goal.list-loop-member-preserved
-list-loop-member-preserved t c = (
-  omega (arith, c.loop-member-test.true),
-  c.list_deliveries-next.auto.out ∙ c.loop-member.invariant.1,
-  one_more _ _ _ c.loop-member.invariant.2 c.list_deliveries-next.ensures,
-)
-
-pub list-shape_of-out : goal.list-shape_of-out
-list-shape_of-out t c = c.loop-member.invariant.1 ∙ c.loop-proposer.invariant.1
+list-loop-member-preserved t c = one_more _ _ _ c.loop-member.invariant c.list_deliveries.ensures
 
 pub list-returns : goal.list-returns
 list-returns t c =
     whole c.args.left c.args.run _ c.if-left-eq0.false
     (put_then (each_below 3 (proposal_lines (c.args.left - 1) c.args.run))
     (each_below 3 (λ m. each_below c.args.run.sent.count (delivery_lines (c.args.left - 1) c.args.run m))) _
-    (all_of (proposal_lines (c.args.left - 1) c.args.run) [] c.loop-proposer.proposer 3 _ c.loop-proposer.invariant.0 c.loop-proposer-test.false
-    c.loop-proposer.invariant.2)
-    (all_of (λ m. each_below c.args.run.sent.count (delivery_lines (c.args.left - 1) c.args.run m)) [] c.loop-member.member 3 _ c.loop-member.invariant.0
-    c.loop-member-test.false c.loop-member.invariant.2))
+    (all_of (proposal_lines (c.args.left - 1) c.args.run) [] c.loop-proposer.proposer 3 _ (omega arith) (omega arith) c.loop-proposer.invariant)
+    (all_of (λ m. each_below c.args.run.sent.count (delivery_lines (c.args.left - 1) c.args.run m)) [] c.loop-member.member 3 _ (omega arith) (omega arith)
+    c.loop-member.invariant))
 
 -- ---- list_deliveries
 
 pub list_deliveries-loop-place-init : goal.list_deliveries-loop-place-init
-list_deliveries-loop-place-init t c = (omega arith, refl, begins _ _)
+list_deliveries-loop-place-init t c = begins _ _
 
-pub list_deliveries-list_event-next-requires : goal.list_deliveries-list_event-next-requires
-list_deliveries-list_event-next-requires t c = (event_below_deliveries c.args.left t c.decreases, tt)
+pub list_deliveries-list_event-requires : goal.list_deliveries-list_event-requires
+list_deliveries-list_event-requires t c = (event_below_deliveries c.args.left t c.decreases, tt)
 
 pub list_deliveries-loop-place-preserved : goal.list_deliveries-loop-place-preserved
-list_deliveries-loop-place-preserved t c = (
-  omega (arith, c.loop-place-test.true),
-  c.list_event-next.auto.out ∙ c.loop-place.invariant.1,
-  one_more _ _ _ c.loop-place.invariant.2 c.list_event-next.ensures,
-)
-
-pub list_deliveries-shape_of-out : goal.list_deliveries-shape_of-out
-list_deliveries-shape_of-out t c = c.loop-place.invariant.1
+list_deliveries-loop-place-preserved t c = one_more _ _ _ c.loop-place.invariant c.list_event.ensures
 
 pub list_deliveries-returns : goal.list_deliveries-returns
 list_deliveries-returns t c =
-    all_of (delivery_lines c.args.left c.args.run c.args.member) [] c.loop-place.place c.args.run.sent.count _ c.loop-place.invariant.0
-    c.loop-place-test.false c.loop-place.invariant.2
+    all_of (delivery_lines c.args.left c.args.run c.args.member) [] c.loop-place.place c.args.run.sent.count _ (omega arith) (omega arith)
+    c.loop-place.invariant
 
 -- ---- list_event
 
@@ -97,7 +78,7 @@ pub list_event-list-requires : goal.list_event-list-requires
 list_event-list-requires t c = (list_below_event c.args.left t c.decreases, tt)
 
 pub list_event-returns-then-next : goal.list_event-returns-then-next
-list_event-returns-then-next t c = entered _ _ _ _ c.trial-next.ensures c.if-next.true c.put_line-place.ensures c.list.ensures
+list_event-returns-then-next t c = entered _ _ _ _ c.trial-next.ensures c.if-next.true c.put_line.ensures c.list.ensures
 
-pub list_event-returns : goal.list_event-returns
-list_event-returns t c = skipped _ _ _ _ c.trial-next.ensures c.if-next.false
+pub list_event-returns-else-next : goal.list_event-returns-else-next
+list_event-returns-else-next t c = skipped _ _ _ _ c.trial-next.ensures c.if-next.false

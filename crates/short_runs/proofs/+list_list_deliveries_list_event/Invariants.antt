@@ -1,9 +1,8 @@
 -- `short_runs::list`, `list_deliveries` and `list_event` meet their contracts. Each calls the next with a smaller number: with `left` events left
 -- they have 3 * left + 1, + 3 and + 2.
 -- Assumes nothing.
-use Prim.Native.Nat.{◌+◌, ◌*◌, ◌-◌, ◌≤◌}
+use Prim.Native.Nat.{◌+◌, ◌*◌}
 use mathlib.Core.Path.{◌≡◌}
-use lib.ListN.{length}
 use Rattle.texts.specs.Text.{put}
 use Rattle.enabled_runs.specs.Listing.{each_below}
 use Rattle.short_runs.proofs.Turns.{proposal_lines, delivery_lines}
@@ -19,25 +18,10 @@ abbrev pub decreases-list_event : goal.decreases-list_event
 decreases-list_event l = 3 * l.left + 2
 
 abbrev pub invariant-list-loop-proposer : goal.invariant-list-loop-proposer
-invariant-list-loop-proposer l =
-    (l.proposer ≤ 3) × (length l.out ≡ length l.initial.out)
-    × ((l.out, l.next) ≡ put (each_below l.proposer (proposal_lines l.fewer l.run)) (l.initial.out, l.at))
-
-abbrev pub decreases-list-loop-proposer : goal.decreases-list-loop-proposer
-decreases-list-loop-proposer l = 3 - l.proposer
+invariant-list-loop-proposer l = l.out ≡ put (each_below l.proposer (proposal_lines l.fewer l.run)) l.initial.out
 
 abbrev pub invariant-list-loop-member : goal.invariant-list-loop-member
-invariant-list-loop-member l =
-    (l.member ≤ 3) × (length l.out ≡ length l.initial.out)
-    × ((l.out, l.next) ≡ put (each_below l.member (λ m. each_below l.run.sent.count (delivery_lines l.fewer l.run m))) (l.initial.out, l.initial.next))
-
-abbrev pub decreases-list-loop-member : goal.decreases-list-loop-member
-decreases-list-loop-member l = 3 - l.member
+invariant-list-loop-member l = l.out ≡ put (each_below l.member (λ m. each_below l.run.sent.count (delivery_lines l.fewer l.run m))) l.initial.out
 
 abbrev pub invariant-list_deliveries-loop-place : goal.invariant-list_deliveries-loop-place
-invariant-list_deliveries-loop-place l =
-    (l.place ≤ l.count) × (length l.out ≡ length l.initial.out)
-    × ((l.out, l.next) ≡ put (each_below l.place (delivery_lines l.left l.run l.member)) (l.initial.out, l.at))
-
-abbrev pub decreases-list_deliveries-loop-place : goal.decreases-list_deliveries-loop-place
-decreases-list_deliveries-loop-place l = l.count - l.place
+invariant-list_deliveries-loop-place l = l.out ≡ put (each_below l.place (delivery_lines l.left l.run l.member)) l.initial.out

@@ -7,6 +7,6 @@ use Rattle.short_runs.proofs.put_line.Goals as goal
 pub returns : goal.returns
 unfolding kept_line
 returns c =
-    put_then _ _ _ c.put_events-middle.ensures
-    (put_then _ _ _ c.put_byte-next.ensures
-    (put_then _ _ _ c.put_commits-end.ensures c.put_bytes.ensures))
+    put_then _ _ _ c.put_joined.ensures
+    (put_then _ _ _ c.put_byte.ensures
+    (put_then _ _ _ c.put_joined-2.ensures c.put_bytes.ensures))

@@ -5,5 +5,5 @@ use Rattle.short_runs.proofs.put_sheet.Goals as goal
 
 pub returns : goal.returns
 returns c =
-    sheet_put _ c.put_bytes-next.ensures
+    sheet_put _ c.put_bytes.ensures
     (rw c.new-none.ensures at c.list.ensures)

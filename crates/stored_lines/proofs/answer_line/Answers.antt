@@ -22,10 +22,10 @@ slice_bounds-answer_stored-start c = let h = long _ _ c.begins.ensures c.if-begi
 
 pub returns-then-begins : goal.returns-then-begins
 returns-then-begins c =
-    let t = line_stored c.args.register _ _ (c.args.out.now, c.args.at) _ _ refl (sym c.begins.ensures ∙ c.if-begins.true) c.answer_stored.ensures.register_value c.answer_stored.ensures.put_after in
-    record { register_value = t.0; put_after = t.1 }
+    let t = line_stored c.args.register _ _ c.args.out.now _ _ refl (sym c.begins.ensures ∙ c.if-begins.true) c.answer_stored.ensures.register c.answer_stored.ensures.put in
+    record { register = t.0; put = t.1 }
 
 pub returns : goal.returns
 returns c =
-    let t = line_other c.args.register _ _ (c.args.out.now, c.args.at) _ (sym c.begins.ensures ∙ c.if-begins.false) c.answer_line.ensures.register_value c.answer_line.ensures.put_after in
-    record { register_value = t.0; put_after = t.1 }
+    let t = line_other c.args.register _ _ c.args.out.now _ (sym c.begins.ensures ∙ c.if-begins.false) c.answer_line.ensures.register c.answer_line.ensures.put in
+    record { register = t.0; put = t.1 }

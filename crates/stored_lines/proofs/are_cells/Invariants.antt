@@ -1,13 +1,9 @@
--- `stored_lines::are_cells` meets its contract. The loop's invariant: the first i are cells.
+-- `stored_lines::are_cells` meets its contract: the first i are cells.
 -- Assumes nothing.
 use mathlib.Core.Path.{◌≡◌}
 use mathlib.Core.Bool.{true}
-use Prim.Native.Nat.{◌-◌, ◌≤◌}
 use Rattle.stored_lines.specs.Lines.{are_cells}
 use Rattle.stored_lines.proofs.are_cells.Given as goal
 
 abbrev pub invariant-loop-i : goal.invariant-loop-i
-invariant-loop-i l = (l.i ≤ l.count) × (are_cells l.numbers l.i ≡ true)
-
-abbrev pub decreases-loop-i : goal.decreases-loop-i
-decreases-loop-i l = l.count - l.i
+invariant-loop-i l = are_cells l.numbers l.i ≡ true

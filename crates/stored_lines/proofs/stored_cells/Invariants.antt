@@ -1,13 +1,9 @@
--- `stored_lines::stored_cells` meets its contract. The loop's invariant: the first i cells are read.
+-- `stored_lines::stored_cells` meets its contract: the first i cells are read.
 -- Assumes nothing.
 use mathlib.Core.Path.{◌≡◌}
-use Prim.Native.Nat.{◌-◌, ◌≤◌}
-use Rattle.serving.specs.Serving.{at_front}
+use Rattle.places.specs.Places.{at_front}
 use Rattle.stored_lines.specs.Lines.{stored_cells, empty_cells}
 use Rattle.stored_lines.proofs.stored_cells.Given as goal
 
 abbrev pub invariant-loop-i : goal.invariant-loop-i
-invariant-loop-i l = (l.i ≤ l.count) × (l.cells ≡ at_front (stored_cells l.numbers l.i) empty_cells)
-
-abbrev pub decreases-loop-i : goal.decreases-loop-i
-decreases-loop-i l = l.count - l.i
+invariant-loop-i l = l.cells ≡ at_front (stored_cells l.numbers l.i) empty_cells

@@ -11,8 +11,8 @@ stored_of_numbers-stored-requires c = (search rules, few_cells _ _ (sym c.is_sto
 pub returns-then-is_stored : goal.returns-then-is_stored
 returns-then-is_stored c =
     line_taken _ _ _ c.read_numbers-scan.ensures.value c.read_numbers-scan.ensures.numbers_after _ _
-    (sym c.is_stored.ensures ∙ c.if-is_stored.true) c.stored_of_numbers-stored.ensures c.widened.ensures
+    (sym c.is_stored.ensures ∙ c.if-is_stored.true) c.stored_of_numbers-stored.ensures c.from.ensures
 
 pub returns : goal.returns
 returns c =
-    line_left _ _ _ c.read_numbers-scan.ensures.value c.read_numbers-scan.ensures.numbers_after _ (sym c.is_stored.ensures ∙ c.if-is_stored.false) c.new.ensures
+    line_left _ _ _ c.read_numbers-scan.ensures.value c.read_numbers-scan.ensures.numbers_after (sym c.is_stored.ensures ∙ c.if-is_stored.false)

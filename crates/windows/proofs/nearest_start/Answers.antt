@@ -1,30 +1,17 @@
--- `windows::nearest_start` meets its contract: after i turns it is the nearest of the first i starts. The measure is the number of windows left.
+-- `windows::nearest_start` meets its contract: the least start of those that are later is the nearest.
 -- Assumes nothing.
-use mathlib.Core.Path.{refl}
-use native.Mathlib.Omega.{arith}
-use Rattle.windows.proofs.Turns.{turn, over, one_nearer, nearest_of_all}
+use Rattle.std.proofs.Common.{◌∙◌, ◌&&◌, sym, rules, tests, ltb}
+use Rattle.std.proofs.lemmas.Iterator.{YieldsList-from_slice}
+use Rattle.std.proofs.lemmas.Iterator.Adapters.{option_map_id}
+use Rattle.std.proofs.lemmas.Iterator.Consumers.{YieldsList-at, YieldsList-from_copied, YieldsList-from_filter, min_from_yields_List}
+use Rattle.windows.proofs.Turns.{nearest_found}
 use Rattle.windows.proofs.nearest_start.Goals as goal
 
-pub loop-i-init : goal.loop-i-init
-loop-i-init c = (omega arith, refl)
-
-pub offset_bounds-starts-i : goal.offset_bounds-starts-i
-offset_bounds-starts-i c = omega arith
-
-pub bounds-starts-i : goal.bounds-starts-i
-bounds-starts-i c = omega arith
-
-pub overflow_add-i : goal.overflow_add-i
-overflow_add-i c = omega arith
-
-pub loop-i-smaller : goal.loop-i-smaller
-loop-i-smaller c = omega arith
-
-pub loop-i-preserved : goal.loop-i-preserved
-loop-i-preserved c = (
-  omega arith,
-  one_nearer _ _ _ _ _ c.loop-i.invariant.1 _ _ _ (turn _ _ c.loop-i.i 0 c.loop-i-test.true c.requires.1 c.requires.0) c.nearer-nearest.ensures,
-)
-
 pub returns : goal.returns
-returns c = nearest_of_all _ _ _ _ _ c.loop-i.invariant.1 (over _ _ _ c.loop-i-test.false)
+returns c =
+    sym (option_map_id c.min.result)
+    ∙ min_from_yields_List _ _ c.min.ensures.ran
+    (YieldsList-from_filter _ (λ start. ltb c.args.minute start && ltb start 4223371680)
+    (YieldsList-at c.filter.ensures.source (YieldsList-from_copied (YieldsList-at c.copied.ensures.source (YieldsList-from_slice c.args.starts.now cc))))
+    c.filter.ensures.closure (λ x b q k. search (rules, tests)))
+    ∙ nearest_found c.args.minute c.args.starts.now

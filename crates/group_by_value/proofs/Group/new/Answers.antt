@@ -1,6 +1,5 @@
 -- `group_by_value::Group::new` meets its contract.
 -- Assumes nothing.
-use borrow.Author.Rules.{rules}
 use mathlib.Core.List.{List}
 use mathlib.Core.Path.{◌≡◌, sym, ap, ap₂, ◌∙◌}
 use native.Mathlib.Numerals.{add-one}
@@ -13,17 +12,15 @@ use Rattle.group_by_value.proofs.Group.new.Goals as goal
 
 pub loop-i-init : goal.loop-i-init
 unfolding new_members
-loop-i-init c = (search rules, ap (λ (x : Shard). replicate 64 x) (c.new-first.ensures ∙ ap new_shard c.member_settings.ensures))
+loop-i-init c = ap (λ (x : Shard). replicate 64 x) (c.new-first.ensures ∙ ap new_shard c.member_settings.ensures)
 
 pub loop-i-preserved : goal.loop-i-preserved
 unfolding new_members
-loop-i-preserved c = (
-  search rules,
-  ap₂ (λ (ms : List Shard) (x : Shard). set ms c.loop-i.i x) c.loop-i.invariant.1 (c.new.ensures ∙ ap new_shard c.member_settings-in-loop-i.ensures)
-      ∙ sym (ap (new_members c.args.settings) (add-one c.loop-i.i)),
-)
+loop-i-preserved c =
+    ap₂ (λ (ms : List Shard) (x : Shard). set ms c.loop-i.i x) c.loop-i.invariant (c.new.ensures ∙ ap new_shard c.member_settings-in-loop-i.ensures)
+    ∙ sym (ap (new_members c.args.settings) (add-one c.loop-i.i))
 
 pub returns : goal.returns
 returns c =
-    let all : c.loop-i.i ≡ 64 = omega (arith, c.loop-i.invariant.0, c.loop-i-test.false) in
-    ap (λ (ms : List Shard). record { members = ms }) (c.loop-i.invariant.1 ∙ ap (new_members c.args.settings) all)
+    let all : c.loop-i.i ≡ 64 = omega arith in
+    ap (λ (ms : List Shard). record { members = ms }) (c.loop-i.invariant ∙ ap (new_members c.args.settings) all)

@@ -1,0 +1,22 @@
+// The first places of a row, in order, with one element more or one fewer. The places behind them stay as they are.
+#![tactic(auto)]
+
+ghost use Rattle.std.specs.Prelude.{◌≡◌, ◌<◌, ◌≤◌, length, take};
+ghost use Rattle.places.specs.Places.{at_front, without, with_at};
+
+// The first `places` elements with a new one at place `at`: the later ones move one place up.
+pub fn insert_at<T: Copy>(row: &mut [T], at: usize, places: usize, new: T)
+    requires { (at ≤ places) × (places < length row.old) }
+    ensures { row.new ≡ at_front (with_at at new (take places row.old)) row.old }
+{
+    row.copy_within(at..places, at + 1);
+    row[at] = new;
+}
+
+// The first `places` elements without the one at place `at`: the later ones move one place down.
+pub fn remove_at<T: Copy>(row: &mut [T], at: usize, places: usize)
+    requires { (at < places) × (places ≤ length row.old) }
+    ensures { row.new ≡ at_front (without at (take places row.old)) row.old }
+{
+    row.copy_within(at + 1..places, at);
+}

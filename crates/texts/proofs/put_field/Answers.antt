@@ -1,9 +1,0 @@
--- `texts::put_field` meets its contract.
--- Assumes nothing.
-use Rattle.texts.specs.Text.{field}
-use Rattle.texts.proofs.Putting.{put_then}
-use Rattle.texts.proofs.put_field.Goals as goal
-
-pub returns : goal.returns
-unfolding field
-returns c = put_then _ _ _ c.put_byte-next.ensures c.put_number.ensures
