@@ -12,10 +12,9 @@ use Rattle.message.specs.declared.Refusal.TheVariants.{Panic}
 use Rattle.round_state.specs.Paxos.{paxos_can_commit, receive_accept}
 use Rattle.round_state.specs.declared.PaxosState.{PaxosState}
 use Rattle.prepare.specs.Prepare.{off_fast_path}
-use Rattle.steps.specs.Steps.{no_messages, one_message, two_messages, also, sends, first_served, held_v, with_paxos, left_fast_path, stays, continues, commits, refuses}
+use Rattle.steps.specs.Steps.{CoreStep, no_messages, one_message, two_messages, also, sends, first_served, held_v, with_paxos, left_fast_path, stays, continues, commits}
 use Rattle.steps.specs.declared.Asked.{Asked}
 use Rattle.steps.specs.declared.Core.{Core}
-use Rattle.steps.specs.declared.CoreStep.{CoreStep}
 use Rattle.steps.specs.declared.Destination.TheVariants.{One, All}
 use Rattle.steps.specs.declared.Heard.{Heard}
 use Rattle.steps.specs.declared.Messages.{Messages}
@@ -80,15 +79,15 @@ answered a h round v core =
     (stays core (answer_accept a round core h.committer))
 
 -- another than the leader hears another's accept as the committer alone
-unfoldable pub follower : Asked → Heard → PaxosRound → ℕ → Core → CoreStep
+unfoldable pub follower : Asked → Heard → PaxosRound → ℕ → Core → Result CoreStep Refusal
 follower a h round v core =
-    cond (eqb h.src h.delegate) (answered a h round v core)
-    (cond (is_committer a h) (try_commit a h round v core no_messages) (refuses Panic core))
+    cond (eqb h.src h.delegate) (Ok (answered a h round v core))
+    (cond (is_committer a h) (Ok (try_commit a h round v core no_messages)) (Err Panic))
 
 -- `if self.my_pid != round.leader`
-unfoldable pub accepted : Asked → Heard → PaxosRound → ℕ → Core → CoreStep
+unfoldable pub accepted : Asked → Heard → PaxosRound → ℕ → Core → Result CoreStep Refusal
 accepted a h round v core =
-    cond (eqb a.member.my_pid round.leader) (try_commit a h round v core no_messages) (follower a h round v core)
+    cond (eqb a.member.my_pid round.leader) (Ok (try_commit a h round v core no_messages)) (follower a h round v core)
 
 -- ---- the same by what is answered and who counts
 
@@ -108,10 +107,10 @@ unfoldable pub counts_accepts : Asked → Heard → PaxosRound → Bool
 counts_accepts a h round = eqb a.member.my_pid round.leader || is_committer a h
 
 -- receive_accept was taken: the accept phase is off the fast path, but for SwiftPaxos
-abbrev pub after_accepted : Asked → Heard → PaxosRound → ℕ → Core → Result PaxosState Refusal → CoreStep
+abbrev pub after_accepted : Asked → Heard → PaxosRound → ℕ → Core → Result PaxosState Refusal → Result CoreStep Refusal
 after_accepted a h round v core (Ok p) = accepted a h round v (off_fast_path a (with_paxos p core))
-after_accepted a h round v core (Err why) = refuses why core
+after_accepted a h round v core (Err why) = Err why
 
 -- an Accept in the round of the state
-unfoldable pub accepting : Asked → Heard → PaxosRound → ℕ → Core → CoreStep
+unfoldable pub accepting : Asked → Heard → PaxosRound → ℕ → Core → Result CoreStep Refusal
 accepting a h round v core = after_accepted a h round v core (receive_accept a.member h.src round v core.paxos)

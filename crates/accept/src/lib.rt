@@ -7,6 +7,9 @@ ghost use Rattle.accept.specs.Accept.{tells_committer, is_committer, accept_to, 
 use message::{ConsensusMsg, PFMode, PaxosRound, Refusal};
 use steps::{Asked, Core, CoreStep, Destination, Heard, Messages, Outgoing};
 
+// asked, heard and round are parameters of their own: a struct of them was tried here, and the page was as long, since the contracts name the settings' part
+// and the message's part apart, and 6 of these 14 functions take one or two of the three.
+
 // Whether a committer hears the accepts of the mode.
 fn tells_committer(mode: PFMode) -> bool
     ensures { result ≡ tells_committer mode }
@@ -151,32 +154,43 @@ fn counts_accepts(asked: Asked, heard: Heard, round: PaxosRound) -> bool
 
 // The Rust's three branches, of the leader, of one that answers and of one that only counts, meet in one place that commits: a function with one
 // caller is compiled into it, and then nothing is copied.
-fn accepted(asked: Asked, heard: Heard, round: PaxosRound, v: u64, core: Core) -> CoreStep
+#[tactic(auto, using(crate::proofs::Roles::accepted_by_role))]
+fn accepted(
+    asked: Asked,
+    heard: Heard,
+    round: PaxosRound,
+    v: u64,
+    core: Core,
+) -> Result<CoreStep, Refusal>
     ensures { result ≡ accepted asked heard round v core }
 {
     let answer = accept_answer(asked, heard, round, core);
     if continues_fast(asked, heard, round) {
-        return core.continues(answer);
+        return Ok(core.continues(answer));
     }
     if counts_accepts(asked, heard, round) {
-        return try_commit(asked, heard, round, v, core, answer);
+        return Ok(try_commit(asked, heard, round, v, core, answer));
     }
     if heard.src == heard.delegate {
-        return core.stays(answer);
+        return Ok(core.stays(answer));
     }
-    core.refuses(Refusal::Panic)
+    Err(Refusal::Panic)
 }
 
 // An Accept in the round of the state.
 #[tactic(auto, unfolding(crate::specs::Accept::accepting))]
-pub fn accepting(asked: Asked, heard: Heard, round: PaxosRound, v: u64, core: Core) -> CoreStep
+pub fn accepting(
+    asked: Asked,
+    heard: Heard,
+    round: PaxosRound,
+    v: u64,
+    core: Core,
+) -> Result<CoreStep, Refusal>
     ensures { result ≡ accepting asked heard round v core }
 {
-    match core.paxos.receive_accept(asked.member, heard.src, round, v) {
-        Ok(p) => {
-            let taken = prepare::off_fast_path(asked, core.with_paxos(p));
-            accepted(asked, heard, round, v, taken)
-        }
-        Err(why) => core.refuses(why),
-    }
+    let p = core
+        .paxos
+        .receive_accept(asked.member, heard.src, round, v)?;
+    let taken = prepare::off_fast_path(asked, core.with_paxos(p));
+    accepted(asked, heard, round, v, taken)
 }

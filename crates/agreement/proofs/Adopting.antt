@@ -1,6 +1,7 @@
 -- The value of a best proposer is safe to adopt, whichever of the best is taken: a proposer that may yet commit its own value on the fast path
 -- has the best score, alone.
 -- Assumes nothing.
+use Rattle.std.specs.Bool.{passes}
 use Prim.Native.Nat.{ℕ, suc, ◌+◌, ◌≤◌, ◌<◌}
 use mathlib.Core.Path.{◌≡◌, refl, sym, ◌∙◌, subst, ap}
 use mathlib.Core.Bool.{Bool, true, false, not, ◌&&◌, ◌||◌}
@@ -13,7 +14,7 @@ use Rattle.sets.specs.Sets.{one, count}
 use Rattle.sets.proofs.Counting.{count_some}
 use Rattle.agreement.specs.Voting.{Voters, World, Blocked, Clear, Consistent, VotersRules}
 use Rattle.agreement.specs.Model.{Answers}
-use Rattle.agreement.proofs.Tests.{passes, and_both}
+use Rattle.agreement.proofs.Tests.{and_both}
 use Rattle.agreement.proofs.Growth.{names, TrueAnswers}
 use Rattle.agreement.proofs.Answers.{count_none, count_nobody, count_sum, proposer_first}
 

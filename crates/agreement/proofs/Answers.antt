@@ -1,5 +1,6 @@
 -- The answers on the fast path stay true: at first there are none, and then one more.
 -- Assumes nothing.
+use Rattle.std.specs.Bool.{passes}
 use Prim.Native.Nat.{ℕ, zero, suc, ◌+◌, ◌-◌, ◌≤◌, ◌<◌}
 use mathlib.Core.Path.{◌≡◌, refl, sym, ◌∙◌, subst, ap}
 use mathlib.Core.Bool.{Bool, true, false, not, ◌&&◌, ◌||◌, cond}
@@ -7,13 +8,13 @@ use mathlib.Core.Logic.{◌⊎◌, inl, inr}
 use lib.Dec.{T, eqb, T_not}
 use native.Mathlib.Omega.{arith}
 use native.Mathlib.Decide.{ℕ_discrete}
-use borrow.Author.Tests.{eqb-true, eq-eqb, ne_eqb}
+use borrow.Author.Tests.{eqb-true, eq-eqb, ne_eqb, not-true}
 use Rattle.basics.proofs.Tests.{not_both, or_cases, or_left, or_right}
 use Rattle.sets.specs.Sets.{one, count}
 use Rattle.sets.proofs.Counting.{count_ext, count_one_more}
 use Rattle.agreement.specs.Voting.{Voters, World, Consistent}
 use Rattle.agreement.specs.Model.{Answers, add, no_answers, score_after, with_answer}
-use Rattle.agreement.proofs.Tests.{is_true, passes}
+use Rattle.agreement.proofs.Tests.{is_true}
 use Rattle.agreement.proofs.Voting.{count_within}
 use Rattle.agreement.proofs.Growth.{names, TrueAnswers}
 
@@ -49,10 +50,6 @@ pub count_sum : (e f g h k : ℕ → Bool) (n : ℕ) → ((m : ℕ) → one (e m
 unfolding count
 count_sum e f g h k zero p = omega arith
 count_sum e f g h k (suc n) p = let a = p n in let b = count_sum e f g h k n p in omega arith
-
-is_false : (b : Bool) → T (not b) → b ≡ false
-is_false true t = absurd t
-is_false false t = refl
 
 -- ---- answers
 
@@ -129,7 +126,7 @@ module _ (g : Voters) (w : World) (ok : Consistent g w) (i s : ℕ) (f : Answers
     new_names q = ap (λ (b : Bool). (b || f.answered m) && eqb (cond b p (o.name m)) q) (eq-eqb m m refl)
 
     old_names : (q : ℕ) → names f o.name q m ≡ false
-    old_names q = ap (λ (b : Bool). b && eqb (o.name m) q) (is_false (f.answered m) new)
+    old_names q = ap (λ (b : Bool). b && eqb (o.name m) q) (not-true (f.answered m) (is_true (not (f.answered m)) new))
 
     counted : (q : ℕ) → count (names f⁺ name⁺ q) g.count ≡ count (names f o.name q) g.count + one (eqb p q)
     counted q = go (eqb p q) refl

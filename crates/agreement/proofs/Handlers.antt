@@ -1,6 +1,8 @@
 -- Each call of the model is correct: on a true view and with a true message it leaves a true view, true messages and a chosen commit, in a
 -- world that has grown. The handlers, branch by branch.
 -- Assumes nothing.
+use Rattle.std.specs.Bool.{passes}
+use Rattle.std.proofs.Math.Bool.{not-not}
 use Prim.Native.Nat.{ℕ, suc, pred, ◌+◌, ◌≤◌, ◌<◌}
 use mathlib.Core.Path.{◌≡◌, refl, sym, ◌∙◌, subst, ap}
 use mathlib.Core.Bool.{Bool, true, false, not, ◌&&◌, ◌||◌, cond}
@@ -16,7 +18,7 @@ use Rattle.basics.proofs.Tests as basic
 use Rattle.agreement.specs.Voting.{Voters, World, Voted, Promise, Clear, Safe, Consistent, Chosen}
 use Rattle.agreement.specs.Model.{View, Answers, Setup, Message, prepare, accept, commit, other, all, Outgoing, Host, Decision, undecided, decided, Outcome, joined, advanced, adopted, prepared_by, accepted_by, voted, with_answer, with_answers, refuse, quiet, say, holds_before, enough_prepared, enough_accepted, fast_enough, may_adopt, is_best, enter, counted, casts, picks, adopts, decides, answering, gathers, promised, on_prepare, commits, replies, after_accept, on_accept, on_commit, own_answer, on_propose, on_message}
 use Rattle.agreement.specs.Refinement.{SetupRules, OnlyOther}
-use Rattle.agreement.proofs.Tests.{is_true, passes, by_test, and_both, nor_both, not_not, neqb→ne}
+use Rattle.agreement.proofs.Tests.{is_true, by_test, and_both, nor_both, neqb→ne}
 use Rattle.agreement.proofs.Growth.{Grows, grows_refl, grows_trans, voted_stays, promise_stays, chosen_stays, names, TrueAnswers, TrueView}
 use Rattle.agreement.proofs.Answers.{count_sum, count_nobody, add_self, proposer_first, answer_true}
 use Rattle.agreement.proofs.Adopting.{adopt_clear}
@@ -429,9 +431,9 @@ module _ (S : Setup) (rules : SetupRules S) where
         (λ not_refused. let old = nor_both (ltb s x0.slot) (ltb r x0.round) not-past in
         let le : x0.round ≤ r = nltb→le r x0.round old.1 in
         let both = nor_both (not (eqb s x0.slot)) (not (g.live source)) not_refused in
-        let same_slot : s ≡ x0.slot = eqb→eq s x0.slot (not_not (eqb s x0.slot) both.0) in
-        let live_source = not_not (g.live source) both.1 in
-        let live-i = not_not (g.live i) not_dead in
+        let same_slot : s ≡ x0.slot = eqb→eq s x0.slot (subst T (not-not (eqb s x0.slot)) both.0) in
+        let live_source = subst T (not-not (g.live source)) both.1 in
+        let live-i = subst T (not-not (g.live i)) not_dead in
         by_test (λ (z : View). Keeps (k z)) (ltb x0.round r) (joined r x0) x0
         (λ l. let on = later_onward g w ok i x0 o0 r (ltb→lt x0.round r l) in
         f (add_reached w i x0.slot r) (add_reached_grows g P w i x0.slot r on)

@@ -4,16 +4,11 @@ use Prim.Native.Nat.{ℕ}
 use mathlib.Core.Path.{◌≡◌, refl, subst}
 use mathlib.Core.Bool.{Bool, true, false, not, ◌&&◌, ◌||◌, cond}
 use lib.Dec.{T, eqb, eqb_refl, T_not}
-use Rattle.basics.proofs.Tests.{not_both}
 
--- `T b` and `b ≡ true` say the same
+-- `T b` and `b ≡ true` say the same (the other way is the library's `passes`)
 pub is_true : (b : Bool) → T b → b ≡ true
 is_true true t = refl
 is_true false t = absurd t
-
-pub passes : (b : Bool) → b ≡ true → T b
-passes true e = tt
-passes false e = not_both e refl
 
 -- what holds of both branches of a test holds of the test
 pub by_test {ℓ} : {A : Type 0} (P : A → Type ℓ) (b : Bool) (x y : A) → (T b → P x) → (T (not b) → P y) → P (cond b x y)
@@ -27,10 +22,6 @@ and_both false b t = absurd t
 pub nor_both : (a b : Bool) → T (not (a || b)) → T (not a) × T (not b)
 nor_both true b t = absurd t
 nor_both false b t = (tt, t)
-
-pub not_not : (a : Bool) → T (not (not a)) → T a
-not_not true t = tt
-not_not false t = absurd t
 
 pub neqb→ne : (m n : ℕ) → T (not (eqb m n)) → m ≡ n → ⊥
 neqb→ne m n t e = T_not (eqb m n) t (subst (λ (k : ℕ). T (eqb m k)) e (eqb_refl m))

@@ -1,6 +1,7 @@
 -- Two values chosen in a slot are equal, by votes or on the fast path, and what is chosen was proposed; two majorities of the live members
 -- share a member.
 -- Assumes nothing.
+use Rattle.std.specs.Bool.{passes}
 use Prim.Native.Nat.{ℕ, zero, suc, ◌+◌, ◌≤◌, ◌<◌}
 use mathlib.Core.Path.{◌≡◌, sym, subst}
 use mathlib.Core.Bool.{Bool, true, false, not}
@@ -11,7 +12,7 @@ use native.Mathlib.Decide.{dec_le, ℕ_discrete}
 use Rattle.sets.specs.Sets.{count}
 use Rattle.sets.proofs.Counting.{count_meet, count_mono}
 use Rattle.agreement.specs.Voting.{Voters, QuorumsMeet, World, Voted, Clear, SafeByQuorum, Safe, Consistent, ChosenAt, FastChosen, Chosen, VotersRules}
-use Rattle.agreement.proofs.Tests.{is_true, passes}
+use Rattle.agreement.proofs.Tests.{is_true}
 
 -- two sets of live members that are together larger than the live set, which is no larger than r, share a member
 pub majority_meets : (g : Voters) (r : ℕ) → r < g.quorum + g.quorum → count g.live g.count ≤ r → QuorumsMeet g

@@ -10,7 +10,7 @@ use consensus::Answer;
 use texts::Output;
 
 // The line of an answer, with its LF.
-#[tactic(auto, using(texts::proofs::Putting::put_then), unfolding(crate::specs::Answer::answer_text))]
+#[tactic(auto, using(texts::proofs::Putting::put_append), unfolding(crate::specs::Answer::answer_text, texts::specs::Text::put))]
 pub fn put_answer(out: &mut Output, answer: &Answer)
     ensures { out.new ≡ put (answer_text answer.now) out.old }
 {

@@ -1,6 +1,6 @@
 -- The reads that stand in arrays of numbers: five numbers are an open read, four a served one.
 -- Assumes nothing.
-use Rattle.std.specs.Prelude.{ℕ, false, List, [], ◌∷◌}
+use Rattle.std.specs.Prelude.{ℕ, false, List, [], ◌∷◌, ◌≡◌}
 use Rattle.read_tracker.specs.Reads.{read_id, new_read}
 use Rattle.read_tracker.specs.declared.OpenRead.{OpenRead}
 use Rattle.read_tracker.specs.declared.ServedRead.{ServedRead}
@@ -8,6 +8,7 @@ use Rattle.read_tracker.specs.declared.ReadTable.{ReadTable}
 use Rattle.flat.specs.Decode.{decoded_open, decoded_served}
 use Rattle.serving.specs.declared.Tracked.{Tracked}
 use Rattle.serving.specs.declared.Counted.{Counted}
+use Rattle.array_reads.specs.declared.ReadArrays.{ReadArrays}
 
 -- the open reads, five numbers each
 unfoldable pub open_rows : List ℕ → List OpenRead
@@ -30,9 +31,17 @@ served_rows [] = []
 abbrev pub table_of : List ℕ → List ℕ → ReadTable
 table_of opened served = record { reads = open_rows opened; served = served_rows served }
 
--- what a call leaves: the tracker and the count that it hands back, with the two arrays
-abbrev pub tracked_in : Counted → List ℕ → List ℕ → Tracked
-tracked_in r opened served = record { tracker = r.tracker; table = table_of opened served; served_count = r.served_count }
+-- the reads that stand in the lent arrays
+abbrev pub reads_in : ReadArrays → ReadTable
+reads_in a = table_of a.reads.now a.served.now
+
+-- they are the arrays that were lent
+abbrev pub SameReads : ReadArrays → ReadArrays → Type 0
+SameReads a b = (b.reads.ghost_name ≡ a.reads.ghost_name) × (b.served.ghost_name ≡ a.served.ghost_name)
+
+-- what a call leaves: the tracker and the count that it hands back, with the arrays
+abbrev pub tracked_in : Counted → ReadArrays → Tracked
+tracked_in r a = record { tracker = r.tracker; table = reads_in a; served_count = r.served_count }
 
 -- the read of a place that there is not
 abbrev pub no_read : OpenRead

@@ -1,13 +1,12 @@
 // The reads of a shard in arrays that a host lends, changed in place: 128 open reads of five numbers (id, tag, arrival_slot, ready_count,
 // local_ready), and 128 served ones of four (id, tag, waited_for, fast). A flag is 0 for no and any other number for yes. The contracts are
-// those of crates/serving, on the reads that the numbers stand for. Behind the exported functions an array is passed on as a slice: from the
-// moment that it is lent so a proof knows its length.
+// those of crates/serving, on the reads that the numbers stand for.
 #![tactic(auto)]
 
-ghost use Rattle.std.specs.Prelude.{◌≡◌, ◌<◌, ◌≤◌, length, get_or, set, take};
+ghost use Rattle.std.specs.Prelude.{◌≡◌, ◌<◌, ◌≤◌, get_or, length, set, take};
 ghost use Rattle.places.specs.Places.{without, at_front};
-ghost use Rattle.serving.specs.Serving.{with_table, receive_ready, commit_slot};
-ghost use Rattle.array_reads.specs.Rows.{open_rows, served_rows, table_of, tracked_in, no_read};
+ghost use Rattle.serving.specs.Serving.{receive_ready, commit_slot};
+ghost use Rattle.array_reads.specs.Rows.{open_rows, served_rows, reads_in, SameReads, tracked_in, no_read};
 
 use message::ReadId;
 use read_tracker::{OpenRead, ReadTracker, ServedRead};
@@ -25,6 +24,7 @@ impl OpenReads for OpenRows<'_> {
     ghost lent = { λ rows. rows.numbers.ghost_name };
 
     fn get(&self, at: usize) -> OpenRead {
+        have_open(self.numbers);
         open_at(self.numbers, at)
     }
 
@@ -33,6 +33,7 @@ impl OpenReads for OpenRows<'_> {
     }
 
     fn remove(&mut self, at: usize, places: usize) {
+        have_open(self.numbers);
         remove(self.numbers, at, places);
     }
 }
@@ -49,13 +50,27 @@ impl ServedReads for ServedRows<'_> {
     ghost lent = { λ rows. rows.numbers.ghost_name };
 
     fn put_served(&mut self, at: usize, read: ServedRead) {
+        have_served(self.numbers);
         put_served(self.numbers, at, read);
     }
 }
 
+// There are 128 open reads, and 128 served ones. A proof knows how many numbers an array has where the array itself is passed on: these functions do
+// nothing but say it.
+#[tactic(auto, using(crate::proofs::Rows::open_length))]
+fn have_open(numbers: &[u64; 640])
+    ensures { length (open_rows numbers.now) ≡ 128 }
+{}
+
+#[tactic(auto, using(crate::proofs::Rows::served_length))]
+fn have_served(numbers: &[u64; 512])
+    ensures { length (served_rows numbers.now) ≡ 128 }
+{}
+
 // The open read at place i.
-fn open_at(open: &[u64], i: usize) -> OpenRead
-    requires { (length «open».now ≡ 640) × (i < 128) }
+#[tactic(auto, using(crate::proofs::Rows::open_at))]
+fn open_at(open: &[u64; 640], i: usize) -> OpenRead
+    requires { i < 128 }
     ensures { result ≡ get_or (open_rows «open».now) i no_read }
 {
     let at = 5 * i;
@@ -69,8 +84,8 @@ fn open_at(open: &[u64], i: usize) -> OpenRead
 }
 
 // The read goes to place i, if there is such a place.
-fn put_open(open: &mut [u64], i: usize, read: OpenRead)
-    requires { length «open».old ≡ 640 }
+#[tactic(auto, using(crate::proofs::Rows::open_set, crate::proofs::Rows::open_past))]
+fn put_open(open: &mut [u64; 640], i: usize, read: OpenRead)
     ensures { open_rows «open».new ≡ set (open_rows «open».old) i read }
 {
     if i < 128 {
@@ -83,8 +98,9 @@ fn put_open(open: &mut [u64], i: usize, read: OpenRead)
     }
 }
 
-fn put_served(served: &mut [u64], i: usize, read: ServedRead)
-    requires { (length served.old ≡ 512) × (i < 128) }
+#[tactic(auto, using(crate::proofs::Rows::served_set))]
+fn put_served(served: &mut [u64; 512], i: usize, read: ServedRead)
+    requires { i < 128 }
     ensures { served_rows served.new ≡ set (served_rows served.old) i read }
 {
     let at = 4 * i;
@@ -94,6 +110,16 @@ fn put_served(served: &mut [u64], i: usize, read: ServedRead)
     served[at + 3] = read.fast as u64;
 }
 
+// The first `open_places` reads without the one at place `at`: the later ones move one place down. Not places::remove_at: a read is five numbers, moved by
+// one copy_within.
+#[tactic(auto, using(crate::proofs::Rows::open_moved_down))]
+fn remove(open: &mut [u64; 640], at: usize, open_places: usize)
+    requires { (at < open_places) × (open_places ≤ 128) }
+    ensures { open_rows «open».new ≡ at_front (without at (take open_places (open_rows «open».old))) (open_rows «open».old) }
+{
+    open.copy_within(5 * (at + 1)..5 * open_places, 5 * at);
+}
+
 // Puts an open read at place `at`. Where there is no such place, nothing changes.
 pub fn insert(open: &mut [u64; 640], at: u64, read: OpenRead)
     ensures { open_rows «open».new ≡ set (open_rows «open».old) at read }
@@ -101,44 +127,60 @@ pub fn insert(open: &mut [u64; 640], at: u64, read: OpenRead)
     put_open(open, at as usize, read);
 }
 
-// The first `open_places` reads without the one at place `at`: the later ones move one place down. Not places::remove_at: a read is five numbers, moved by
-// one copy_within.
-fn remove(open: &mut [u64], at: usize, open_places: usize)
-    requires { (length «open».old ≡ 640) × (at < open_places) × (open_places ≤ 128) }
-    ensures { open_rows «open».new ≡ at_front (without at (take open_places (open_rows «open».old))) (open_rows «open».old) }
-{
-    open.copy_within(5 * (at + 1)..5 * open_places, 5 * at);
+// The arrays of the open and of the served reads, which are lent. Any numbers may stand in them.
+#[derive(Drop)]
+pub struct ReadArrays<'a> {
+    pub reads: &'a mut [u64; 640],
+    pub served: &'a mut [u64; 512],
 }
 
-// One response. `fast` says whether this one completed the quorum the moment it arrived.
-pub fn receive_ready(
-    open: &mut [u64; 640],
-    served: &mut [u64; 512],
-    tracker: ReadTracker,
-    id: ReadId,
-    read_quorum: u64,
-    slot: u64,
-    fast: bool,
-) -> Counted
-    ensures { tracked_in result «open».new served.new ≡ receive_ready tracker (table_of «open».old served.old) id read_quorum slot fast }
-{
-    let mut open = OpenRows { numbers: open };
-    let mut served = ServedRows { numbers: served };
-    serving::receive_ready_in(&mut open, &mut served, tracker, id, read_quorum, slot, fast)
-}
+impl ReadArrays<'_> {
+    // The same in the array of open reads.
+    pub fn insert(&mut self, at: u64, read: OpenRead)
+        ensures same { SameReads self.old self.new }
+        ensures reads { open_rows self.new.reads.now ≡ set (open_rows self.old.reads.now) at read }
+        ensures served { self.new.served.now ≡ self.old.served.now }
+    {
+        insert(self.reads, at, read);
+    }
 
-// The reads that the newly committed slot has made ready are served in the order of their ids. No answer completed their quorum as it
-// arrived, so none of them is fast. The others move to the front.
-pub fn commit_slot(
-    open: &mut [u64; 640],
-    served: &mut [u64; 512],
-    tracker: ReadTracker,
-    read_quorum: u64,
-    slot: u64,
-) -> Counted
-    ensures { tracked_in result «open».new served.new ≡ commit_slot tracker (table_of «open».old served.old) read_quorum slot }
-{
-    let mut open = OpenRows { numbers: open };
-    let mut served = ServedRows { numbers: served };
-    serving::commit_slot_in(&mut open, &mut served, tracker, read_quorum, slot)
+    // One response. `fast` says whether this one completed the quorum the moment it arrived.
+    pub fn receive_ready(
+        &mut self,
+        tracker: ReadTracker,
+        id: ReadId,
+        read_quorum: u64,
+        slot: u64,
+        fast: bool,
+    ) -> Counted
+        ensures same { SameReads self.old self.new }
+        ensures tracked { tracked_in result self.new ≡ receive_ready tracker (reads_in self.old) id read_quorum slot fast }
+    {
+        have_open(self.reads);
+        have_served(self.served);
+        let mut open = OpenRows {
+            numbers: self.reads,
+        };
+        let mut served = ServedRows {
+            numbers: self.served,
+        };
+        serving::receive_ready_in(&mut open, &mut served, tracker, id, read_quorum, slot, fast)
+    }
+
+    // The reads that the newly committed slot has made ready are served in the order of their ids. No answer completed their quorum as it
+    // arrived, so none of them is fast. The others move to the front.
+    pub fn commit_slot(&mut self, tracker: ReadTracker, read_quorum: u64, slot: u64) -> Counted
+        ensures same { SameReads self.old self.new }
+        ensures tracked { tracked_in result self.new ≡ commit_slot tracker (reads_in self.old) read_quorum slot }
+    {
+        have_open(self.reads);
+        have_served(self.served);
+        let mut open = OpenRows {
+            numbers: self.reads,
+        };
+        let mut served = ServedRows {
+            numbers: self.served,
+        };
+        serving::commit_slot_in(&mut open, &mut served, tracker, read_quorum, slot)
+    }
 }

@@ -10,7 +10,8 @@ use calls::CommittedSlot;
 use flat::{FlatCall, FlatCore, FlatHeld, FlatMessage, FlatOption, FlatPromise, FlatRound};
 use steps::Outgoing;
 
-// The settings without their tables, and whether the shard is made.
+// The settings without their tables, and whether the shard is made. Flags and the mode are numbers, as the C interface has them: any may stand in a host's array,
+// and each is answered.
 #[derive(Clone, Copy)]
 pub struct Setup {
     pub made: u64,
@@ -22,6 +23,13 @@ pub struct Setup {
     pub mode: u64,
     pub quorum: FlatOption,
     pub has_committers: u64,
+}
+
+// The two tables of the settings, which are lent to be read.
+#[derive(Clone, Copy)]
+pub struct Tables<'a> {
+    pub committers: &'a [u64; 64],
+    pub delegates: &'a [u64; 64],
 }
 
 pub fn setup_in(s: &[u64; 10]) -> Setup
@@ -203,6 +211,7 @@ pub fn put_sent(out: &mut [u64; 20], sent: Outgoing)
 }
 
 // The message's numbers, or 0 as the kind of a message that is not sent.
+#[tactic(auto, unfolding(crate::specs::Arrays::put_message))]
 pub fn put_message(out: &mut [u64; 20], m: Option<Outgoing>)
     ensures { out.new ≡ put_message m out.old }
 {

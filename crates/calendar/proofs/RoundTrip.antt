@@ -1,6 +1,8 @@
 -- "Dates become minutes since 1970-01-01 and back without loss."
 -- Assumes nothing.
-use Rattle.std.specs.Prelude.{Some, None}
+use Rattle.std.specs.Prelude.{Option, Some, None}
+use Rattle.std.specs.Option.{ok_or}
+use Rattle.refusals.specs.Refusals as refusals
 use mathlib.Core.Path.{◌≡◌, refl, sym, ap, subst, ◌∙◌}
 use mathlib.Core.Bool.{true, false}
 use mathlib.Core.Logic.{◌⊎◌, inl, inr}
@@ -10,7 +12,7 @@ use native.Mathlib.Omega.{arith}
 use lib.Dec.{ltb}
 use borrow.Author.Tests.{ltb-true, lt-ltb, le-ltb}
 use Rattle.basics.proofs.Tests.{either}
-use Rattle.calendar.specs.Calendar.{is_leap, year_days, days_of_years, month_days, days_of_months, is_date, days_before, minute_of, to_minute, year_of, month_of, date_in_year, date_of, to_date, refusal}
+use Rattle.calendar.specs.Calendar.{is_leap, year_days, days_of_years, month_days, days_of_months, is_date, days_before, minute_of, to_minute, year_of, month_of, date_in_year, date_of, to_date, not_in_calendar, refusal}
 use Rattle.calendar.specs.declared.Date.{Date}
 use Rattle.calendar.proofs.Years.{years_rise}
 use Rattle.calendar.proofs.Months.{months_rise}
@@ -192,6 +194,11 @@ has_date m h = simp (lt-ltb m 4223371680 h)
 pub has_no_date : (m : ℕ) → 4223371680 ≤ m → refusal (to_date m) ≡ 17
 unfolding to_date
 has_no_date m h = simp (le-ltb m 4223371680 h)
+
+-- the number as it is computed: of an answer as a result
+pub refusal_as_result : {T : Type 0} (answer : Option T) → refusals.refusal not_in_calendar (ok_or answer (record {})) ≡ refusal answer
+refusal_as_result (Some x) = refl
+refusal_as_result None = refl
 
 -- from a date to its minute and back
 pub there_and_back : (d : Date) (m : ℕ) → to_minute d ≡ Some m → to_date m ≡ Some d

@@ -2,6 +2,7 @@
 -- Assumes nothing.
 use Rattle.std.specs.Prelude.{◌≡◌, Option, Some, None, ◌⊎◌, Bool, cond, ◌&&◌, ◌||◌, not, ℕ, zero, suc, ◌+◌, ◌-◌, ◌*◌, ◌/◌, ◌%◌, ◌≤◌, ◌<◌, eqb, ltb, leb}
 use Rattle.calendar.specs.declared.Date.{Date}
+use Rattle.calendar.specs.declared.NotInCalendar.{NotInCalendar}
 
 -- "Gregorian calendar": a leap year is divisible by 4, and not by 100 unless by 400
 unfoldable pub is_leap : ℕ → Bool
@@ -96,6 +97,10 @@ Earlier a b =
     ⊎ ((a.month ≡ b.month)
     × ((a.day < b.day)
     ⊎ ((a.day ≡ b.day) × ((a.hour < b.hour) ⊎ ((a.hour ≡ b.hour) × (a.minute < b.minute))))))))
+
+-- "17, a date that the calendar or those years lack, a time outside the day"
+abbrev pub not_in_calendar : NotInCalendar → ℕ
+not_in_calendar why = 17
 
 -- document 02's number of an answer, and 0 where it gives none
 abbrev pub refusal : {T : Type 0} → Option T → ℕ

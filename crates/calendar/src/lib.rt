@@ -1,9 +1,11 @@
 // The Gregorian calendar of the years 1970 to 9999: dates to minutes since 1970-01-01 00:00 UTC and back. Every number is answered: for a date
-// or a time that there is not, and for a minute past the year 9999, by None, of which `refusal` makes document 02's 17.
+// or a time that there is not, and for a minute past the year 9999, by None. What such an answer has as its number is NotInCalendar.
 #![tactic(auto)]
 
 ghost use Rattle.std.specs.Prelude.{◌≡◌, true, ◌≤◌, ◌<◌};
-ghost use Rattle.calendar.specs.Calendar.{is_leap, days_of_years, month_days, days_of_months, is_month, is_day, is_time, is_date, days_before, minute_of, to_minute, year_of, month_of, date_of, to_date, EarlyYear, refusal};
+ghost use Rattle.calendar.specs.Calendar.{is_leap, days_of_years, month_days, days_of_months, is_month, is_day, is_time, is_date, days_before, minute_of, to_minute, year_of, month_of, date_of, to_date, EarlyYear, not_in_calendar};
+
+use refusals::Refused;
 
 // A day of the calendar with the time of day, in UTC. Five numbers of 64 bits, so that any can be asked of.
 #[repr(C)]
@@ -16,13 +18,16 @@ pub struct Date {
     pub minute: u64,
 }
 
-// Document 02's number of an answer that has no minute, or no date, and 0 of one that has.
-pub fn refusal<T: Drop>(answer: Option<T>) -> u64
-    ensures { result ≡ refusal answer }
-{
-    match answer {
-        Some(_) => 0,
-        None => 17,
+// Why there is no minute, or no date.
+#[derive(Clone, Copy, PartialEq, Eq, Debug)]
+pub struct NotInCalendar;
+
+impl Refused for NotInCalendar {
+    ghost refusal_number = { not_in_calendar };
+
+    // "17, a date that the calendar or those years lack, a time outside the day"
+    fn number(self) -> u64 {
+        17
     }
 }
 

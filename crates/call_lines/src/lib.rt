@@ -121,7 +121,7 @@ fn store(numbers: &mut [u64], at: usize, n: u64)
 }
 
 // Reads the bytes of a line, without its LF, into numbers. The number under way stands behind those before it.
-#[tactic(auto, unfolding(crate::specs::Reading::scan_to, crate::specs::Reading::numbers_to, crate::specs::Reading::start))]
+#[tactic(auto, using(crate::proofs::Turns::scan_next, crate::proofs::Turns::numbers_next), unfolding(crate::specs::Reading::scan_to, crate::specs::Reading::numbers_to, crate::specs::Reading::start))]
 pub fn read_numbers(line: &[u8], numbers: &mut [u64]) -> Scan
     ensures value { result ≡ scan_of line.now }
     ensures numbers_after { numbers.new ≡ numbers_of line.now numbers.old }

@@ -2,6 +2,9 @@
 // its message. So a refusal costs no look at the tables of the settings.
 #![tactic(auto)]
 
+// process_count and own are parameters of their own, here and in delivery, flat and flat_calls: they are all that is asked of the settings before a call is
+// handled, and the settings of a host who lends arrays are another type.
+
 ghost use Rattle.std.specs.Prelude.{◌≡◌};
 ghost use Rattle.calls.specs.Asked.{asked_of, proposer_gathers, gatherer_in, heard_of, nothing_heard, heard_in};
 ghost use Rattle.calls.specs.Decision.{if_fit, read_fits, admission_of, unless_spent, if_made, decision_of};
@@ -103,12 +106,7 @@ pub fn heard_of(settings: Settings, d: Delivery) -> Heard
         source_live: settings.is_live_replica(message.src),
         delegate: gatherer_in(settings.my_pid, mode, &settings.delegates, message.msg),
         requester: said.requester,
-        committer: settings::committer_in(
-            settings.has_committers,
-            &settings.committers,
-            mode,
-            said.requester,
-        ),
+        committer: settings::committer_in(settings.committers.as_ref(), mode, said.requester),
         held_requester,
     }
 }

@@ -16,49 +16,49 @@ use Rattle.basics.proofs.Tests.{either}
 use Rattle.catch_up.specs.Causes.{CommitList}
 use Rattle.places.specs.Places.{at_front}
 use Rattle.catch_up.proofs.Loops.{usual_slots, left_whole}
-use Rattle.catch_up.specs.Joining.{checked_of, counts_within, some_above, too_large, first_slot, outside, InLimits, differ, Joining, refused, joined_to, ahead, apart, disagree, joined, in_order, joining, one_refused, lent, Gives}
+use Rattle.catch_up.specs.Joining.{checked_of, counts_within, some_above, too_large, first_slot, outside, InLimits, differ, ahead, apart, disagree, joined, in_order, joining, one_refused, lent, Gives}
 use Rattle.catch_up.specs.declared.JoinRefusal.{JoinRefusal}
 use Rattle.catch_up.specs.declared.JoinRefusal.TheVariants.{NumberTooLarge, OutsideLimits, Gap, TwoValues}
 
 -- ---- what is found in one list
 
 -- the usual list is asked for its values and its lengths alone
-pub usual_list : (l : CommitList) → counts_within l.slots ≡ true
-    → record { too_large = some_above 9223372036854775807 l.values; outside = not (eqb (length l.slots) (length l.values)) } ≡ checked_of l
+pub usual_list : (l : CommitList) (within above : Bool) → within ≡ counts_within l.slots → within ≡ true → above ≡ some_above 9223372036854775807 l.values
+    → record { too_large = above; outside = not (eqb (length l.slots) (length l.values)) } ≡ checked_of l
 unfolding too_large outside
-usual_list l e =
-    let u = usual_slots l.slots e in
+usual_list l within above e t v =
+    let u = usual_slots l.slots (sym e ∙ t) in
     let same = not (eqb (length l.slots) (length l.values)) in
-    ap₂ (λ (a b : Bool). record { too_large = a; outside = b }) (simp u.2) (simp (u.0, u.1) (sym (or-false same)))
+    ap₂ (λ (a b : Bool). record { too_large = a; outside = b }) (v ∙ simp u.2) (simp (u.0, u.1) (sym (or-false same)))
 
 -- ---- the answer to a result
 
 module _ (places : CommitList) where
   -- one result for another
-  pub as_given : (r r' : Joining) (after : CommitList) (answer : Result ℕ JoinRefusal) → r ≡ r' → Gives r' places after answer → Gives r places after answer
-  as_given r r' after answer e g = subst (λ (x : Joining). Gives x places after answer) (sym e) g
+  pub as_given : (r r' : Result CommitList JoinRefusal) (after : CommitList) (answer : Result ℕ JoinRefusal) → r ≡ r' → Gives r' places after answer → Gives r places after answer
+  as_given r r' after answer e g = subst (λ (x : Result CommitList JoinRefusal). Gives x places after answer) (sym e) g
 
   -- nothing is written
-  pub refuses : (r : Joining) (why : JoinRefusal) → r ≡ refused why → Gives r places places (Err why)
+  pub refuses : (r : Result CommitList JoinRefusal) (why : JoinRefusal) → r ≡ Err why → Gives r places places (Err why)
   unfolding at_front
-  refuses r why e = as_given r (refused why) places (Err why) e (record { answered = refl; slots = refl; values = refl })
+  refuses r why e = as_given r (Err why) places (Err why) e (record { answered = refl; slots = refl; values = refl })
 
-  pub writes : (r : Joining) (l after : CommitList) (count : ℕ) → r ≡ joined_to l → count ≡ length l.slots
+  pub writes : (r : Result CommitList JoinRefusal) (l after : CommitList) (count : ℕ) → r ≡ Ok l → count ≡ length l.slots
       → after.slots ≡ at_front l.slots places.slots → after.values ≡ at_front l.values places.values → Gives r places after (Ok count)
-  writes r l after count e n s v = as_given r (joined_to l) after (Ok count) e (record { answered = ap Ok n; slots = s; values = v })
+  writes r l after count e n s v = as_given r (Ok l) after (Ok count) e (record { answered = ap Ok n; slots = s; values = v })
 
 -- ---- two lists in order
 
 module _ (e l : CommitList) where
-  pub order_gap : apart e l ≡ true → in_order e l ≡ refused Gap
+  pub order_gap : apart e l ≡ true → in_order e l ≡ Err Gap
   unfolding in_order
   order_gap p = simp p
 
-  pub order_two : apart e l ≡ false → disagree e l ≡ true → in_order e l ≡ refused TwoValues
+  pub order_two : apart e l ≡ false → disagree e l ≡ true → in_order e l ≡ Err TwoValues
   unfolding in_order
   order_two p q = simp (p, q)
 
-  pub order_join : apart e l ≡ false → disagree e l ≡ false → in_order e l ≡ joined_to (joined e l)
+  pub order_join : apart e l ≡ false → disagree e l ≡ false → in_order e l ≡ Ok (joined e l)
   unfolding in_order
   order_join p q = simp (p, q)
 
@@ -99,12 +99,12 @@ module _ (e l : CommitList) (f g : ℕ) (later_first : f ≡ first_slot l.slots)
 -- ---- 2 and 18, and what is left where there is neither
 
 module _ (a b : CommitList) (places : ℕ) where
-  pub refused_so : (why : JoinRefusal) → Err why ≡ one_refused a b places → joining a b places ≡ refused why
+  pub refused_so : (why : JoinRefusal) → Err why ≡ one_refused a b places → joining a b places ≡ Err why
   unfolding one_refused joining
   refused_so why e = go (either (too_large a || too_large b)) (either (outside a || (outside b || ltb places 8192)))
     where
       go : ((too_large a || too_large b) ≡ true) ⊎ ((too_large a || too_large b) ≡ false)
-          → ((outside a || (outside b || ltb places 8192)) ≡ true) ⊎ ((outside a || (outside b || ltb places 8192)) ≡ false) → joining a b places ≡ refused why
+          → ((outside a || (outside b || ltb places 8192)) ≡ true) ⊎ ((outside a || (outside b || ltb places 8192)) ≡ false) → joining a b places ≡ Err why
       go (inl p) q = let f : ◌≡◌ {A = Result (Unit {0}) JoinRefusal} (Err why) (Err NumberTooLarge) = simp p at e in simp p (cc)
       go (inr p) (inl q) = let f : ◌≡◌ {A = Result (Unit {0}) JoinRefusal} (Err why) (Err OutsideLimits) = simp (p, q) at e in simp (p, q) (cc)
       go (inr p) (inr q) = let f : ◌≡◌ {A = Result (Unit {0}) JoinRefusal} (Err why) (Ok tt) = simp (p, q) at e in cc
@@ -133,6 +133,16 @@ module _ (a b : CommitList) (places : ℕ) where
             enough = ltb-false _ _ rest.1;
             ordered = simp (p, q);
           }
+
+  -- the same, one by one
+  pub first_passed : Ok tt ≡ one_refused a b places → InLimits a
+  first_passed e = (passed e).first_within
+
+  pub second_passed : Ok tt ≡ one_refused a b places → InLimits b
+  second_passed e = (passed e).second_within
+
+  pub places_passed : Ok tt ≡ one_refused a b places → 8192 ≤ places
+  places_passed e = (passed e).enough
 
 -- the answer of `?`
 pub refused_call : (a b places : CommitList) (n : ℕ) (why : JoinRefusal) (answer : Result ℕ JoinRefusal) → n ≡ lent places → Err why ≡ one_refused a b n

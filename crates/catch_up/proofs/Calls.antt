@@ -11,16 +11,16 @@ use lib.Seq.{take-append_seam}
 use Rattle.places.specs.Places.{at_front}
 use Rattle.places.proofs.Lists.{front_later}
 use Rattle.catch_up.specs.Causes.{CommitList, JoinCause, NoneBefore, NoCause, join_number}
-use Rattle.catch_up.specs.Joining.{list_of, Joining, refused, joined_to, joining, join_answer, join_refusal, join_count, lent, Gives, Joins}
+use Rattle.catch_up.specs.Joining.{list_of, joining, join_answer, join_refusal, join_count, lent, Gives, Joins}
 use Rattle.catch_up.specs.declared.JoinRefusal.{JoinRefusal}
 use Rattle.catch_up.specs.declared.JoinRefusal.TheVariants.{NumberTooLarge, OutsideLimits, Gap, TwoValues}
 use Rattle.catch_up.proofs.Exact.{numbered, joined_otherwise, is_join, JoinOf}
 
 -- ---- numbers
 
-refused_answer : (r : Joining) (why : JoinRefusal) → join_answer r ≡ Err why → r ≡ refused why
-refused_answer (refused x) why e = cc
-refused_answer (joined_to l) why e = cc
+refused_answer : (r : Result CommitList JoinRefusal) (why : JoinRefusal) → join_answer r ≡ Err why → r ≡ Err why
+refused_answer (Err x) why e = cc
+refused_answer (Ok l) why e = cc
 
 same_number : (x y : JoinRefusal) → join_number x ≡ join_number y → x ≡ y
 same_number NumberTooLarge NumberTooLarge e = refl
@@ -64,11 +64,11 @@ kept_front l places after i e h = ap (λ (r : List ℕ). get_or r i 0) e ∙ fro
 
 module _ (a b places after : CommitList) where
   -- whatever the result is
-  kept : (r : Joining) → r ≡ joining a b (lent places) → (answer : Result ℕ JoinRefusal) → Gives r places after answer → (i : ℕ) → join_count answer ≤ i
+  kept : (r : Result CommitList JoinRefusal) → r ≡ joining a b (lent places) → (answer : Result ℕ JoinRefusal) → Gives r places after answer → (i : ℕ) → join_count answer ≤ i
       → Kept after.slots places.slots i × Kept after.values places.values i
   unfolding at_front
-  kept (refused why) e answer g i h = (ap (λ (r : List ℕ). get_or r i 0) g.slots, ap (λ (r : List ℕ). get_or r i 0) g.values)
-  kept (joined_to l) e answer g i h =
+  kept (Err why) e answer g i h = (ap (λ (r : List ℕ). get_or r i 0) g.slots, ap (λ (r : List ℕ). get_or r i 0) g.values)
+  kept (Ok l) e answer g i h =
       let n : join_count answer ≡ length l.slots = ap join_count g.answered in
       let same = (is_join a b (lent places) l (sym e)).same in
       (kept_front l.slots _ _ i g.slots (omega arith), kept_front l.values _ _ i g.values (omega arith))
@@ -93,10 +93,10 @@ module _ (a b places after : CommitList) (answer : Result ℕ JoinRefusal) (call
   pub call_joins : NoCause a b (lent places) → (join_refusal answer ≡ 0) × JoinOf a b (list_of (take (join_count answer) after.slots) (take (join_count answer) after.values))
   call_joins none = go ((joined_otherwise a b (lent places)).1 none)
     where
-      go : (l : CommitList) × (joining a b (lent places) ≡ joined_to l)
+      go : (l : CommitList) × (joining a b (lent places) ≡ Ok l)
           → (join_refusal answer ≡ 0) × JoinOf a b (list_of (take (join_count answer) after.slots) (take (join_count answer) after.values))
       go j =
-          let g = subst (λ (r : Joining). Gives r places after answer) j.1 call in
+          let g = subst (λ (r : Result CommitList JoinRefusal). Gives r places after answer) j.1 call in
           let n : join_count answer ≡ length j.0.slots = ap join_count g.answered in
           let J = is_join a b (lent places) j.0 j.1 in
           let slots : take (join_count answer) after.slots ≡ j.0.slots = ap₂ take n g.slots ∙ front_taken j.0.slots places.slots in

@@ -1,6 +1,7 @@
 -- The laws of E10's join (document 02): each number exactly where its cause holds and no earlier one does; where there is no cause, the one list
 -- of consecutive slots that holds every entry of both and no other.
 -- Assumes nothing.
+use Rattle.std.specs.Prelude.{Result, Ok, Err}
 use mathlib.Core.Path.{◌≡◌, refl, sym, ap, subst, ◌∙◌}
 use mathlib.Core.Logic.{◌⊎◌, inl, inr, ⊎_elim, ◌↔◌}
 use mathlib.Core.Bool.{true, false, ◌||◌}
@@ -14,7 +15,7 @@ use borrow.Author.Tests.{leb-true, leb-false}
 use Rattle.basics.specs.Lists.{In}
 use Rattle.basics.proofs.Tests.{either}
 use Rattle.catch_up.specs.Causes.{CommitList, Commit, Consecutive, commits, beside, Disagree, EndsBefore, JoinCause, NoneBefore, NoCause}
-use Rattle.catch_up.specs.Joining.{Joining, refused, joined_to, first_slot, too_large, outside, joined, in_order, joining, apart}
+use Rattle.catch_up.specs.Joining.{first_slot, too_large, outside, joined, in_order, joining, apart}
 use Rattle.catch_up.specs.declared.JoinRefusal.{JoinRefusal}
 use Rattle.catch_up.specs.declared.JoinRefusal.TheVariants.{NumberTooLarge, OutsideLimits, Gap, TwoValues}
 use Rattle.catch_up.proofs.Answers.{order_gap, order_two, order_join}
@@ -57,10 +58,10 @@ swapped_disagree a b d = (d.0, d.2, d.1, d.4, d.3, λ e. d.5 (sym e))
 -- ---- the five ways
 
 -- a number with its cause, and no earlier one; or no cause, and the join
-abbrev Ends : CommitList → CommitList → ℕ → Joining → Type 0
+abbrev Ends : CommitList → CommitList → ℕ → Result CommitList JoinRefusal → Type 0
 Ends a b places r =
-    ((why : JoinRefusal) × JoinCause why a b places × NoneBefore why a b places × (r ≡ refused why))
-    ⊎ (NoCause a b places × ((l : CommitList) × (r ≡ joined_to l) × JoinOf a b l))
+    ((why : JoinRefusal) × JoinCause why a b places × NoneBefore why a b places × (r ≡ Err why))
+    ⊎ (NoCause a b places × ((l : CommitList) × (r ≡ Ok l) × JoinOf a b l))
 
 module _ (a b : CommitList) (places : ℕ) where
   pub no_more : (JoinCause NumberTooLarge a b places → ⊥) → (JoinCause OutsideLimits a b places → ⊥) → (JoinCause Gap a b places → ⊥) → (JoinCause TwoValues a b places → ⊥)
@@ -163,47 +164,47 @@ first_cause_lem a b places TwoValues OutsideLimits c n d m = absurd (n.1 d)
 first_cause_lem a b places TwoValues Gap c n d m = absurd (n.2 d)
 first_cause_lem a b places TwoValues TwoValues c n d m = refl
 
-same_refusal : (x y : JoinRefusal) → refused x ≡ refused y → x ≡ y
-same_refusal x y e = cc
+same_refusal : (r : Result CommitList JoinRefusal) (x y : JoinRefusal) → r ≡ Err x → r ≡ Err y → x ≡ y
+same_refusal r x y p q = cc
 
-same_list : (l m : CommitList) → joined_to l ≡ joined_to m → l ≡ m
-same_list l m e = cc
+same_list : (r : Result CommitList JoinRefusal) (l m : CommitList) → r ≡ Ok l → r ≡ Ok m → l ≡ m
+same_list r l m p q = cc
 
-not_joined : (r : Joining) (x : JoinRefusal) (l : CommitList) → r ≡ refused x → r ≡ joined_to l → ⊥
+not_joined : (r : Result CommitList JoinRefusal) (x : JoinRefusal) (l : CommitList) → r ≡ Err x → r ≡ Ok l → ⊥
 not_joined r x l p q = cc
 
 module _ (a b : CommitList) (places : ℕ) where
   -- a number is given exactly where its cause holds and no earlier one does
-  pub numbered : (why : JoinRefusal) → (joining a b places ≡ refused why) ↔ (JoinCause why a b places × NoneBefore why a b places)
+  pub numbered : (why : JoinRefusal) → (joining a b places ≡ Err why) ↔ (JoinCause why a b places × NoneBefore why a b places)
   numbered why = (λ e. given e (ends a b places), λ c. gives c (ends a b places))
     where
-      given : joining a b places ≡ refused why → Ends a b places (joining a b places) → JoinCause why a b places × NoneBefore why a b places
-      given e (inl r) = subst (λ (x : JoinRefusal). JoinCause x a b places × NoneBefore x a b places) (same_refusal _ _ (sym r.3 ∙ e)) (r.1, r.2)
+      given : joining a b places ≡ Err why → Ends a b places (joining a b places) → JoinCause why a b places × NoneBefore why a b places
+      given e (inl r) = subst (λ (x : JoinRefusal). JoinCause x a b places × NoneBefore x a b places) (same_refusal _ _ _ r.3 e) (r.1, r.2)
       given e (inr j) = absurd (not_joined _ why _ e j.1.1)
 
-      gives : JoinCause why a b places × NoneBefore why a b places → Ends a b places (joining a b places) → joining a b places ≡ refused why
-      gives c (inl r) = r.3 ∙ ap refused (first_cause_lem a b places r.0 why r.1 r.2 c.0 c.1)
+      gives : JoinCause why a b places × NoneBefore why a b places → Ends a b places (joining a b places) → joining a b places ≡ Err why
+      gives c (inl r) = r.3 ∙ ap Err (first_cause_lem a b places r.0 why r.1 r.2 c.0 c.1)
       gives c (inr j) = absurd (j.0 why c.0)
 
   -- a list is given exactly where there is no cause
-  pub joined_otherwise : ((l : CommitList) × (joining a b places ≡ joined_to l)) ↔ NoCause a b places
+  pub joined_otherwise : ((l : CommitList) × (joining a b places ≡ Ok l)) ↔ NoCause a b places
   joined_otherwise = (λ j. given j (ends a b places), λ n. gives n (ends a b places))
     where
-      given : (l : CommitList) × (joining a b places ≡ joined_to l) → Ends a b places (joining a b places) → NoCause a b places
+      given : (l : CommitList) × (joining a b places ≡ Ok l) → Ends a b places (joining a b places) → NoCause a b places
       given j (inl r) = absurd (not_joined _ r.0 _ r.3 j.1)
       given j (inr k) = k.0
 
-      gives : NoCause a b places → Ends a b places (joining a b places) → (l : CommitList) × (joining a b places ≡ joined_to l)
+      gives : NoCause a b places → Ends a b places (joining a b places) → (l : CommitList) × (joining a b places ≡ Ok l)
       gives n (inl r) = absurd (n r.0 r.1)
       gives n (inr k) = (k.1.0, k.1.1)
 
   -- and it is the join of the two
-  pub is_join : (l : CommitList) → joining a b places ≡ joined_to l → JoinOf a b l
+  pub is_join : (l : CommitList) → joining a b places ≡ Ok l → JoinOf a b l
   is_join l e = go (ends a b places)
     where
       go : Ends a b places (joining a b places) → JoinOf a b l
       go (inl r) = absurd (not_joined _ r.0 _ r.3 e)
-      go (inr k) = subst (λ (x : CommitList). JoinOf a b x) (same_list _ _ (sym k.1.1 ∙ e)) k.1.2
+      go (inr k) = subst (λ (x : CommitList). JoinOf a b x) (same_list _ _ _ k.1.1 e) k.1.2
 
 -- ---- either list first
 
@@ -227,7 +228,7 @@ symmetric a b places = go (ends a b places)
     go (inl r) = r.3 ∙ sym ((numbered b a places r.0).1 (swapped_cause a b places r.0 r.1, swapped_none a b places r.0 r.2))
     go (inr k) =
         let other = (joined_otherwise b a places).1 (λ why c. k.0 why (swapped_cause b a places why c)) in
-        k.1.1 ∙ ap joined_to (one_join a b k.1.0 other.0 k.1.2 (swapped_join a b other.0 (is_join b a places other.0 other.1))) ∙ sym other.1
+        k.1.1 ∙ ap Ok (one_join a b k.1.0 other.0 k.1.2 (swapped_join a b other.0 (is_join b a places other.0 other.1))) ∙ sym other.1
 
 -- ---- "An empty list joined to another gives the other"
 
@@ -251,10 +252,10 @@ module _ (b : CommitList) (places : ℕ) (fits : JoinCause NumberTooLarge nothin
   unfolding beside
   no_cause = no_more nothing b places fits inside (⊎_elim (λ g. absurd (not-suc-le-zero g.0)) (λ g. absurd (not-suc-le-zero g.1))) (λ d. d.3)
 
-  pub empty_first : joining nothing b places ≡ joined_to b
+  pub empty_first : joining nothing b places ≡ Ok b
   empty_first =
       let j = (joined_otherwise nothing b places).1 no_cause in
-      j.1 ∙ ap joined_to (one_join nothing b j.0 b (is_join nothing b places j.0 j.1) other)
+      j.1 ∙ ap Ok (one_join nothing b j.0 b (is_join nothing b places j.0 j.1) other)
 
-  pub empty_second : joining b nothing places ≡ joined_to b
+  pub empty_second : joining b nothing places ≡ Ok b
   empty_second = symmetric b nothing places ∙ empty_first

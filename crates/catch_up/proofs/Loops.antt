@@ -48,16 +48,20 @@ top_or a b = go (either (ltb 9223372036854775807 a)) (either (ltb 92233720368547
         let z : bit_or a b < 2 ^ 63 = or_lt 63 a b (omega arith) (omega arith) in
         le-ltb 9223372036854775807 (bit_or a b) (omega arith) ∙ simp (t, u)
 
-pub bits_gathered : (b : ℕ) (l : List ℕ) → ltb 9223372036854775807 (fold (λ bits value. bit_or bits value) b l) ≡ (ltb 9223372036854775807 b || some_above 9223372036854775807 l)
+bits_gathered : (b : ℕ) (l : List ℕ) → ltb 9223372036854775807 (fold (λ bits value. bit_or bits value) b l) ≡ (ltb 9223372036854775807 b || some_above 9223372036854775807 l)
 unfolding some_above
 bits_gathered b [] = sym (or-false (ltb 9223372036854775807 b))
 bits_gathered b (v ∷ l) =
     bits_gathered (bit_or b v) l ∙ ap (λ (t : Bool). t || some_above 9223372036854775807 l) (top_or b v)
     ∙ or_assoc (ltb 9223372036854775807 b) (ltb 9223372036854775807 v) (some_above 9223372036854775807 l)
 
+-- a value is above the limit where the highest bit of all of them is set
+pub bits_above : (l : List ℕ) → ltb 9223372036854775807 (fold (λ bits value. bit_or bits value) 0 l) ≡ some_above 9223372036854775807 l
+bits_above l = bits_gathered 0 l
+
 -- ---- counts_from
 
-pub counts_still : (all : Bool) (n : ℕ) (l : List ℕ) (i : ℕ) → i < length l
+counts_still : (all : Bool) (n : ℕ) (l : List ℕ) (i : ℕ) → i < length l
     → ((all && eqb (get_or l i 0) n) && counts_from (n + 1) (drop (i + 1) l)) ≡ (all && counts_from n (drop i l))
 unfolding counts_from
 counts_still false n l i h = refl
@@ -67,9 +71,24 @@ counts_still true n l i h = go (either (eqb (get_or l i 0) n))
     go (inl t) = let e = eqb-true _ _ t in simp (drop_here l i h, t) (ap (λ (m : ℕ). counts_from (m + 1) (drop (i + 1) l)) (sym e))
     go (inr t) = simp (drop_here l i h, t)
 
-pub and_all : (a b : Bool) → b ≡ true → (a && b) ≡ a
+and_all : (a b : Bool) → b ≡ true → (a && b) ≡ a
 and_all true b e = e
 and_all false b e = refl
+
+counts_end : (l : List ℕ) (i n : ℕ) → length l ≤ i → counts_from n (drop i l) ≡ true
+unfolding counts_from
+counts_end l i n h = simp (drop_of_length-le l h)
+
+-- one slot more
+pub counts_next : (all : Bool) (first : ℕ) (l : List ℕ) (i : ℕ) → i < length l
+    → ((all && eqb (get_or l i 0) (first + i)) && counts_from (first + (i + 1)) (drop (i + 1) l)) ≡ (all && counts_from (first + i) (drop i l))
+counts_next all first l i h =
+    let next : first + (i + 1) ≡ first + i + 1 = omega arith in
+    ap (λ (n : ℕ). (all && eqb (get_or l i 0) (first + i)) && counts_from n (drop (i + 1) l)) next ∙ counts_still all (first + i) l i h
+
+-- no slot is left
+pub counts_done : (all : Bool) (first : ℕ) (l : List ℕ) (i : ℕ) → length l ≤ i → (all && counts_from (first + i) (drop i l)) ≡ all
+counts_done all first l i h = and_all all _ (counts_end l i (first + i) h)
 
 -- ---- LentList::check
 
@@ -108,19 +127,15 @@ unfolding counts_from
 pairs_all [] = refl
 pairs_all (s ∷ l) = simp (eq-eqb s s refl) (pairs_on s l)
 
-pub pairs_follow : (l : List ℕ) → list_all (λ p. eqb p.1 (p.0 + 1)) (zip l (take (length l - 1) (drop 1 l))) ≡ counts_from (first_slot l) l
-pairs_follow l =
+pub pairs_follow : (l : List ℕ) (all : Bool) → all ≡ list_all (λ p. eqb p.1 (p.0 + 1)) (zip l (take (length l - 1) (drop 1 l))) → all ≡ counts_from (first_slot l) l
+pairs_follow l all e =
     let whole : take (length l - 1) (drop 1 l) ≡ drop 1 l = take_all _ _ (omega (arith, length-drop 1 l)) in
-    ap (λ (next : List ℕ). list_all (λ p. eqb p.1 (p.0 + 1)) (zip l next)) whole ∙ pairs_all l
+    e ∙ ap (λ (next : List ℕ). list_all (λ p. eqb p.1 (p.0 + 1)) (zip l next)) whole ∙ pairs_all l
 
 pub no_pairs : (l : List ℕ) → length l < 1 → true ≡ counts_from (first_slot l) l
 unfolding counts_from
 no_pairs [] h = refl
 no_pairs (s ∷ l) h = absurd (omega arith)
-
-pub counts_end : (l : List ℕ) (i n : ℕ) → length l ≤ i → counts_from n (drop i l) ≡ true
-unfolding counts_from
-counts_end l i n h = simp (drop_of_length-le l h)
 
 -- ---- values_differ and store_both
 

@@ -1,5 +1,6 @@
 -- A join has as many entries as there are slots in the two lists.
 -- Assumes nothing.
+use Rattle.std.specs.Prelude.{Ok}
 use mathlib.Core.Path.{◌≡◌, refl, sym, ◌∙◌}
 use mathlib.Core.Logic.{inl, inr, ⊎_elim}
 use mathlib.Core.Bool.{Bool, true, false, ◌&&◌, ◌||◌}
@@ -14,7 +15,7 @@ use Rattle.basics.proofs.Tests.{not_both, same_test, or_cases, or_left, or_right
 use Rattle.sets.specs.Sets.{one, count}
 use Rattle.sets.proofs.Counting.{count_ext}
 use Rattle.catch_up.specs.Causes.{CommitList, Consecutive, commits, JoinCause}
-use Rattle.catch_up.specs.Joining.{first_slot, joined_to, joining}
+use Rattle.catch_up.specs.Joining.{first_slot, joining}
 use Rattle.catch_up.specs.declared.JoinRefusal.TheVariants.{OutsideLimits}
 use Rattle.catch_up.proofs.Deciding.{listed, from_first}
 use Rattle.catch_up.proofs.Indices.{in_stands, stands_in}
@@ -73,7 +74,7 @@ count_between f m zero = omega arith
 count_between f m (suc n) = one_between f m n _ (count_between f m n)
 
 -- where n is past every slot
-pub as_many_as_slots : (a b : CommitList) (places : ℕ) (l : CommitList) → joining a b places ≡ joined_to l
+pub as_many_as_slots : (a b : CommitList) (places : ℕ) (l : CommitList) → joining a b places ≡ Ok l
     → (n : ℕ) → first_slot l.slots + length l.slots ≤ n
     → count (λ s. is_slot s a.slots || is_slot s b.slots) n ≡ length l.slots
 as_many_as_slots a b places l e n h =

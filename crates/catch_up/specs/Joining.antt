@@ -2,7 +2,9 @@
 -- Assumes nothing.
 use Rattle.std.specs.Prelude.{◌≡◌, Result, Ok, Err, Bool, true, false, cond, not, ◌&&◌, ◌||◌, List, [], ◌∷◌, ◌++◌, ℕ, ◌+◌, ◌-◌, ◌≤◌, min, ltb, leb, eqb, length, get_or, drop}
 use Rattle.std.specs.List.{list_any, zip}
+use Rattle.std.specs.Result.{result_unwrap_or}
 use Rattle.places.specs.Places.{at_front}
+use Rattle.refusals.specs.Refusals.{refusal}
 use Rattle.catch_up.specs.Causes.{CommitList, join_number}
 use Rattle.catch_up.specs.declared.JoinRefusal.{JoinRefusal}
 use Rattle.catch_up.specs.declared.JoinRefusal.TheVariants.{NumberTooLarge, OutsideLimits, Gap, TwoValues}
@@ -67,11 +69,6 @@ differ xs ys = list_any (λ p. not (eqb p.0 p.1)) (zip xs ys)
 
 -- ---- the join
 
--- a number, or the list that the two give
-pub data Joining : Type 0 where
-  refused : JoinRefusal → Joining
-  joined_to : CommitList → Joining
-
 module _ (earlier later : CommitList) where
   -- how many slots after the earlier list the later one begins
   abbrev pub ahead : ℕ
@@ -93,9 +90,9 @@ module _ (earlier later : CommitList) where
   joined = record { slots = together earlier.slots later.slots; values = together earlier.values later.values }
 
 -- the list that begins earlier stands first
-unfoldable pub in_order : CommitList → CommitList → Joining
+unfoldable pub in_order : CommitList → CommitList → Result CommitList JoinRefusal
 in_order earlier later =
-    cond (apart earlier later) (refused Gap) (cond (disagree earlier later) (refused TwoValues) (joined_to (joined earlier later)))
+    cond (apart earlier later) (Err Gap) (cond (disagree earlier later) (Err TwoValues) (Ok (joined earlier later)))
 
 -- 2 or 18, of two lists and that many lent places
 unfoldable pub one_refused : CommitList → CommitList → ℕ → Result (Unit {0}) JoinRefusal
@@ -103,37 +100,35 @@ one_refused a b places =
     cond (too_large a || too_large b) (Err NumberTooLarge)
     (cond (outside a || (outside b || ltb places 8192)) (Err OutsideLimits) (Ok tt))
 
--- two lists, with that many places lent for the result
-unfoldable pub joining : CommitList → CommitList → ℕ → Joining
+-- two lists, with that many places lent for the result: the list that the two give, or why they are not joined
+unfoldable pub joining : CommitList → CommitList → ℕ → Result CommitList JoinRefusal
 joining a b places =
-    cond (too_large a || too_large b) (refused NumberTooLarge)
-    (cond (outside a || (outside b || ltb places 8192)) (refused OutsideLimits)
+    cond (too_large a || too_large b) (Err NumberTooLarge)
+    (cond (outside a || (outside b || ltb places 8192)) (Err OutsideLimits)
     (cond (leb (first_slot a.slots) (first_slot b.slots)) (in_order a b) (in_order b a)))
 
 -- ---- what a call answers, and what it leaves
 
 -- how many entries the result has, or the refusal
-abbrev pub join_answer : Joining → Result ℕ JoinRefusal
-join_answer (refused why) = Err why
-join_answer (joined_to l) = Ok (length l.slots)
+abbrev pub join_answer : Result CommitList JoinRefusal → Result ℕ JoinRefusal
+join_answer (Err why) = Err why
+join_answer (Ok l) = Ok (length l.slots)
 
 -- the number of document 02, and 0 where there is none
 abbrev pub join_refusal : {T : Type 0} → Result T JoinRefusal → ℕ
-join_refusal (Ok given) = 0
-join_refusal (Err why) = join_number why
+join_refusal given = refusal join_number given
 
 -- how many entries there are, and 0 for a refusal
 abbrev pub join_count : Result ℕ JoinRefusal → ℕ
-join_count (Ok count) = count
-join_count (Err why) = 0
+join_count answer = result_unwrap_or answer 0
 
 -- what is written
-abbrev pub result_of : Joining → CommitList
-result_of (refused why) = record { slots = []; values = [] }
-result_of (joined_to l) = l
+abbrev pub result_of : Result CommitList JoinRefusal → CommitList
+result_of (Err why) = record { slots = []; values = [] }
+result_of (Ok l) = l
 
 -- a call answers the result, and leaves it in the first of the lent places: "places past the result, and all after a refusal, are unchanged"
-pub record Gives (result : Joining) (places after : CommitList) (answer : Result ℕ JoinRefusal) : Type 0 where
+pub record Gives (result : Result CommitList JoinRefusal) (places after : CommitList) (answer : Result ℕ JoinRefusal) : Type 0 where
   pub answered : answer ≡ join_answer result
   pub slots : after.slots ≡ at_front (result_of result).slots places.slots
   pub values : after.values ≡ at_front (result_of result).values places.values

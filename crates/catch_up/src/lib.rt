@@ -2,11 +2,13 @@
 // stand in specs/Causes.antt, what is computed in specs/Joining.antt.
 #![tactic(auto)]
 
-ghost use Rattle.std.specs.Prelude.{◌≡◌, ◌&&◌, ◌++◌, ◌+◌, ◌-◌, ◌≤◌, eqb, ltb, length, drop};
-ghost use Rattle.std.specs.List.{list_all, zip};
+ghost use Rattle.std.specs.Prelude.{◌≡◌, ◌&&◌, ◌++◌, ◌+◌, ◌-◌, ◌≤◌, eqb, ltb, length, drop, bit_or};
+ghost use Rattle.std.specs.List.{list_all, fold, zip};
 ghost use Rattle.places.specs.Places.{at_front};
 ghost use Rattle.catch_up.specs.Causes.{join_number};
-ghost use Rattle.catch_up.specs.Joining.{lent_list, lent_places, SamePlaces, some_above, too_large, counts_from, first_slot, outside, InLimits, checked_of, counts_within, differ, in_order, join_refusal, Gives, Joins, joining, one_refused};
+ghost use Rattle.catch_up.specs.Joining.{lent_list, lent_places, SamePlaces, some_above, too_large, counts_from, first_slot, outside, InLimits, checked_of, counts_within, differ, in_order, Gives, Joins, one_refused};
+
+use refusals::Refused;
 
 // A list as a host lends it: slots, and the value beside each. Two slices in place of one of pairs: the C interface has them so.
 #[derive(Clone, Copy)]
@@ -31,27 +33,17 @@ pub enum JoinRefusal {
     TwoValues,
 }
 
-impl From<JoinRefusal> for u64 {
-    ghost from_gives = { λ why number. number ≡ join_number why };
+impl Refused for JoinRefusal {
+    ghost refusal_number = { join_number };
 
     // The number of document 02.
-    fn from(why: JoinRefusal) -> u64 {
-        match why {
+    fn number(self) -> u64 {
+        match self {
             JoinRefusal::NumberTooLarge => 2,
             JoinRefusal::OutsideLimits => 18,
             JoinRefusal::Gap => 19,
             JoinRefusal::TwoValues => 20,
         }
-    }
-}
-
-// The number of document 02, and 0 where the lists are joined, or the list is fed.
-pub fn refusal<T: Drop>(given: Result<T, JoinRefusal>) -> u64
-    ensures { result ≡ join_refusal given }
-{
-    match given {
-        Ok(_) => 0,
-        Err(why) => u64::from(why),
     }
 }
 
@@ -81,13 +73,19 @@ fn some_above(limit: u64, numbers: &[u64]) -> bool
     numbers.iter().any(|number| limit < *number)
 }
 
-// The same of values. A value is above the limit where its highest bit is set: a loop that gathers the bits has no way out of its middle, and so the
-// compiler takes several values at a time.
+// The bits of all values together: a loop that gathers them has no way out of its middle, and so the compiler takes several values at a time.
+fn bits_of(values: &[u64]) -> u64
+    ensures { result ≡ fold (λ bits value. bit_or bits value) 0 values.now }
+{
+    values.iter().fold(0, |bits, value| bits | *value)
+}
+
+// The same of values: one is above the limit where the highest bit is set.
+#[tactic(auto, using(crate::proofs::Loops::bits_above))]
 fn value_above(values: &[u64]) -> bool
     ensures { result ≡ some_above 9223372036854775807 values.now }
 {
-    let bits = values.iter().fold(0, |bits, value| bits | *value);
-    LARGEST_VALUE < bits
+    LARGEST_VALUE < bits_of(values)
 }
 
 // Whether t is the slot after s.
@@ -105,6 +103,7 @@ fn each_follows(slots: &[u64], next: &[u64]) -> bool
 }
 
 // Whether each slot is the one after the slot before it.
+#[tactic(auto, using(crate::proofs::Loops::no_pairs, crate::proofs::Loops::pairs_follow))]
 pub fn consecutive(slots: &[u64]) -> bool
     ensures { result ≡ counts_from (first_slot slots.now) slots.now }
 {
@@ -122,6 +121,7 @@ pub fn first_slot(slots: &[u64]) -> u64
 }
 
 // Whether the slots are `first` and those that follow. The loop has no way out of its middle, as above.
+#[tactic(auto, using(crate::proofs::Loops::counts_next, crate::proofs::Loops::counts_done))]
 fn counts_from(first: u64, slots: &[u64]) -> bool
     requires low { first ≤ 9223372036854771711 }
     requires few { length slots.now ≤ 4096 }
@@ -207,6 +207,7 @@ fn values_differ(values: &[u64], others: &[u64]) -> bool
 }
 
 // The whole of `earlier`, and of `later` what lies behind its first `known` numbers, in the first places. Hands back how many there are.
+#[tactic(auto, using(crate::proofs::Loops::both_stored))]
 fn store_both(out: &mut [u64], earlier: &[u64], later: &[u64], known: usize) -> usize
     requires { length earlier.now + length later.now ≤ length out.old }
     ensures stored { out.new ≡ at_front (earlier.now ++ drop known later.now) out.old }
@@ -260,7 +261,7 @@ fn join_in_order(
 
 // Joins two lists, either of which may begin first, into the lent places: how many entries the two have together, or why they were not joined. "Fewer
 // than 8,192 lent places give 18; places past the result, and all after a refusal, are unchanged."
-#[tactic(auto, using(crate::proofs::Answers::passed, crate::proofs::Answers::as_given))]
+#[tactic(auto, using(crate::proofs::Answers::passed, crate::proofs::Answers::first_passed, crate::proofs::Answers::second_passed, crate::proofs::Answers::places_passed, crate::proofs::Answers::as_given))]
 pub fn join(a: LentList, b: LentList, places: &mut LentPlaces) -> Result<u64, JoinRefusal>
     ensures same { SamePlaces places.old places.new }
     ensures joined { Joins (lent_list a.entry) (lent_list b.entry) (lent_places places.old) (lent_places places.new) result }

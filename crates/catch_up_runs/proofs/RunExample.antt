@@ -1,7 +1,8 @@
 -- The legal run of crates/group/proofs/Example.antt: two lists of its commits that overlap, two that touch, and their joins, computed. So the hypotheses
 -- of `never_two_values` hold together.
 -- Assumes nothing.
-use mathlib.Core.Path.{◌≡◌, refl, sym, ap, subst, ◌∙◌}
+use Rattle.std.specs.Prelude.{Ok, Err}
+use mathlib.Core.Path.{◌≡◌, refl, sym, ap, subst}
 use mathlib.Core.Logic.{inl, inr}
 use mathlib.Core.Bool.{Bool, false}
 use mathlib.Core.List.{List, [], ◌∷◌}
@@ -9,9 +10,9 @@ use Prim.Native.Nat.{ℕ}
 use Rattle.basics.specs.Lists.{In}
 use Rattle.message.specs.declared.PFMode.TheVariants.{Paxos}
 use Rattle.catch_up.specs.Causes.{CommitList, Commit, beside}
-use Rattle.catch_up.specs.Joining.{list_of, refused, joined_to, some_above, too_large, counts_from, outside, differ, in_order, joining}
+use Rattle.catch_up.specs.Joining.{list_of, some_above, too_large, counts_from, outside, differ, in_order, joining}
 use Rattle.catch_up.specs.declared.JoinRefusal.TheVariants.{TwoValues}
-use Rattle.group.specs.Claim.{MemberCall, Entry, entries, ours, Legal, At, CommitAt}
+use Rattle.group.specs.Claim.{MemberCall, Entry, entries, ours, Legal, CommitAt}
 use Rattle.group.proofs.Ties.{lowest_picks_best}
 use Rattle.group.proofs.Example.{three, MemberCommit, commits_of, commits, example_commits, example_legal}
 use Rattle.catch_up_runs.specs.Runs.{FromRun}
@@ -68,15 +69,15 @@ lists_of_run =
     (_, example_legal, from_first _ c.0 c.1, from_second _ c.0 c.1, from_both _ c.0 c.1)
 
 -- they overlap, or touch
-pub overlapping : joining first_slot both_slots 8192 ≡ joined_to both_slots
+pub overlapping : joining first_slot both_slots 8192 ≡ Ok both_slots
 unfolding joining too_large some_above outside counts_from in_order differ
 overlapping = refl
 
-pub touching : joining second_slot first_slot 8192 ≡ joined_to both_slots
+pub touching : joining second_slot first_slot 8192 ≡ Ok both_slots
 unfolding joining too_large some_above outside counts_from in_order differ
 touching = refl
 
-pub example_never : joining first_slot both_slots 8192 ≡ refused TwoValues → ⊥
+pub example_never : joining first_slot both_slots 8192 ≡ Err TwoValues → ⊥
 example_never =
     let l = lists_of_run in
     runs.never_two_values (three Paxos) tt ours (λ place. lowest_picks_best) l.0 l.1 first_slot both_slots l.2 l.4 8192

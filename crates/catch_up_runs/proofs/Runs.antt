@@ -1,11 +1,12 @@
 -- "Lists from one group run, in any mode but SwiftPaxos, that meet never give 20", whichever of the best-scored proposers each adoption of EPaxos takes.
 -- Assumes nothing.
+use Rattle.std.specs.Prelude.{Ok, Err}
 use mathlib.Core.Path.{◌≡◌, refl}
 use mathlib.Core.List.{List}
 use Prim.Native.Nat.{ℕ}
 use Rattle.settings.specs.declared.Settings.{Settings}
 use Rattle.catch_up.specs.Causes.{CommitList, JoinCause}
-use Rattle.catch_up.specs.Joining.{refused, joined_to, joining}
+use Rattle.catch_up.specs.Joining.{joining}
 use Rattle.catch_up.specs.declared.JoinRefusal.TheVariants.{NumberTooLarge, OutsideLimits, Gap, TwoValues}
 use Rattle.catch_up.proofs.Agreeing as agreeing
 use Rattle.group.specs.Claim.{MemberCall, Choices, PicksBest, NotSwift, entries_with, LegalWith, CommitAt}
@@ -20,10 +21,10 @@ module _ (s : Settings) (not_swift : NotSwift s.mode) (choices : Choices) (best 
 
   -- two lists of its commits
   module _ (a b : CommitList) (from-a : FromRun (entries_with choices s calls) a) (from-b : FromRun (entries_with choices s calls) b) (places : ℕ) where
-    pub never_two_values : joining a b places ≡ refused TwoValues → ⊥
+    pub never_two_values : joining a b places ≡ Err TwoValues → ⊥
     never_two_values = agreeing.never_two_values (λ slot v. CommitAt slot v (entries_with choices s calls)) one_value a b from-a from-b places
 
     -- where they meet, within the limits, they are joined, and the join is from the run too
     pub joined_where_they_meet : (JoinCause NumberTooLarge a b places → ⊥) → (JoinCause OutsideLimits a b places → ⊥) → (JoinCause Gap a b places → ⊥)
-        → (l : CommitList) × (joining a b places ≡ joined_to l) × FromRun (entries_with choices s calls) l
+        → (l : CommitList) × (joining a b places ≡ Ok l) × FromRun (entries_with choices s calls) l
     joined_where_they_meet = agreeing.joined_where_they_meet (λ slot v. CommitAt slot v (entries_with choices s calls)) one_value a b from-a from-b places

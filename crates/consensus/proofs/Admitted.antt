@@ -2,7 +2,7 @@
 -- Assumes nothing.
 use Rattle.std.specs.Prelude.{Option, None, Some}
 use mathlib.Core.Path.{◌≡◌, refl, sym, ap, ◌∙◌}
-use mathlib.Core.Bool.{Bool, true, false, not, ◌&&◌, ◌||◌}
+use mathlib.Core.Bool.{Bool, true, false, not, ◌&&◌, ◌||◌, and-true, and_comm, and_assoc}
 use mathlib.Core.List.{List, [], ◌∷◌}
 use Prim.Native.Nat.{ℕ}
 use lib.Dec.{ltb, leb}
@@ -20,24 +20,6 @@ use Rattle.delivery.specs.declared.Delivery.{Delivery}
 use Rattle.consensus.specs.FirstCause.{any_above, any_from, too_large, given_number, slots_of, promise_processes, processes_of, promise_numbers, numbers_of, joined, all_processes, all_numbers, ahead_of, of_slot, given_and_different, waits_for_value}
 
 -- ---- tests
-
-pub and_true : (a : Bool) → (a && true) ≡ a
-and_true true = refl
-and_true false = refl
-
-pub not_not : (a : Bool) → not (not a) ≡ a
-not_not true = refl
-not_not false = refl
-
-and_comm : (a b : Bool) → (a && b) ≡ (b && a)
-and_comm true true = refl
-and_comm true false = refl
-and_comm false true = refl
-and_comm false false = refl
-
-and_assoc : (a b c : Bool) → ((a && b) && c) ≡ (a && (b && c))
-and_assoc true b c = refl
-and_assoc false b c = refl
 
 and_left : (a b c : Bool) → (a && (b && c)) ≡ (b && (a && c))
 and_left true b c = refl
@@ -97,22 +79,22 @@ any_large_slot ns = any_above_lem 9223372036854775806 ns
 given_small : (o : Option ℕ) → number_given o ≡ every small (given_number o)
 unfolding every number_given
 given_small None = refl
-given_small (Some n) = sym (and_true (small n))
+given_small (Some n) = sym (and-true (small n))
 
 promise_small : (rv : RoundV) → rv_numbers rv ≡ (every small (promise_processes rv) && every small (promise_numbers rv))
 unfolding every rv_numbers round_numbers
-promise_small (FastV proposer v) = simp (and_true)
-promise_small (PaxosV None v) = simp (and_true)
-promise_small (PaxosV (Some round) v) = simp (and_true, and_assoc, and_comm, and_left)
+promise_small (FastV proposer v) = simp (and-true)
+promise_small (PaxosV None v) = simp (and-true)
+promise_small (PaxosV (Some round) v) = simp (and-true, and_assoc, and_comm, and_left)
 
 message_small : (m : ConsensusMsg) → msg_numbers m ≡ (every small_slot (slots_of m) && every small (processes_of m) && every small (numbers_of m))
 unfolding every msg_numbers round_numbers
-message_small (Prepare slot round rv) = simp (promise_small rv, and_true, and_assoc, and_comm)
-message_small (Accept slot round v) = simp (and_true, and_assoc, and_comm, and_left)
-message_small (ForwardRequest v) = simp (and_true)
-message_small (Commit slot v) = simp (and_true)
-message_small (ReadRequest id) = simp (and_true)
-message_small (ReadResponse id next) = simp (and_true)
+message_small (Prepare slot round rv) = simp (promise_small rv, and-true, and_assoc, and_comm)
+message_small (Accept slot round v) = simp (and-true, and_assoc, and_comm, and_left)
+message_small (ForwardRequest v) = simp (and-true)
+message_small (Commit slot v) = simp (and-true)
+message_small (ReadRequest id) = simp (and-true)
+message_small (ReadResponse id next) = simp (and-true)
 
 -- the tests of a message in the order of the causes and in that of the code
 reordered : (a v n s h r p : Bool) → (a && (v && (n && (s && (h && (r && p)))))) ≡ (a && (h && (v && (r && (n && (p && s))))))
@@ -132,18 +114,18 @@ numbers_cause d =
 requester_below_lem : (n : ℕ) (o : Option ℕ) → requester_below n o ≡ every (λ p. ltb p n) (given_number o)
 unfolding every requester_below
 requester_below_lem n None = refl
-requester_below_lem n (Some p) = sym (and_true (ltb p n))
+requester_below_lem n (Some p) = sym (and-true (ltb p n))
 
 promise_below : (n : ℕ) (rv : RoundV) → rv_processes n rv ≡ every (λ p. ltb p n) (promise_processes rv)
 unfolding every rv_processes
-promise_below n (FastV proposer v) = sym (and_true (ltb proposer n))
+promise_below n (FastV proposer v) = sym (and-true (ltb proposer n))
 promise_below n (PaxosV None v) = refl
-promise_below n (PaxosV (Some round) v) = sym (and_true (ltb round.leader n))
+promise_below n (PaxosV (Some round) v) = sym (and-true (ltb round.leader n))
 
 message_below : (n : ℕ) (m : ConsensusMsg) → msg_processes n m ≡ every (λ p. ltb p n) (processes_of m)
 unfolding every msg_processes
 message_below n (Prepare slot round rv) = ap (λ (t : Bool). ltb round.leader n && t) (promise_below n rv)
-message_below n (Accept slot round v) = sym (and_true (ltb round.leader n))
+message_below n (Accept slot round v) = sym (and-true (ltb round.leader n))
 message_below n (ForwardRequest v) = refl
 message_below n (Commit slot v) = refl
 message_below n (ReadRequest id) = refl

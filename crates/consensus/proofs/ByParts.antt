@@ -17,20 +17,19 @@ use Rattle.message.specs.declared.Refusal.{Refusal}
 use Rattle.message.specs.declared.Refusal.TheVariants.{NumberTooLarge, ValueNotHeld, Panic}
 use Rattle.fast_state.specs.Adopt.{lowest_best}
 use Rattle.fast_state.specs.Fast.{no_answers}
+use Rattle.read_tracker.specs.declared.Inserted.{Inserted}
 use Rattle.paxos_family.specs.Commit.{commit_slot, commit_core}
 use Rattle.paxos_family.specs.Process.{process_classic, process_fast}
 use Rattle.propose.specs.Propose.{propose_classic, propose_fast}
-use Rattle.steps.specs.Steps.{no_messages, one_message, on_rounds}
+use Rattle.steps.specs.Steps.{RoundsStep, CoreStep, no_messages, one_message, map_step, on_rounds}
 use Rattle.steps.specs.declared.Asked.{Asked}
 use Rattle.steps.specs.declared.Core.{Core}
-use Rattle.steps.specs.declared.CoreStep.{CoreStep}
 use Rattle.steps.specs.declared.Destination.TheVariants.{One}
 use Rattle.steps.specs.declared.Heard.{Heard}
 use Rattle.steps.specs.declared.Messages.{Messages}
 use Rattle.steps.specs.declared.Next.{Next}
-use Rattle.steps.specs.declared.Next.TheVariants.{Stays, Continues, Commits, Refuses}
+use Rattle.steps.specs.declared.Next.TheVariants.{Stays, Continues, Commits}
 use Rattle.steps.specs.declared.Rounds.{Rounds}
-use Rattle.steps.specs.declared.RoundsStep.{RoundsStep}
 use Rattle.delivery.specs.Admit.{admit}
 use Rattle.delivery.specs.Limits.{is_number, is_slot}
 use Rattle.delivery.specs.declared.Delivery.{Delivery}
@@ -39,14 +38,11 @@ use Rattle.calls.specs.Decision.{admission_of, unless_spent as admission_unless_
 use Rattle.calls.specs.declared.Call.{Call}
 use Rattle.calls.specs.declared.Call.TheVariants.{Propose, StartRead, Receive}
 use Rattle.calls.specs.declared.Taken.{Taken}
-use Rattle.core_calls.specs.CoreCall.{next_readable, needs_more, sends_from, refuses_in, on_fast_path, core_committed, core_finish_at, core_finish, core_proposed, core_processed, core_on_commit, core_on_read_request, core_on_read_response, core_handle, core_taken, core_call}
+use Rattle.core_calls.specs.CoreCall.{CoreAnswer, next_readable, needs_more, sends_from, refuses_in, on_fast_path, core_committed, finish_step_at, finish_step, core_proposed, core_processed, core_on_commit, core_on_read_request, core_on_read_response, core_handle, core_taken, core_call, rounds_committed}
 use Rattle.core_calls.specs.Replies.{committed_reply}
-use Rattle.core_calls.specs.declared.CoreAnswer.{CoreAnswer}
-use Rattle.rounds_calls.specs.RoundsCall.{with_fast, rounds_refuse, rounds_committed, rounds_finish_at, rounds_finish, rounds_handle, rounds_taken, rounds_passed, rounds_call}
+use Rattle.rounds_calls.specs.RoundsCall.{RoundsAnswer, with_fast, rounds_handle, rounds_taken, rounds_passed, rounds_call}
 use Rattle.rounds_calls.proofs.Passed.{passed_apart}
-use Rattle.rounds_calls.specs.declared.RoundsAnswer.{RoundsAnswer}
-use Rattle.state_calls.specs.StateCall.{with_table, serve_ready, count_response, inserted, after_insert, open_read, reads_handle, reads_taken, with_reads, state_passed, state_after, state_call}
-use Rattle.state_calls.specs.declared.StateAnswer.{StateAnswer}
+use Rattle.state_calls.specs.StateCall.{with_table, serve_ready, inserted, after_insert, open_read, reads_handle, reads_taken, with_reads, state_passed, state_after, state_call}
 use Rattle.consensus.specs.ByParts.{from_state, from_rounds, from_core, by_state, by_rounds, by_core}
 use Rattle.consensus.specs.Answers.{refused, sent, nothing, committed, finish_at, finish}
 use Rattle.consensus.specs.Call.{proposing, propose, read, admitted, receive, dispatch, unless_spent, if_made, call_with, call_of}
@@ -133,20 +129,20 @@ module _ (shard : Shard) (c : Call) where
         go true e = ap (from_state shard) (serves (rounds_committed asked v s messages))
         go false e = commit_without_reads shard asked v s messages (let z = ltb-false 0 s.core.tracker.open_count e in omega arith)
 
-    rounds_finish_lem : (held : Bool) (step : RoundsStep) → after_rounds (rounds_finish asked held rounds step) ≡ finish shard asked held step
+    rounds_finish_lem : (held : Bool) (step : Result RoundsStep Refusal) → after_rounds (finish_step (rounds_committed asked) held rounds step) ≡ finish shard asked held step
     unfolding with_reads
-    rounds_finish_lem held step = at step.next
+    rounds_finish_lem held (Err why) = refl
+    rounds_finish_lem held (Ok step) = at step.next
       where
-        if_held : (v : ℕ) (t : Bool) → after_rounds (cond t (rounds_committed asked v step.rounds step.messages) (rounds_refuse rounds ValueNotHeld))
-            ≡ cond t (committed shard asked v step.rounds step.messages) (refused ValueNotHeld shard)
-        if_held v true = rounds_committed_lem v step.rounds step.messages
+        if_held : (v : ℕ) (t : Bool) → after_rounds (cond t (rounds_committed asked v step.state step.messages) (refuses_in rounds ValueNotHeld))
+            ≡ cond t (committed shard asked v step.state step.messages) (refused ValueNotHeld shard)
+        if_held v true = rounds_committed_lem v step.state step.messages
         if_held v false = refl
 
-        at : (next : Next) → after_rounds (rounds_finish_at asked held rounds step.rounds step.messages next) ≡ finish_at shard asked held step.rounds step.messages next
+        at : (next : Next) → after_rounds (finish_step_at (rounds_committed asked) held rounds step.state step.messages next) ≡ finish_at shard asked held step.state step.messages next
         at Stays = refl
         at Continues = refl
         at (Commits v) = if_held v held
-        at (Refuses why) = refl
 
     -- a commit and a step on the core, in a classic mode, are those on the rounds
     core_committed_lem : has_fast_path asked.mode ≡ false → (v : ℕ) (s : Core) (messages : Messages)
@@ -155,37 +151,37 @@ module _ (shard : Shard) (c : Call) where
     core_committed_lem e v s messages =
         ap
         (λ (t : Bool). record {
-          rounds = record { core = on_fast_path (commit_core asked v s); fast = cond t no_answers rounds.fast };
+          state = record { core = on_fast_path (commit_core asked v s); fast = cond t no_answers rounds.fast };
           reply = committed_reply asked v s messages;
           deeper = ltb 0 s.tracker.open_count;
         })
         (sym e)
 
-    core_finish_lem : has_fast_path asked.mode ≡ false → (held : Bool) (step : CoreStep)
-        → with_fast rounds.fast (core_finish asked held core step) ≡ rounds_finish asked held rounds (on_rounds rounds.fast step)
-    core_finish_lem e held step = at step.next
+    core_finish_lem : has_fast_path asked.mode ≡ false → (held : Bool) (step : Result CoreStep Refusal)
+        → with_fast rounds.fast (finish_step (core_committed asked) held core step) ≡ finish_step (rounds_committed asked) held rounds (map_step (on_rounds rounds.fast) step)
+    core_finish_lem e held (Err why) = refl
+    core_finish_lem e held (Ok step) = at step.next
       where
-        if_held : (v : ℕ) (t : Bool) → with_fast rounds.fast (cond t (core_committed asked v step.core step.messages) (refuses_in core ValueNotHeld))
-            ≡ cond t (rounds_committed asked v (around step.core) step.messages) (rounds_refuse rounds ValueNotHeld)
-        if_held v true = core_committed_lem e v step.core step.messages
+        if_held : (v : ℕ) (t : Bool) → with_fast rounds.fast (cond t (core_committed asked v step.state step.messages) (refuses_in core ValueNotHeld))
+            ≡ cond t (rounds_committed asked v (around step.state) step.messages) (refuses_in rounds ValueNotHeld)
+        if_held v true = core_committed_lem e v step.state step.messages
         if_held v false = refl
 
-        at : (next : Next) → with_fast rounds.fast (core_finish_at asked held core step.core step.messages next)
-            ≡ rounds_finish_at asked held rounds (around step.core) step.messages next
+        at : (next : Next) → with_fast rounds.fast (finish_step_at (core_committed asked) held core step.state step.messages next)
+            ≡ finish_step_at (rounds_committed asked) held rounds (around step.state) step.messages next
         at Stays = refl
         at Continues = refl
         at (Commits v) = if_held v held
-        at (Refuses why) = refl
 
     -- a step on the fast path is the rounds', and one in a classic mode the core's
-    step_fits : (held : Bool) (fast : RoundsStep) (step : CoreStep)
-        → rounds_taken asked taken.heard rounds (needs_more core) c ≡ rounds_finish asked held rounds fast
-        → after (cond (has_fast_path asked.mode) (needs_more core) (core_finish asked held core step))
-        ≡ finish shard asked held (cond (has_fast_path asked.mode) fast (on_rounds rounds.fast step))
+    step_fits : (held : Bool) (fast : Result RoundsStep Refusal) (step : Result CoreStep Refusal)
+        → rounds_taken asked taken.heard rounds (needs_more core) c ≡ finish_step (rounds_committed asked) held rounds fast
+        → after (cond (has_fast_path asked.mode) (needs_more core) (finish_step (core_committed asked) held core step))
+        ≡ finish shard asked held (cond (has_fast_path asked.mode) fast (map_step (on_rounds rounds.fast) step))
     step_fits held fast step p =
-        by_mode (rounds_finish asked held rounds fast) (core_finish asked held core step) (λ _. p)
-        (λ e. rounds_finish_lem held fast ∙ ap (λ (t : Bool). finish shard asked held (cond t fast (on_rounds rounds.fast step))) (sym e))
-        (λ e. ap after_rounds (core_finish_lem e held step) ∙ rounds_finish_lem held (on_rounds rounds.fast step) ∙ ap (λ (t : Bool). finish shard asked held (cond t fast (on_rounds rounds.fast step))) (sym e))
+        by_mode (finish_step (rounds_committed asked) held rounds fast) (finish_step (core_committed asked) held core step) (λ _. p)
+        (λ e. rounds_finish_lem held fast ∙ ap (λ (t : Bool). finish shard asked held (cond t fast (map_step (on_rounds rounds.fast) step))) (sym e))
+        (λ e. ap after_rounds (core_finish_lem e held step) ∙ rounds_finish_lem held (map_step (on_rounds rounds.fast) step) ∙ ap (λ (t : Bool). finish shard asked held (cond t fast (map_step (on_rounds rounds.fast) step))) (sym e))
 
     commit_fits : (v : ℕ) → rounds_taken asked taken.heard rounds (needs_more core) c ≡ rounds_committed asked v rounds no_messages
         → after (cond (has_fast_path asked.mode) (needs_more core) (core_committed asked v core no_messages)) ≡ committed shard asked v rounds no_messages
@@ -214,12 +210,11 @@ propose_fits shard v =
 read_fits : (shard : Shard) (tag arrival : ℕ) → after shard (StartRead tag arrival) (needs_more shard.state.rounds.core) ≡ start_read shard tag arrival
 unfolding rounds_taken with_reads reads_taken open_read start_read
 read_fits shard tag arrival =
-    left_to_reads shard (StartRead tag arrival) refl ∙ opens (inserted shard.state.table shard.state.rounds tag arrival).opened
+    left_to_reads shard (StartRead tag arrival) refl ∙ opens (inserted shard.state.table shard.state.rounds tag arrival)
   where
-    opens : (o : Result ReadId Refusal) → from_state shard (after_insert (asked_of shard.settings) shard.state.rounds shard.state.table (inserted shard.state.table shard.state.rounds tag arrival) o)
-        ≡ shard_after_insert shard (inserted shard.state.table shard.state.rounds tag arrival) o
+    opens : (r : Result Inserted Refusal) → from_state shard (after_insert (asked_of shard.settings) shard.state.rounds shard.state.table r) ≡ shard_after_insert shard r
     opens (Err why) = refl
-    opens (Ok id) = refl
+    opens (Ok ins) = refl
 
 -- ---- messages
 
@@ -243,7 +238,7 @@ module _ (shard : Shard) (d : Delivery) where
   on_reads msg e r = ap (reads_handle (asked_of shard.settings).member.quorums.majority shard.state.table r d.said.fast) e
 
   processed_fits : (msg : ConsensusMsg) → d.message.msg ≡ msg → Serves shard (Receive d)
-      → rounds_on msg ≡ rounds_finish (asked_of shard.settings) d.said.value_held shard.state.rounds (process_fast lowest_best (asked_of shard.settings) heard msg shard.state.rounds)
+      → rounds_on msg ≡ finish_step (rounds_committed (asked_of shard.settings)) d.said.value_held shard.state.rounds (process_fast lowest_best (asked_of shard.settings) heard msg shard.state.rounds)
       → after shard (Receive d) (core_processed (asked_of shard.settings) heard d.said.value_held msg shard.state.rounds.core) ≡ process_message lowest_best shard d
   unfolding core_processed process_message processed
   processed_fits msg e serves p =

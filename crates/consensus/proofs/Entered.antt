@@ -1,7 +1,7 @@
 -- A Prepare or an Accept, from the moment that it comes to the table of panics: who ignores it, 7, and what is known in its round.
 -- Assumes nothing.
-use Rattle.basics.proofs.Tests.{by_cases}
-use Rattle.std.specs.Prelude.{Option, None, Some}
+use Rattle.basics.proofs.Tests.{by_cases, not_both}
+use Rattle.std.specs.Prelude.{Option, None, Some, Result}
 use mathlib.Core.Path.{◌≡◌, refl, sym, ap, ◌∙◌}
 use mathlib.Core.Bool.{Bool, true, false, cond, not, ◌&&◌, ◌||◌}
 use mathlib.Core.List.{List, [], ◌∷◌}
@@ -9,13 +9,14 @@ use Prim.Native.Nat.{ℕ}
 use lib.Dec.{eqb, ltb}
 use Rattle.sets.specs.Sets.{contains}
 use Rattle.tables.specs.Tables.{look_up}
-use Rattle.message.specs.Modes.{is_swift_paxos}
+use Rattle.message.specs.Modes.{has_fast_path, is_swift_paxos}
 use Rattle.message.specs.Rounds.{before}
 use Rattle.message.specs.declared.ConsensusMsg.{ConsensusMsg}
 use Rattle.message.specs.declared.ConsensusMsg.TheVariants.{Prepare, Accept, ForwardRequest}
 use Rattle.message.specs.declared.PFMode.{PFMode}
 use Rattle.message.specs.declared.PFMode.TheVariants.{Paxos, MultiPaxos, MultiPaxos3P, EPaxos, Pando, SwiftPaxos}
 use Rattle.message.specs.declared.PaxosRound.{PaxosRound}
+use Rattle.message.specs.declared.Refusal.{Refusal}
 use Rattle.message.specs.declared.RoundV.{RoundV}
 use Rattle.message.specs.declared.RoundV.TheVariants.{FastV, PaxosV}
 use Rattle.settings.specs.Questions.{delegate_in, committer_for, committer_in, committer_of as get_committer}
@@ -25,14 +26,15 @@ use Rattle.fast_state.specs.Fast.{answers_of}
 use Rattle.enter.specs.Enter.{in_round, is_older, from_live, enter}
 use Rattle.paxos_family.specs.Process.{in_prepare, on_prepare, on_accept, process_classic, in_fast_prepare, on_fast_prepare, in_fast_accept, on_fast_accept, replica_accept, process_change, process_fast}
 use Rattle.accept.specs.Accept.{is_committer, accepting}
-use Rattle.swift_path.specs.Swift.{swift_answered_accept, swift_client_accept}
+use Rattle.swift_path.specs.Swift.{swift_client_accept}
 use Rattle.fast_state.specs.declared.FastAnswers.{FastAnswers}
 use Rattle.message.specs.Promises.{is_process}
 use Rattle.quorum.specs.Quorum.{row_of}
 use Rattle.round_state.specs.Paxos.{goto_round}
 use Rattle.round_state.specs.declared.PaxosState.{PaxosState}
-use Rattle.steps.specs.Steps.{with_paxos}
+use Rattle.steps.specs.Steps.{CoreStep, with_paxos, map_step, on_rounds, change_rounds}
 use Rattle.steps.specs.declared.Asked.{Asked}
+use Rattle.steps.specs.declared.ChangeStep.{ChangeStep}
 use Rattle.steps.specs.declared.Core.{Core}
 use Rattle.steps.specs.declared.Heard.{Heard}
 use Rattle.steps.specs.declared.Rounds.{Rounds}
@@ -42,13 +44,21 @@ use Rattle.consensus.specs.Handle.{processed}
 use Rattle.consensus.specs.FirstCause.{value_committer, leader_delegate, promise_delegate, facts_of, ignored, source_not_live, handling_causes}
 use Rattle.consensus.specs.Panics.{Facts, classic_prepare, epaxos_prepare, swift_prepare, classic_accept, swift_replica_accept_rows, swift_client_accept_rows}
 use Rattle.consensus.specs.Rows.{Row, gives, first_of}
-use Rattle.consensus.proofs.Admitted.{}
-use Rattle.consensus.proofs.Handled.{next_number, facts_in, step_number, after_step, and_then_number, and_then_change_number, classic_prepare_lem}
+use Rattle.consensus.proofs.Handled.{facts_in, step_number, change_number, rounds_number, mapped_number, after_step, and_then_number, and_then_change_number, classic_prepare_lem}
 use Rattle.consensus.proofs.HandledAccept.{classic_accept_lem, accept_ends}
 use Rattle.consensus.proofs.HandledEPaxos.{epaxos_prepare_lem}
-use Rattle.consensus.proofs.HandledSwift.{swift_prepare_lem, swift_accept_lem}
+use Rattle.consensus.proofs.HandledSwift.{behind, replica_number, swift_prepare_lem, swift_accept_lem}
 
 -- ---- who takes part, and 7
+
+-- SwiftPaxos has a fast path
+pub not_swift : (m : PFMode) → has_fast_path m ≡ false → is_swift_paxos m ≡ false
+not_swift Paxos e = refl
+not_swift MultiPaxos e = refl
+not_swift MultiPaxos3P e = refl
+not_swift EPaxos e = refl
+not_swift Pando e = refl
+not_swift SwiftPaxos e = absurd (not_both refl e)
 
 enter_table : (part older before live swift : Bool) (x : ℕ) (rows : List Row) → (part ≡ true → x ≡ first_of rows)
     → cond part (cond (older || before) 0 (cond (live || swift) x 7)) 0 ≡ first_of (cond (not part || older || before) [] (gives 7 (not live && not swift) ∷ rows))
@@ -202,23 +212,23 @@ module _ (choose : Choice) (s : Settings) (rounds : Rounds) (d : Delivery) where
 
     on_fast_prepare_lem : (rows : Facts → List Row)
         → ((a.member.replica || is_swift_paxos a.mode) ≡ true
-        → next_number value_held (in_fast_prepare choose a h round rv (in_round round core) answers values scores swift_scores).next
+        → change_number value_held (in_fast_prepare choose a h round rv (in_round round core) answers values scores swift_scores)
         ≡ first_of (rows (facts_in a h value_held round (in_round round core).paxos answers scores)))
-        → next_number value_held (on_fast_prepare choose a h slot round rv core answers values scores swift_scores).next ≡ unless_ignored slot round (rows known)
+        → change_number value_held (on_fast_prepare choose a h slot round rv core answers values scores swift_scores) ≡ unless_ignored slot round (rows known)
     unfolding on_fast_prepare
     on_fast_prepare_lem rows q =
         and_then_change_number value_held answers (enter a h slot round core) (λ x. in_fast_prepare choose a h round rv x answers values scores swift_scores)
-        ∙ enter_number a h value_held slot round core (λ x. next_number value_held (in_fast_prepare choose a h round rv x answers values scores swift_scores).next) (rows known)
+        ∙ enter_number a h value_held slot round core (λ x. change_number value_held (in_fast_prepare choose a h round rv x answers values scores swift_scores)) (rows known)
         (λ p. q p ∙ ap (λ (f : Facts). first_of (rows f)) facts_prepare)
 
     on_epaxos_prepare : is_swift_paxos s.mode ≡ false
-        → next_number value_held (on_fast_prepare choose a h slot round rv core answers values scores swift_scores).next ≡ unless_ignored slot round (epaxos_prepare choose known rv)
+        → change_number value_held (on_fast_prepare choose a h slot round rv core answers values scores swift_scores) ≡ unless_ignored slot round (epaxos_prepare choose known rv)
     on_epaxos_prepare c =
         on_fast_prepare_lem (λ f. epaxos_prepare choose f rv)
         (λ p. epaxos_prepare_lem a h value_held round choose answers values scores swift_scores rv (in_round round core) c (replica_part c p))
 
     on_swift_prepare : is_swift_paxos s.mode ≡ true
-        → next_number value_held (on_fast_prepare choose a h slot round rv core answers values scores swift_scores).next ≡ unless_ignored slot round (swift_prepare known rv)
+        → change_number value_held (on_fast_prepare choose a h slot round rv core answers values scores swift_scores) ≡ unless_ignored slot round (swift_prepare known rv)
     on_swift_prepare c =
         on_fast_prepare_lem (λ f. swift_prepare f rv) (λ p. swift_prepare_lem a h value_held round choose answers values scores swift_scores rv (in_round round core) c)
 
@@ -238,30 +248,29 @@ module _ (choose : Choice) (s : Settings) (rounds : Rounds) (d : Delivery) where
 
     on_fast_accept_lem : (rows : Facts → List Row)
         → ((a.member.replica || is_swift_paxos a.mode) ≡ true
-        → next_number value_held (in_fast_accept a h round v (in_round round core) answers swift_scores).next
+        → change_number value_held (in_fast_accept a h round v (in_round round core) answers swift_scores)
         ≡ first_of (rows (facts_in a h value_held round (in_round round core).paxos answers scores)))
-        → next_number value_held (on_fast_accept a h slot round v core answers swift_scores).next ≡ unless_ignored slot round (rows heard)
+        → change_number value_held (on_fast_accept a h slot round v core answers swift_scores) ≡ unless_ignored slot round (rows heard)
     unfolding on_fast_accept
     on_fast_accept_lem rows q =
         and_then_change_number value_held answers (enter a h slot round core) (λ x. in_fast_accept a h round v x answers swift_scores)
-        ∙ enter_number a h value_held slot round core (λ x. next_number value_held (in_fast_accept a h round v x answers swift_scores).next) (rows heard)
+        ∙ enter_number a h value_held slot round core (λ x. change_number value_held (in_fast_accept a h round v x answers swift_scores)) (rows heard)
         (λ p. q p ∙ ap (λ (f : Facts). first_of (rows f)) facts_accept)
 
     epaxos_accept : is_swift_paxos s.mode ≡ false → a.member.replica ≡ true → (x : Core)
-        → next_number value_held (in_fast_accept a h round v x answers swift_scores).next ≡ first_of (classic_accept (facts_in a h value_held round x.paxos answers scores) (is_committer a h) v)
+        → change_number value_held (in_fast_accept a h round v x answers swift_scores) ≡ first_of (classic_accept (facts_in a h value_held round x.paxos answers scores) (is_committer a h) v)
     unfolding in_fast_accept replica_accept
     epaxos_accept c l x =
-        ap (λ (t : Bool). next_number value_held (cond t (replica_accept a h round v x answers swift_scores) (swift_client_accept a h round v x answers swift_scores)).next) l
-        ∙ and_then_change_number value_held answers (accepting a h round v x) (λ y. swift_answered_accept a h round v y (accepting a h round v x).messages answers swift_scores)
-        ∙ accept_ends a h value_held round v answers scores x c
-        (λ y. next_number value_held (swift_answered_accept a h round v y (accepting a h round v x).messages answers swift_scores).next)
+        ap (λ (t : Bool). change_number value_held (cond t (replica_accept a h round v x answers swift_scores) (swift_client_accept a h round v x answers swift_scores))) l
+        ∙ replica_number a h value_held round v answers x.paxos scores swift_scores (accepting a h round v x)
+        ∙ accept_ends a h value_held round v answers scores x c (behind a h value_held round v answers x.paxos scores swift_scores)
 
     on_epaxos_accept : is_swift_paxos s.mode ≡ false
-        → next_number value_held (on_fast_accept a h slot round v core answers swift_scores).next ≡ unless_ignored slot round (classic_accept heard (is_committer a h) v)
+        → change_number value_held (on_fast_accept a h slot round v core answers swift_scores) ≡ unless_ignored slot round (classic_accept heard (is_committer a h) v)
     on_epaxos_accept c = on_fast_accept_lem (λ f. classic_accept f (is_committer a h) v) (λ p. epaxos_accept c (replica_part c p) (in_round round core))
 
     on_swift_accept : is_swift_paxos s.mode ≡ true
-        → next_number value_held (on_fast_accept a h slot round v core answers swift_scores).next
+        → change_number value_held (on_fast_accept a h slot round v core answers swift_scores)
         ≡ unless_ignored slot round (cond heard.replica (swift_replica_accept_rows heard v) (swift_client_accept_rows heard v))
     on_swift_accept c =
         on_fast_accept_lem (λ f. cond f.replica (swift_replica_accept_rows f v) (swift_client_accept_rows f v))
@@ -279,7 +288,6 @@ with_mode m s =
       first_leader = s.first_leader;
       mode = m;
       quorum = s.quorum;
-      has_committers = s.has_committers;
       committers = s.committers;
       delegates = s.delegates;
     }
@@ -288,29 +296,36 @@ module _ (choose : Choice) (s : Settings) (rounds : Rounds) (d : Delivery) where
   -- what is handled gives the number of the first of its causes
   abbrev Handled : PFMode → ConsensusMsg → Type 0
   Handled m msg =
-      next_number d.said.value_held (processed choose (asked_of (with_mode m s)) (heard_of (with_mode m s) d) msg rounds).next
+      rounds_number d.said.value_held (processed choose (asked_of (with_mode m s)) (heard_of (with_mode m s) d) msg rounds)
       ≡ first_of (handling_causes choose (with_mode m s) rounds d msg)
+
+  -- the rounds that a step leads to do not change its number
+  on_core : (step : Result CoreStep Refusal) → rounds_number d.said.value_held (map_step (on_rounds rounds.fast) step) ≡ step_number d.said.value_held step
+  on_core step = mapped_number (on_rounds rounds.fast) (λ r. r.next) d.said.value_held step
+
+  on_change : (step : Result ChangeStep Refusal) → rounds_number d.said.value_held (map_step (change_rounds rounds.fast) step) ≡ change_number d.said.value_held step
+  on_change step = mapped_number (change_rounds rounds.fast) (λ r. r.next) d.said.value_held step
 
   prepare_handled : (m : PFMode) (slot : ℕ) (round : PaxosRound) (rv : RoundV) → d.message.msg ≡ Prepare slot round rv → Handled m (Prepare slot round rv)
   unfolding processed process_classic process_fast process_change
-  prepare_handled Paxos slot round rv e = on_prepare_lem choose (with_mode Paxos s) rounds d slot round rv e refl
-  prepare_handled MultiPaxos slot round rv e = on_prepare_lem choose (with_mode MultiPaxos s) rounds d slot round rv e refl
-  prepare_handled MultiPaxos3P slot round rv e = on_prepare_lem choose (with_mode MultiPaxos3P s) rounds d slot round rv e refl
-  prepare_handled EPaxos slot round rv e = on_epaxos_prepare choose (with_mode EPaxos s) rounds d slot round rv e refl
-  prepare_handled Pando slot round rv e = on_prepare_lem choose (with_mode Pando s) rounds d slot round rv e refl
-  prepare_handled SwiftPaxos slot round rv e = on_swift_prepare choose (with_mode SwiftPaxos s) rounds d slot round rv e refl
+  prepare_handled Paxos slot round rv e = on_core _ ∙ on_prepare_lem choose (with_mode Paxos s) rounds d slot round rv e refl
+  prepare_handled MultiPaxos slot round rv e = on_core _ ∙ on_prepare_lem choose (with_mode MultiPaxos s) rounds d slot round rv e refl
+  prepare_handled MultiPaxos3P slot round rv e = on_core _ ∙ on_prepare_lem choose (with_mode MultiPaxos3P s) rounds d slot round rv e refl
+  prepare_handled EPaxos slot round rv e = on_change _ ∙ on_epaxos_prepare choose (with_mode EPaxos s) rounds d slot round rv e refl
+  prepare_handled Pando slot round rv e = on_core _ ∙ on_prepare_lem choose (with_mode Pando s) rounds d slot round rv e refl
+  prepare_handled SwiftPaxos slot round rv e = on_change _ ∙ on_swift_prepare choose (with_mode SwiftPaxos s) rounds d slot round rv e refl
 
   accept_handled : (m : PFMode) (slot : ℕ) (round : PaxosRound) (v : ℕ) → d.message.msg ≡ Accept slot round v → Handled m (Accept slot round v)
   unfolding processed process_classic process_fast process_change is_committer
-  accept_handled Paxos slot round v e = on_accept_lem choose (with_mode Paxos s) rounds d slot round v e refl
-  accept_handled MultiPaxos slot round v e = on_accept_lem choose (with_mode MultiPaxos s) rounds d slot round v e refl
+  accept_handled Paxos slot round v e = on_core _ ∙ on_accept_lem choose (with_mode Paxos s) rounds d slot round v e refl
+  accept_handled MultiPaxos slot round v e = on_core _ ∙ on_accept_lem choose (with_mode MultiPaxos s) rounds d slot round v e refl
   accept_handled MultiPaxos3P slot round v e =
-      on_accept_lem choose (with_mode MultiPaxos3P s) rounds d slot round v e refl
+      on_core _ ∙ on_accept_lem choose (with_mode MultiPaxos3P s) rounds d slot round v e refl
       ∙ ap (λ (c : Option ℕ). unless_ignored choose (with_mode MultiPaxos3P s) rounds d slot round
       (classic_accept (facts_of (with_mode MultiPaxos3P s) rounds d round round.leader) (is_process c s.my_pid) v)) (committer_same (with_mode MultiPaxos3P s) d.said.requester)
-  accept_handled EPaxos slot round v e = on_epaxos_accept choose (with_mode EPaxos s) rounds d slot round v e refl
-  accept_handled Pando slot round v e = on_accept_lem choose (with_mode Pando s) rounds d slot round v e refl
-  accept_handled SwiftPaxos slot round v e = on_swift_accept choose (with_mode SwiftPaxos s) rounds d slot round v e refl
+  accept_handled EPaxos slot round v e = on_change _ ∙ on_epaxos_accept choose (with_mode EPaxos s) rounds d slot round v e refl
+  accept_handled Pando slot round v e = on_core _ ∙ on_accept_lem choose (with_mode Pando s) rounds d slot round v e refl
+  accept_handled SwiftPaxos slot round v e = on_change _ ∙ on_swift_accept choose (with_mode SwiftPaxos s) rounds d slot round v e refl
 
   forward_handled : (m : PFMode) (v : ℕ) → Handled m (ForwardRequest v)
   unfolding processed process_classic process_fast process_change first_of
@@ -323,7 +338,7 @@ module _ (choose : Choice) (s : Settings) (rounds : Rounds) (d : Delivery) where
 
 module _ (choose : Choice) (s : Settings) (rounds : Rounds) (d : Delivery) where
   abbrev Number : ConsensusMsg → Type 0
-  Number msg = next_number d.said.value_held (processed choose (asked_of s) (heard_of s d) msg rounds).next ≡ first_of (handling_causes choose s rounds d msg)
+  Number msg = rounds_number d.said.value_held (processed choose (asked_of s) (heard_of s d) msg rounds) ≡ first_of (handling_causes choose s rounds d msg)
 
   pub prepare_number : (slot : ℕ) (round : PaxosRound) (rv : RoundV) → d.message.msg ≡ Prepare slot round rv → Number (Prepare slot round rv)
   prepare_number slot round rv e = prepare_handled choose s rounds d s.mode slot round rv e

@@ -7,7 +7,7 @@ use Rattle.message.specs.declared.RoundV.TheVariants.{FastV}
 use Rattle.message.specs.declared.PaxosRound.{PaxosRound}
 use mathlib.Core.Path.{◌≡◌, refl, sym, ap, subst, ◌∙◌}
 use mathlib.Core.Logic.{◌⊎◌, inl, inr}
-use mathlib.Core.Bool.{Bool, true, false, cond, not, ◌&&◌, ◌||◌}
+use mathlib.Core.Bool.{Bool, true, false, cond, not, ◌&&◌, ◌||◌, or-true}
 use mathlib.Core.List.{List, [], ◌∷◌}
 use Prim.Native.Nat.{ℕ, ◌<◌}
 use native.Mathlib.Omega.{arith}
@@ -29,15 +29,16 @@ use Rattle.delivery.specs.Admit.{is_ahead, is_own_slot, is_other_last, needs_val
 use Rattle.delivery.specs.Limits.{numbers_fit, processes_fit}
 use Rattle.delivery.specs.declared.Delivery.{Delivery}
 use Rattle.core_calls.specs.CoreCall.{read_answer}
-use Rattle.steps.specs.Steps.{one_message}
+use Rattle.steps.specs.Steps.{RoundsStep, one_message, map_step, with_change, change_rounds}
 use Rattle.message.specs.Messages.{msg_slot}
 use Rattle.fast_state.specs.Fast.{answers_of, in_quorum, is_unanswered, second_answer, epaxos_answered, epaxos_propose_v, swift_uncounted, swift_first, swift_answered, swift_own, swift_unanswered, swift_propose_v}
 use Rattle.fast_state.specs.declared.FastAnswers.{FastAnswers}
 use Rattle.fast_state.specs.declared.FastChange.{FastChange}
+use Rattle.fast_state.specs.declared.FastState.{FastState}
 use Rattle.settings.specs.declared.Settings.{Settings}
 use Rattle.round_state.specs.Paxos.{paxos_propose_v, self_accept, accept_own, receive_accept, accept_fits, receive_promise, held_after_promise}
-use Rattle.read_tracker.specs.Reads.{insert, inserted, refused as not_inserted}
-use Rattle.read_tracker.specs.declared.Inserted.{Inserted}
+use Rattle.read_tracker.specs.Reads.{opening, open_next, insert_opened, insert}
+use Rattle.read_tracker.specs.declared.Opening.{Opening}
 use Rattle.round_state.specs.declared.Member.{Member}
 use Rattle.tables.specs.Tables.{look_up}
 use Rattle.proposal.specs.Proposal.{not_allowed, electing, may_propose, proposal_round}
@@ -46,13 +47,12 @@ use Rattle.steps.specs.declared.Asked.{Asked}
 use Rattle.steps.specs.declared.Core.{Core}
 use Rattle.steps.specs.declared.Messages.{Messages}
 use Rattle.steps.specs.declared.Next.{Next}
-use Rattle.steps.specs.declared.Next.TheVariants.{Stays, Continues, Commits, Refuses}
+use Rattle.steps.specs.declared.Next.TheVariants.{Stays, Continues, Commits}
 use Rattle.steps.specs.declared.Rounds.{Rounds}
-use Rattle.steps.specs.declared.RoundsStep.{RoundsStep}
 use Rattle.calls.specs.Asked.{asked_of, heard_of}
 use Rattle.calls.specs.declared.Call.{Call}
 use Rattle.calls.specs.declared.Call.TheVariants.{Propose, StartRead, Receive}
-use Rattle.consensus.specs.Answers.{refused, committed, finish_at, sent}
+use Rattle.consensus.specs.Answers.{refused, committed, finish_at, finish, sent}
 use Rattle.consensus.specs.Call.{proposing, propose, read, admitted, receive, dispatch, unless_spent, if_made, call_with}
 use Rattle.consensus.specs.FirstCause.{number_of, any_above, too_large, proposal_causes, not_allowed_causes, read_causes, causes, unmade, first_cause, handling_causes, is_spent}
 use Rattle.consensus.specs.Handle.{on_commit, on_read_request, on_read_response, start_read, after_insert, processed, process_message, handle}
@@ -61,25 +61,24 @@ use Rattle.consensus.specs.declared.Answer.{Answer}
 use Rattle.consensus.specs.declared.Shard.{Shard}
 use Rattle.consensus.proofs.Admitted.{above_test, numbers_cause, processes_cause, ahead_cause, slot_cause, last_cause, waits_cause}
 use Rattle.consensus.proofs.Entered.{with_mode, prepare_number, accept_number_lem, forward_number}
-use Rattle.consensus.proofs.Handled.{next_number}
+use Rattle.consensus.proofs.Handled.{next_number, step_number, rounds_number, mapped_number, with_change_number}
 
 -- the call is taken and the number is 0, or it is refused, the shard is left, nothing is handed back but the number, and it is that number
 abbrev pub Gives : Shard → Answer → ℕ → Type 0
 Gives shard r n = ((r.reply.outcome ≡ Ok tt) × (n ≡ 0)) ⊎ ((why : Refusal) × (r ≡ refused why shard) × (n ≡ refusal_number why))
 
-or_true : (t : Bool) → (t || true) ≡ true
-or_true true = refl
-or_true false = refl
-
 -- ---- the end of a call
 
-finish_gives : (shard : Shard) (a : Asked) (held : Bool) (s : Rounds) (ms : Messages) (n : Next) → Gives shard (finish_at shard a held s ms n) (next_number held n)
+ended_gives : (shard : Shard) (a : Asked) (held : Bool) (s : Rounds) (ms : Messages) (n : Next) → Gives shard (finish_at shard a held s ms n) (next_number held n)
 unfolding committed
-finish_gives shard a held s ms Stays = inl (refl, refl)
-finish_gives shard a held s ms Continues = inl (refl, refl)
-finish_gives shard a true s ms (Commits v) = inl (refl, refl)
-finish_gives shard a false s ms (Commits v) = inr (ValueNotHeld, refl, refl)
-finish_gives shard a held s ms (Refuses why) = inr (why, refl, refl)
+ended_gives shard a held s ms Stays = inl (refl, refl)
+ended_gives shard a held s ms Continues = inl (refl, refl)
+ended_gives shard a true s ms (Commits v) = inl (refl, refl)
+ended_gives shard a false s ms (Commits v) = inr (ValueNotHeld, refl, refl)
+
+finish_gives : (shard : Shard) (a : Asked) (held : Bool) (step : Result RoundsStep Refusal) → Gives shard (finish shard a held step) (rounds_number held step)
+finish_gives shard a held (Ok step) = ended_gives shard a held step.state step.messages step.next
+finish_gives shard a held (Err why) = inr (why, refl, refl)
 
 -- ---- proposals
 
@@ -118,34 +117,33 @@ swift_own_lem me v quorum f scores =
     (λ e. simp e)
 
 -- the number that a proposal gives after an own answer that is taken where the test holds
-after_own_number : (a : Asked) (round : PaxosRound) (v : ℕ) (core : Core) (answers : FastAnswers) (r : Result FastChange Refusal) (t : Bool)
-    → outcome_of r ≡ cond t (Ok tt) (Err Panic)
-    → next_number true (after_own_answer a round v core answers r).next
-    ≡ cond t (next_number true (propose_prepare a round (FastV a.member.my_pid v) core).next) (next_number true (not_allowed core).next)
-after_own_number a round v core answers (Ok change) true e = refl
-after_own_number a round v core answers (Ok change) false e = absurd (not_both refl (ap is_ok e))
-after_own_number a round v core answers (Err why) true e = absurd (not_both (ap is_ok e) refl)
-after_own_number a round v core answers (Err why) false e = refl
+module _ (fast : FastState) (a : Asked) (round : PaxosRound) (v : ℕ) (core : Core) where
+  abbrev After : Result FastChange Refusal → Bool → Type 0
+  After r t =
+      rounds_number true (map_step (change_rounds fast) (after_own_answer a round v core r))
+      ≡ cond t (step_number true (propose_prepare a round (FastV a.member.my_pid v) core)) (refusal_number not_allowed)
 
-after_epaxos_own : (a : Asked) (round : PaxosRound) (v : ℕ) (core : Core) (answers : FastAnswers) (me : Member) (scores : List ℕ)
-    → next_number true (after_own_answer a round v core answers (epaxos_propose_v me v answers scores)).next
-    ≡ cond (is_unanswered answers && eqb (look_up scores me.my_pid) 2)
-    (next_number true (propose_prepare a round (FastV a.member.my_pid v) core).next) (next_number true (not_allowed core).next)
-after_epaxos_own a round v core answers me scores =
-    after_own_number a round v core answers (epaxos_propose_v me v answers scores) (is_unanswered answers && eqb (look_up scores me.my_pid) 2)
-    (epaxos_own me v answers scores)
+  after_own_number : (r : Result FastChange Refusal) (t : Bool) → outcome_of r ≡ cond t (Ok tt) (Err Panic) → After r t
+  after_own_number (Ok change) true e =
+      let step = propose_prepare a round (FastV a.member.my_pid v) core in
+      mapped_number (change_rounds fast) (λ s. s.next) true (map_step (with_change change) step) ∙ with_change_number true change step
+  after_own_number (Ok change) false e = absurd (not_both refl (ap is_ok e))
+  after_own_number (Err why) true e = absurd (not_both (ap is_ok e) refl)
+  after_own_number (Err why) false e = refl
 
-after_swift_own : (a : Asked) (round : PaxosRound) (v : ℕ) (core : Core) (answers : FastAnswers) (me : Member) (quorum : Option ℕ) (scores : List ℕ)
-    → next_number true (after_own_answer a round v core answers (swift_propose_v me v quorum false answers scores)).next
-    ≡ cond (swift_unanswered me answers scores)
-    (next_number true (propose_prepare a round (FastV a.member.my_pid v) core).next) (next_number true (not_allowed core).next)
-after_swift_own a round v core answers me quorum scores =
-    after_own_number a round v core answers (swift_propose_v me v quorum false answers scores) (swift_unanswered me answers scores)
-    (swift_own_lem me v quorum answers scores)
+  after_epaxos_own : (answers : FastAnswers) (me : Member) (scores : List ℕ)
+      → After (epaxos_propose_v me v answers scores) (is_unanswered answers && eqb (look_up scores me.my_pid) 2)
+  after_epaxos_own answers me scores =
+      after_own_number (epaxos_propose_v me v answers scores) (is_unanswered answers && eqb (look_up scores me.my_pid) 2) (epaxos_own me v answers scores)
+
+  after_swift_own : (answers : FastAnswers) (me : Member) (quorum : Option ℕ) (scores : List ℕ)
+      → After (swift_propose_v me v quorum false answers scores) (swift_unanswered me answers scores)
+  after_swift_own answers me quorum scores =
+      after_own_number (swift_propose_v me v quorum false answers scores) (swift_unanswered me answers scores) (swift_own_lem me v quorum answers scores)
 
 module _ (s : Settings) (v : ℕ) (rounds : Rounds) where
   abbrev Proposed : PFMode → Type 0
-  Proposed m = next_number true (proposing (asked_of (with_mode m s)) v rounds).next ≡ first_of (not_allowed_causes (with_mode m s) rounds)
+  Proposed m = rounds_number true (proposing (asked_of (with_mode m s)) v rounds) ≡ first_of (not_allowed_causes (with_mode m s) rounds)
 
   -- who may propose at all: in the live set, or not
   abbrev live : Bool
@@ -162,13 +160,10 @@ module _ (s : Settings) (v : ℕ) (rounds : Rounds) where
       go (Some rv) e = by_cases live (λ r. by_cases (equal rounds.core.paxos.round None) (λ q. simp (e, r, q)) (λ q. simp (e, r, q))) (λ r. simp (e, r))
       go None e = by_cases live (λ r. by_cases (equal rounds.core.paxos.round None) (λ q. simp (e, r, q)) (λ q. simp (e, r, q))) (λ r. simp (e, r))
 
+  -- Pando proposes as Paxos does
   pando_proposed : Proposed Pando
-  unfolding proposing propose_classic may_propose first_of propose_prepare paxos_propose_v
-  pando_proposed = go rounds.core.paxos.max_rv refl
-    where
-      go : (held : Option RoundV) → rounds.core.paxos.max_rv ≡ held → Proposed Pando
-      go (Some rv) e = by_cases live (λ r. by_cases (equal rounds.core.paxos.round None) (λ q. simp (e, r, q)) (λ q. simp (e, r, q))) (λ r. simp (e, r))
-      go None e = by_cases live (λ r. by_cases (equal rounds.core.paxos.round None) (λ q. simp (e, r, q)) (λ q. simp (e, r, q))) (λ r. simp (e, r))
+  unfolding proposing propose_classic may_propose propose_prepare electing
+  pando_proposed = paxos_proposed
 
   -- in MultiPaxos and MultiPaxos3P
   abbrev from_start : Bool
@@ -192,19 +187,10 @@ module _ (s : Settings) (v : ℕ) (rounds : Rounds) where
           (λ q. simp (e, r, first_start s.first_leader, q)))
           (λ r. simp (e, r))
 
+  -- MultiPaxos3P proposes as MultiPaxos does
   multi3p_proposed : Proposed MultiPaxos3P
-  unfolding proposing propose_classic may_propose first_of electing propose_accept paxos_propose_v self_accept accept_own receive_accept accept_fits receive_promise held_after_promise
-  multi3p_proposed = go rounds.core.paxos.max_rv refl
-    where
-      go : (held : Option RoundV) → rounds.core.paxos.max_rv ≡ held → Proposed MultiPaxos3P
-      go (Some rv) e =
-          by_cases live (λ r. by_cases from_start (λ q. simp (e, r, first_start s.first_leader, q)) (λ q. simp (e, r, first_start s.first_leader, q))) (λ r. simp (e, r))
-      go None e =
-          by_cases live
-          (λ r. by_cases from_start
-          (λ q. by_cases (eqb s.my_pid s.first_leader) (λ l. simp (e, r, first_start s.first_leader, q, own_leads q, l)) (λ l. simp (e, r, first_start s.first_leader, q, own_leads q, l)))
-          (λ q. simp (e, r, first_start s.first_leader, q)))
-          (λ r. simp (e, r))
+  unfolding proposing propose_classic may_propose electing propose_accept
+  multi3p_proposed = multi_proposed
 
   -- the fast modes: each assertion of the own answer
   module _ (e : rounds.core.paxos.max_rv ≡ None) (q : equal rounds.core.paxos.round None ≡ true) where
@@ -227,16 +213,16 @@ module _ (s : Settings) (v : ℕ) (rounds : Rounds) where
         (λ t. by_cases (eqb f.fast_preaccepted 0)
         (λ u. by_cases (is_empty f.fast_proposers)
         (λ w. by_cases (is_some f.swift_leader_answer)
-        (λ y. simp (e, q, l, or_true, after_swift_own, t, u, w, y))
+        (λ y. simp (e, q, l, or-true, after_swift_own, t, u, w, y))
         (λ y. by_cases (eqb (look_up rounds.fast.swift_proposer_scores s.my_pid) 0)
-        (λ x. simp (e, q, l, or_true, after_swift_own, t, u, w, x, y)) (λ x. simp (e, q, l, or_true, after_swift_own, t, u, w, x, y))))
-        (λ w. by_cases (is_some f.swift_leader_answer) (λ y. simp (e, q, l, or_true, after_swift_own, t, u, w, y)) (λ y. simp (e, q, l, or_true, after_swift_own, t, u, w, y))))
-        (λ u. by_cases (is_some f.swift_leader_answer) (λ y. simp (e, q, l, or_true, after_swift_own, t, u, y)) (λ y. simp (e, q, l, or_true, after_swift_own, t, u, y))))
-        (λ t. by_cases (is_some f.swift_leader_answer) (λ y. simp (e, q, l, or_true, after_swift_own, t, y)) (λ y. simp (e, q, l, or_true, after_swift_own, t, y)))
+        (λ x. simp (e, q, l, or-true, after_swift_own, t, u, w, x, y)) (λ x. simp (e, q, l, or-true, after_swift_own, t, u, w, x, y))))
+        (λ w. by_cases (is_some f.swift_leader_answer) (λ y. simp (e, q, l, or-true, after_swift_own, t, u, w, y)) (λ y. simp (e, q, l, or-true, after_swift_own, t, u, w, y))))
+        (λ u. by_cases (is_some f.swift_leader_answer) (λ y. simp (e, q, l, or-true, after_swift_own, t, u, y)) (λ y. simp (e, q, l, or-true, after_swift_own, t, u, y))))
+        (λ t. by_cases (is_some f.swift_leader_answer) (λ y. simp (e, q, l, or-true, after_swift_own, t, y)) (λ y. simp (e, q, l, or-true, after_swift_own, t, y)))
 
     swift_leads : eqb s.first_leader s.my_pid ≡ true → Proposed SwiftPaxos
     unfolding proposing propose_fast propose_change may_propose first_of electing leads_from_start propose_accept paxos_propose_v self_accept accept_own receive_accept accept_fits receive_promise held_after_promise
-    swift_leads l = simp (e, q, l, or_true)
+    swift_leads l = simp (e, q, l, or-true)
 
   epaxos_proposed : Proposed EPaxos
   unfolding proposing propose_fast propose_change may_propose first_of
@@ -252,10 +238,10 @@ module _ (s : Settings) (v : ℕ) (rounds : Rounds) where
   swift_proposed = go rounds.core.paxos.max_rv refl
     where
       go : (held : Option RoundV) → rounds.core.paxos.max_rv ≡ held → Proposed SwiftPaxos
-      go (Some rv) e = by_cases (equal rounds.core.paxos.round None) (λ q. simp (e, or_true, q)) (λ q. simp (e, or_true, q))
+      go (Some rv) e = by_cases (equal rounds.core.paxos.round None) (λ q. simp (e, or-true, q)) (λ q. simp (e, or-true, q))
       go None e =
           by_cases (equal rounds.core.paxos.round None)
-          (λ q. by_cases (eqb s.first_leader s.my_pid) (swift_leads e q) (swift_answers e q)) (λ q. simp (e, or_true, q))
+          (λ q. by_cases (eqb s.first_leader s.my_pid) (swift_leads e q) (swift_answers e q)) (λ q. simp (e, or-true, q))
 
   proposed_number : (m : PFMode) → Proposed m
   proposed_number Paxos = paxos_proposed
@@ -273,15 +259,12 @@ module _ (choose : Choice) (shard : Shard) where
   unfolding propose first_of any_above
   proposal_gives v = by_cases (leb v 9223372036854775807) fit (λ e. simp (e, above_test 9223372036854775807 v) (inr (NumberTooLarge, refl, refl)))
     where
-      step : RoundsStep
-      step = proposing (asked_of shard.settings) v rounds
-
       fit : leb v 9223372036854775807 ≡ true → Gives shard (propose shard v) (first_of (proposal_causes shard v))
       fit e =
+          let step = proposing (asked_of shard.settings) v rounds in
           simp (e, above_test 9223372036854775807 v)
-          (subst (Gives shard (finish_at shard (asked_of shard.settings) true step.rounds step.messages step.next))
-          (proposed_number shard.settings v rounds shard.settings.mode)
-          (finish_gives shard (asked_of shard.settings) true step.rounds step.messages step.next))
+          (subst (Gives shard (finish shard (asked_of shard.settings) true step)) (proposed_number shard.settings v rounds shard.settings.mode)
+          (finish_gives shard (asked_of shard.settings) true step))
 
   -- ---- new reads
 
@@ -296,20 +279,20 @@ module _ (choose : Choice) (shard : Shard) where
       go false false = refl
 
   read_gives : (tag arrival : ℕ) → Gives shard (read shard tag arrival) (first_of (read_causes shard tag arrival))
-  unfolding read start_read insert first_of
+  unfolding read start_read insert open_next first_of
   read_gives tag arrival =
       subst (λ (t : Bool). Gives shard (read shard tag arrival) (cond t 2 (cond (leb 128 rounds.core.tracker.open_count) 12 (cond (ltb 9223372036854775807 rounds.core.tracker.next_id) 12 0))))
       (sym (read_large tag arrival))
       (go (leb tag 9223372036854775807 && leb arrival 9223372036854775806) (leb 128 rounds.core.tracker.open_count) (ltb 9223372036854775807 rounds.core.tracker.next_id))
     where
-      none : Inserted
-      none = not_inserted rounds.core.tracker shard.state.table
-
-      some : Inserted
-      some = inserted rounds.core.tracker shard.state.table tag arrival (not (is_some rounds.core.paxos.max_rv))
+      some : Opening
+      some = opening rounds.core.tracker tag arrival (not (is_some rounds.core.paxos.max_rv))
 
       go : (fit full spent : Bool)
-          → Gives shard (cond fit (after_insert shard (cond full none (cond spent none some)) (cond full none (cond spent none some)).opened) (refused NumberTooLarge shard))
+          → Gives shard
+          (cond fit
+          (after_insert shard (insert_opened rounds.core.tracker shard.state.table (cond full (Err NoRoomForRead) (cond spent (Err NoRoomForRead) (Ok some)))))
+          (refused NumberTooLarge shard))
           (cond (not fit) 2 (cond full 12 (cond spent 12 0)))
       go false full spent = inr (NumberTooLarge, refl, refl)
       go true true spent = inr (NoRoomForRead, refl, refl)
@@ -320,16 +303,14 @@ module _ (choose : Choice) (shard : Shard) where
 
   module _ (d : Delivery) where
     abbrev number_in : ConsensusMsg → ℕ
-    number_in m = next_number d.said.value_held (processed choose (asked_of shard.settings) (heard_of shard.settings d) m rounds).next
+    number_in m = rounds_number d.said.value_held (processed choose (asked_of shard.settings) (heard_of shard.settings d) m rounds)
 
     process_gives : (m : ConsensusMsg) → d.message.msg ≡ m → (n : ℕ) → number_in m ≡ n → Gives shard (process_message choose shard d) n
     unfolding process_message
     process_gives m e n q =
-        subst (Gives shard (finish_at shard (asked_of shard.settings) d.said.value_held step.rounds step.messages step.next)) (ap number_in e ∙ q)
-        (finish_gives shard (asked_of shard.settings) d.said.value_held step.rounds step.messages step.next)
-      where
-        step : RoundsStep
-        step = processed choose (asked_of shard.settings) (heard_of shard.settings d) d.message.msg rounds
+        let step = processed choose (asked_of shard.settings) (heard_of shard.settings d) d.message.msg rounds in
+        subst (Gives shard (finish shard (asked_of shard.settings) d.said.value_held step)) (ap number_in e ∙ q)
+        (finish_gives shard (asked_of shard.settings) d.said.value_held step)
 
     handle_gives : (m : ConsensusMsg) → d.message.msg ≡ m → Gives shard (handle choose shard d m) (first_of (handling_causes choose shard.settings rounds d m))
     unfolding handle on_commit on_read_request on_read_response committed first_of

@@ -1,6 +1,6 @@
 -- The handlers of a Prepare and an Accept give the numbers of the table of panics (specs/Panics.antt), row by row.
 -- Assumes nothing.
-use Rattle.std.specs.Prelude.{Option, None, Some, Ok, Err}
+use Rattle.std.specs.Prelude.{Option, None, Some, Result, Ok, Err}
 use mathlib.Core.Path.{◌≡◌, refl, sym, ap, ◌∙◌}
 use mathlib.Core.Bool.{Bool, true, false, cond, not, ◌&&◌, ◌||◌}
 use mathlib.Core.List.{List}
@@ -16,6 +16,7 @@ use Rattle.message.specs.Promises.{value_of, accept_round_of, is_process}
 use Rattle.message.specs.Refusals.{refusal_number}
 use Rattle.message.specs.Rounds.{before, equal}
 use Rattle.message.specs.declared.PaxosRound.{PaxosRound}
+use Rattle.message.specs.declared.Refusal.{Refusal}
 use Rattle.message.specs.declared.Refusal.TheVariants.{Panic, AcceptUnlikeHeld}
 use Rattle.message.specs.declared.RoundV.{RoundV}
 use Rattle.message.specs.declared.RoundV.TheVariants.{FastV, PaxosV}
@@ -23,27 +24,48 @@ use Rattle.round_state.specs.Paxos.{with_sender, with_own, counted, is_prepared,
 use Rattle.round_state.specs.declared.Member.{Member}
 use Rattle.round_state.specs.declared.PaxosState.{PaxosState}
 use Rattle.fast_state.specs.declared.FastAnswers.{FastAnswers}
+use Rattle.fast_state.specs.declared.FastChange.{FastChange}
 use Rattle.prepare.specs.Prepare.{hold_first, may_answer, answer_prepare, answers_nothing, preparing, prepared, accept_phase, broadcast_accept, with_promise, becomes_prepared, gather}
 use Rattle.paxos_family.specs.Process.{in_prepare}
-use Rattle.steps.specs.Steps.{with_paxos, goes_on, and_then, and_then_change}
+use Rattle.steps.specs.Steps.{RoundsStep, CoreStep, with_paxos, goes_on, and_then, and_then_change, map_step, with_change}
 use Rattle.steps.specs.declared.Asked.{Asked}
 use Rattle.steps.specs.declared.ChangeStep.{ChangeStep}
-use Rattle.steps.specs.declared.CoreStep.{CoreStep}
 use Rattle.steps.specs.declared.Core.{Core}
 use Rattle.steps.specs.declared.Heard.{Heard}
 use Rattle.steps.specs.declared.Next.{Next}
-use Rattle.steps.specs.declared.Next.TheVariants.{Stays, Continues, Commits, Refuses}
+use Rattle.steps.specs.declared.Next.TheVariants.{Stays, Continues, Commits}
 use Rattle.basics.proofs.Tests.{by_cases, same_test}
 use Rattle.consensus.specs.Panics.{Facts, gathers, nothing_held, majority, promises_first, promises_then, completes, own_fits, accepted_in_round, fits_held, with_both, held_first, held_then, classic_prepare, prepare_rows, own_accept_rows}
 use Rattle.consensus.specs.Rows.{Row, first_of, then}
-use Rattle.consensus.proofs.Admitted.{}
 
--- the number of a step, with whether the value is held
+-- the number of a step that is taken, with whether the value is held
 abbrev pub next_number : Bool → Next → ℕ
 next_number held Stays = 0
 next_number held Continues = 0
 next_number held (Commits v) = cond held 0 6
-next_number held (Refuses why) = refusal_number why
+
+-- the number of a step that may be refused, by how it goes on
+abbrev pub number_by : {A : Type 0} → (A → Next) → Bool → Result A Refusal → ℕ
+number_by next held (Ok step) = next_number held (next step)
+number_by next held (Err why) = refusal_number why
+
+abbrev pub step_number : Bool → Result CoreStep Refusal → ℕ
+step_number held step = number_by (λ s. s.next) held step
+
+abbrev pub change_number : Bool → Result ChangeStep Refusal → ℕ
+change_number held step = number_by (λ s. s.next) held step
+
+abbrev pub rounds_number : Bool → Result RoundsStep Refusal → ℕ
+rounds_number held step = number_by (λ s. s.next) held step
+
+-- a step made of another has its number
+pub mapped_number : {A B : Type 0} (make : A → B) (next : B → Next) (held : Bool) (step : Result A Refusal)
+    → number_by next held (map_step make step) ≡ number_by (λ s. next (make s)) held step
+mapped_number make next held (Ok step) = refl
+mapped_number make next held (Err why) = refl
+
+pub with_change_number : (held : Bool) (change : FastChange) (step : Result CoreStep Refusal) → change_number held (map_step (with_change change) step) ≡ step_number held step
+with_change_number held change step = mapped_number (with_change change) (λ s. s.next) held step
 
 -- what the handlers know, by what they are given
 abbrev pub facts_in : Asked → Heard → Bool → PaxosRound → PaxosState → FastAnswers → List ℕ → Facts
@@ -118,20 +140,20 @@ self_accept_number me round p rv e =
 
 -- ---- steps one after another
 
-abbrev pub step_number : Bool → CoreStep → ℕ
-step_number value_held step = next_number value_held step.next
-
 -- the number of a step and what comes behind it
-abbrev pub after_step : Bool → (Core → ℕ) → CoreStep → ℕ
-after_step value_held rest step = cond (goes_on step.next) (rest step.core) (step_number value_held step)
+abbrev pub after_step : Bool → (Core → ℕ) → Result CoreStep Refusal → ℕ
+after_step value_held rest (Ok step) = cond (goes_on step.next) (rest step.state) (next_number value_held step.next)
+after_step value_held rest (Err why) = refusal_number why
 
-pub and_then_number : (value_held : Bool) (step : CoreStep) (rest : Core → CoreStep)
+pub and_then_number : (value_held : Bool) (step : Result CoreStep Refusal) (rest : Core → Result CoreStep Refusal)
     → step_number value_held (and_then step rest) ≡ after_step value_held (λ c. step_number value_held (rest c)) step
-and_then_number value_held step rest = by_cases (goes_on step.next) (λ e. simp e) (λ e. simp e)
+and_then_number value_held (Ok step) rest = by_cases (goes_on step.next) (λ e. simp e) (λ e. simp e)
+and_then_number value_held (Err why) rest = refl
 
-pub and_then_change_number : (value_held : Bool) (answers : FastAnswers) (step : CoreStep) (rest : Core → ChangeStep)
-    → next_number value_held (and_then_change answers step rest).next ≡ after_step value_held (λ c. next_number value_held (rest c).next) step
-and_then_change_number value_held answers step rest = by_cases (goes_on step.next) (λ e. simp e) (λ e. simp e)
+pub and_then_change_number : (value_held : Bool) (answers : FastAnswers) (step : Result CoreStep Refusal) (rest : Core → Result ChangeStep Refusal)
+    → change_number value_held (and_then_change answers step rest) ≡ after_step value_held (λ c. change_number value_held (rest c)) step
+and_then_change_number value_held answers (Ok step) rest = by_cases (goes_on step.next) (λ e. simp e) (λ e. simp e)
+and_then_change_number value_held answers (Err why) rest = refl
 
 -- ---- rows of tests
 
@@ -177,14 +199,14 @@ own_table true false fit = refl
 own_table false empty fit = refl
 
 -- a handler that ends with a step gives its number
-pub stop_number : (value_held : Bool) (step : CoreStep) → step_number value_held step ≡ after_step value_held (λ c. 0) step
-stop_number value_held step = go step.next
+pub stop_number : (value_held : Bool) (step : Result CoreStep Refusal) → step_number value_held step ≡ after_step value_held (λ c. 0) step
+stop_number value_held (Ok step) = go step.next
   where
     go : (n : Next) → next_number value_held n ≡ cond (goes_on n) 0 (next_number value_held n)
     go Stays = refl
     go Continues = refl
     go (Commits v) = refl
-    go (Refuses why) = refl
+stop_number value_held (Err why) = refl
 
 -- ---- how a Prepare begins at a replica, in every mode
 

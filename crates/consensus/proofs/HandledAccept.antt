@@ -1,5 +1,6 @@
 -- The handler of an Accept gives the numbers of the table of panics (specs/Panics.antt), row by row.
 -- Assumes nothing.
+use Rattle.std.specs.Prelude.{Ok}
 use mathlib.Core.Path.{◌≡◌, ap, ◌∙◌}
 use mathlib.Core.Bool.{Bool, false, cond}
 use mathlib.Core.List.{List}
@@ -18,9 +19,8 @@ use Rattle.steps.specs.declared.Heard.{Heard}
 use Rattle.accept.specs.Accept.{is_committer, answer_accept, try_commit, answered, follower, accepted, accepting}
 use Rattle.prepare.specs.Prepare.{off_fast_path}
 use Rattle.steps.specs.declared.Messages.{Messages}
-use Rattle.consensus.specs.Panics.{Facts, leads, from_delegate, accepts_enough, classic_accept, majority, fits_held}
+use Rattle.consensus.specs.Panics.{Facts, leads, from_delegate, accepts_enough, classic_accept, fits_held}
 use Rattle.consensus.specs.Rows.{first_of}
-use Rattle.consensus.proofs.Admitted.{}
 use Rattle.consensus.proofs.Handled.{facts_in, step_number, after_step, stop_number, eqb_sym, if_enough, accept_table, fits_same, counted_size}
 
 module _ (a : Asked) (h : Heard) (value_held : Bool) (round : PaxosRound) (v : ℕ) where
@@ -32,7 +32,7 @@ module _ (a : Asked) (h : Heard) (value_held : Bool) (round : PaxosRound) (v : �
   accepted_core core = off_fast_path a (with_paxos (after_accept me h.src round v core.paxos) core)
 
   pub try_commit_number : (rest : Core → ℕ) (core : Core) (ms : Messages)
-      → after_step value_held rest (try_commit a h round v core ms) ≡ if_enough value_held (paxos_can_commit me core.paxos)
+      → after_step value_held rest (Ok (try_commit a h round v core ms)) ≡ if_enough value_held (paxos_can_commit me core.paxos)
   unfolding try_commit
   try_commit_number rest core ms = by_cases (paxos_can_commit me core.paxos) (λ e. simp e) (λ e. simp e)
 

@@ -17,11 +17,11 @@ use Rattle.round_state.specs.declared.Member.{Member}
 use Rattle.round_state.specs.declared.PaxosState.{PaxosState}
 use Rattle.fast_state.specs.declared.FastAnswers.{FastAnswers}
 use Rattle.prepare.specs.Prepare.{prepared, accept_phase, broadcast_accept, with_promise, has_accepted}
+use Rattle.steps.specs.Steps.{map_step, with_change}
 use Rattle.steps.specs.declared.Asked.{Asked}
 use Rattle.steps.specs.declared.Core.{Core}
 use Rattle.steps.specs.declared.Heard.{Heard}
-use Rattle.accept.specs.Accept.{accepted}
-use Rattle.consensus.specs.Panics.{Facts, gathers, majority, promises_then, completes, own_fits, own_accept_rows, unopposed, is_one, answers_again, epaxos_answers_then, epaxos_scores_then, epaxos_commits, adopts, accepted_then, epaxos_answer_rows, epaxos_prepare}
+use Rattle.consensus.specs.Panics.{Facts, gathers, majority, promises_then, completes, own_fits, prepare_rows, own_accept_rows, unopposed, is_one, answers_again, epaxos_answers_then, epaxos_scores_then, epaxos_commits, adopts, accepted_then, epaxos_answer_rows, epaxos_prepare}
 use Rattle.consensus.specs.Rows.{Row, first_of, then}
 use Rattle.consensus.proofs.Admitted.{above_test}
 use Rattle.fast_state.specs.Adopt.{Choice, value_in, score_in, adopted, epaxos_try_adopt}
@@ -29,7 +29,7 @@ use Rattle.fast_state.specs.Fast.{unchanged, preaccepted_after, second_answer, s
 use Rattle.fast_state.specs.declared.FastChange.{FastChange}
 use Rattle.epaxos_path.specs.EPaxos.{adopting, epaxos_adopt, epaxos_decide, epaxos_answer}
 use Rattle.paxos_family.specs.Process.{fast_prepared, fast_promised, starts_accept, waits, fast_answered, fast_gather, in_fast_prepare}
-use Rattle.consensus.proofs.Handled.{next_number, facts_in, step_number, after_step, and_then_change_number, prepare_begins, promised_held, promised_enough, becomes, own_accept_number, first}
+use Rattle.consensus.proofs.Handled.{facts_in, step_number, change_number, with_change_number, after_step, and_then_change_number, prepare_begins, promised_held, promised_enough, becomes, own_accept_number, first}
 
 module _ (a : Asked) (h : Heard) (value_held : Bool) (round : PaxosRound) (choose : Choice) where
   abbrev pub me : Member
@@ -83,16 +83,24 @@ module _ (a : Asked) (h : Heard) (value_held : Bool) (round : PaxosRound) (choos
     abbrev known : Facts
     known = facts_in a h value_held round p answers scores
 
+    -- with its change, the step decides as it did
+    changed_number : (v : ℕ) (core : Core) (change : FastChange)
+        → change_number value_held (map_step (with_change change) (epaxos_decide choose a h round v core change values scores))
+        ≡ decide_number change.answers (score_in change.entry scores) core
+    changed_number v core change =
+        with_change_number value_held change (epaxos_decide choose a h round v core change values scores)
+        ∙ decide_number_lem v core change values scores
+
     answer_number_lem : (proposer v : ℕ) (core : Core)
-        → next_number value_held (epaxos_answer choose a h round (FastV proposer v) core answers values scores).next
+        → change_number value_held (epaxos_answer choose a h round (FastV proposer v) core answers values scores)
         ≡ cond (answers_again known) 10 (decide_number (epaxos_answers_then known proposer) (epaxos_scores_then known proposer) core)
     unfolding epaxos_answer epaxos_answered second_answer preaccepted_after score_after score_in
     answer_number_lem proposer v core =
         by_cases (contains answers.fast_answer_set h.src)
         (λ c. by_cases (eqb h.src me.my_pid)
-        (λ s. simp (c, s) (decide_number_lem v core (unchanged answers) values scores))
+        (λ s. simp (c, s) (changed_number v core (unchanged answers)))
         (λ s. simp (c, s)))
-        (λ c. simp c (decide_number_lem v core (epaxos_counted me h.src proposer v answers scores) values scores))
+        (λ c. simp c (changed_number v core (epaxos_counted me h.src proposer v answers scores)))
 
   off_six : (t commits : Bool) → ◌≡◌ {A = ℕ} (cond (t && false && commits) 6 0) 0
   off_six true commits = refl
@@ -140,7 +148,7 @@ module _ (a : Asked) (h : Heard) (value_held : Bool) (round : PaxosRound) (choos
     has_accepted_lem = ap (λ (x : Option RoundV). is_some (get_last_accepted_round x)) (promised_held a h value_held round answers scores rv core)
 
     -- an answer where nothing is accepted
-    fast_answer_lem : (x : RoundV) → next_number value_held (epaxos_answer choose a h round x promised answers values scores).next ≡ first_of (epaxos_answer_rows choose facts true x)
+    fast_answer_lem : (x : RoundV) → change_number value_held (epaxos_answer choose a h round x promised answers values scores) ≡ first_of (epaxos_answer_rows choose facts true x)
     unfolding epaxos_answer first_of receive_promise
     fast_answer_lem (PaxosV at v) = refl
     fast_answer_lem (FastV proposer v) =
@@ -160,20 +168,38 @@ module _ (a : Asked) (h : Heard) (value_held : Bool) (round : PaxosRound) (choos
     off_answer (FastV proposer v) = off_six (not value_held) (epaxos_commits facts proposer)
 
     abbrev pub gathered : Core → ℕ
-    gathered c = next_number value_held (fast_gather choose a h round rv c answers values scores swift_scores).next
+    gathered c = change_number value_held (fast_gather choose a h round rv c answers values scores swift_scores)
 
     pub gather_shape : (c p : Core) → fast_promised a h rv c ≡ p
         → gathered c ≡ cond (starts_accept a round c p) (step_number value_held (accept_phase a round p))
-        (cond (waits a round p) 0 (next_number value_held (fast_answered choose a h round rv p answers values scores swift_scores).next))
+        (cond (waits a round p) 0 (change_number value_held (fast_answered choose a h round rv p answers values scores swift_scores)))
     unfolding fast_gather
     gather_shape c p e =
-        by_cases (starts_accept a round c p) (λ s. simp (e, s)) (λ s. by_cases (waits a round p) (λ w. simp (e, s, w)) (λ w. simp (e, s, w)))
+        by_cases (starts_accept a round c p) (λ s. simp (e, s) (with_change_number value_held (unchanged answers) (accept_phase a round p))) (λ s. by_cases (waits a round p) (λ w. simp (e, s, w)) (λ w. simp (e, s, w)))
 
-    module _ (c : is_swift_paxos a.mode ≡ false) (l : me.replica ≡ true) where
-      counts : fast_promised a h rv start ≡ promised
+    -- at a replica, in EPaxos and in SwiftPaxos
+    module _ (l : me.replica ≡ true) where
+      pub counts : fast_promised a h rv start ≡ promised
       unfolding fast_promised
       counts = simp l
 
+      prepares : fast_prepared a h round rv core ≡ prepared a h round rv core
+      unfolding fast_prepared
+      prepares = simp l
+
+      -- by the rows of what the delegate gathers: none is met where another is the delegate
+      pub replica_prepares : (swift : Bool) → is_swift_paxos a.mode ≡ swift → (rows : Bool → List Row) → gathered start ≡ first_of (rows true) → first_of (rows false) ≡ 0
+          → change_number value_held (in_fast_prepare choose a h round rv core answers values scores swift_scores)
+          ≡ first_of (then (prepare_rows facts swift rv) (rows (gathers facts)))
+      unfolding in_fast_prepare
+      replica_prepares swift c rows at other =
+          and_then_change_number value_held answers (fast_prepared a h round rv core) (λ x. fast_gather choose a h round rv x answers values scores swift_scores)
+          ∙ ap (after_step value_held gathered) prepares
+          ∙ prepare_begins a h value_held round answers scores rv core l swift c gathered (rows (gathers facts))
+          (λ g. subst (λ (b : Bool). gathered start ≡ first_of (rows b)) (sym g) at)
+          (λ g. subst (λ (b : Bool). 0 ≡ first_of (rows b)) (sym g) (sym other))
+
+    module _ (c : is_swift_paxos a.mode ≡ false) (l : me.replica ≡ true) where
       starts : starts_accept a round start promised ≡ (accepted_then facts rv && completes facts)
       unfolding starts_accept
       starts = simp c (ap₂ ◌&&◌ has_accepted_lem (becomes a h value_held round answers scores rv core))
@@ -182,26 +208,17 @@ module _ (a : Asked) (h : Heard) (value_held : Bool) (round : PaxosRound) (choos
       unfolding waits
       waits_accepted = simp c has_accepted_lem
 
-      answers_fast : next_number value_held (fast_answered choose a h round rv promised answers values scores swift_scores).next ≡ first_of (epaxos_answer_rows choose facts true rv)
+      answers_fast : change_number value_held (fast_answered choose a h round rv promised answers values scores swift_scores) ≡ first_of (epaxos_answer_rows choose facts true rv)
       unfolding fast_answered
       answers_fast = simp c (fast_answer_lem rv)
 
       delegate_number : gathered start ≡ first_of (delegate_rows true)
       unfolding first_of then
       delegate_number =
-          gather_shape start promised counts
+          gather_shape start promised (counts l)
           ∙ simp (starts, waits_accepted, own_accept_number a h value_held round answers scores rv core, answers_fast)
           (delegate_table (accepted_then facts rv) (completes facts) (is_empty facts.accepts) (own_fits facts rv) (λ path. first_of (epaxos_answer_rows choose facts path rv)) (off_answer rv))
 
-      prepares : fast_prepared a h round rv core ≡ prepared a h round rv core
-      unfolding fast_prepared
-      prepares = simp l
-
-      pub epaxos_prepare_lem : next_number value_held (in_fast_prepare choose a h round rv core answers values scores swift_scores).next ≡ first_of (epaxos_prepare choose facts rv)
-      unfolding in_fast_prepare first_of then
-      epaxos_prepare_lem =
-          and_then_change_number value_held answers (fast_prepared a h round rv core) (λ x. fast_gather choose a h round rv x answers values scores swift_scores)
-          ∙ ap (after_step value_held gathered) prepares
-          ∙ prepare_begins a h value_held round answers scores rv core l false c gathered (delegate_rows (gathers facts))
-          (λ g. subst (λ (b : Bool). gathered start ≡ first_of (delegate_rows b)) (sym g) delegate_number)
-          (λ g. subst (λ (b : Bool). 0 ≡ first_of (delegate_rows b)) (sym g) (sym (off_answer rv)))
+      pub epaxos_prepare_lem : change_number value_held (in_fast_prepare choose a h round rv core answers values scores swift_scores) ≡ first_of (epaxos_prepare choose facts rv)
+      unfolding first_of then
+      epaxos_prepare_lem = replica_prepares l false c delegate_rows delegate_number (off_answer rv)

@@ -1,7 +1,7 @@
 -- A Prepare or an Accept in SwiftPaxos gives the numbers of the table of panics (specs/Panics.antt), row by row.
 -- Assumes nothing.
 use Rattle.std.specs.Prelude.{Option, None, Some, Result, Ok, Err, is_some}
-use mathlib.Core.Path.{◌≡◌, refl, sym, ap, subst, ◌∙◌}
+use mathlib.Core.Path.{◌≡◌, refl, sym, ap, ◌∙◌}
 use mathlib.Core.Bool.{Bool, true, false, cond, not, ◌&&◌, ◌||◌}
 use mathlib.Core.List.{List, ◌∷◌}
 use Prim.Native.Nat.{ℕ}
@@ -9,7 +9,7 @@ use lib.Dec.{eqb, leb}
 use Rattle.sets.specs.Sets.{contains, is_empty}
 use Rattle.message.specs.Modes.{is_swift_paxos}
 use Rattle.message.specs.Promises.{value_of, accept_round_of, is_process}
-use Rattle.message.specs.Rounds.{before}
+use Rattle.message.specs.Refusals.{refusal_number}
 use Rattle.message.specs.declared.PFMode.{PFMode}
 use Rattle.message.specs.declared.PFMode.TheVariants.{Paxos, MultiPaxos, MultiPaxos3P, EPaxos, Pando, SwiftPaxos}
 use Rattle.message.specs.declared.PaxosRound.{PaxosRound}
@@ -17,23 +17,22 @@ use Rattle.message.specs.declared.Refusal.{Refusal}
 use Rattle.message.specs.declared.Refusal.TheVariants.{Panic, SecondFastAnswer}
 use Rattle.message.specs.declared.RoundV.{RoundV}
 use Rattle.message.specs.declared.RoundV.TheVariants.{FastV, PaxosV}
-use Rattle.round_state.specs.Paxos.{paxos_can_commit, receive_accept, after_accept, get_last_accepted_round}
+use Rattle.round_state.specs.Paxos.{paxos_can_commit, receive_accept, after_accept}
 use Rattle.round_state.specs.declared.Member.{Member}
 use Rattle.round_state.specs.declared.PaxosState.{PaxosState}
 use Rattle.fast_state.specs.declared.FastAnswers.{FastAnswers}
-use Rattle.prepare.specs.Prepare.{prepared, with_promise, has_accepted}
+use Rattle.prepare.specs.Prepare.{with_promise}
 use Rattle.steps.specs.declared.Asked.{Asked}
 use Rattle.steps.specs.declared.Core.{Core}
-use Rattle.steps.specs.declared.CoreStep.{CoreStep}
 use Rattle.steps.specs.declared.Heard.{Heard}
 use Rattle.accept.specs.Accept.{tells_committer, is_committer, try_commit, accepted, accepting}
-use Rattle.steps.specs.Steps.{no_messages, continues}
-use Rattle.consensus.proofs.HandledEPaxos.{gather_shape}
+use Rattle.steps.specs.Steps.{CoreStep, no_messages, continues, goes_on}
+use Rattle.consensus.proofs.HandledEPaxos.{has_accepted_lem, gather_shape, counts, replica_prepares}
 use Rattle.steps.specs.declared.Messages.{Messages}
-use Rattle.consensus.specs.Panics.{Facts, gathers, majority, own_fits, fits_held, held_then, prepare_rows, unopposed, may_count, answered_before, answers_again, swift_needs, answer_commits, leader_answer_commits, accepted_then, swift_answer_rows, swift_prepare, leads, from_leader, from_delegate, accepts_enough, swift_replica_accept_rows, swift_client_accept_rows}
+use Rattle.consensus.specs.Panics.{Facts, gathers, own_fits, fits_held, held_then, prepare_rows, unopposed, may_count, answered_before, answers_again, swift_needs, answer_commits, leader_answer_commits, accepted_then, swift_answer_rows, swift_prepare, leads, from_leader, from_delegate, accepts_enough, swift_replica_accept_rows, swift_client_accept_rows}
 use Rattle.consensus.specs.Rows.{Row, asserts, first_of, then}
-use Rattle.paxos_family.specs.Process.{fast_prepared, fast_promised, leads_round, starts_accept, waits, fast_answered, fast_gather, in_fast_prepare, replica_accept, in_fast_accept}
-use Rattle.consensus.proofs.Handled.{next_number, facts_in, step_number, after_step, and_then_change_number, prepare_begins, promised_held, own_accept_number, first, counted_size, fits_same, if_enough, stop_number}
+use Rattle.paxos_family.specs.Process.{fast_prepared, fast_promised, leads_round, starts_accept, waits, fast_answered, fast_gather, in_fast_prepare, after_replica_accept, replica_accept, in_fast_accept}
+use Rattle.consensus.proofs.Handled.{next_number, facts_in, change_number, with_change_number, step_number, after_step, and_then_change_number, own_accept_number, first, counted_size, fits_same, if_enough, stop_number}
 use Rattle.basics.proofs.Tests.{by_cases, not_both}
 use Rattle.fast_state.specs.Adopt.{Choice}
 use Rattle.fast_state.specs.Fast.{swift_counted, swift_recorded, unchanged, preaccepted_after, leader_answer_after, second_answer, swift_uncounted, swift_first, swift_answered, swift_quorum, swift_can_commit, in_quorum}
@@ -194,9 +193,9 @@ module _ (a : Asked) (h : Heard) (value_held : Bool) (round : PaxosRound) (answe
   answer_number proposer = cond (answers_again known) 10 (if_enough value_held (answer_commits known proposer))
 
   abbrev after_answer : ℕ → Core → Result FastChange Refusal → ℕ
-  after_answer v core s = next_number value_held (after_fast_step core answers (after_swift_answer a v core) s).next
+  after_answer v core s = change_number value_held (after_fast_step (λ after. Ok (after_swift_answer a v core after)) s)
 
-  commit_number : (v : ℕ) (core : Core) (f : FastAnswers) → step_number value_held (after_swift_answer a v core f) ≡ if_enough value_held (swift_commits a f)
+  commit_number : (v : ℕ) (core : Core) (f : FastAnswers) → step_number value_held (Ok (after_swift_answer a v core f)) ≡ if_enough value_held (swift_commits a f)
   commit_number v core f = by_cases (swift_commits a f) (λ e. simp e) (λ e. simp e)
 
   swift_answer_number : (proposer v : ℕ) (core : Core) → after_answer v core (step proposer v false) ≡ answer_number proposer
@@ -214,13 +213,13 @@ module _ (a : Asked) (h : Heard) (value_held : Bool) (round : PaxosRound) (answe
 
   -- process_answers_at_swift_paxos_client, Prepare
   client_shape : (proposer v : ℕ) (core : Core)
-      → next_number value_held (swift_client_prepare a h round (FastV proposer v) core answers swift_scores).next
+      → change_number value_held (swift_client_prepare a h round (FastV proposer v) core answers swift_scores)
       ≡ cond (is_process h.committer me.my_pid) (cond (eqb h.src round.leader) 8 (after_answer v core (step proposer v false))) 0
   unfolding swift_client_prepare swift_answer
   client_shape proposer v core =
       by_cases (is_process h.committer me.my_pid) (λ c. by_cases (eqb h.src round.leader) (λ l. simp (c, l)) (λ l. simp (c, l))) (λ c. simp c)
 
-  pub client_prepare : (rv : RoundV) (core : Core) → next_number value_held (swift_client_prepare a h round rv core answers swift_scores).next ≡ first_of (swift_answer_rows known true rv)
+  pub client_prepare : (rv : RoundV) (core : Core) → change_number value_held (swift_client_prepare a h round rv core answers swift_scores) ≡ first_of (swift_answer_rows known true rv)
   unfolding swift_client_prepare swift_answer first_of
   client_prepare (PaxosV at v) core = by_cases (is_process h.committer me.my_pid) (λ c. simp c) (λ c. simp c)
   client_prepare (FastV proposer v) core =
@@ -234,12 +233,13 @@ module _ (a : Asked) (h : Heard) (value_held : Bool) (round : PaxosRound) (answe
   leader_number x = cond (answers_again known) 10 (cond (not (answered_before known) && not (may_count a.quorum h.src)) 8 (cond (leader_answer_commits known) (cond value_held 0 6) x))
 
   -- for what comes behind the answer, by its number
-  pub leader_number_lem : (v : ℕ) (core : Core) (rest : FastAnswers → CoreStep) (x : ℕ)
+  pub leader_number_lem : (v : ℕ) (rest : FastAnswers → Result CoreStep Refusal) (x : ℕ)
       → ((f : FastAnswers) → step_number value_held (rest f) ≡ cond (swift_commits a f) (cond value_held 0 6) x)
-      → next_number value_held (after_fast_step core answers rest (leader_answered a h v answers swift_scores)).next ≡ leader_number x
+      → change_number value_held (after_fast_step rest (leader_answered a h v answers swift_scores)) ≡ leader_number x
   unfolding leader_answered preaccepted_after leader_answer_after
-  leader_number_lem v core rest x done =
-      by_cases (contains answers.fast_answer_set h.src)
+  leader_number_lem v rest x done =
+      shape (leader_answered a h v answers swift_scores)
+      ∙ by_cases (contains answers.fast_answer_set h.src)
       (λ c. by_cases (eqb h.src me.my_pid)
       (λ s. ap after (own_again me.my_pid v true c s) ∙ done answers ∙ ap (λ (t : Bool). cond t (cond value_held 0 6) x) (commits_by_lem answers) ∙ simp (c, s))
       (λ s. ap after (other_again me.my_pid v true c s) ∙ simp (c, s)))
@@ -248,7 +248,12 @@ module _ (a : Asked) (h : Heard) (value_held : Bool) (round : PaxosRound) (answe
       (λ q. ap after (outside_first me.my_pid v true c q) ∙ simp (c, q)))
     where
       after : Result FastChange Refusal → ℕ
-      after s = next_number value_held (after_fast_step core answers rest s).next
+      after (Ok change) = step_number value_held (rest change.answers)
+      after (Err why) = refusal_number why
+
+      shape : (s : Result FastChange Refusal) → change_number value_held (after_fast_step rest s) ≡ after s
+      shape (Ok change) = with_change_number value_held change (rest change.answers)
+      shape (Err why) = refl
 
       counted_answers : FastAnswers
       counted_answers = (swift_counted me h.src me.my_pid v true answers swift_scores).answers
@@ -267,7 +272,7 @@ module _ (a : Asked) (h : Heard) (value_held : Bool) (round : PaxosRound) (choos
   promised = with_promise a h rv start
 
   abbrev gathered : Core → ℕ
-  gathered x = next_number value_held (fast_gather choose a h round rv x answers values scores swift_scores).next
+  gathered x = change_number value_held (fast_gather choose a h round rv x answers values scores swift_scores)
 
   abbrev delegate_rows : Bool → List Row
   delegate_rows g = asserts 9 (g && leads facts && not (accepted_then facts rv)) (is_empty facts.accepts) ∷ swift_answer_rows facts (g && not (leads facts)) rv
@@ -278,22 +283,15 @@ module _ (a : Asked) (h : Heard) (value_held : Bool) (round : PaxosRound) (choos
   off_answer (FastV proposer v) = off_six (not value_held) facts.committer (answer_commits facts proposer)
 
   answers_client : (x : Core)
-      → next_number value_held (fast_answered choose a h round rv x answers values scores swift_scores).next ≡ first_of (swift_answer_rows facts true rv)
+      → change_number value_held (fast_answered choose a h round rv x answers values scores swift_scores) ≡ first_of (swift_answer_rows facts true rv)
   unfolding fast_answered
   answers_client x = simp c (client_prepare a h value_held round answers core.paxos scores swift_scores rv x)
 
   -- at a replica
   module _ (l : a.member.replica ≡ true) where
-    counts : fast_promised a h rv start ≡ promised
-    unfolding fast_promised
-    counts = simp l
-
-    has_accepted_lem : has_accepted promised ≡ accepted_then facts rv
-    has_accepted_lem = ap (λ (x : Option RoundV). is_some (get_last_accepted_round x)) (promised_held a h value_held round answers scores rv core)
-
     starts : starts_accept a round start promised ≡ (leads facts && not (accepted_then facts rv))
     unfolding starts_accept leads_round
-    starts = simp (c, l, has_accepted_lem)
+    starts = simp (c, l, has_accepted_lem a h value_held round choose answers values scores swift_scores rv core)
 
     waits_leader : waits a round promised ≡ leads facts
     unfolding waits leads_round
@@ -302,24 +300,15 @@ module _ (a : Asked) (h : Heard) (value_held : Bool) (round : PaxosRound) (choos
     delegate_number : gathered start ≡ first_of (delegate_rows true)
     unfolding first_of
     delegate_number =
-        gather_shape a h value_held round choose answers values scores swift_scores rv core start promised counts
+        gather_shape a h value_held round choose answers values scores swift_scores rv core start promised (counts a h value_held round choose answers values scores swift_scores rv core l)
         ∙ simp (starts, waits_leader, own_accept_number a h value_held round answers scores rv core, answers_client promised)
         (swift_table (leads facts) (accepted_then facts rv) (is_empty facts.accepts) (own_fits facts rv) (λ path. first_of (swift_answer_rows facts path rv)) (off_answer rv)
         (fresh_fits (held_then core.paxos.max_rv rv) round))
 
-    prepares : fast_prepared a h round rv core ≡ prepared a h round rv core
-    unfolding fast_prepared
-    prepares = simp l
-
-    replica_prepare : next_number value_held (in_fast_prepare choose a h round rv core answers values scores swift_scores).next
+    replica_prepare : change_number value_held (in_fast_prepare choose a h round rv core answers values scores swift_scores)
         ≡ first_of (then (prepare_rows facts true rv) (delegate_rows (gathers facts)))
-    unfolding in_fast_prepare first_of then
-    replica_prepare =
-        and_then_change_number value_held answers (fast_prepared a h round rv core) (λ x. fast_gather choose a h round rv x answers values scores swift_scores)
-        ∙ ap (after_step value_held gathered) prepares
-        ∙ prepare_begins a h value_held round answers scores rv core l true c gathered (delegate_rows (gathers facts))
-        (λ g. subst (λ (b : Bool). gathered start ≡ first_of (delegate_rows b)) (sym g) delegate_number)
-        (λ g. subst (λ (b : Bool). 0 ≡ first_of (delegate_rows b)) (sym g) (sym (off_answer rv)))
+    unfolding first_of
+    replica_prepare = replica_prepares a h value_held round choose answers values scores swift_scores rv core l true c delegate_rows delegate_number (off_answer rv)
 
   -- at a client
   module _ (l : a.member.replica ≡ false) where
@@ -335,7 +324,7 @@ module _ (a : Asked) (h : Heard) (value_held : Bool) (round : PaxosRound) (choos
     unfolding waits leads_round
     waits_not = simp (c, l)
 
-    prepares_nothing : fast_prepared a h round rv core ≡ continues core no_messages
+    prepares_nothing : fast_prepared a h round rv core ≡ Ok (continues core no_messages)
     unfolding fast_prepared
     prepares_nothing = simp l
 
@@ -343,13 +332,13 @@ module _ (a : Asked) (h : Heard) (value_held : Bool) (round : PaxosRound) (choos
     client_gathers =
         gather_shape a h value_held round choose answers values scores swift_scores rv core core core counts_nothing ∙ simp (starts_nothing, waits_not) (answers_client core)
 
-    client_prepares : next_number value_held (in_fast_prepare choose a h round rv core answers values scores swift_scores).next ≡ first_of (swift_answer_rows facts true rv)
+    client_prepares : change_number value_held (in_fast_prepare choose a h round rv core answers values scores swift_scores) ≡ first_of (swift_answer_rows facts true rv)
     unfolding in_fast_prepare
     client_prepares =
         and_then_change_number value_held answers (fast_prepared a h round rv core) (λ x. fast_gather choose a h round rv x answers values scores swift_scores)
         ∙ ap (after_step value_held gathered) prepares_nothing ∙ client_gathers
 
-  pub swift_prepare_lem : next_number value_held (in_fast_prepare choose a h round rv core answers values scores swift_scores).next ≡ first_of (swift_prepare facts rv)
+  pub swift_prepare_lem : change_number value_held (in_fast_prepare choose a h round rv core answers values scores swift_scores) ≡ first_of (swift_prepare facts rv)
   swift_prepare_lem = by_cases a.member.replica
       (λ l. replica_prepare l ∙ ap (λ (t : Bool). first_of (cond t (then (prepare_rows facts true rv) (delegate_rows (gathers facts))) (swift_answer_rows facts true rv))) (sym l))
       (λ l. client_prepares l ∙ ap (λ (t : Bool). first_of (cond t (then (prepare_rows facts true rv) (delegate_rows (gathers facts))) (swift_answer_rows facts true rv))) (sym l))
@@ -364,6 +353,30 @@ swift_tells EPaxos e = e
 swift_tells Pando e = e
 swift_tells SwiftPaxos e = refl
 
+-- what comes behind the accept at a replica: the leader's Accept at a committer
+module _ (a : Asked) (h : Heard) (value_held : Bool) (round : PaxosRound) (v : ℕ) (answers : FastAnswers) (p : PaxosState) (scores swift_scores : List ℕ) where
+  abbrev pub behind : Core → ℕ
+  behind x = leader_number a h value_held round answers p scores swift_scores (if_enough value_held (paxos_can_commit a.member x.paxos))
+
+  replica_done : (ms : Messages) (x : Core) (f : FastAnswers)
+      → step_number value_held (Ok (after_replica_answer a h round v x ms f)) ≡ cond (swift_commits a f) (cond value_held 0 6) (if_enough value_held (paxos_can_commit a.member x.paxos))
+  replica_done ms x f = by_cases (swift_commits a f) (λ e. simp e)
+      (λ e. simp e (stop_number value_held (Ok (try_commit a h round v x ms)) ∙ try_commit_number a h value_held round v (λ y. 0) x ms))
+
+  replica_answered : (ms : Messages) (x : Core) → change_number value_held (swift_answered_accept a h round v x ms answers swift_scores) ≡ behind x
+  unfolding swift_answered_accept
+  replica_answered ms x =
+      leader_number_lem a h value_held round answers p scores swift_scores v (λ after. Ok (after_replica_answer a h round v x ms after))
+      (if_enough value_held (paxos_can_commit a.member x.paxos)) (replica_done ms x)
+
+  -- whatever was sent with it
+  pub replica_number : (step : Result CoreStep Refusal)
+      → change_number value_held (after_replica_accept a h round v answers swift_scores step) ≡ after_step value_held behind step
+  replica_number (Ok step) =
+      and_then_change_number value_held answers (Ok step) (λ x. swift_answered_accept a h round v x step.messages answers swift_scores)
+      ∙ ap (λ (n : ℕ). cond (goes_on step.next) n (next_number value_held step.next)) (replica_answered step.messages step.state)
+  replica_number (Err why) = refl
+
 module _ (a : Asked) (h : Heard) (value_held : Bool) (round : PaxosRound) (v : ℕ) (answers : FastAnswers) (scores swift_scores : List ℕ) (core : Core)
     (c : is_swift_paxos a.mode ≡ true) where
   abbrev now : Facts
@@ -373,37 +386,21 @@ module _ (a : Asked) (h : Heard) (value_held : Bool) (round : PaxosRound) (v : �
   unfolding is_committer
   committer_hears_lem = ap (λ (t : Bool). t && is_process h.committer a.member.my_pid) (swift_tells a.mode c)
 
-  -- at a replica: the leader's Accept at a committer
-  module _ (ms : Messages) (x : Core) where
-    replica_done : (f : FastAnswers) → step_number value_held (after_replica_answer a h round v x ms f) ≡ cond (swift_commits a f) (cond value_held 0 6) (if_enough value_held (paxos_can_commit a.member x.paxos))
-    replica_done f = by_cases (swift_commits a f) (λ e. simp e)
-        (λ e. simp e (stop_number value_held (try_commit a h round v x ms) ∙ try_commit_number a h value_held round v (λ y. 0) x ms))
-
-    replica_answered : next_number value_held (swift_answered_accept a h round v x ms answers swift_scores).next
-        ≡ leader_number a h value_held round answers core.paxos scores swift_scores (if_enough value_held (paxos_can_commit a.member x.paxos))
-    unfolding swift_answered_accept
-    replica_answered =
-        leader_number_lem a h value_held round answers core.paxos scores swift_scores v x (after_replica_answer a h round v x ms)
-        (if_enough value_held (paxos_can_commit a.member x.paxos)) replica_done
-
-  replica_accept_lem : next_number value_held (replica_accept a h round v core answers swift_scores).next ≡ first_of (swift_replica_accept_rows now v)
+  -- at a replica
+  replica_accept_lem : change_number value_held (replica_accept a h round v core answers swift_scores) ≡ first_of (swift_replica_accept_rows now v)
   unfolding replica_accept first_of then
   replica_accept_lem =
-      and_then_change_number value_held answers (accepting a h round v core) (λ x. swift_answered_accept a h round v x ms answers swift_scores)
-      ∙ accepting_number a h value_held round v answers scores core (λ x. next_number value_held (swift_answered_accept a h round v x ms answers swift_scores).next)
-      ∙ ap (λ (s : Bool). shape (is_committer a h) s behind) c
-      ∙ ap (λ (t : Bool). shape t true behind) committer_hears_lem
-      ∙ ap (shape now.committer true)
-      (replica_answered ms (accepted_core a h value_held round v core)
-      ∙ ap (λ (e : Bool). leader_number a h value_held round answers core.paxos scores swift_scores (if_enough value_held e)) (accepts_enough_lem a h value_held round v answers scores core))
+      replica_number a h value_held round v answers core.paxos scores swift_scores (accepting a h round v core)
+      ∙ accepting_number a h value_held round v answers scores core later
+      ∙ ap (λ (s : Bool). shape (is_committer a h) s (later (accepted_core a h value_held round v core))) c
+      ∙ ap (λ (t : Bool). shape t true (later (accepted_core a h value_held round v core))) committer_hears_lem
+      ∙ ap (λ (e : Bool). shape now.committer true (leader_number a h value_held round answers core.paxos scores swift_scores (if_enough value_held e)))
+      (accepts_enough_lem a h value_held round v answers scores core)
       ∙ replica_table (fits_held core.paxos.max_rv round v) (leads now) (from_delegate now) now.committer (answers_again now) (answered_before now) (may_count a.quorum h.src)
       (leader_answer_commits now) (accepts_enough now) value_held
     where
-      ms : Messages
-      ms = (accepting a h round v core).messages
-
-      behind : ℕ
-      behind = next_number value_held (swift_answered_accept a h round v (accepted_core a h value_held round v core) ms answers swift_scores).next
+      later : Core → ℕ
+      later x = behind a h value_held round v answers core.paxos scores swift_scores x
 
       enough : ℕ
       enough = if_enough value_held (accepts_enough now)
@@ -431,34 +428,34 @@ module _ (a : Asked) (h : Heard) (value_held : Bool) (round : PaxosRound) (v : �
   abbrev accept_number : ℕ
   accept_number = cond (fits_held core.paxos.max_rv round v) (if_enough value_held (accepts_enough now)) 9
 
-  from_leader_lem : from_leader now ≡ true → next_number value_held (swift_accept a h round v core answers swift_scores).next ≡ leader_number a h value_held round answers core.paxos scores swift_scores accept_number
+  from_leader_lem : from_leader now ≡ true → change_number value_held (swift_accept a h round v core answers swift_scores) ≡ leader_number a h value_held round answers core.paxos scores swift_scores accept_number
   unfolding swift_accept accept_answered
   from_leader_lem l =
       simp l
-      (leader_number_lem a h value_held round answers core.paxos scores swift_scores v core (after_accept_answer a h round v core) accept_number
+      (leader_number_lem a h value_held round answers core.paxos scores swift_scores v (after_accept_answer a h round v core) accept_number
       (λ f. by_cases (swift_commits a f) (λ e. simp (l, e)) (λ e. simp (l, e) client_accepts)))
 
-  from_other : from_leader now ≡ false → next_number value_held (swift_accept a h round v core answers swift_scores).next ≡ accept_number
+  from_other : from_leader now ≡ false → change_number value_held (swift_accept a h round v core answers swift_scores) ≡ accept_number
   unfolding swift_accept accept_answered
-  from_other l = simp l client_accepts
+  from_other l = simp l (with_change_number value_held (unchanged answers) (client_accept a h round v core) ∙ client_accepts)
 
-  accept_number_lem : next_number value_held (swift_accept a h round v core answers swift_scores).next
+  accept_number_lem : change_number value_held (swift_accept a h round v core answers swift_scores)
       ≡ cond (from_leader now) (leader_number a h value_held round answers core.paxos scores swift_scores accept_number) accept_number
   accept_number_lem = by_cases (from_leader now) (λ l. from_leader_lem l ∙ simp l) (λ l. from_other l ∙ simp l)
 
-  client_shape_accept : next_number value_held (swift_client_accept a h round v core answers swift_scores).next
-      ≡ cond now.committer (next_number value_held (swift_accept a h round v core answers swift_scores).next) 0
+  client_shape_accept : change_number value_held (swift_client_accept a h round v core answers swift_scores)
+      ≡ cond now.committer (change_number value_held (swift_accept a h round v core answers swift_scores)) 0
   unfolding swift_client_accept
   client_shape_accept = by_cases (is_process h.committer a.member.my_pid) (λ e. simp e) (λ e. simp e)
 
-  client_accept_lem : next_number value_held (swift_client_accept a h round v core answers swift_scores).next ≡ first_of (swift_client_accept_rows now v)
+  client_accept_lem : change_number value_held (swift_client_accept a h round v core answers swift_scores) ≡ first_of (swift_client_accept_rows now v)
   unfolding first_of then
   client_accept_lem =
       client_shape_accept ∙ ap (λ (x : ℕ). cond now.committer x 0) accept_number_lem
       ∙ client_accept_table now.committer (from_leader now) (answers_again now) (answered_before now) (may_count a.quorum h.src) (leader_answer_commits now)
       (fits_held core.paxos.max_rv round v) (accepts_enough now) value_held
 
-  pub swift_accept_lem : next_number value_held (in_fast_accept a h round v core answers swift_scores).next ≡ first_of (cond now.replica (swift_replica_accept_rows now v) (swift_client_accept_rows now v))
+  pub swift_accept_lem : change_number value_held (in_fast_accept a h round v core answers swift_scores) ≡ first_of (cond now.replica (swift_replica_accept_rows now v) (swift_client_accept_rows now v))
   unfolding in_fast_accept
   swift_accept_lem =
       by_cases a.member.replica
@@ -466,7 +463,7 @@ module _ (a : Asked) (h : Heard) (value_held : Bool) (round : PaxosRound) (v : �
       (λ l. ap handled l ∙ client_accept_lem ∙ ap rows (sym l))
     where
       handled : Bool → ℕ
-      handled t = next_number value_held (cond t (replica_accept a h round v core answers swift_scores) (swift_client_accept a h round v core answers swift_scores)).next
+      handled t = change_number value_held (cond t (replica_accept a h round v core answers swift_scores) (swift_client_accept a h round v core answers swift_scores))
 
       rows : Bool → ℕ
       rows t = first_of (cond t (swift_replica_accept_rows now v) (swift_client_accept_rows now v))

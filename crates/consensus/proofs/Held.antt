@@ -1,6 +1,6 @@
 -- A message whose value the host does not hold commits nothing, in every mode and on every shard.
 -- Assumes nothing.
-use Rattle.std.specs.Prelude.{None, Ok, Err}
+use Rattle.std.specs.Prelude.{None, Result, Ok, Err}
 use Rattle.message.specs.Outcomes.{Outcome}
 use mathlib.Core.Path.{◌≡◌, refl}
 use mathlib.Core.Bool.{Bool, true, false, cond, not, ◌&&◌}
@@ -12,18 +12,21 @@ use Rattle.basics.proofs.Tests.{of-both, not_both}
 use Rattle.message.specs.Messages.{msg_slot}
 use Rattle.message.specs.declared.ConsensusMsg.{ConsensusMsg}
 use Rattle.message.specs.declared.ConsensusMsg.TheVariants.{Prepare, Accept, ForwardRequest, Commit, ReadRequest, ReadResponse}
+use Rattle.message.specs.declared.Refusal.{Refusal}
 use Rattle.message.specs.declared.Refusal.TheVariants.{NumberTooLarge, NoSuchProcess, SlotAhead, OtherLastValue, ValueNotHeld}
 use Rattle.fast_state.specs.Adopt.{Choice}
 use Rattle.steps.specs.declared.Core.{Core}
+use Rattle.steps.specs.declared.Messages.{Messages}
 use Rattle.steps.specs.declared.Next.{Next}
-use Rattle.steps.specs.declared.Next.TheVariants.{Stays, Continues, Commits, Refuses}
-use Rattle.steps.specs.declared.RoundsStep.{RoundsStep}
+use Rattle.steps.specs.declared.Next.TheVariants.{Stays, Continues, Commits}
+use Rattle.steps.specs.declared.Rounds.{Rounds}
+use Rattle.steps.specs.Steps.{RoundsStep}
 use Rattle.delivery.specs.Admit.{is_ahead, is_own_slot, needs_value, other_last_value, value_awaited, ready, admit}
 use Rattle.delivery.specs.Limits.{numbers_fit, processes_fit}
 use Rattle.delivery.specs.declared.Delivery.{Delivery}
 use Rattle.calls.specs.Asked.{asked_of, heard_of}
 use Rattle.calls.specs.declared.Call.TheVariants.{Receive}
-use Rattle.consensus.specs.Answers.{finish_at}
+use Rattle.consensus.specs.Answers.{finish_at, finish}
 use Rattle.consensus.specs.Call.{admitted, receive, dispatch, unless_spent, if_made, call_with}
 use Rattle.consensus.specs.Handle.{on_commit, on_read_request, on_read_response, processed, process_message, handle}
 use Rattle.consensus.specs.declared.Answer.{Answer}
@@ -42,17 +45,17 @@ module _ (choose : Choice) (shard : Shard) (d : Delivery) (lacks : d.said.value_
 
   processed_none : NoCommit (process_message choose shard d)
   unfolding process_message
-  processed_none = go step.next d.said.value_held lacks
+  processed_none = ended (processed choose (asked_of shard.settings) (heard_of shard.settings d) d.message.msg shard.state.rounds)
     where
-      step : RoundsStep
-      step = processed choose (asked_of shard.settings) (heard_of shard.settings d) d.message.msg shard.state.rounds
+      go : (s : Rounds) (messages : Messages) (n : Next) (held : Bool) → held ≡ false → NoCommit (finish_at shard (asked_of shard.settings) held s messages n)
+      go s messages Stays held e = refl
+      go s messages Continues held e = refl
+      go s messages (Commits v) true e = absurd (not_both refl e)
+      go s messages (Commits v) false e = refl
 
-      go : (n : Next) (held : Bool) → held ≡ false → NoCommit (finish_at shard (asked_of shard.settings) held step.rounds step.messages n)
-      go Stays held e = refl
-      go Continues held e = refl
-      go (Commits v) true e = absurd (not_both refl e)
-      go (Commits v) false e = refl
-      go (Refuses why) held e = refl
+      ended : (r : Result RoundsStep Refusal) → NoCommit (finish shard (asked_of shard.settings) d.said.value_held r)
+      ended (Ok step) = go step.state step.messages step.next d.said.value_held lacks
+      ended (Err why) = refl
 
   handled_none : (m : ConsensusMsg) → is_ahead core (msg_slot m) ≡ false
       → (is_own_slot core (msg_slot m) && needs_value shard.settings.my_pid m && not d.said.value_held) ≡ false → NoCommit (handle choose shard d m)

@@ -14,8 +14,8 @@ use Rattle.steps.specs.declared.Messages.{Messages}
 use Rattle.steps.specs.declared.Rounds.{Rounds}
 use Rattle.serving.proofs.NoReads.{commit_untouched, response_untouched}
 use Rattle.serving.specs.declared.Tracked.{Tracked}
+use Rattle.core_calls.specs.CoreCall.{next_slot}
 use Rattle.core_calls.specs.Replies.{is_fast}
-use Rattle.rounds_calls.specs.RoundsCall.{next_slot}
 use Rattle.consensus.specs.Answers.{with_rounds, nothing, served, committed}
 use Rattle.consensus.specs.Handle.{on_read_response}
 use Rattle.consensus.specs.declared.Answer.{Answer}

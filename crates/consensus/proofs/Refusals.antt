@@ -5,7 +5,7 @@ use Rattle.std.specs.Prelude.{Option, None, Some, Ok, Err}
 use Rattle.message.specs.Outcomes.{Outcome}
 use mathlib.Core.Path.{◌≡◌, refl, sym, ap, subst, ◌∙◌}
 use mathlib.Core.Logic.{◌⊎◌, inl, inr}
-use mathlib.Core.Bool.{Bool, true, false, cond, not, ◌&&◌, ◌||◌}
+use mathlib.Core.Bool.{Bool, true, false, cond, not, ◌&&◌, ◌||◌, not-not}
 use mathlib.Core.List.{List, [], ◌∷◌}
 use Prim.Native.Nat.{ℕ, zero, suc, min}
 use lib.Dec.{eqb, ltb, leb}
@@ -27,7 +27,7 @@ use Rattle.delivery.specs.declared.Delivery.{Delivery}
 use Rattle.calls.specs.declared.Call.{Call}
 use Rattle.calls.specs.declared.Call.TheVariants.{Propose, StartRead, Receive}
 use Rattle.consensus.specs.Call.{call_with, call_of, after_calls, new_shard, dispatch, unless_spent, if_made}
-use Rattle.consensus.specs.FirstCause.{number_of, quorum_outside, mode_outside, table_outside, some_outside, settings_causes, admission_causes, handling_causes, causes, first_cause, is_spent, unmade, ignored, all_causes, ByFirstCause, MadeBySettings, OfSettings}
+use Rattle.consensus.specs.FirstCause.{number_of, committers_outside, quorum_outside, mode_outside, some_outside, settings_causes, admission_causes, handling_causes, causes, first_cause, is_spent, unmade, ignored, all_causes, ByFirstCause, MadeBySettings, OfSettings}
 use Rattle.consensus.specs.Answers.{refused}
 use Rattle.consensus.specs.Panics.{Facts, prepare_panics, accept_panics}
 use Rattle.consensus.specs.Rows.{Row, then, NoneHolds, FirstHolds, first_of}
@@ -38,7 +38,7 @@ use Rattle.consensus.proofs.FirstCause.{Gives, first_cause_lem}
 use Rattle.settings.specs.Settings.{counts_fit, members_fit, committers_fit, quorum_fits, mode_fits, within_limits}
 use Rattle.sets.specs.Sets.{size, fits}
 use Rattle.tables.specs.Tables.{every}
-use Rattle.consensus.proofs.Admitted.{above_test, from_test, not_not}
+use Rattle.consensus.proofs.Admitted.{above_test, from_test}
 
 -- ---- a list of causes: none holds, or the first that does
 
@@ -224,11 +224,11 @@ module _ (choose : Choice) (shard : Shard) where
 quorum_limits : (o : Option ℕ) (count : ℕ) → quorum_fits o count ≡ not (quorum_outside o count)
 unfolding quorum_fits
 quorum_limits None count = refl
-quorum_limits (Some s) count = sym (not_not (fits s count))
+quorum_limits (Some s) count = sym (not-not (fits s count))
 
 neither : (a b : Bool) → (not a && b) ≡ not (a || not b)
 neither true b = refl
-neither false b = sym (not_not b)
+neither false b = sym (not-not b)
 
 table_limits : (table : List ℕ) (count p : ℕ) → every (λ (n : ℕ). ltb n count) table p ≡ not (some_outside table count p)
 unfolding every some_outside
@@ -237,6 +237,11 @@ table_limits table count (suc p) =
     ap (λ (t : Bool). t && ltb (get_or table p 0) count) (table_limits table count p)
     ∙ neither (some_outside table count p) (ltb (get_or table p 0) count)
     ∙ ap (λ (t : Bool). not (some_outside table count p || t)) (sym (from_test count (get_or table p 0)))
+
+committers_limits : (o : Option (List ℕ)) (count : ℕ) → committers_fit o count ≡ not (committers_outside o count)
+unfolding committers_fit
+committers_limits None count = refl
+committers_limits (Some table) count = table_limits table count (min count 64)
 
 mode_limits : (s : Settings) (m : PFMode) → mode_fits s m ≡ not (mode_outside s m)
 unfolding mode_fits
@@ -247,29 +252,27 @@ mode_limits s EPaxos = refl
 mode_limits s Pando = table_limits s.delegates s.process_count (min s.process_count 64)
 mode_limits s SwiftPaxos = quorum_limits s.quorum s.process_count
 
-limits_table : (a b c d e f g h given entry outside : Bool)
-    → number_of (cond (a && b && c && d && (e && f && g && h) && cond given (not entry) true && not outside) (Ok tt) (Err SettingsOutsideLimits))
+limits_table : (a b c d e f g h entry outside : Bool)
+    → number_of (cond (a && b && c && d && (e && f && g && h) && not entry && not outside) (Ok tt) (Err SettingsOutsideLimits))
     ≡ cond (not a) 1
     (cond (not b) 1
     (cond (not c) 1
     (cond (not d) 1
-    (cond (not e) 1 (cond (not f) 1 (cond (not g) 1 (cond (not h) 1 (cond (given && entry) 1 (cond outside 1 0)))))))))
-limits_table false b c d e f g h given entry outside = refl
-limits_table true false c d e f g h given entry outside = refl
-limits_table true true false d e f g h given entry outside = refl
-limits_table true true true false e f g h given entry outside = refl
-limits_table true true true true false f g h given entry outside = refl
-limits_table true true true true true false g h given entry outside = refl
-limits_table true true true true true true false h given entry outside = refl
-limits_table true true true true true true true false given entry outside = refl
-limits_table true true true true true true true true true true outside = refl
-limits_table true true true true true true true true true false true = refl
-limits_table true true true true true true true true true false false = refl
-limits_table true true true true true true true true false entry true = refl
-limits_table true true true true true true true true false entry false = refl
+    (cond (not e) 1 (cond (not f) 1 (cond (not g) 1 (cond (not h) 1 (cond entry 1 (cond outside 1 0)))))))))
+limits_table false b c d e f g h entry outside = refl
+limits_table true false c d e f g h entry outside = refl
+limits_table true true false d e f g h entry outside = refl
+limits_table true true true false e f g h entry outside = refl
+limits_table true true true true false f g h entry outside = refl
+limits_table true true true true true false g h entry outside = refl
+limits_table true true true true true true false h entry outside = refl
+limits_table true true true true true true true false entry outside = refl
+limits_table true true true true true true true true true outside = refl
+limits_table true true true true true true true true false true = refl
+limits_table true true true true true true true true false false = refl
 
 settings_number_lem : (s : Settings) → number_of (new_shard s).made ≡ first_of (settings_causes s)
-unfolding new_shard within_limits counts_fit members_fit committers_fit first_of
+unfolding new_shard within_limits counts_fit members_fit first_of
 settings_number_lem s =
     simp (
       above_test s.process_count 1,
@@ -279,12 +282,12 @@ settings_number_lem s =
       above_test s.replica_count (size s.alive_replicas),
       from_test s.process_count s.my_pid,
       from_test s.process_count s.first_leader,
-      table_limits s.committers s.process_count (min s.process_count 64),
+      committers_limits s.committers s.process_count,
       mode_limits s s.mode,
     )
     (limits_table (leb 1 s.process_count) (leb s.process_count 64) (leb 1 s.replica_count) (leb s.replica_count s.process_count)
     (ltb s.my_pid s.process_count) (ltb s.first_leader s.process_count) (fits s.alive_replicas s.process_count)
-    (leb (size s.alive_replicas) s.replica_count) s.has_committers (table_outside s.committers s.process_count) (mode_outside s s.mode))
+    (leb (size s.alive_replicas) s.replica_count) (committers_outside s.committers s.process_count) (mode_outside s s.mode))
 
 -- A new shard is made exactly where no cause holds in its settings, and else marked with 1.
 pub new_by_settings : (s : Settings) → MadeBySettings s (new_shard s).made

@@ -1,6 +1,6 @@
 -- Answers, and the commit of a value with the reads that it serves (the Rust's commit_slot and commit_commands).
 -- Assumes nothing.
-use Rattle.std.specs.Prelude.{Bool, cond, ℕ, Option, Ok}
+use Rattle.std.specs.Prelude.{Bool, cond, ℕ, Option, Result, Ok, Err}
 use Rattle.calls.specs.Commits.{committed_slot}
 use Rattle.calls.specs.declared.CommittedSlot.{CommittedSlot}
 use Rattle.message.specs.declared.Refusal.{Refusal}
@@ -8,15 +8,14 @@ use Rattle.message.specs.declared.Refusal.TheVariants.{ValueNotHeld}
 use Rattle.serving.specs.Serving.{commit_slot as serve_reads}
 use Rattle.serving.specs.declared.Tracked.{Tracked}
 use Rattle.paxos_family.specs.Commit.{commit_slot}
-use Rattle.steps.specs.Steps.{no_messages}
+use Rattle.steps.specs.Steps.{RoundsStep, no_messages}
 use Rattle.steps.specs.declared.Asked.{Asked}
 use Rattle.steps.specs.declared.Messages.{Messages}
 use Rattle.steps.specs.declared.Next.{Next}
-use Rattle.steps.specs.declared.Next.TheVariants.{Stays, Continues, Commits, Refuses}
+use Rattle.steps.specs.declared.Next.TheVariants.{Stays, Continues, Commits}
 use Rattle.steps.specs.declared.Rounds.{Rounds}
-use Rattle.steps.specs.declared.RoundsStep.{RoundsStep}
+use Rattle.core_calls.specs.CoreCall.{next_slot}
 use Rattle.core_calls.specs.Replies.{refused_reply, sent_reply, is_fast}
-use Rattle.rounds_calls.specs.RoundsCall.{next_slot}
 use Rattle.state_calls.specs.StateCall.{with_tracker}
 use Rattle.consensus.specs.declared.Answer.{Answer}
 use Rattle.consensus.specs.declared.Shard.{Shard}
@@ -64,13 +63,14 @@ committed shard a v s messages =
 
 -- ---- the end of a call
 
--- a step becomes an answer: what is refused leaves the old shard, and a commit needs its value ("last the 6 of a commit"). No handler ends with
--- `Continues`; it is answered all the same, so that every step has an answer.
+-- a step becomes an answer, and a commit needs its value ("last the 6 of a commit"). No handler ends with `Continues`; it is answered all the same, so
+-- that every step has an answer.
 abbrev pub finish_at : Shard → Asked → Bool → Rounds → Messages → Next → Answer
 finish_at shard a held s messages Stays = sent (with_rounds shard s) messages
 finish_at shard a held s messages Continues = sent (with_rounds shard s) messages
 finish_at shard a held s messages (Commits v) = cond held (committed shard a v s messages) (refused ValueNotHeld shard)
-finish_at shard a held s messages (Refuses why) = refused why shard
 
-abbrev pub finish : Shard → Asked → Bool → RoundsStep → Answer
-finish shard a held step = finish_at shard a held step.rounds step.messages step.next
+-- what is refused leaves the old shard
+abbrev pub finish : Shard → Asked → Bool → Result RoundsStep Refusal → Answer
+finish shard a held (Ok step) = finish_at shard a held step.state step.messages step.next
+finish shard a held (Err why) = refused why shard

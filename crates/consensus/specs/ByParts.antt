@@ -4,10 +4,8 @@ use Rattle.std.specs.Prelude.{cond, Result}
 use Rattle.calls.specs.declared.Taken.{Taken}
 use Rattle.message.specs.declared.Refusal.{Refusal}
 use Rattle.steps.specs.declared.Core.{Core}
-use Rattle.core_calls.specs.CoreCall.{core_call}
-use Rattle.core_calls.specs.declared.CoreAnswer.{CoreAnswer}
-use Rattle.rounds_calls.specs.RoundsCall.{rounds_call}
-use Rattle.rounds_calls.specs.declared.RoundsAnswer.{RoundsAnswer}
+use Rattle.core_calls.specs.CoreCall.{CoreAnswer, core_call}
+use Rattle.rounds_calls.specs.RoundsCall.{RoundsAnswer, rounds_call}
 use Rattle.state_calls.specs.StateCall.{state_call}
 use Rattle.state_calls.specs.declared.StateAnswer.{StateAnswer}
 use Rattle.consensus.specs.Answers.{with_state, with_rounds}
@@ -20,13 +18,13 @@ abbrev pub from_state : Shard → StateAnswer → Answer
 from_state shard a = record { shard = with_state shard a.state; reply = a.reply }
 
 abbrev pub from_rounds : Shard → RoundsAnswer → Answer
-from_rounds shard a = record { shard = with_rounds shard a.rounds; reply = a.reply }
+from_rounds shard a = record { shard = with_rounds shard a.state; reply = a.reply }
 
 abbrev pub with_core : Shard → Core → Shard
 with_core shard core = with_rounds shard (record { core = core; fast = shard.state.rounds.fast })
 
 abbrev pub from_core : Shard → CoreAnswer → Answer
-from_core shard a = record { shard = with_core shard a.core; reply = a.reply }
+from_core shard a = record { shard = with_core shard a.state; reply = a.reply }
 
 -- ---- the call by its parts
 

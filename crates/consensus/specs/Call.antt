@@ -1,9 +1,10 @@
 -- What a call does, whole: `call_of shard call` is the new shard and the reply (document 01, "Message and answer"). The contracts of the entry
 -- points cite these definitions, and the theorem on group runs is about them.
 -- Assumes nothing.
-use Rattle.std.specs.Prelude.{true, false, cond, ◌&&◌, List, [], ◌∷◌, ℕ, leb, None, Ok, Err}
+use Rattle.std.specs.Prelude.{true, false, cond, ◌&&◌, List, [], ◌∷◌, ℕ, leb, None, Result, Ok, Err}
 use Rattle.message.specs.Outcomes.{Outcome}
 use Rattle.message.specs.Modes.{has_fast_path}
+use Rattle.message.specs.declared.Refusal.{Refusal}
 use Rattle.message.specs.declared.Refusal.TheVariants.{SettingsOutsideLimits, NumberTooLarge}
 use Rattle.fast_state.specs.Adopt.{Choice, lowest_best}
 use Rattle.fast_state.specs.RoundState.{new_round_state}
@@ -12,11 +13,10 @@ use Rattle.settings.specs.Questions.{starting_round_of}
 use Rattle.settings.specs.Settings.{within_limits}
 use Rattle.settings.specs.declared.Settings.{Settings}
 use Rattle.propose.specs.Propose.{propose_classic, propose_fast}
-use Rattle.steps.specs.Steps.{on_rounds}
+use Rattle.steps.specs.Steps.{RoundsStep, map_step, on_rounds}
 use Rattle.steps.specs.declared.Asked.{Asked}
 use Rattle.steps.specs.declared.Core.{Core}
 use Rattle.steps.specs.declared.Rounds.{Rounds}
-use Rattle.steps.specs.declared.RoundsStep.{RoundsStep}
 use Rattle.delivery.specs.Admit.{admit}
 use Rattle.consensus.specs.Answers.{refused, finish}
 use Rattle.calls.specs.Asked.{asked_of}
@@ -50,8 +50,8 @@ new_shard s = record { made = cond (within_limits s) (Ok tt) (Err SettingsOutsid
 
 -- ---- proposals: 2, then 11
 
-unfoldable pub proposing : Asked → ℕ → Rounds → RoundsStep
-proposing a v s = cond (has_fast_path a.mode) (propose_fast a v s) (on_rounds s.fast (propose_classic a v s.core))
+unfoldable pub proposing : Asked → ℕ → Rounds → Result RoundsStep Refusal
+proposing a v s = cond (has_fast_path a.mode) (propose_fast a v s) (map_step (on_rounds s.fast) (propose_classic a v s.core))
 
 unfoldable pub propose : Shard → ℕ → Answer
 propose shard v =

@@ -193,12 +193,16 @@ promise_delegate s leader (FastV proposer v) = cond (in_swift_paxos s.mode && no
 promise_delegate s leader (PaxosV at v) = leader_delegate s s.mode leader
 
 -- get_committer: "optional committer per process", by the value's requester; in SwiftPaxos without committers the requester itself
-abbrev pub table_committer : Settings → Option ℕ → Option ℕ
-table_committer s None = None
-table_committer s (Some p) = Some (look_up s.committers p)
+abbrev pub table_committer : List ℕ → Option ℕ → Option ℕ
+table_committer table None = None
+table_committer table (Some p) = Some (look_up table p)
+
+abbrev pub committer_by : Option (List ℕ) → PFMode → Option ℕ → Option ℕ
+committer_by None mode requester = cond (in_swift_paxos mode) requester None
+committer_by (Some table) mode requester = table_committer table requester
 
 abbrev pub value_committer : Settings → Option ℕ → Option ℕ
-value_committer s requester = cond s.has_committers (table_committer s requester) (cond (in_swift_paxos s.mode) requester None)
+value_committer s requester = committer_by s.committers s.mode requester
 
 -- it is oneself; where there is none it is nobody
 abbrev pub is_oneself : Option ℕ → ℕ → Bool
@@ -244,6 +248,10 @@ some_outside table count (suc p) = some_outside table count p || leb count (get_
 abbrev pub table_outside : List ℕ → ℕ → Bool
 table_outside table count = some_outside table count (min count 64)
 
+abbrev pub committers_outside : Option (List ℕ) → ℕ → Bool
+committers_outside None count = false
+committers_outside (Some table) count = table_outside table count
+
 abbrev pub quorum_outside : Option ℕ → ℕ → Bool
 quorum_outside None count = false
 quorum_outside (Some quorum) count = not (fits quorum count)
@@ -266,7 +274,7 @@ settings_causes s =
     ∷ gives 1 (leb s.process_count s.first_leader)
     ∷ gives 1 (not (fits s.alive_replicas s.process_count))
     ∷ gives 1 (ltb s.replica_count (size s.alive_replicas))
-    ∷ gives 1 (s.has_committers && table_outside s.committers s.process_count)
+    ∷ gives 1 (committers_outside s.committers s.process_count)
     ∷ gives 1 (mode_outside s s.mode)
     ∷ []
 

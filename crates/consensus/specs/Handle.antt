@@ -13,11 +13,10 @@ use Rattle.serving.specs.Serving.{receive_ready}
 use Rattle.read_tracker.specs.declared.Inserted.{Inserted}
 use Rattle.settings.specs.Questions.{quorums_of}
 use Rattle.paxos_family.specs.Process.{process_classic, process_fast}
-use Rattle.steps.specs.Steps.{no_messages, one_message, sends, to_all, on_rounds}
+use Rattle.steps.specs.Steps.{RoundsStep, no_messages, one_message, sends, to_all, map_step, on_rounds}
 use Rattle.steps.specs.declared.Asked.{Asked}
 use Rattle.steps.specs.declared.Heard.{Heard}
 use Rattle.steps.specs.declared.Rounds.{Rounds}
-use Rattle.steps.specs.declared.RoundsStep.{RoundsStep}
 use Rattle.state_calls.specs.StateCall.{with_tracker}
 use Rattle.consensus.specs.Answers.{with_state, refused, sent, nothing, served, committed, finish}
 use Rattle.calls.specs.Asked.{asked_of, heard_of}
@@ -51,9 +50,9 @@ on_read_response shard id fast =
     None
 
 -- start_read: a place and an id, or refusal 12
-abbrev pub after_insert : Shard → Inserted → Result ReadId Refusal → Answer
-after_insert shard ins (Err why) = refused why shard
-after_insert shard ins (Ok id) =
+abbrev pub after_insert : Shard → Result Inserted Refusal → Answer
+after_insert shard (Err why) = refused why shard
+after_insert shard (Ok ins) =
     record {
       shard =
           with_state shard
@@ -61,21 +60,21 @@ after_insert shard ins (Ok id) =
             rounds = record { core = with_tracker ins.tracker shard.state.rounds.core; fast = shard.state.rounds.fast };
             table = ins.table;
           });
-      reply = sent_reply (one_message (sends (asked_of shard.settings) shard.state.rounds.core to_all (ReadRequest id)));
+      reply = sent_reply (one_message (sends (asked_of shard.settings) shard.state.rounds.core to_all (ReadRequest ins.id)));
     }
 
-abbrev pub read_inserted : Shard → ℕ → ℕ → Inserted
+abbrev pub read_inserted : Shard → ℕ → ℕ → Result Inserted Refusal
 read_inserted shard tag arrival =
     insert shard.state.rounds.core.tracker shard.state.table tag arrival (not (is_some shard.state.rounds.core.paxos.max_rv))
 
 unfoldable pub start_read : Shard → ℕ → ℕ → Answer
-start_read shard tag arrival = after_insert shard (read_inserted shard tag arrival) (read_inserted shard tag arrival).opened
+start_read shard tag arrival = after_insert shard (read_inserted shard tag arrival)
 
 -- ---- Prepare, Accept and ForwardRequest
 
 module _ (choose : Choice) where
-  unfoldable pub processed : Asked → Heard → ConsensusMsg → Rounds → RoundsStep
-  processed a h msg s = cond (has_fast_path a.mode) (process_fast choose a h msg s) (on_rounds s.fast (process_classic a h msg s.core))
+  unfoldable pub processed : Asked → Heard → ConsensusMsg → Rounds → Result RoundsStep Refusal
+  processed a h msg s = cond (has_fast_path a.mode) (process_fast choose a h msg s) (map_step (on_rounds s.fast) (process_classic a h msg s.core))
 
   unfoldable pub process_message : Shard → Delivery → Answer
   process_message shard d =

@@ -75,6 +75,7 @@ impl Shard {
     }
 
     // A call, whole.
+    #[tactic(auto, using(crate::proofs::ByParts::by_parts))]
     pub fn call(mut self, call: Call) -> Answer
         ensures { result ≡ call_of self call }
     {

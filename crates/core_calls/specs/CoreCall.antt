@@ -9,36 +9,53 @@ use Rattle.message.specs.declared.ConsensusMsg.TheVariants.{Prepare, Accept, For
 use Rattle.message.specs.declared.ReadId.{ReadId}
 use Rattle.message.specs.declared.Refusal.{Refusal}
 use Rattle.message.specs.declared.Refusal.TheVariants.{ValueNotHeld, Panic}
-use Rattle.paxos_family.specs.Commit.{commit_core}
+use Rattle.paxos_family.specs.Commit.{commit_core, commit_slot}
 use Rattle.paxos_family.specs.Process.{process_classic}
 use Rattle.propose.specs.Propose.{propose_classic}
 use Rattle.steps.specs.Steps.{no_messages, one_message}
 use Rattle.steps.specs.declared.Asked.{Asked}
 use Rattle.steps.specs.declared.Core.{Core}
-use Rattle.steps.specs.declared.CoreStep.{CoreStep}
 use Rattle.steps.specs.declared.Destination.TheVariants.{One}
 use Rattle.steps.specs.declared.Heard.{Heard}
 use Rattle.steps.specs.declared.Messages.{Messages}
 use Rattle.steps.specs.declared.Next.{Next}
-use Rattle.steps.specs.declared.Next.TheVariants.{Stays, Continues, Commits, Refuses}
+use Rattle.steps.specs.declared.Next.TheVariants.{Stays, Continues, Commits}
 use Rattle.steps.specs.declared.Outgoing.{Outgoing}
+use Rattle.steps.specs.declared.Rounds.{Rounds}
+use Rattle.steps.specs.declared.Step.{Step}
 use Rattle.delivery.specs.declared.Delivery.{Delivery}
 use Rattle.calls.specs.declared.Call.{Call}
 use Rattle.calls.specs.declared.Call.TheVariants.{Propose, StartRead, Receive}
 use Rattle.core_calls.specs.Replies.{refused_reply, sent_reply, committed_reply}
-use Rattle.core_calls.specs.declared.CoreAnswer.{CoreAnswer}
+use Rattle.core_calls.specs.declared.Answered.{Answered}
 
-abbrev pub sends_from : Core → Messages → CoreAnswer
-sends_from core messages = record { core = core; reply = sent_reply messages; deeper = false }
+abbrev pub CoreAnswer : Type 0
+CoreAnswer = Answered Core
 
-abbrev pub refuses_in : Core → Refusal → CoreAnswer
-refuses_in core why = record { core = core; reply = refused_reply why; deeper = false }
+-- ---- the end of a call, which is of the core or of the rounds
+
+abbrev pub sends_from : {S : Type 0} → S → Messages → Answered S
+sends_from s messages = record { state = s; reply = sent_reply messages; deeper = false }
+
+abbrev pub refuses_in : {S : Type 0} → S → Refusal → Answered S
+refuses_in s why = record { state = s; reply = refused_reply why; deeper = false }
+
+-- a commit needs its value; `commit` says what it makes of the state
+abbrev pub finish_step_at : {S : Type 0} → (ℕ → S → Messages → Answered S) → Bool → S → S → Messages → Next → Answered S
+finish_step_at commit held old s messages Stays = sends_from s messages
+finish_step_at commit held old s messages Continues = sends_from s messages
+finish_step_at commit held old s messages (Commits v) = cond held (commit v s messages) (refuses_in old ValueNotHeld)
+
+-- what is refused leaves the old state
+abbrev pub finish_step : {S : Type 0} → (ℕ → S → Messages → Answered S) → Bool → S → Result (Step S) Refusal → Answered S
+finish_step commit held old (Ok step) = finish_step_at commit held old step.state step.messages step.next
+finish_step commit held old (Err why) = refuses_in old why
 
 -- the core is left to the rounds or to the reads
 abbrev pub needs_more : Core → CoreAnswer
-needs_more core = record { core = core; reply = sent_reply no_messages; deeper = true }
+needs_more core = record { state = core; reply = sent_reply no_messages; deeper = true }
 
--- ---- the commit of a value, and the end of a call
+-- ---- the commit of a value
 
 -- a core with the mark of the fast path cleared
 abbrev pub on_fast_path : Core → Core
@@ -48,25 +65,23 @@ on_fast_path core =
 -- where reads are open, some may have become ready
 unfoldable pub core_committed : Asked → ℕ → Core → Messages → CoreAnswer
 core_committed a v core messages =
-    record { core = on_fast_path (commit_core a v core); reply = committed_reply a v core messages; deeper = ltb 0 core.tracker.open_count }
+    record { state = on_fast_path (commit_core a v core); reply = committed_reply a v core messages; deeper = ltb 0 core.tracker.open_count }
 
--- what is refused leaves the old core, and a commit needs its value
-abbrev pub core_finish_at : Asked → Bool → Core → Core → Messages → Next → CoreAnswer
-core_finish_at a held old s messages Stays = sends_from s messages
-core_finish_at a held old s messages Continues = sends_from s messages
-core_finish_at a held old s messages (Commits v) = cond held (core_committed a v s messages) (refuses_in old ValueNotHeld)
-core_finish_at a held old s messages (Refuses why) = refuses_in old why
+-- the state after commit_slot, with the mark of the fast path cleared
+abbrev pub next_slot : Asked → ℕ → Rounds → Rounds
+next_slot a v s = record { core = on_fast_path (commit_slot a v s).core; fast = (commit_slot a v s).fast }
 
-abbrev pub core_finish : Asked → Bool → Core → CoreStep → CoreAnswer
-core_finish a held old step = core_finish_at a held old step.core step.messages step.next
+unfoldable pub rounds_committed : Asked → ℕ → Rounds → Messages → Answered Rounds
+rounds_committed a v s messages =
+    record { state = next_slot a v s; reply = committed_reply a v s.core messages; deeper = ltb 0 s.core.tracker.open_count }
 
 -- ---- proposals and messages; EPaxos and SwiftPaxos go on with the rounds
 
 unfoldable pub core_proposed : Asked → ℕ → Core → CoreAnswer
-core_proposed a v core = cond (has_fast_path a.mode) (needs_more core) (core_finish a true core (propose_classic a v core))
+core_proposed a v core = cond (has_fast_path a.mode) (needs_more core) (finish_step (core_committed a) true core (propose_classic a v core))
 
 unfoldable pub core_processed : Asked → Heard → Bool → ConsensusMsg → Core → CoreAnswer
-core_processed a h held msg core = cond (has_fast_path a.mode) (needs_more core) (core_finish a held core (process_classic a h msg core))
+core_processed a h held msg core = cond (has_fast_path a.mode) (needs_more core) (finish_step (core_committed a) held core (process_classic a h msg core))
 
 -- an older one does nothing; the own slot's commits, from any source and at any member
 unfoldable pub core_on_commit : Asked → ℕ → ℕ → Core → CoreAnswer

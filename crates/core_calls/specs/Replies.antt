@@ -1,6 +1,6 @@
 -- The replies of calls, before reads are served.
 -- Assumes nothing.
-use Rattle.std.specs.Prelude.{Bool, false, not, ◌&&◌, ℕ, None, Ok, Err}
+use Rattle.std.specs.Prelude.{Bool, not, ◌&&◌, ℕ, None, Ok, Err}
 use Rattle.message.specs.Modes.{has_fast_path}
 use Rattle.message.specs.declared.Refusal.{Refusal}
 use Rattle.steps.specs.Steps.{no_messages}

@@ -1,24 +1,40 @@
 // A call on the core of a shard. Most calls change the core alone; the answer says where a call needs more: in EPaxos and SwiftPaxos the rounds,
-// and for reads their table. So a shard that is lent can be changed part by part.
+// and for reads their table. So a shard that is lent can be changed part by part. How a call ends is said here of the core and of the rounds alike.
 #![tactic(auto)]
 
-ghost use Rattle.std.specs.Prelude.{◌≡◌};
+ghost use Rattle.std.specs.Prelude.{ℕ, ◌≡◌};
+ghost use Rattle.steps.specs.declared.Asked.{Asked};
+ghost use Rattle.steps.specs.declared.Messages.{Messages};
+ghost use Rattle.core_calls.specs.declared.Answered.{Answered};
 ghost use Rattle.core_calls.specs.Replies.{refused_reply, sent_reply, is_fast, committed_reply};
-ghost use Rattle.core_calls.specs.CoreCall.{sends_from, refuses_in, needs_more, core_committed, core_finish, core_proposed, core_processed, core_on_commit, next_readable, read_answer, core_on_read_request, core_on_read_response, core_handle, core_taken, core_call};
+ghost use Rattle.core_calls.specs.CoreCall.{sends_from, refuses_in, finish_step, needs_more, core_committed, next_slot, rounds_committed, core_proposed, core_processed, core_on_commit, next_readable, read_answer, core_on_read_request, core_on_read_response, core_handle, core_taken, core_call};
 
 use calls::{Call, CommittedSlot, Reply, Taken};
 use delivery::Delivery;
 use message::{ConsensusMessage, ConsensusMsg, ReadId, Refusal};
 use steps::{
-    Asked, Core, CoreStep, Destination, Heard, Messages, Next, Outgoing, no_messages, one_message,
+    Asked, Core, Destination, Heard, Messages, Next, Outgoing, Rounds, Step, no_messages,
+    one_message,
 };
 
-// What a call makes of the core, and its reply. Where `deeper` is set the call goes on with the rounds or with the reads.
+// What a call makes of the state that it is of, and its reply. Where `deeper` is set the call goes on with the rounds or with the reads. A flag and no enum of
+// two answers: state and reply are whole either way, so no value is missing where the flag is not set.
 #[derive(Clone, Copy)]
-pub struct CoreAnswer {
-    pub core: Core,
+pub struct Answered<S> {
+    pub state: S,
     pub reply: Reply,
     pub deeper: bool,
+}
+
+pub type CoreAnswer = Answered<Core>;
+
+// A state that a commit changes.
+pub trait Commits: Copy {
+    ghost committed: { Asked → ℕ → Self → Messages → Answered Self };
+
+    // The commit of a value, with what is sent.
+    fn committed(self, a: Asked, v: u64, messages: Messages) -> Answered<Self>
+        ensures { result ≡ committed a v self messages };
 }
 
 pub fn refused_reply(why: Refusal) -> Reply
@@ -66,23 +82,43 @@ pub fn committed_reply(a: Asked, v: u64, core: Core, messages: Messages) -> Repl
     }
 }
 
-fn sends_from(core: Core, messages: Messages) -> CoreAnswer
-    ensures { result ≡ sends_from core messages }
+// The state with what is sent.
+pub fn sends_from<S>(state: S, messages: Messages) -> Answered<S>
+    ensures { result ≡ sends_from state messages }
 {
-    CoreAnswer {
-        core,
+    Answered {
+        state,
         reply: sent_reply(messages),
         deeper: false,
     }
 }
 
-fn refuses_in(core: Core, why: Refusal) -> CoreAnswer
-    ensures { result ≡ refuses_in core why }
+pub fn refuses_in<S>(state: S, why: Refusal) -> Answered<S>
+    ensures { result ≡ refuses_in state why }
 {
-    CoreAnswer {
-        core,
+    Answered {
+        state,
         reply: refused_reply(why),
         deeper: false,
+    }
+}
+
+// A step becomes an answer. What is refused leaves the old state, and a commit needs its value.
+pub fn finish_step<S: Commits>(
+    a: Asked,
+    held: bool,
+    old: S,
+    step: Result<Step<S>, Refusal>,
+) -> Answered<S>
+    ensures { result ≡ finish_step (S.committed a) held old step }
+{
+    match step {
+        Ok(step) => match step.next {
+            Next::Stays | Next::Continues => sends_from(step.state, step.messages),
+            Next::Commits(v) if held => step.state.committed(a, v, step.messages),
+            Next::Commits(_) => refuses_in(old, Refusal::ValueNotHeld),
+        },
+        Err(why) => refuses_in(old, why),
     }
 }
 
@@ -91,7 +127,7 @@ pub fn needs_more(core: Core) -> CoreAnswer
     ensures { result ≡ needs_more core }
 {
     CoreAnswer {
-        core,
+        state: core,
         reply: sent_reply(no_messages()),
         deeper: true,
     }
@@ -105,21 +141,46 @@ pub fn core_committed(a: Asked, v: u64, core: Core, messages: Messages) -> CoreA
     let mut next = paxos_family::commit_core(a, v, core);
     next.slot_left_fast_path = false;
     CoreAnswer {
-        core: next,
+        state: next,
         reply: committed_reply(a, v, core, messages),
         deeper: core.tracker.open_count > 0,
     }
 }
 
-// A step becomes an answer. What is refused leaves the old core, and a commit needs its value.
-pub fn core_finish(a: Asked, held: bool, old: Core, step: CoreStep) -> CoreAnswer
-    ensures { result ≡ core_finish a held old step }
+impl Commits for Core {
+    ghost committed = { core_committed };
+
+    fn committed(self, a: Asked, v: u64, messages: Messages) -> CoreAnswer {
+        core_committed(a, v, self, messages)
+    }
+}
+
+// The next slot, with the mark of the fast path cleared.
+fn next_slot(a: Asked, v: u64, s: Rounds) -> Rounds
+    ensures { result ≡ next_slot a v s }
 {
-    match step.next {
-        Next::Stays | Next::Continues => sends_from(step.core, step.messages),
-        Next::Commits(v) if held => core_committed(a, v, step.core, step.messages),
-        Next::Commits(_) => refuses_in(old, Refusal::ValueNotHeld),
-        Next::Refuses(why) => refuses_in(old, why),
+    let mut next = paxos_family::commit_slot(a, v, s);
+    next.core.slot_left_fast_path = false;
+    next
+}
+
+// The same in EPaxos and SwiftPaxos.
+#[tactic(auto, unfolding(crate::specs::CoreCall::rounds_committed))]
+fn rounds_committed(a: Asked, v: u64, s: Rounds, messages: Messages) -> Answered<Rounds>
+    ensures { result ≡ rounds_committed a v s messages }
+{
+    Answered {
+        state: next_slot(a, v, s),
+        reply: committed_reply(a, v, s.core, messages),
+        deeper: s.core.tracker.open_count > 0,
+    }
+}
+
+impl Commits for Rounds {
+    ghost committed = { rounds_committed };
+
+    fn committed(self, a: Asked, v: u64, messages: Messages) -> Answered<Rounds> {
+        rounds_committed(a, v, self, messages)
     }
 }
 
@@ -131,7 +192,7 @@ pub fn core_proposed(a: Asked, v: u64, core: Core) -> CoreAnswer
     if a.mode.has_fast_path() {
         return needs_more(core);
     }
-    core_finish(a, true, core, propose::propose_classic(a, v, core))
+    finish_step(a, true, core, propose::propose_classic(a, v, core))
 }
 
 #[tactic(auto, unfolding(crate::specs::CoreCall::core_processed))]
@@ -148,7 +209,7 @@ pub fn core_processed(
         return needs_more(core);
     }
     let step = paxos_family::process_classic(a, heard, msg, core);
-    core_finish(a, held, core, step)
+    finish_step(a, held, core, step)
 }
 
 // A Commit of an older slot does nothing. The own slot's commits, from any source and at any member.

@@ -5,6 +5,7 @@ use Rattle.std.specs.Prelude.{Bool, cond, not, ◌&&◌, List, [], ℕ, eqb, leb
 use Rattle.arrays.specs.Arrays.{settings_of}
 use Rattle.arrays.specs.declared.Setup.{Setup}
 use Rattle.calls.specs.Asked.{asked_of}
+use Rattle.message.specs.Modes.{mode_of_number}
 use Rattle.message.specs.Promises.{accept_round_of}
 use Rattle.message.specs.Rounds.{before}
 use Rattle.message.specs.declared.PaxosRound.{PaxosRound}
@@ -12,7 +13,7 @@ use Rattle.round_state.specs.Paxos.{get_last_accepted_round, counted, accept_fit
 use Rattle.round_state.specs.declared.Member.{Member}
 use Rattle.sets.specs.Sets.{contains, size}
 use Rattle.settings.specs.Questions.{delegate_in}
-use Rattle.flat.specs.Decode.{decoded_held, decoded_mode, decoded_promise, decoded_round, decoded_settings}
+use Rattle.flat.specs.Decode.{decoded_held, decoded_promise, decoded_round, decoded_settings}
 use Rattle.flat.specs.declared.FlatCore.{FlatCore}
 use Rattle.flat.specs.declared.FlatMessage.{FlatMessage}
 
@@ -67,7 +68,7 @@ completes s c m =
 -- the member gathers the promises of the round, and the value is no fast one, whose proposer may gather them
 unfoldable pub gathers : Setup → List ℕ → FlatMessage → Bool
 gathers s delegates m =
-    eqb m.rv.fast 0 && eqb (delegate_in delegates (decoded_mode s.mode) m.leader) s.my_pid
+    eqb m.rv.fast 0 && eqb (delegate_in delegates (mode_of_number s.mode) m.leader) s.my_pid
 
 -- who gathers the promises counts, and the majority is not reached with this one
 unfoldable pub counts_promise : Setup → List ℕ → FlatCore → FlatMessage → Bool

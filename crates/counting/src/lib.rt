@@ -7,8 +7,10 @@ ghost use Rattle.counting.specs.Counting.{round_in, member_of, majority_of, in_o
 
 use arrays::Setup;
 use flat::{FlatCore, FlatMessage};
-use message::PaxosRound;
+use message::{PFMode, PaxosRound};
 use round_state::{Member, accept_fits, get_last_accepted_round};
+
+// setup, c and m are parameters of their own: they are the flat forms of three arrays that a host lends, and each question reads one or two of them.
 
 pub fn round_in(m: FlatMessage) -> PaxosRound
     ensures { result ≡ round_in m }
@@ -22,16 +24,13 @@ pub fn round_in(m: FlatMessage) -> PaxosRound
 fn member_of(setup: Setup) -> Member
     ensures { result ≡ member_of setup }
 {
-    let asked = flat_calls::asked_of(setup);
-    let member = asked.member;
-    member
+    flat_calls::asked_of(setup).member
 }
 
 fn majority_of(setup: Setup) -> u64
     ensures { result ≡ majority_of setup }
 {
-    let me = member_of(setup);
-    me.quorums.majority
+    member_of(setup).quorums.majority
 }
 
 // Whether member and source are live replicas, and the message is of no later round than the core's. Older ones are ignored before.
@@ -61,6 +60,7 @@ fn repeats_held(c: FlatCore, m: FlatMessage) -> bool
     accept_fits(held, round, m.v)
 }
 
+#[tactic(auto, unfolding(crate::specs::Counting::accepts_with))]
 fn accepts_with(setup: Setup, c: FlatCore, m: FlatMessage) -> u64
     ensures { result ≡ accepts_with setup c m }
 {
@@ -91,6 +91,7 @@ fn keeps_held(c: FlatCore, m: FlatMessage) -> bool
     get_last_accepted_round(held) >= promise.get_accept_round()
 }
 
+#[tactic(auto, unfolding(crate::specs::Counting::promises_with))]
 fn promises_with(setup: Setup, c: FlatCore, m: FlatMessage) -> u64
     ensures { result ≡ promises_with setup c m }
 {
@@ -112,7 +113,7 @@ fn gathers(setup: Setup, delegates: &[u64; 64], m: FlatMessage) -> bool
     ensures { result ≡ gathers setup delegates.now m }
 {
     m.rv.fast == 0
-        && settings::delegate_in(delegates, flat::decode_mode(setup.mode), m.leader) == setup.my_pid
+        && settings::delegate_in(delegates, PFMode::of_number(setup.mode), m.leader) == setup.my_pid
 }
 
 // Whether a promise is counted, and the majority is not reached with this one.
@@ -139,16 +140,15 @@ pub fn counts(setup: Setup, delegates: &[u64; 64], c: FlatCore, m: FlatMessage) 
 }
 
 // The core with the sender counted. An accept takes the slot off the fast path.
+#[tactic(auto, unfolding(crate::specs::Counting::with_counted))]
 pub fn with_counted(setup: Setup, mut c: FlatCore, m: FlatMessage) -> FlatCore
     ensures { result ≡ with_counted setup c m }
 {
     if m.kind == 2 {
-        let accepts = accepts_with(setup, c, m);
+        c.accepted_set = accepts_with(setup, c, m);
         c.slot_left_fast_path = 1;
-        c.accepted_set = accepts;
         return c;
     }
-    let promises = promises_with(setup, c, m);
-    c.prepared_set = promises;
+    c.prepared_set = promises_with(setup, c, m);
     c
 }

@@ -1,30 +1,32 @@
--- What a call leaves in the arrays that are lent, and the number that it hands back: 0 where it is taken, a refusal's number, or `passed_on` where the fast
--- half has to act. The open and the served reads are what the numbers of their arrays stand for (`table_of`).
+-- What a call leaves in the arrays that are lent, and what is told of it: that it is taken, why it is refused, or that the fast half has to act.
+-- The open and the served reads are what the numbers of their arrays stand for (`table_of`).
 -- Assumes nothing.
-use Rattle.std.specs.Prelude.{Bool, cond, not, ◌&&◌, ◌||◌, List, ◌≡◌, ℕ, ◌+◌, eqb, leb, ltb, set, Some}
+use Rattle.std.specs.Prelude.{Bool, true, false, cond, not, ◌&&◌, ◌||◌, List, ◌≡◌, ℕ, eqb, leb, ltb, set, Some, Result, Ok, Err}
 use Rattle.array_reads.specs.Rows.{table_of}
+use Rattle.array_reads.specs.declared.ReadArrays.{ReadArrays}
 use Rattle.arrays.specs.Arrays.{core_of, core_numbers}
 use Rattle.arrays.specs.declared.Setup.{Setup}
 use Rattle.core_calls.specs.Replies.{sent_reply}
 use Rattle.counting.specs.Counting.{round_in, counts, with_counted}
-use Rattle.direct_core.specs.Handled.{Written, put_reply, put_served, Left, passed_on, asked_in, put_step, handled_by, answer_request}
+use Rattle.direct_core.specs.Handled.{Written, put_reply, put_served, CallOutcome, call_number, Left, asked_in, put_step, handled_by, answer_request}
 use Rattle.direct_core.specs.Lent.{Array, came, left}
-use Rattle.message.specs.Modes.{has_fast_path}
-use Rattle.message.specs.Refusals.{refusal_number}
+use Rattle.direct_core.specs.declared.NotTaken.TheVariants.{Refused, PassedOn}
+use Rattle.message.specs.Modes.{has_fast_path, mode_of_number}
+use Rattle.message.specs.Outcomes.{Outcome}
 use Rattle.message.specs.Rounds.{before}
 use Rattle.message.specs.declared.ConsensusMsg.TheVariants.{ReadRequest}
-use Rattle.message.specs.declared.Refusal.TheVariants.{NoRoomForRead}
+use Rattle.message.specs.declared.Refusal.{Refusal}
 use Rattle.propose.specs.Propose.{propose_classic}
 use Rattle.quorum.specs.Quorum.{row_of}
-use Rattle.read_tracker.specs.Reads.{new_read, read_id}
-use Rattle.read_tracker.specs.declared.OpenRead.{OpenRead}
+use Rattle.read_tracker.specs.Reads.{read_id, open_next, inserted}
+use Rattle.read_tracker.specs.declared.Opening.{Opening}
 use Rattle.read_tracker.specs.declared.ReadTable.{ReadTable}
 use Rattle.read_tracker.specs.declared.ReadTracker.{ReadTracker}
 use Rattle.serving.specs.Serving.{receive_ready, commit_slot}
 use Rattle.serving.specs.declared.Tracked.{Tracked}
 use Rattle.steps.specs.Steps.{one_message, sends, to_all}
 use Rattle.flat_calls.specs.Refusals.{refusal_of}
-use Rattle.flat.specs.Decode.{is_yes, decoded_core, decoded_mode, decoded_round}
+use Rattle.flat.specs.Decode.{is_yes, decoded_core, decoded_round}
 use Rattle.flat.specs.declared.FlatCall.{FlatCall}
 use Rattle.flat.specs.declared.FlatCore.{FlatCore}
 use Rattle.flat.specs.declared.FlatMessage.{FlatMessage}
@@ -61,56 +63,51 @@ with_tracker t c =
 abbrev pub majority_of : Setup → ℕ
 majority_of s = (row_of s.replica_count).majority
 
--- ---- a new read
+-- ---- what a call leaves
 
--- what a new read leaves: the served reads stay
-pub record Opening : Type 0 where
-  pub number : ℕ
-  pub core : List ℕ
-  pub reads : List OpenRead
-  pub reply : Written
-
-abbrev pub opening : ℕ → List ℕ → List OpenRead → Written → Opening
-opening number core reads reply = record { number = number; core = core; reads = reads; reply = reply }
-
--- the own answer counts where nothing is held
-unfoldable pub opened : Setup → FlatCore → List OpenRead → FlatCall → Written → Opening
-opened s c reads f w =
-    opening 0 (core_numbers (with_tracker (record { next_id = c.next_id + 1; open_count = c.open_count + 1 }) c))
-    (set reads c.open_count (new_read (read_id c.next_id) f.v f.arrival_slot (eqb c.max_rv.given 0)))
-    (put_reply (sent_reply (one_message (sends (asked_in s) (decoded_core c) to_all (ReadRequest (read_id c.next_id))))) w)
-
--- refused where 128 reads are open or ids are spent
-unfoldable pub open_read : Setup → List ℕ → List OpenRead → FlatCall → Written → Opening
-open_read s core reads f w =
-    cond (leb 128 (core_of core).open_count) (opening (refusal_number NoRoomForRead) core reads w)
-    (cond (ltb 9223372036854775807 (core_of core).next_id) (opening (refusal_number NoRoomForRead) core reads w)
-    (opened s (core_of core) reads f w))
-
--- ---- a response, and a commit where reads are open
-
--- what a call leaves
-pub record Direct : Type 0 where
-  pub number : ℕ
+-- what is told of it is its outcome, and of the call of a host the number
+pub record Direct (A : Type 0) : Type 0 where
+  pub told : A
   pub core : List ℕ
   pub table : ReadTable
   pub reply : Written
 
-abbrev pub direct : ℕ → List ℕ → ReadTable → Written → Direct
-direct number core table reply = record { number = number; core = core; table = table; reply = reply }
+abbrev pub direct : {A : Type 0} → A → List ℕ → ReadTable → Written → Direct A
+direct told core table reply = record { told = told; core = core; table = table; reply = reply }
+
+-- ---- a new read
+
+-- everyone is asked for the read
+abbrev pub opened_as : Setup → FlatCore → ReadTable → Opening → Written → Direct CallOutcome
+opened_as s c table o w =
+    direct (Ok tt) (core_numbers (with_tracker o.tracker c)) (inserted (tracker_of c) table o).table
+    (put_reply (sent_reply (one_message (sends (asked_in s) (decoded_core c) to_all (ReadRequest o.read.id)))) w)
+
+-- by whether there is room
+unfoldable pub opened : Setup → Result Opening Refusal → List ℕ → ReadTable → Written → Direct CallOutcome
+opened s (Ok o) core table w = opened_as s (core_of core) table o w
+opened s (Err why) core table w = direct (Err (Refused why)) core table w
+
+-- the own answer counts where nothing is held
+abbrev pub open_read : Setup → List ℕ → ReadTable → FlatCall → Written → Direct CallOutcome
+open_read s core table f w =
+    opened s (open_next (tracker_of (core_of core)) f.v f.arrival_slot (eqb (core_of core).max_rv.given 0)) core table w
+
+-- ---- a response, and a commit where reads are open
 
 -- nothing is sent or committed
-abbrev pub counted : FlatCore → Written → Tracked → Direct
-counted c w t = direct 0 (core_numbers (with_tracker t.tracker c)) t.table (put_served t.served_count w)
+abbrev pub counted : FlatCore → Written → Tracked → Direct CallOutcome
+counted c w t = direct (Ok tt) (core_numbers (with_tracker t.tracker c)) t.table (put_served t.served_count w)
 
-unfoldable pub count_response : Setup → List ℕ → ReadTable → FlatCall → Written → Direct
+unfoldable pub count_response : Setup → List ℕ → ReadTable → FlatCall → Written → Direct CallOutcome
 count_response s core table f w =
     counted (core_of core) w
     (receive_ready (tracker_of (core_of core)) table (read_id f.message.id) (majority_of s) (core_of core).slot (is_yes f.fast))
 
 -- where no read is open nothing changes
-unfoldable pub response : Setup → List ℕ → ReadTable → FlatCall → Written → Direct
-response s core table f w = cond (eqb (core_of core).open_count 0) (direct 0 core table (put_served 0 w)) (count_response s core table f w)
+unfoldable pub response : Setup → List ℕ → ReadTable → FlatCall → Written → Direct CallOutcome
+response s core table f w =
+    cond (eqb (core_of core).open_count 0) (direct (Ok tt) core table (put_served 0 w)) (count_response s core table f w)
 
 -- what is left where reads are served: of the reply their number alone is written
 pub record Serving : Type 0 where
@@ -127,14 +124,18 @@ served_by c rest t = serving (core_numbers (with_tracker t.tracker c)) t.table (
 unfoldable pub serve_ready : Setup → List ℕ → ReadTable → List ℕ → Serving
 serve_ready s core table rest = served_by (core_of core) rest (commit_slot (tracker_of (core_of core)) table (majority_of s) (core_of core).slot)
 
-abbrev pub with_serving : Written → Serving → Direct
-with_serving w v = direct 0 v.core v.table (record { first = w.first; second = w.second; third = w.third; rest = v.rest })
+abbrev pub with_serving : Written → Serving → Direct CallOutcome
+with_serving w v = direct (Ok tt) v.core v.table (record { first = w.first; second = w.second; third = w.third; rest = v.rest })
+
+-- by whether reads may be ready, or the call is refused
+unfoldable pub served_after : Setup → ReadTable → Result Bool Refusal → List ℕ → Written → Direct CallOutcome
+served_after s table (Ok true) core w = with_serving w (serve_ready s core table w.rest)
+served_after s table (Ok false) core w = direct (Ok tt) core table w
+served_after s table (Err why) core w = direct (Err (Refused why)) core table w
 
 -- what is left of a call after the reads that became ready are served
-unfoldable pub served : Setup → ReadTable → Left → Direct
-served s table l =
-    cond l.handled.may_serve (with_serving l.reply (serve_ready s l.core table l.reply.rest))
-    (direct l.handled.number l.core table l.reply)
+abbrev pub served : Setup → ReadTable → Left → Direct CallOutcome
+served s table l = served_after s table l.handled l.core l.reply
 
 -- ---- calls
 
@@ -158,35 +159,45 @@ unfoldable pub is_older : FlatCore → FlatMessage → Bool
 is_older c m = names_slot m.kind && (ltb m.slot c.slot || of_older_round c m)
 
 -- a message in the classic modes
-unfoldable pub handled : Setup → List ℕ → List ℕ → List ℕ → ReadTable → FlatCall → Written → Direct
+unfoldable pub handled : Setup → List ℕ → List ℕ → List ℕ → ReadTable → FlatCall → Written → Direct CallOutcome
 handled s committers delegates core table f w =
-    cond (is_older (core_of core) f.message) (direct 0 core table (put_served 0 w))
-    (cond (counts s delegates (core_of core) f.message) (direct 0 (core_numbers (with_counted s (core_of core) f.message)) table (put_served 0 w))
+    cond (is_older (core_of core) f.message) (direct (Ok tt) core table (put_served 0 w))
+    (cond (counts s delegates (core_of core) f.message) (direct (Ok tt) (core_numbers (with_counted s (core_of core) f.message)) table (put_served 0 w))
     (served s table (handled_by s committers delegates core f w)))
 
 -- EPaxos and SwiftPaxos are passed on
-unfoldable pub slot_call : Setup → List ℕ → List ℕ → List ℕ → ReadTable → FlatCall → Written → Direct
+unfoldable pub slot_call : Setup → List ℕ → List ℕ → List ℕ → ReadTable → FlatCall → Written → Direct CallOutcome
 slot_call s committers delegates core table f w =
-    cond (has_fast_path (decoded_mode s.mode)) (direct passed_on core table w)
+    cond (has_fast_path (mode_of_number s.mode)) (direct (Err PassedOn) core table w)
     (cond (eqb f.kind 0) (served s table (put_step (propose_classic (asked_in s) f.v (decoded_core (core_of core))) core w))
     (handled s committers delegates core table f w))
 
 -- a call that is not refused and no new read
-unfoldable pub taken : Setup → List ℕ → List ℕ → List ℕ → ReadTable → FlatCall → Written → Direct
+unfoldable pub taken : Setup → List ℕ → List ℕ → List ℕ → ReadTable → FlatCall → Written → Direct CallOutcome
 taken s committers delegates core table f w =
     cond (is_response f) (response s core table f w)
     (cond (concerns_slot f) (slot_call s committers delegates core table f w) (served s table (answer_request s core f.message w)))
 
-abbrev pub from_opening : ReadTable → Opening → Direct
-from_opening table o = direct o.number o.core (record { reads = o.reads; served = table.served }) o.reply
+-- by the refusal, if there is one
+unfoldable pub unless_refused : Setup → List ℕ → List ℕ → Outcome → List ℕ → ReadTable → FlatCall → Written → Direct CallOutcome
+unless_refused s committers delegates (Ok tt) core table f w =
+    cond (eqb f.kind 1) (open_read s core table f w) (taken s committers delegates core table f w)
+unless_refused s committers delegates (Err why) core table f w = direct (Err (Refused why)) core table w
 
 -- refusals come first
-unfoldable pub direct_call : Setup → List ℕ → List ℕ → List ℕ → ReadTable → FlatCall → Written → Direct
-direct_call s committers delegates core table f w =
-    cond (eqb (refusal_of s (core_of core) f) 0)
-    (cond (eqb f.kind 1) (from_opening table (open_read s core table.reads f w)) (taken s committers delegates core table f w))
-    (direct (refusal_of s (core_of core) f) core table w)
+abbrev pub call_made : Setup → List ℕ → List ℕ → List ℕ → ReadTable → FlatCall → Written → Direct CallOutcome
+call_made s committers delegates core table f w = unless_refused s committers delegates (refusal_of s (core_of core) f) core table f w
+
+-- with the number that a host gets
+abbrev pub numbered : Direct CallOutcome → Direct ℕ
+numbered d = direct (call_number d.told) d.core d.table d.reply
+
+unfoldable pub direct_call : Setup → List ℕ → List ℕ → List ℕ → ReadTable → FlatCall → Written → Direct ℕ
+direct_call s committers delegates core table f w = numbered (call_made s committers delegates core table f w)
 
 -- what is not taken leaves the arrays of the reads as they were, number for number; the equation says that of the others
+abbrev pub SameNumbers : ReadArrays → ReadArrays → Type 0
+SameNumbers a b = (b.reads.now ≡ a.reads.now) × (b.served.now ≡ a.served.now)
+
 abbrev pub LeftUnlessTaken : ℕ → Array → Type 0
 LeftUnlessTaken number x = (number ≡ 0 → ⊥) → left x ≡ came x

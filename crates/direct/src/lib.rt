@@ -2,68 +2,52 @@
 // A call that is refused writes nothing. EPaxos and SwiftPaxos are passed on where the fast half has to act: then too nothing is written.
 #![tactic(auto)]
 
-ghost use Rattle.std.specs.Prelude.{◌≡◌};
-ghost use Rattle.array_reads.specs.Rows.{open_rows};
+ghost use Rattle.std.specs.Prelude.{◌≡◌, OnErr, Ok};
+ghost use Rattle.array_reads.specs.Rows.{reads_in, SameReads};
 ghost use Rattle.arrays.specs.Arrays.{setup_of, core_of, call_of};
 ghost use Rattle.direct_core.specs.Lent.{came, left};
-ghost use Rattle.direct_core.specs.Handled.{reply_came, reply_left};
-ghost use Rattle.direct.specs.Direct.{reads_came, reads_left, tracker_of, with_tracker, opening, open_read, direct, count_response, response, serving, serve_ready, is_response, concerns_slot, names_slot, of_older_round, is_older, handled, slot_call, taken, direct_call, LeftUnlessTaken};
+ghost use Rattle.direct_core.specs.Handled.{reply_came, reply_left, reply_in, SameReply};
+ghost use Rattle.direct.specs.Direct.{reads_came, reads_left, tracker_of, with_tracker, direct, open_read, count_response, response, serving, serve_ready, is_response, concerns_slot, names_slot, of_older_round, is_older, handled, slot_call, taken, call_made, direct_call, SameNumbers, LeftUnlessTaken};
 
-use arrays::Setup;
-use direct_core::{ACCEPT, COMMIT, NEW_READ, PASSED_ON, PREPARE, PROPOSAL, READ_RESPONSE};
+use array_reads::ReadArrays;
+use arrays::{Setup, Tables};
+use direct_core::{
+    ACCEPT, COMMIT, NEW_READ, NotTaken, PREPARE, PROPOSAL, READ_RESPONSE, ReplyArrays,
+};
 use flat::{FlatCall, FlatCore, FlatMessage};
-use message::{ConsensusMsg, ReadId};
-use read_tracker::{OpenRead, ReadTracker};
+use message::{ConsensusMsg, PFMode, ReadId};
+use read_tracker::{Opening, ReadTracker};
 
-// The number of a refusal.
-const NO_ROOM_FOR_READ: u64 = 12;
+// setup, tables, core and reply are parameters of their own, here, in direct_core and in direct_fast: half of the functions take two or three of them, core is
+// changed in some and read in others, and a struct of all would be lent and taken apart in each contract.
 
-// The most reads that are open at once, and the last id of a read.
-const MOST_OPEN: u64 = 128;
-
-const LAST_ID: u64 = 9223372036854775807;
+// What is done with the reads (`open_read`, `count_response`, `serve_ready`, `with_tracker`) has twins in state_calls. Those take a state with its table of
+// 128 reads of either kind by value and hand it back; here the numbers that change are written where they stand. What both decide is one: `open_next` of a
+// tracker, and the walks of crates/serving.
 
 // A new read, which everyone is asked for. The own answer counts at once where nothing is held.
+#[tactic(auto, unfolding(crate::specs::Direct::opened))]
 fn open_read(
     setup: Setup,
     core: &mut [u64; 18],
-    reads: &mut [u64; 640],
+    reads: &mut ReadArrays<'_>,
     f: FlatCall,
-    first: &mut [u64; 20],
-    second: &mut [u64; 20],
-    third: &mut [u64; 20],
-    rest: &mut [u64; 5],
-) -> u64
-    ensures rest_value { opening result (left core) (open_rows (left reads)) (reply_left first second third rest)
-        ≡ open_read setup (came core) (open_rows (came reads)) f (reply_came first second third rest) }
-    ensures left_unless_taken { LeftUnlessTaken result reads }
+    reply: &mut ReplyArrays<'_>,
+) -> Result<(), NotTaken>
+    ensures same { SameReads reads.old reads.new × SameReply reply.old reply.new }
+    ensures written { direct result core.new (reads_in reads.new) (reply_in reply.new)
+        ≡ open_read setup core.old (reads_in reads.old) f (reply_in reply.old) }
+    ensures refused { OnErr result (SameNumbers reads.old reads.new) }
 {
     let c = arrays::core_in(core);
-    if c.open_count >= MOST_OPEN {
-        return NO_ROOM_FOR_READ;
-    }
-    if c.next_id > LAST_ID {
-        return NO_ROOM_FOR_READ;
-    }
-    let id = ReadId(c.next_id);
     let local_ready = c.max_rv.given == 0;
-    let read = OpenRead {
-        id,
-        tag: f.v,
-        arrival_slot: f.arrival_slot,
-        ready_count: flat::encode_bool(local_ready),
-        local_ready,
-    };
-    array_reads::insert(reads, c.open_count, read);
-    let mut next = c;
-    next.next_id = c.next_id + 1;
-    next.open_count = c.open_count + 1;
-    arrays::put_core(core, next);
+    let Opening { read, tracker } = tracker_of(c).open_next(f.v, f.arrival_slot, local_ready)?;
+    reads.insert(c.open_count, read);
+    arrays::put_core(core, with_tracker(c, tracker));
     let asked = flat_calls::asked_of(setup);
-    let request = ConsensusMsg::ReadRequest { id };
-    let message = asked.sends(flat::decode_core(c), steps::to_all(), request);
-    direct_core::put_sent(first, second, third, rest, message);
-    0
+    let request = ConsensusMsg::ReadRequest { id: read.id };
+    reply.put_sent(asked.sends(flat::decode_core(c), steps::to_all(), request));
+    Ok(())
 }
 
 fn tracker_of(c: FlatCore) -> ReadTracker
@@ -75,6 +59,8 @@ fn tracker_of(c: FlatCore) -> ReadTracker
     }
 }
 
+// Without `inline` the core is copied for it, and a new read took a quarter longer.
+#[inline(always)]
 fn with_tracker(mut c: FlatCore, tracker: ReadTracker) -> FlatCore
     ensures { result ≡ with_tracker tracker c }
 {
@@ -84,76 +70,63 @@ fn with_tracker(mut c: FlatCore, tracker: ReadTracker) -> FlatCore
 }
 
 // A response counts, of an older slot too.
+#[tactic(auto, unfolding(crate::specs::Direct::count_response))]
 fn count_response(
     setup: Setup,
     core: &mut [u64; 18],
-    reads: &mut [u64; 640],
-    served: &mut [u64; 512],
+    reads: &mut ReadArrays<'_>,
     f: FlatCall,
-    first: &mut [u64; 20],
-    second: &mut [u64; 20],
-    third: &mut [u64; 20],
-    rest: &mut [u64; 5],
+    reply: &mut ReplyArrays<'_>,
 )
-    ensures { direct 0 (left core) (reads_left reads served) (reply_left first second third rest)
-        ≡ count_response setup (came core) (reads_came reads served) f (reply_came first second third rest) }
+    ensures same { SameReads reads.old reads.new × SameReply reply.old reply.new }
+    ensures written { direct (Ok tt) core.new (reads_in reads.new) (reply_in reply.new)
+        ≡ count_response setup core.old (reads_in reads.old) f (reply_in reply.old) }
 {
     let c = arrays::core_in(core);
-    let row = quorum::row(setup.replica_count);
+    let majority = quorum::row(setup.replica_count).majority;
     let id = ReadId(f.message.id);
     let fast = flat::is_yes(f.fast);
-    let counted = array_reads::receive_ready(
-        reads,
-        served,
-        tracker_of(c),
-        id,
-        row.majority,
-        c.slot,
-        fast,
-    );
-    let tracker = counted.tracker;
-    arrays::put_core(core, with_tracker(c, tracker));
-    direct_core::put_served(first, second, third, rest, counted.served_count);
+    let counted = reads.receive_ready(tracker_of(c), id, majority, c.slot, fast);
+    arrays::put_core(core, with_tracker(c, counted.tracker));
+    reply.put_served(counted.served_count);
 }
 
 // Where no read is open a response changes nothing.
+#[tactic(auto, unfolding(crate::specs::Direct::response))]
 fn response(
     setup: Setup,
     core: &mut [u64; 18],
-    reads: &mut [u64; 640],
-    served: &mut [u64; 512],
+    reads: &mut ReadArrays<'_>,
     f: FlatCall,
-    first: &mut [u64; 20],
-    second: &mut [u64; 20],
-    third: &mut [u64; 20],
-    rest: &mut [u64; 5],
+    reply: &mut ReplyArrays<'_>,
 )
-    ensures { direct 0 (left core) (reads_left reads served) (reply_left first second third rest)
-        ≡ response setup (came core) (reads_came reads served) f (reply_came first second third rest) }
+    ensures same { SameReads reads.old reads.new × SameReply reply.old reply.new }
+    ensures written { direct (Ok tt) core.new (reads_in reads.new) (reply_in reply.new)
+        ≡ response setup core.old (reads_in reads.old) f (reply_in reply.old) }
 {
     let c = arrays::core_in(core);
     if c.open_count == 0 {
-        direct_core::put_served(first, second, third, rest, 0);
+        reply.put_served(0);
         return;
     }
-    count_response(setup, core, reads, served, f, first, second, third, rest);
+    count_response(setup, core, reads, f, reply);
 }
 
 // After a commit: the reads that it has made ready.
+#[tactic(auto, unfolding(crate::specs::Direct::serve_ready))]
 pub fn serve_ready(
     setup: Setup,
     core: &mut [u64; 18],
-    reads: &mut [u64; 640],
-    served: &mut [u64; 512],
+    reads: &mut ReadArrays<'_>,
     rest: &mut [u64; 5],
 )
-    ensures { serving (left core) (reads_left reads served) (left rest) ≡ serve_ready setup (came core) (reads_came reads served) (came rest) }
+    ensures same { SameReads reads.old reads.new }
+    ensures written { serving core.new (reads_in reads.new) rest.new ≡ serve_ready setup core.old (reads_in reads.old) rest.old }
 {
     let c = arrays::core_in(core);
-    let row = quorum::row(setup.replica_count);
-    let ready = array_reads::commit_slot(reads, served, tracker_of(c), row.majority, c.slot);
-    let tracker = ready.tracker;
-    arrays::put_core(core, with_tracker(c, tracker));
+    let majority = quorum::row(setup.replica_count).majority;
+    let ready = reads.commit_slot(tracker_of(c), majority, c.slot);
+    arrays::put_core(core, with_tracker(c, ready.tracker));
     rest[4] = ready.served_count;
 }
 
@@ -214,107 +187,115 @@ fn is_older_in(core: &[u64; 18], m: FlatMessage) -> bool
 
 // A message in the classic modes: what is old does nothing, and an answer that is only counted changes a set. The core handles the rest; where it commits,
 // the open reads that became ready are served.
+#[tactic(auto, unfolding(crate::specs::Direct::handled, crate::specs::Direct::served_after))]
 fn handled(
     setup: Setup,
-    committers: &[u64; 64],
-    delegates: &[u64; 64],
+    tables: Tables<'_>,
     core: &mut [u64; 18],
-    reads: &mut [u64; 640],
-    served: &mut [u64; 512],
+    reads: &mut ReadArrays<'_>,
     f: FlatCall,
-    first: &mut [u64; 20],
-    second: &mut [u64; 20],
-    third: &mut [u64; 20],
-    rest: &mut [u64; 5],
-) -> u64
-    ensures rest_value { direct result (left core) (reads_left reads served) (reply_left first second third rest)
-        ≡ handled setup committers.now delegates.now (came core) (reads_came reads served) f (reply_came first second third rest) }
-    ensures left_unless_taken { LeftUnlessTaken result reads × LeftUnlessTaken result served }
+    reply: &mut ReplyArrays<'_>,
+) -> Result<(), NotTaken>
+    ensures same { SameReads reads.old reads.new × SameReply reply.old reply.new }
+    ensures written { direct result core.new (reads_in reads.new) (reply_in reply.new)
+        ≡ handled setup tables.entry.committers.now tables.entry.delegates.now core.old (reads_in reads.old) f (reply_in reply.old) }
+    ensures refused { OnErr result (SameNumbers reads.old reads.new) }
 {
     let message = f.message;
     if is_older_in(core, message) {
-        direct_core::put_served(first, second, third, rest, 0);
-        return 0;
+        reply.put_served(0);
+        return Ok(());
     }
     let c = arrays::core_in(core);
-    if counting::counts(setup, delegates, c, message) {
+    if counting::counts(setup, tables.delegates, c, message) {
         arrays::put_core(core, counting::with_counted(setup, c, message));
-        direct_core::put_served(first, second, third, rest, 0);
-        return 0;
+        reply.put_served(0);
+        return Ok(());
     }
-    let h = direct_core::handle(
-        setup, committers, delegates, core, f, first, second, third, rest,
-    );
-    if h.may_serve {
-        serve_ready(setup, core, reads, served, rest);
-        return 0;
+    if direct_core::handle(setup, tables, core, f, reply)? {
+        serve_ready(setup, core, reads, reply.rest);
     }
-    h.number
+    Ok(())
 }
 
 // What concerns a slot is passed on in EPaxos and SwiftPaxos, since the fast half has to act.
+#[tactic(auto, unfolding(crate::specs::Direct::slot_call, crate::specs::Direct::served_after))]
 fn slot_call(
     setup: Setup,
-    committers: &[u64; 64],
-    delegates: &[u64; 64],
+    tables: Tables<'_>,
     core: &mut [u64; 18],
-    reads: &mut [u64; 640],
-    served: &mut [u64; 512],
+    reads: &mut ReadArrays<'_>,
     f: FlatCall,
-    first: &mut [u64; 20],
-    second: &mut [u64; 20],
-    third: &mut [u64; 20],
-    rest: &mut [u64; 5],
-) -> u64
-    ensures rest_value { direct result (left core) (reads_left reads served) (reply_left first second third rest)
-        ≡ slot_call setup committers.now delegates.now (came core) (reads_came reads served) f (reply_came first second third rest) }
-    ensures left_unless_taken { LeftUnlessTaken result reads × LeftUnlessTaken result served }
+    reply: &mut ReplyArrays<'_>,
+) -> Result<(), NotTaken>
+    ensures same { SameReads reads.old reads.new × SameReply reply.old reply.new }
+    ensures written { direct result core.new (reads_in reads.new) (reply_in reply.new)
+        ≡ slot_call setup tables.entry.committers.now tables.entry.delegates.now core.old (reads_in reads.old) f (reply_in reply.old) }
+    ensures refused { OnErr result (SameNumbers reads.old reads.new) }
 {
-    let mode = flat::decode_mode(setup.mode);
-    if mode.has_fast_path() {
-        return PASSED_ON;
+    if PFMode::of_number(setup.mode).has_fast_path() {
+        return Err(NotTaken::PassedOn);
     }
     if f.kind == PROPOSAL {
-        return direct_core::propose(setup, core, f.v, first, second, third, rest);
+        direct_core::propose(setup, core, f.v, reply)?;
+        return Ok(());
     }
-    handled(
-        setup, committers, delegates, core, reads, served, f, first, second, third, rest,
-    )
+    handled(setup, tables, core, reads, f, reply)
 }
 
 // A call that was not refused, other than a new read.
+#[tactic(auto, unfolding(crate::specs::Direct::taken, crate::specs::Direct::served_after))]
 fn taken(
     setup: Setup,
-    committers: &[u64; 64],
-    delegates: &[u64; 64],
+    tables: Tables<'_>,
     core: &mut [u64; 18],
-    reads: &mut [u64; 640],
-    served: &mut [u64; 512],
+    reads: &mut ReadArrays<'_>,
     f: FlatCall,
-    first: &mut [u64; 20],
-    second: &mut [u64; 20],
-    third: &mut [u64; 20],
-    rest: &mut [u64; 5],
-) -> u64
-    ensures rest_value { direct result (left core) (reads_left reads served) (reply_left first second third rest)
-        ≡ taken setup committers.now delegates.now (came core) (reads_came reads served) f (reply_came first second third rest) }
-    ensures left_unless_taken { LeftUnlessTaken result reads × LeftUnlessTaken result served }
+    reply: &mut ReplyArrays<'_>,
+) -> Result<(), NotTaken>
+    ensures same { SameReads reads.old reads.new × SameReply reply.old reply.new }
+    ensures written { direct result core.new (reads_in reads.new) (reply_in reply.new)
+        ≡ taken setup tables.entry.committers.now tables.entry.delegates.now core.old (reads_in reads.old) f (reply_in reply.old) }
+    ensures refused { OnErr result (SameNumbers reads.old reads.new) }
 {
     if is_response(f) {
-        response(setup, core, reads, served, f, first, second, third, rest);
-        return 0;
+        response(setup, core, reads, f, reply);
+        return Ok(());
     }
     if concerns_slot(f) {
-        return slot_call(
-            setup, committers, delegates, core, reads, served, f, first, second, third, rest,
-        );
+        return slot_call(setup, tables, core, reads, f, reply);
     }
-    let message = f.message;
-    direct_core::answer_request(setup, core, message, first, second, third, rest)
+    direct_core::answer_request(setup, core, f.message, reply)?;
+    Ok(())
+}
+
+// A call on the parts of a shard.
+#[tactic(auto, unfolding(crate::specs::Direct::unless_refused))]
+fn call_made(
+    setup: &[u64; 10],
+    tables: Tables<'_>,
+    core: &mut [u64; 18],
+    reads: &mut ReadArrays<'_>,
+    call: &[u64; 25],
+    reply: &mut ReplyArrays<'_>,
+) -> Result<(), NotTaken>
+    ensures same { SameReads reads.old reads.new × SameReply reply.old reply.new }
+    ensures written { direct result core.new (reads_in reads.new) (reply_in reply.new)
+        ≡ call_made (setup_of setup.now) tables.entry.committers.now tables.entry.delegates.now core.old (reads_in reads.old) (call_of call.now) (reply_in reply.old) }
+    ensures refused { OnErr result (SameNumbers reads.old reads.new) }
+{
+    flat_calls::refusal(setup, core, call)?;
+    let s = arrays::setup_in(setup);
+    let f = arrays::call_in(call);
+    if f.kind == NEW_READ {
+        return open_read(s, core, reads, f, reply);
+    }
+    taken(s, tables, core, reads, f, reply)
 }
 
 // A call on the parts of a shard. 0: it was taken, and core, reads and reply are written. 1 to 12: it is refused with this number. 255: it has to go to
 // the fast half.
+#[tactic(auto, unfolding(crate::specs::Direct::direct_call))]
 pub fn chanbook_direct_call(
     setup: &[u64; 10],
     committers: &[u64; 64],
@@ -333,16 +314,16 @@ pub fn chanbook_direct_call(
         (reply_came first second third rest) }
     ensures left_unless_taken { LeftUnlessTaken result reads × LeftUnlessTaken result served }
 {
-    let number = flat_calls::refusal(setup, core, call);
-    if number != 0 {
-        return number;
-    }
-    let s = arrays::setup_in(setup);
-    let f = arrays::call_in(call);
-    if f.kind == NEW_READ {
-        return open_read(s, core, reads, f, first, second, third, rest);
-    }
-    taken(
-        s, committers, delegates, core, reads, served, f, first, second, third, rest,
-    )
+    let tables = Tables {
+        committers,
+        delegates,
+    };
+    let mut lent_reads = ReadArrays { reads, served };
+    let mut reply = ReplyArrays {
+        first,
+        second,
+        third,
+        rest,
+    };
+    direct_core::call_number(call_made(setup, tables, core, &mut lent_reads, call, &mut reply))
 }

@@ -69,27 +69,20 @@ call_on s committers delegates core fast table f =
 
 -- ---- numbers of refusals
 
-numbers : (why : Refusal) → (eqb (refusal_number why) 0 ≡ false) × (eqb (refusal_number why) passed_on ≡ false)
-numbers SettingsOutsideLimits = (refl, refl)
-numbers NumberTooLarge = (refl, refl)
-numbers NoSuchProcess = (refl, refl)
-numbers OtherLastValue = (refl, refl)
-numbers SlotAhead = (refl, refl)
-numbers ValueNotHeld = (refl, refl)
-numbers SourceNotLive = (refl, refl)
-numbers Panic = (refl, refl)
-numbers AcceptUnlikeHeld = (refl, refl)
-numbers SecondFastAnswer = (refl, refl)
-numbers ProposalNotAllowed = (refl, refl)
-numbers NoRoomForRead = (refl, refl)
-
--- no refusal has the number of a call that is taken
-pub not_taken : (why : Refusal) → eqb (refusal_number why) 0 ≡ false
-not_taken why = (numbers why).0
-
--- nor that of a call that is passed on
+-- no refusal has the number of a call that is passed on
 pub not_passed_on : (why : Refusal) → eqb (refusal_number why) passed_on ≡ false
-not_passed_on why = (numbers why).1
+not_passed_on SettingsOutsideLimits = refl
+not_passed_on NumberTooLarge = refl
+not_passed_on NoSuchProcess = refl
+not_passed_on OtherLastValue = refl
+not_passed_on SlotAhead = refl
+not_passed_on ValueNotHeld = refl
+not_passed_on SourceNotLive = refl
+not_passed_on Panic = refl
+not_passed_on AcceptUnlikeHeld = refl
+not_passed_on SecondFastAnswer = refl
+not_passed_on ProposalNotAllowed = refl
+not_passed_on NoRoomForRead = refl
 
 -- ---- kinds of messages
 

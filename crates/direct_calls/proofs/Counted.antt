@@ -1,27 +1,26 @@
 -- A message that is only counted: the handlers make of the core what is written, and send nothing.
 -- Assumes nothing.
-use Rattle.std.specs.Prelude.{Option, None, Some, is_some}
+use Rattle.std.specs.Prelude.{Option, None, Some, Ok, is_some}
 use mathlib.Core.Bool.{Bool, true, false, not, ◌&&◌}
 use mathlib.Core.List.{List}
 use mathlib.Core.Logic.{◌⊎◌, inl, inr}
 use mathlib.Core.Path.{◌≡◌, refl, sym, ap, ap₂, ◌∙◌}
 use Prim.Native.Nat.{ℕ}
-use borrow.Author.Tests.{eqb-true}
+use borrow.Author.Tests.{eqb-true, not-true}
 use lib.Dec.{eqb, leb}
 use Rattle.basics.proofs.Tests.{not_both, and_left, and_right}
 use Rattle.accept.specs.Accept.{accepting, accepted, try_commit}
 use Rattle.arrays.specs.Arrays.{settings_of}
 use Rattle.arrays.specs.declared.Setup.{Setup}
 use Rattle.calls.specs.Asked.{asked_of, gatherer_of, gatherer_in}
+use Rattle.consensus.proofs.Entered.{not_swift}
 use Rattle.counting.specs.Counting.{round_in, member_of, majority_of, in_own_round, repeats_held, accepts_with, counts_accept, keeps_held, promises_with, completes, gathers, counts_promise, with_accepts, with_promises}
 use Rattle.direct_core.specs.Handled.{heard_in}
 use Rattle.enter.specs.Enter.{is_older, from_live, in_round, enter}
-use Rattle.message.specs.Modes.{has_fast_path, is_swift_paxos}
+use Rattle.message.specs.Modes.{has_fast_path, is_swift_paxos, mode_of_number}
 use Rattle.message.specs.Promises.{accept_round_of}
 use Rattle.message.specs.Rounds.{before}
 use Rattle.message.specs.declared.ConsensusMsg.TheVariants.{Prepare, Accept}
-use Rattle.message.specs.declared.PFMode.{PFMode}
-use Rattle.message.specs.declared.PFMode.TheVariants.{Paxos, MultiPaxos, MultiPaxos3P, EPaxos, Pando, SwiftPaxos}
 use Rattle.message.specs.declared.PaxosRound.{PaxosRound}
 use Rattle.message.specs.declared.RoundV.{RoundV}
 use Rattle.message.specs.declared.RoundV.TheVariants.{PaxosV}
@@ -36,22 +35,10 @@ use Rattle.steps.specs.Steps.{no_messages, with_paxos, left_fast_path, stays, co
 use Rattle.steps.specs.declared.Asked.{Asked}
 use Rattle.steps.specs.declared.Core.{Core}
 use Rattle.steps.specs.declared.Heard.{Heard}
-use Rattle.flat.specs.Decode.{decoded_core, decoded_held, decoded_mode, decoded_msg, decoded_promise, decoded_settings, decoded_source}
+use Rattle.flat.specs.Decode.{decoded_core, decoded_held, decoded_msg, decoded_promise, decoded_settings, decoded_source}
 use Rattle.flat.specs.declared.FlatCall.{FlatCall}
 use Rattle.flat.specs.declared.FlatCore.{FlatCore}
 use Rattle.flat.specs.declared.FlatMessage.{FlatMessage}
-
-not_swift : (m : PFMode) → has_fast_path m ≡ false → is_swift_paxos m ≡ false
-not_swift Paxos e = refl
-not_swift MultiPaxos e = refl
-not_swift MultiPaxos3P e = refl
-not_swift EPaxos e = refl
-not_swift Pando e = refl
-not_swift SwiftPaxos e = absurd (not_both refl e)
-
-negated : (t : Bool) → not t ≡ true → t ≡ false
-negated true e = absurd (not_both e refl)
-negated false e = refl
 
 -- ---- the handlers
 
@@ -63,7 +50,7 @@ module _ (a : Asked) (h : Heard) (slot : ℕ) (round : PaxosRound) (core : Core)
     pub not_older : is_older slot round core ≡ false
     pub not_later : before core.paxos.round (Some round) ≡ false
 
-  enters : Meets → enter a h slot round core ≡ continues core no_messages
+  enters : Meets → enter a h slot round core ≡ Ok (continues core no_messages)
   unfolding enter from_live in_round
   enters m = simp (m.replica, m.live, m.not_older, m.not_later)
 
@@ -72,14 +59,14 @@ module _ (a : Asked) (h : Heard) (slot : ℕ) (round : PaxosRound) (core : Core)
       → accept_fits core.paxos.max_rv round v ≡ true
       → leb a.member.quorums.majority (size (counted a.member h.src core.paxos.accepted_set)) ≡ false
       → process_classic a h (Accept slot round v) core
-      ≡ stays (left_fast_path (with_paxos (after_accept a.member h.src round v core.paxos) core)) no_messages
+      ≡ Ok (stays (left_fast_path (with_paxos (after_accept a.member h.src round v core.paxos) core)) no_messages)
   unfolding process_classic on_accept accepting receive_accept accepted try_commit
   accept_counted v m swift own fits few = simp (enters m, fits, swift, own, few)
 
   -- who gathers the promises counts one that changes nothing that is held
   pub promise_counted : (rv : RoundV) → Meets → is_some core.paxos.max_rv ≡ true → eqb h.delegate a.member.my_pid ≡ true
       → (not (is_prepared a.member core.paxos) && leb a.member.quorums.majority (size (counted a.member h.src core.paxos.prepared_set))) ≡ false
-      → process_classic a h (Prepare slot round rv) core ≡ stays (with_paxos (receive_promise a.member h.src rv core.paxos) core) no_messages
+      → process_classic a h (Prepare slot round rv) core ≡ Ok (stays (with_paxos (receive_promise a.member h.src rv core.paxos) core) no_messages)
   unfolding process_classic on_prepare in_prepare prepared hold_first preparing gather becomes_prepared receive_promise
   promise_counted rv m held own few = simp (enters m, held, own, few)
 
@@ -131,7 +118,7 @@ module _ (s : Setup) (committers delegates : List ℕ) (c : FlatCore) (f : FlatC
         replica = and_left (contains s.alive_replicas s.my_pid) _ r;
         live = ap (contains s.alive_replicas) e ∙ and_left (contains s.alive_replicas m.src) _ rest;
         not_older = o;
-        not_later = negated _ (and_right (contains s.alive_replicas m.src) _ rest);
+        not_later = not-true _ (and_right (contains s.alive_replicas m.src) _ rest);
       }
 
   abbrev with_set : ℕ → Option RoundV → Core
@@ -142,14 +129,14 @@ module _ (s : Setup) (committers delegates : List ℕ) (c : FlatCore) (f : FlatC
       core)
 
   pub accept_leaves : has_fast_path a.mode ≡ false → is_older m.slot (round_in m) core ≡ false → eqb m.kind 2 ≡ true → counts_accept s c m ≡ true
-      → process_classic a h (Accept m.slot (round_in m) m.v) core ≡ stays (decoded_core (with_accepts (accepts_with s c m) c)) no_messages
+      → process_classic a h (Accept m.slot (round_in m) m.v) core ≡ Ok (stays (decoded_core (with_accepts (accepts_with s c m) c)) no_messages)
   unfolding counts_accept repeats_held accepts_with
   accept_leaves p o k e =
       accept_counted a h m.slot (round_in m) core m.v (meets o (and_left (in_own_round s c m) _ rest) src) (not_swift a.mode p)
       (and_left (eqb s.my_pid m.leader) _ e)
       fits
-      (ap (λ (x : ℕ). leb (majority_of s) (size (counted (member_of s) x c.accepted_set))) src ∙ negated _ (and_right (repeats_held c m) _ last))
-      ∙ ap₂ (λ (x : ℕ) (y : Option RoundV). stays (with_set x y) no_messages) src (sym same)
+      (ap (λ (x : ℕ). leb (majority_of s) (size (counted (member_of s) x c.accepted_set))) src ∙ not-true _ (and_right (repeats_held c m) _ last))
+      ∙ ap₂ (λ (x : ℕ) (y : Option RoundV). Ok (stays (with_set x y) no_messages)) src (sym same)
     where
       src : decoded_source s.process_count s.my_pid m ≡ m.src
       src = source_is 2 k refl refl
@@ -173,7 +160,7 @@ module _ (s : Setup) (committers delegates : List ℕ) (c : FlatCore) (f : FlatC
       fits = and_right (not is_later) fitting repeats
 
       same : decoded_held c.max_rv ≡ Some (PaxosV (Some (round_in m)) m.v)
-      same = accepted_is (decoded_held c.max_rv) (round_in m) m.v (negated is_later (and_left (not is_later) fitting repeats)) fits
+      same = accepted_is (decoded_held c.max_rv) (round_in m) m.v (not-true is_later (and_left (not is_later) fitting repeats)) fits
 
   abbrev with_prepared : ℕ → Option RoundV → Core
   with_prepared src held =
@@ -183,25 +170,25 @@ module _ (s : Setup) (committers delegates : List ℕ) (c : FlatCore) (f : FlatC
 
   -- no fast value: who gathers is asked of the settings alone
   gatherer_is : eqb m.kind 1 ≡ true → eqb m.rv.fast 0 ≡ true
-      → gatherer_of settings (decoded_msg m) ≡ delegate_in delegates (decoded_mode s.mode) m.leader
+      → gatherer_of settings (decoded_msg m) ≡ delegate_in delegates (mode_of_number s.mode) m.leader
   unfolding gatherer_in decoded_msg decoded_promise
   gatherer_is k e = simp (k, e)
 
   pub promise_leaves : is_older m.slot (round_in m) core ≡ false → eqb m.kind 1 ≡ true → counts_promise s delegates c m ≡ true
-      → process_classic a h (Prepare m.slot (round_in m) (decoded_promise m.rv)) core ≡ stays (decoded_core (with_promises (promises_with s c m) c)) no_messages
+      → process_classic a h (Prepare m.slot (round_in m) (decoded_promise m.rv)) core ≡ Ok (stays (decoded_core (with_promises (promises_with s c m) c)) no_messages)
   unfolding counts_promise gathers keeps_held completes promises_with receive_promise
   promise_leaves o k e =
       promise_counted a h m.slot (round_in m) core (decoded_promise m.rv) (meets o (and_left (in_own_round s c m) _ rest) src)
       (and_left (is_some (decoded_held c.max_rv)) _ keeps)
       (ap (λ (x : ℕ). eqb x s.my_pid) (gatherer_is k (and_left (eqb m.rv.fast 0) _ gathered)) ∙ and_right (eqb m.rv.fast 0) _ gathered)
-      (ap (λ (x : ℕ). not (is_prepared a.member core.paxos) && leb (majority_of s) (size (counted (member_of s) x c.prepared_set))) src ∙ negated _ (and_right (keeps_held c m) _ last))
-      ∙ ap₂ (λ (x : ℕ) (y : Option RoundV). stays (with_prepared x y) no_messages) src
-      (kept (decoded_held c.max_rv) (decoded_promise m.rv) (and_left (is_some (decoded_held c.max_rv)) _ keeps) (negated _ (and_right (is_some (decoded_held c.max_rv)) _ keeps)))
+      (ap (λ (x : ℕ). not (is_prepared a.member core.paxos) && leb (majority_of s) (size (counted (member_of s) x c.prepared_set))) src ∙ not-true _ (and_right (keeps_held c m) _ last))
+      ∙ ap₂ (λ (x : ℕ) (y : Option RoundV). Ok (stays (with_prepared x y) no_messages)) src
+      (kept (decoded_held c.max_rv) (decoded_promise m.rv) (and_left (is_some (decoded_held c.max_rv)) _ keeps) (not-true _ (and_right (is_some (decoded_held c.max_rv)) _ keeps)))
     where
       src : decoded_source s.process_count s.my_pid m ≡ m.src
       src = source_is 1 k refl refl
 
-      gathered : (eqb m.rv.fast 0 && eqb (delegate_in delegates (decoded_mode s.mode) m.leader) s.my_pid) ≡ true
+      gathered : (eqb m.rv.fast 0 && eqb (delegate_in delegates (mode_of_number s.mode) m.leader) s.my_pid) ≡ true
       gathered = and_left (gathers s delegates m) _ e
 
       rest : (in_own_round s c m && (keeps_held c m && not (completes s c m))) ≡ true

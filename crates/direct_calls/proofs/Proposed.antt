@@ -1,15 +1,15 @@
 -- What a proposal leaves in the arrays stands for what the state makes of it: a proposal in a classic mode commits nothing.
 -- Assumes nothing.
-use Rattle.std.specs.Prelude.{None, Some, Result, Ok, Err}
+use Rattle.std.specs.Prelude.{None, Some, Result, Ok, Err, IfOk}
 use mathlib.Core.Bool.{true}
 use mathlib.Core.List.{List}
 use mathlib.Core.Path.{refl}
 use Prim.Native.Nat.{ℕ}
 use Rattle.basics.proofs.Tests.{of-both}
-use Rattle.core_calls.specs.CoreCall.{core_finish_at}
+use Rattle.core_calls.specs.CoreCall.{finish_step, core_committed}
 use Rattle.arrays.specs.declared.Setup.{Setup}
-use Rattle.direct.specs.Direct.{served}
-use Rattle.direct_core.specs.Handled.{Written, refused_by, put_step}
+use Rattle.direct.specs.Direct.{served_after, served}
+use Rattle.direct_core.specs.Handled.{Written, put_step}
 use Rattle.fast_state.specs.declared.FastState.{FastState}
 use Rattle.message.specs.Modes.{is_multi_paxos}
 use Rattle.message.specs.declared.ConsensusMsg.TheVariants.{Prepare, Accept}
@@ -27,12 +27,11 @@ use Rattle.state_calls.specs.StateCall.{with_table}
 use Rattle.state_calls.specs.declared.StateAnswer.{StateAnswer}
 use Rattle.steps.specs.declared.Asked.{Asked}
 use Rattle.steps.specs.declared.Core.{Core}
-use Rattle.steps.specs.declared.CoreStep.{CoreStep}
+use Rattle.steps.specs.Steps.{CoreStep}
 use Rattle.steps.specs.declared.Messages.{Messages}
 use Rattle.steps.specs.declared.Next.{Next}
-use Rattle.steps.specs.declared.Next.TheVariants.{Stays, Continues, Commits, Refuses}
+use Rattle.steps.specs.declared.Next.TheVariants.{Stays, Continues, Commits}
 use Rattle.flat.proofs.Encoded.{core_encoded}
-use Rattle.direct_calls.proofs.Common.{not_taken}
 use Rattle.direct_calls.proofs.Taken.{Parts}
 
 -- ---- a proposal commits nothing
@@ -41,10 +40,9 @@ abbrev pub Uncommitted : Next → Type 0
 Uncommitted Stays = Unit {0}
 Uncommitted Continues = Unit {0}
 Uncommitted (Commits v) = ⊥
-Uncommitted (Refuses why) = Unit {0}
 
-abbrev UncommittedBy : CoreStep → Type 0
-UncommittedBy step = Uncommitted step.next
+abbrev pub UncommittedBy : Result CoreStep Refusal → Type 0
+UncommittedBy step = IfOk step (λ s. Uncommitted s.next)
 
 module _ (a : Asked) where
   by_prepare : (round : PaxosRound) (rv : RoundV) (core : Core) → UncommittedBy (propose_prepare a round rv core)
@@ -67,7 +65,7 @@ module _ (a : Asked) where
       go (Ok p) = then (self_accept a.member round p)
       go (Err why) = tt
 
-  pub proposal_uncommitted : (v : ℕ) (core : Core) → Uncommitted (propose_classic a v core).next
+  pub proposal_uncommitted : (v : ℕ) (core : Core) → UncommittedBy (propose_classic a v core)
   unfolding propose_classic
   proposal_uncommitted v core =
       of-both UncommittedBy (may_propose a core)
@@ -77,17 +75,19 @@ module _ (a : Asked) where
 -- ---- what is written
 
 module _ (setup : Setup) (a : Asked) (core : List ℕ) (fast : FastState) (table : ReadTable) (w : Written) (old : Core) where
-  abbrev after : Core → Messages → Next → StateAnswer
-  after s ms next = with_table table (with_fast fast (core_finish_at a true old s ms next))
+  abbrev after : Result CoreStep Refusal → StateAnswer
+  after step = with_table table (with_fast fast (finish_step (core_committed a) true old step))
 
-  written_by : (s : Core) (ms : Messages) (next : Next) → Uncommitted next
-      → Parts core fast table w (after s ms next) (after s ms next).reply.outcome (served setup table (put_step (record { core = s; messages = ms; next = next }) core w))
-  unfolding served put_step refused_by
+  abbrev Written? : Result CoreStep Refusal → Type 0
+  Written? step = Parts core fast table w (after step) (after step).reply.outcome (served setup table (put_step step core w))
+
+  written_by : (s : Core) (ms : Messages) (next : Next) → Uncommitted next → Written? (Ok (record { state = s; messages = ms; next = next }))
+  unfolding served_after put_step
   written_by s ms Stays u = (refl, core_encoded s, refl, refl, refl)
   written_by s ms Continues u = (refl, core_encoded s, refl, refl, refl)
   written_by s ms (Commits v) u = absurd u
-  written_by s ms (Refuses why) u = simp (not_taken why)
 
-  pub step_written : (step : CoreStep) → Uncommitted step.next
-      → Parts core fast table w (after step.core step.messages step.next) (after step.core step.messages step.next).reply.outcome (served setup table (put_step step core w))
-  step_written step u = written_by step.core step.messages step.next u
+  pub step_written : (step : Result CoreStep Refusal) → UncommittedBy step → Written? step
+  unfolding served_after put_step
+  step_written (Ok step) u = written_by step.state step.messages step.next u
+  step_written (Err why) u = refl

@@ -25,13 +25,13 @@ use Rattle.host.proofs.Calls.{refusal_leaves, new_stands}
 use Rattle.host.specs.Calls.{flat_new}
 use Rattle.host.specs.Shards.{decoded_shard}
 use Rattle.host.specs.declared.FlatShard.{FlatShard}
-use Rattle.message.specs.Modes.{has_fast_path}
+use Rattle.message.specs.Modes.{has_fast_path, mode_of_number}
 use Rattle.message.specs.Refusals.{refusal_number}
 use Rattle.message.specs.declared.Refusal.{Refusal}
 use Rattle.read_tracker.specs.declared.OpenRead.{OpenRead}
 use Rattle.read_tracker.specs.declared.ServedRead.{ServedRead}
 use Rattle.settings.specs.declared.Settings.{Settings}
-use Rattle.flat.specs.Decode.{decoded_mode, decoded_open, decoded_served, decoded_settings}
+use Rattle.flat.specs.Decode.{decoded_open, decoded_served, decoded_settings}
 use Rattle.flat.specs.declared.FlatCall.{FlatCall}
 use Rattle.flat.specs.declared.FlatOpenRead.{FlatOpenRead}
 use Rattle.flat.specs.declared.FlatServedRead.{FlatServedRead}
@@ -77,13 +77,13 @@ module _ (m : Memory) (f : FlatCall) (w : Written) where
         told = subst (λ (o : Outcome). Told made.reply o w (left_by m m.fast (direct (refusal_number why) m.core m.table w))) (sym e) (refl, refl);
       }
 
-  by_fast_lem : (o : Outcome) → made.reply.outcome ≡ o → (d : FastDirect) → FastStands m.setup m.committers m.delegates m.core m.fast m.table w made o d → IsCall (left_by_fast m d)
+  by_fast_lem : (o : Outcome) → made.reply.outcome ≡ o → (d : FastDirect ℕ) → FastStands m.setup m.committers m.delegates m.core m.fast m.table w made o d → IsCall (left_by_fast m d)
   by_fast_lem (Ok tt) e d (n, s, r) = taken (left_by_fast m d) e n s r
-  by_fast_lem (Err why) e d same = subst (λ (x : FastDirect). IsCall (left_by_fast m x)) (sym same) (left_alone why e)
+  by_fast_lem (Err why) e d same = subst (λ (x : FastDirect ℕ). IsCall (left_by_fast m x)) (sym same) (left_alone why e)
 
-  by_direct_lem : (o : Outcome) → made.reply.outcome ≡ o → (d : Direct) → Stands m.setup m.committers m.delegates m.core (fast_of m.fast) m.table w made o d → IsCall (left_by m m.fast d)
+  by_direct_lem : (o : Outcome) → made.reply.outcome ≡ o → (d : Direct ℕ) → Stands m.setup m.committers m.delegates m.core (fast_of m.fast) m.table w made o d → IsCall (left_by m m.fast d)
   by_direct_lem (Ok tt) e d (n, s, r) = taken (left_by m m.fast d) e n s r
-  by_direct_lem (Err why) e d same = subst (λ (x : Direct). IsCall (left_by m m.fast x)) (sym same) (left_alone why e)
+  by_direct_lem (Err why) e d same = subst (λ (x : Direct ℕ). IsCall (left_by m m.fast x)) (sym same) (left_alone why e)
 
   -- the fast half has no part in the call
   direct_is : fast_half_acts m.setup f ≡ false → IsCall (by_direct m f w)
@@ -91,19 +91,19 @@ module _ (m : Memory) (f : FlatCall) (w : Written) where
       by_direct_lem made.reply.outcome refl _ ((one_of_both m.setup m.committers m.delegates m.core m.fast m.table f w).1 none).1
 
   -- it has a part, or `chanbook_fast_call` would have given `passed_on`
-  fast_is : eqb (by_fast m f w).direct.number passed_on ≡ false → IsCall (left_by_fast m (by_fast m f w))
+  fast_is : eqb (by_fast m f w).direct.told passed_on ≡ false → IsCall (left_by_fast m (by_fast m f w))
   fast_is given = go (either (fast_half_acts m.setup f))
     where
       go : (fast_half_acts m.setup f ≡ true) ⊎ (fast_half_acts m.setup f ≡ false) → IsCall (left_by_fast m (by_fast m f w))
       go (inl acts) = by_fast_lem made.reply.outcome refl _ ((one_of_both m.setup m.committers m.delegates m.core m.fast m.table f w).0 acts)
       go (inr none) =
-          absurd (not_both (ap (λ (d : FastDirect). eqb d.direct.number passed_on) ((one_of_both m.setup m.committers m.delegates m.core m.fast m.table f w).1 none).0) given)
+          absurd (not_both (ap (λ (d : FastDirect ℕ). eqb d.direct.told passed_on) ((one_of_both m.setup m.committers m.delegates m.core m.fast m.table f w).1 none).0) given)
 
   pub host_is_call : IsCall (host_call m f w)
   unfolding host_call
-  host_is_call = go (has_fast_path (decoded_mode m.setup.mode)) (eqb (by_fast m f w).direct.number passed_on) refl refl
+  host_is_call = go (has_fast_path (mode_of_number m.setup.mode)) (eqb (by_fast m f w).direct.told passed_on) refl refl
     where
-      go : (t u : Bool) → has_fast_path (decoded_mode m.setup.mode) ≡ t → eqb (by_fast m f w).direct.number passed_on ≡ u
+      go : (t u : Bool) → has_fast_path (mode_of_number m.setup.mode) ≡ t → eqb (by_fast m f w).direct.told passed_on ≡ u
           → IsCall (cond t (cond u (by_direct m f w) (left_by_fast m (by_fast m f w))) (by_direct m f w))
       go true true e given =
           direct_is (declined_is_direct m.setup m.committers m.delegates m.core m.fast m.table f w (eqb-true _ _ given))

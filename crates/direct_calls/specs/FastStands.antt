@@ -10,18 +10,18 @@ use Rattle.direct.specs.Direct.{direct_call}
 use Rattle.direct_core.specs.Handled.{Written, put_reply, passed_on}
 use Rattle.direct_fast.specs.DirectFast.{FastDirect, fast_direct, fast_half_acts, fast_call}
 use Rattle.fast_arrays.specs.FastArrays.{FastArrays, fast_of}
-use Rattle.message.specs.Modes.{has_fast_path}
+use Rattle.message.specs.Modes.{has_fast_path, mode_of_number}
 use Rattle.message.specs.Refusals.{refusal_number}
 use Rattle.read_tracker.specs.declared.ReadTable.{ReadTable}
-use Rattle.flat.specs.Decode.{decoded_call, decoded_mode}
+use Rattle.flat.specs.Decode.{decoded_call}
 use Rattle.flat.specs.declared.FlatCall.{FlatCall}
 use Rattle.direct_calls.specs.Stands.{shard_in, Stands}
 
 module _ (s : Setup) (committers delegates core : List ℕ) (fast : FastArrays) (table : ReadTable) (w : Written) where
   -- a call that is taken: the arrays stand for the new shard, and the reply is written; a refusal writes nothing
-  abbrev pub FastStands : Answer → Outcome → FastDirect → Type 0
+  abbrev pub FastStands : Answer → Outcome → FastDirect ℕ → Type 0
   FastStands a (Ok tt) d =
-      (d.direct.number ≡ 0)
+      (d.direct.told ≡ 0)
       × (shard_in s committers delegates d.direct.core (fast_of d.fast) d.direct.table ≡ a.shard)
       × (d.direct.reply ≡ put_reply a.reply w)
   FastStands a (Err why) d = d ≡ fast_direct (refusal_number why) core fast table w
@@ -56,9 +56,9 @@ OneOfBoth =
 abbrev pub DeclinedIsDirect : Type 0
 DeclinedIsDirect =
     (s : Setup) (committers delegates core : List ℕ) (fast : FastArrays) (table : ReadTable) (f : FlatCall) (w : Written)
-    → (fast_call s committers delegates core fast table f w).direct.number ≡ passed_on
+    → (fast_call s committers delegates core fast table f w).direct.told ≡ passed_on
     → fast_half_acts s f ≡ false
 
 -- in the classic modes the fast half has no part in any call: a host goes to `chanbook_direct_call` at once
 abbrev pub ClassicIsDirect : Type 0
-ClassicIsDirect = (s : Setup) (f : FlatCall) → has_fast_path (decoded_mode s.mode) ≡ false → fast_half_acts s f ≡ false
+ClassicIsDirect = (s : Setup) (f : FlatCall) → has_fast_path (mode_of_number s.mode) ≡ false → fast_half_acts s f ≡ false

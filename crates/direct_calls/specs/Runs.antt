@@ -15,10 +15,10 @@ use Rattle.direct_fast.specs.DirectFast.{FastDirect, fast_call}
 use Rattle.fast_arrays.specs.FastArrays.{FastArrays, fast_arrays, fast_of}
 use Rattle.group.specs.Claim.{MemberCall, Entry}
 use Rattle.host.specs.declared.FlatShard.{FlatShard}
-use Rattle.message.specs.Modes.{has_fast_path}
+use Rattle.message.specs.Modes.{has_fast_path, mode_of_number}
 use Rattle.message.specs.Refusals.{refusal_number}
 use Rattle.read_tracker.specs.declared.ReadTable.{ReadTable}
-use Rattle.flat.specs.Decode.{decoded_call, decoded_mode}
+use Rattle.flat.specs.Decode.{decoded_call}
 use Rattle.flat.specs.declared.FlatCall.{FlatCall}
 use Rattle.flat.specs.declared.FlatOpenRead.{FlatOpenRead}
 use Rattle.flat.specs.declared.FlatServedRead.{FlatServedRead}
@@ -51,30 +51,30 @@ pub record HostAnswer : Type 0 where
   pub memory : Memory
   pub reply : Written
 
-abbrev pub left_by : Memory → FastArrays → Direct → HostAnswer
+abbrev pub left_by : Memory → FastArrays → Direct ℕ → HostAnswer
 left_by m fast d =
     record {
-      number = d.number;
+      number = d.told;
       memory =
           record { setup = m.setup; committers = m.committers; delegates = m.delegates; core = d.core; fast = fast; table = d.table };
       reply = d.reply;
     }
 
-abbrev pub left_by_fast : Memory → FastDirect → HostAnswer
+abbrev pub left_by_fast : Memory → FastDirect ℕ → HostAnswer
 left_by_fast m d = left_by m d.fast d.direct
 
 -- the two functions, on the memory of a member
 abbrev pub by_direct : Memory → FlatCall → Written → HostAnswer
 by_direct m f w = left_by m m.fast (direct_call m.setup m.committers m.delegates m.core m.table f w)
 
-abbrev pub by_fast : Memory → FlatCall → Written → FastDirect
+abbrev pub by_fast : Memory → FlatCall → Written → FastDirect ℕ
 by_fast m f w = fast_call m.setup m.committers m.delegates m.core m.fast m.table f w
 
 -- as the header and the Rust crate make a call: in a mode with a fast path `chanbook_fast_call` is asked first
 unfoldable pub host_call : Memory → FlatCall → Written → HostAnswer
 host_call m f w =
-    cond (has_fast_path (decoded_mode m.setup.mode))
-    (cond (eqb (by_fast m f w).direct.number passed_on) (by_direct m f w) (left_by_fast m (by_fast m f w)))
+    cond (has_fast_path (mode_of_number m.setup.mode))
+    (cond (eqb (by_fast m f w).direct.told passed_on) (by_direct m f w) (left_by_fast m (by_fast m f w)))
     (by_direct m f w)
 
 -- what the host is told of a reply: 0 and the reply in its arrays, or a refusal's number and nothing written

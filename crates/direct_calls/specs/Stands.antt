@@ -27,9 +27,9 @@ shard_in s committers delegates core fast table =
 
 module _ (s : Setup) (committers delegates core : List ℕ) (fast : FastState) (table : ReadTable) (w : Written) where
   -- a call that is taken: the arrays stand for the new shard, with the fast half as it was, and the reply is written; a refusal writes nothing
-  abbrev pub Stands : Answer → Outcome → Direct → Type 0
+  abbrev pub Stands : Answer → Outcome → Direct ℕ → Type 0
   Stands a (Ok tt) d =
-      (d.number ≡ 0) × (shard_in s committers delegates d.core fast d.table ≡ a.shard) × (d.reply ≡ put_reply a.reply w)
+      (d.told ≡ 0) × (shard_in s committers delegates d.core fast d.table ≡ a.shard) × (d.reply ≡ put_reply a.reply w)
   Stands a (Err why) d = d ≡ direct (refusal_number why) core table w
 
 -- the call is passed on, where the fast half has a part in it, and nothing is written; or it is made

@@ -1,28 +1,29 @@
 -- What a call that is not refused before leaves in the arrays that are lent: the core, the three messages of the reply, and the rest of the reply.
 -- Assumes nothing.
-use Rattle.std.specs.Prelude.{Bool, true, false, cond, List, [], ℕ, eqb, None, Ok, Err}
+use Rattle.std.specs.Prelude.{Bool, false, cond, List, [], ◌≡◌, ℕ, eqb, None, Result, Ok, Err}
 use Rattle.message.specs.Outcomes.{Outcome}
 use Rattle.arrays.specs.Arrays.{settings_of, core_of, core_numbers, put_message, rest_numbers}
 use Rattle.arrays.specs.declared.Setup.{Setup}
 use Rattle.calls.specs.Asked.{asked_of, heard_of}
 use Rattle.calls.specs.declared.Reply.{Reply}
-use Rattle.core_calls.specs.CoreCall.{core_committed, core_on_commit, read_answer}
+use Rattle.core_calls.specs.CoreCall.{CoreAnswer, core_committed, core_on_commit, read_answer}
 use Rattle.core_calls.specs.Replies.{sent_reply}
-use Rattle.core_calls.specs.declared.CoreAnswer.{CoreAnswer}
 use Rattle.message.specs.Refusals.{refusal_number}
+use Rattle.message.specs.declared.Refusal.{Refusal}
 use Rattle.message.specs.declared.Refusal.TheVariants.{ValueNotHeld, Panic}
 use Rattle.paxos_family.specs.Process.{process_classic}
-use Rattle.steps.specs.Steps.{no_messages, one_message}
+use Rattle.steps.specs.Steps.{CoreStep, no_messages, one_message}
 use Rattle.steps.specs.declared.Asked.{Asked}
-use Rattle.steps.specs.declared.CoreStep.{CoreStep}
 use Rattle.steps.specs.declared.Heard.{Heard}
 use Rattle.steps.specs.declared.Next.{Next}
-use Rattle.steps.specs.declared.Next.TheVariants.{Stays, Continues, Commits, Refuses}
+use Rattle.steps.specs.declared.Next.TheVariants.{Stays, Continues, Commits}
 use Rattle.flat.specs.Encode.{encoded_core}
 use Rattle.flat.specs.Decode.{is_yes, decoded_core, decoded_delivery, decoded_msg, decoded_settings, decoded_source}
 use Rattle.flat.specs.declared.FlatCall.{FlatCall}
 use Rattle.flat.specs.declared.FlatMessage.{FlatMessage}
-use Rattle.direct_core.specs.declared.Handled.{Handled}
+use Rattle.direct_core.specs.declared.NotTaken.{NotTaken}
+use Rattle.direct_core.specs.declared.NotTaken.TheVariants.{Refused, PassedOn}
+use Rattle.direct_core.specs.declared.ReplyArrays.{ReplyArrays}
 use Rattle.direct_core.specs.Lent.{Array, came, left}
 
 -- ---- the reply
@@ -45,6 +46,18 @@ reply_came first second third rest = written (came first) (came second) (came th
 abbrev pub reply_left : Array → Array → Array → Array → Written
 reply_left first second third rest = written (left first) (left second) (left third) (left rest)
 
+-- in the arrays as they are
+abbrev pub reply_in : ReplyArrays → Written
+reply_in a = written a.first.now a.second.now a.third.now a.rest.now
+
+-- they are the arrays that were lent
+abbrev pub SameReply : ReplyArrays → ReplyArrays → Type 0
+SameReply a b =
+    (b.first.ghost_name ≡ a.first.ghost_name)
+    × (b.second.ghost_name ≡ a.second.ghost_name)
+    × (b.third.ghost_name ≡ a.third.ghost_name)
+    × (b.rest.ghost_name ≡ a.rest.ghost_name)
+
 unfoldable pub put_reply : Reply → Written → Written
 put_reply r w =
     record {
@@ -58,35 +71,55 @@ put_reply r w =
 abbrev pub put_served : ℕ → Written → Written
 put_served n w = put_reply (record { outcome = Ok tt; messages = no_messages; commit = None; served_count = n }) w
 
--- ---- what is left
-
--- the number and whether reads may be ready, the core and the reply
-pub record Left : Type 0 where
-  pub handled : Handled
-  pub core : List ℕ
-  pub reply : Written
-
-abbrev pub leaves : Handled → List ℕ → Written → Left
-leaves handled core reply = record { handled = handled; core = core; reply = reply }
-
--- no read is to be served
-abbrev pub with_number : ℕ → Handled
-with_number number = record { number = number; may_serve = false }
-
--- a refusal writes nothing
-abbrev pub refused_with : ℕ → List ℕ → Written → Left
-refused_with number core w = leaves (with_number number) core w
+-- ---- what a host is told
 
 -- the number of a call that has to go to the other of the two functions for hosts; no refusal has it
 abbrev pub passed_on : ℕ
 passed_on = 255
 
+abbrev pub not_taken_number : NotTaken → ℕ
+not_taken_number (Refused why) = refusal_number why
+not_taken_number PassedOn = passed_on
+
+-- what became of a call
+abbrev pub CallOutcome : Type 0
+CallOutcome = Result (Unit {0}) NotTaken
+
+-- 0 where the call is taken
+abbrev pub call_number : CallOutcome → ℕ
+call_number (Ok tt) = 0
+call_number (Err why) = not_taken_number why
+
+-- ---- what is left
+
+-- whether reads may be ready, or the refusal; the core and the reply
+pub record Left : Type 0 where
+  pub handled : Result Bool Refusal
+  pub core : List ℕ
+  pub reply : Written
+
+abbrev pub leaves : Result Bool Refusal → List ℕ → Written → Left
+leaves handled core reply = record { handled = handled; core = core; reply = reply }
+
+-- no read is to be served
+abbrev pub no_reads : Outcome → Result Bool Refusal
+no_reads (Ok tt) = Ok false
+no_reads (Err why) = Err why
+
+-- a refusal writes nothing
+abbrev pub refused_with : Refusal → List ℕ → Written → Left
+refused_with why core w = leaves (Err why) core w
+
 -- ---- the answer of the core
+
+-- to a call that is taken
+abbrev pub put_taken : CoreAnswer → Written → Left
+put_taken a w = leaves (Ok a.deeper) (core_numbers (encoded_core a.state)) (put_reply a.reply w)
 
 -- what the answer leaves, by whether it is a refusal
 unfoldable pub put_outcome : CoreAnswer → Outcome → List ℕ → Written → Left
-put_outcome a (Ok tt) core w = leaves (record { number = 0; may_serve = a.deeper }) (core_numbers (encoded_core a.core)) (put_reply a.reply w)
-put_outcome a (Err why) core w = refused_with (refusal_number why) core w
+put_outcome a (Ok tt) core w = put_taken a w
+put_outcome a (Err why) core w = refused_with why core w
 
 abbrev pub put_answer : CoreAnswer → List ℕ → Written → Left
 put_answer a core w = put_outcome a a.reply.outcome core w
@@ -103,47 +136,31 @@ heard_in s committers delegates f =
 
 -- ---- a proposal
 
--- the number of the refusal, or 0
-unfoldable pub refused_by : Next → ℕ
-refused_by Stays = 0
-refused_by Continues = 0
-refused_by (Commits v) = 0
-refused_by (Refuses why) = refusal_number why
-
 -- a step that is not refused and commits nothing
 abbrev pub put_uncommitted : CoreStep → Written → Left
-put_uncommitted s w = leaves (with_number 0) (core_numbers (encoded_core s.core)) (put_reply (sent_reply s.messages) w)
+put_uncommitted s w = leaves (Ok false) (core_numbers (encoded_core s.state)) (put_reply (sent_reply s.messages) w)
 
 -- the step of a proposal, which commits nothing
-unfoldable pub put_step : CoreStep → List ℕ → Written → Left
-put_step s core w = cond (eqb (refused_by s.next) 0) (put_uncommitted s w) (refused_with (refused_by s.next) core w)
+unfoldable pub put_step : Result CoreStep Refusal → List ℕ → Written → Left
+put_step (Ok s) core w = put_uncommitted s w
+put_step (Err why) core w = refused_with why core w
 
 -- ---- a Commit, and what the rounds handle
 
-unfoldable pub is_commit : Next → Bool
-is_commit Stays = false
-is_commit Continues = false
-is_commit (Commits v) = true
-is_commit (Refuses why) = false
-
--- the value that is committed, or 0
-unfoldable pub decided_value : Next → ℕ
-decided_value Stays = 0
-decided_value Continues = 0
-decided_value (Commits v) = v
-decided_value (Refuses why) = 0
-
 -- a commit needs its value
-abbrev pub put_decided : Asked → Bool → CoreStep → List ℕ → Written → Left
-put_decided a held s core w =
-    cond held (put_answer (core_committed a (decided_value s.next) s.core s.messages) core w) (refused_with (refusal_number ValueNotHeld) core w)
+abbrev pub put_decided : Asked → Bool → ℕ → CoreStep → List ℕ → Written → Left
+put_decided a held v s core w = cond held (put_answer (core_committed a v s.state s.messages) core w) (refused_with ValueNotHeld core w)
+
+-- by what comes after the step
+unfoldable pub put_next : Asked → Bool → CoreStep → Next → List ℕ → Written → Left
+put_next a held s Stays core w = put_uncommitted s w
+put_next a held s Continues core w = put_uncommitted s w
+put_next a held s (Commits v) core w = put_decided a held v s core w
 
 -- the step of a message
-unfoldable pub put_processed : Asked → Bool → CoreStep → List ℕ → Written → Left
-put_processed a held s core w =
-    cond (eqb (refused_by s.next) 0)
-    (cond (is_commit s.next) (put_decided a held s core w) (put_uncommitted s w))
-    (refused_with (refused_by s.next) core w)
+unfoldable pub put_processed : Asked → Bool → Result CoreStep Refusal → List ℕ → Written → Left
+put_processed a held (Ok s) core w = put_next a held s s.next core w
+put_processed a held (Err why) core w = refused_with why core w
 
 -- a Commit has no round, and goes to the core at once
 unfoldable pub handled_by : Setup → List ℕ → List ℕ → List ℕ → FlatCall → Written → Left
@@ -159,8 +176,8 @@ handled_by s committers delegates core f w =
 -- the core is left as it is; one's own request is refused, since nothing is sent to oneself
 abbrev pub requested_by : Setup → List ℕ → FlatMessage → ℕ → Written → Left
 requested_by s core m src w =
-    cond (eqb src s.my_pid) (refused_with (refusal_number Panic) core w)
-    (leaves (with_number 0) core
+    cond (eqb src s.my_pid) (refused_with Panic core w)
+    (leaves (Ok false) core
     (put_reply (sent_reply (one_message (read_answer s.my_pid src (record { 0 = m.id }) (decoded_core (core_of core))))) w))
 
 unfoldable pub answer_request : Setup → List ℕ → FlatMessage → Written → Left

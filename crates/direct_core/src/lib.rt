@@ -3,29 +3,24 @@
 // its values stay in registers. Proposals, and steps that commit nothing, have a way of their own for the same reason.
 #![tactic(auto)]
 
-ghost use Rattle.std.specs.Prelude.{◌≡◌};
+ghost use Rattle.std.specs.Prelude.{◌≡◌, Ok};
 ghost use Rattle.arrays.specs.Arrays.{core_of};
-ghost use Rattle.direct_core.specs.Lent.{came, left};
-ghost use Rattle.direct_core.specs.Handled.{reply_came, reply_left, put_reply, put_served, with_number, leaves, put_answer, asked_in, refused_by, put_step, is_commit, decided_value, put_processed, handled_by, answer_request};
+ghost use Rattle.direct_core.specs.Handled.{reply_in, SameReply, put_reply, put_served, not_taken_number, call_number, leaves, no_reads, put_taken, put_answer, asked_in, put_step, put_processed, handled_by, answer_request};
+ghost use Rattle.direct_core.specs.declared.NotTaken.TheVariants.{Refused};
 ghost use Rattle.propose.specs.Propose.{propose_classic};
 ghost use Rattle.core_calls.specs.Replies.{sent_reply};
 ghost use Rattle.steps.specs.Steps.{one_message};
 ghost use Rattle.flat.specs.Decode.{decoded_core};
 
-use arrays::Setup;
+use arrays::{Setup, Tables};
 use calls::Reply;
 use core_calls::CoreAnswer;
 use flat::{FlatCall, FlatMessage};
-use message::ReadId;
-use steps::{Asked, CoreStep, Next, Outgoing};
+use message::{Outcome, ReadId, Refusal};
+use refusals::Refused;
+use steps::{Asked, CoreStep, Messages, Next, Outgoing};
 
-// What a call gives that has to go to the other of the two functions for hosts. No refusal has this number.
-pub const PASSED_ON: u64 = 255;
-
-// Numbers of refusals.
-const VALUE_NOT_HELD: u64 = 6;
-
-const PANIC: u64 = 8;
+// The kinds of a call and of a message are numbers of the C interface, here, in counting and in flat_calls: any may stand in a host's array, and each is answered.
 
 // The kinds of a call. Any other number is a message.
 pub const PROPOSAL: u64 = 0;
@@ -41,259 +36,213 @@ pub const COMMIT: u64 = 4;
 
 pub const READ_RESPONSE: u64 = 6;
 
-// The number of the refusal, or 0, and whether open reads may have become ready, so that they have to be served.
-#[derive(Clone, Copy)]
-pub struct Handled {
-    pub number: u64,
-    pub may_serve: bool,
+// Why a call is not taken: it is refused, or has to go to the other of the two functions for hosts.
+#[derive(Clone, Copy, PartialEq, Eq, Debug)]
+pub enum NotTaken {
+    Refused(Refusal),
+    PassedOn,
 }
 
-// No read is to be served.
-fn with_number(number: u64) -> Handled
-    ensures { result ≡ with_number number }
-{
-    Handled {
-        number,
-        may_serve: false,
+impl From<Refusal> for NotTaken {
+    ghost from_gives = { λ why given. given ≡ Refused why };
+
+    fn from(why: Refusal) -> NotTaken {
+        NotTaken::Refused(why)
     }
 }
 
-fn put_reply(
-    first: &mut [u64; 20],
-    second: &mut [u64; 20],
-    third: &mut [u64; 20],
-    rest: &mut [u64; 5],
-    reply: Reply,
-)
-    ensures { reply_left first second third rest ≡ put_reply reply (reply_came first second third rest) }
-{
-    let messages = reply.messages;
-    let one = messages.first;
-    let two = messages.second;
-    let three = messages.third;
-    let commit = reply.commit;
-    arrays::put_message(first, one);
-    arrays::put_message(second, two);
-    arrays::put_message(third, three);
-    arrays::put_rest(rest, commit, reply.served_count);
-}
+impl Refused for NotTaken {
+    ghost refusal_number = { not_taken_number };
 
-// The reply of a call that sends and commits nothing, and has served so many reads.
-pub fn put_served(
-    first: &mut [u64; 20],
-    second: &mut [u64; 20],
-    third: &mut [u64; 20],
-    rest: &mut [u64; 5],
-    served_count: u64,
-)
-    ensures { reply_left first second third rest ≡ put_served served_count (reply_came first second third rest) }
-{
-    arrays::put_message(first, None);
-    arrays::put_message(second, None);
-    arrays::put_message(third, None);
-    arrays::put_rest(rest, None, served_count);
-}
-
-// The reply of a call that sends one message.
-pub fn put_sent(
-    first: &mut [u64; 20],
-    second: &mut [u64; 20],
-    third: &mut [u64; 20],
-    rest: &mut [u64; 5],
-    sent: Outgoing,
-)
-    ensures { reply_left first second third rest
-        ≡ put_reply (sent_reply (one_message sent)) (reply_came first second third rest) }
-{
-    arrays::put_sent(first, sent);
-    arrays::put_message(second, None);
-    arrays::put_message(third, None);
-    arrays::put_rest(rest, None, 0);
-}
-
-// What the core answers, written into the arrays.
-pub fn put_answer(
-    core: &mut [u64; 18],
-    first: &mut [u64; 20],
-    second: &mut [u64; 20],
-    third: &mut [u64; 20],
-    rest: &mut [u64; 5],
-    a: CoreAnswer,
-) -> Handled
-    ensures { leaves result (left core) (reply_left first second third rest) ≡ put_answer a (came core) (reply_came first second third rest) }
-{
-    let reply = a.reply;
-    let outcome = reply.outcome;
-    match outcome {
-        Ok(()) => {
-            let next = a.core;
-            arrays::put_core(core, flat::encode_core(next));
-            put_reply(first, second, third, rest, reply);
-            Handled {
-                number: 0,
-                may_serve: a.deeper,
-            }
+    // As a host is told of it. No refusal has the number 255.
+    fn number(self) -> u64 {
+        match self {
+            NotTaken::Refused(why) => why.number(),
+            NotTaken::PassedOn => 255,
         }
-        Err(why) => with_number(why.number()),
     }
+}
+
+// What a host is told of a call: 0 where it is taken.
+pub fn call_number(outcome: Result<(), NotTaken>) -> u64
+    ensures { result ≡ call_number outcome }
+{
+    refusals::refusal(outcome)
+}
+
+// The arrays of a reply, which are lent: three messages, and the rest. Any numbers may stand in them.
+#[derive(Drop)]
+pub struct ReplyArrays<'a> {
+    pub first: &'a mut [u64; 20],
+    pub second: &'a mut [u64; 20],
+    pub third: &'a mut [u64; 20],
+    pub rest: &'a mut [u64; 5],
+}
+
+impl ReplyArrays<'_> {
+    #[inline(always)]
+    #[tactic(auto, unfolding(crate::specs::Handled::put_reply))]
+    fn put_reply(&mut self, reply: Reply)
+        ensures same { SameReply self.old self.new }
+        ensures reply { reply_in self.new ≡ put_reply reply (reply_in self.old) }
+    {
+        let messages = reply.messages;
+        arrays::put_message(self.first, messages.first);
+        arrays::put_message(self.second, messages.second);
+        arrays::put_message(self.third, messages.third);
+        arrays::put_rest(self.rest, reply.commit, reply.served_count);
+    }
+
+    // The reply of a call that commits nothing and serves no read. Without `inline`, since two functions call it, the messages are copied for it, and a
+    // proposal took twice as long (docs/DECISIONS.md 57).
+    #[inline(always)]
+    #[tactic(auto, unfolding(crate::specs::Handled::put_reply))]
+    fn put_messages(&mut self, messages: Messages)
+        ensures same { SameReply self.old self.new }
+        ensures reply { reply_in self.new ≡ put_reply (sent_reply messages) (reply_in self.old) }
+    {
+        arrays::put_message(self.first, messages.first);
+        arrays::put_message(self.second, messages.second);
+        arrays::put_message(self.third, messages.third);
+        arrays::put_rest(self.rest, None, 0);
+    }
+
+    // The reply of a call that sends and commits nothing, and has served so many reads.
+    #[tactic(auto, unfolding(crate::specs::Handled::put_reply, arrays::specs::Arrays::put_message))]
+    pub fn put_served(&mut self, served_count: u64)
+        ensures same { SameReply self.old self.new }
+        ensures reply { reply_in self.new ≡ put_served served_count (reply_in self.old) }
+    {
+        arrays::put_message(self.first, None);
+        arrays::put_message(self.second, None);
+        arrays::put_message(self.third, None);
+        arrays::put_rest(self.rest, None, served_count);
+    }
+
+    // The reply of a call that sends one message.
+    #[tactic(auto, unfolding(crate::specs::Handled::put_reply, arrays::specs::Arrays::put_message))]
+    pub fn put_sent(&mut self, sent: Outgoing)
+        ensures same { SameReply self.old self.new }
+        ensures reply { reply_in self.new ≡ put_reply (sent_reply (one_message sent)) (reply_in self.old) }
+    {
+        arrays::put_sent(self.first, sent);
+        arrays::put_message(self.second, None);
+        arrays::put_message(self.third, None);
+        arrays::put_rest(self.rest, None, 0);
+    }
+}
+
+// What the core answers to a call that is taken, written into the arrays. Hands back whether open reads may have become ready, so that they have to be
+// served.
+#[inline(always)]
+pub fn put_taken(core: &mut [u64; 18], reply: &mut ReplyArrays<'_>, a: CoreAnswer) -> bool
+    ensures same { SameReply reply.old reply.new }
+    ensures written { leaves (Ok result) core.new (reply_in reply.new) ≡ put_taken a (reply_in reply.old) }
+{
+    arrays::put_core(core, flat::encode_core(a.state));
+    reply.put_reply(a.reply);
+    a.deeper
+}
+
+// What the core answers, by whether it is a refusal, which writes nothing. Without `inline`, since it has two callers, the references of the reply stand in
+// memory for every call, and a new read and a call that is refused took a quarter longer.
+#[inline(always)]
+#[tactic(auto, unfolding(crate::specs::Handled::put_outcome))]
+fn put_answer(
+    core: &mut [u64; 18],
+    reply: &mut ReplyArrays<'_>,
+    a: CoreAnswer,
+) -> Result<bool, Refusal>
+    ensures same { SameReply reply.old reply.new }
+    ensures written { leaves result core.new (reply_in reply.new) ≡ put_answer a core.old (reply_in reply.old) }
+{
+    a.reply.outcome?;
+    Ok(put_taken(core, reply, a))
 }
 
 // The answer to a ReadRequest, which leaves the core as it is. One's own is refused: nothing is sent to oneself.
+#[tactic(auto, unfolding(crate::specs::Handled::answer_request))]
 pub fn answer_request(
     setup: Setup,
     core: &[u64; 18],
     message: FlatMessage,
-    first: &mut [u64; 20],
-    second: &mut [u64; 20],
-    third: &mut [u64; 20],
-    rest: &mut [u64; 5],
-) -> u64
-    ensures { leaves (with_number result) core.now (reply_left first second third rest)
-        ≡ answer_request setup core.now message (reply_came first second third rest) }
+    reply: &mut ReplyArrays<'_>,
+) -> Outcome
+    ensures same { SameReply reply.old reply.new }
+    ensures written { leaves (no_reads result) core.now (reply_in reply.new) ≡ answer_request setup core.now message (reply_in reply.old) }
 {
     let own = setup.my_pid;
     let src = flat::decode_source(setup.process_count, own, message);
     if src == own {
-        return PANIC;
+        return Err(Refusal::Panic);
     }
     let decoded = flat::decode_core(arrays::core_in(core));
-    let sent = core_calls::read_answer(own, src, ReadId(message.id), decoded);
-    put_sent(first, second, third, rest, sent);
-    0
-}
-
-// Three questions about what comes after a step. They stand apart, and not as one `match` whose arms write, so that a step that commits nothing is
-// written at once: the compiler keeps an answer that may be of every kind in memory (docs/DECISIONS.md 58).
-
-// The number of the refusal, or 0.
-#[tactic(auto, unfolding(crate::specs::Handled::refused_by))]
-fn refused_by(next: Next) -> u64
-    ensures { result ≡ refused_by next }
-{
-    match next {
-        Next::Refuses(why) => why.number(),
-        _ => 0,
-    }
-}
-
-#[tactic(auto, unfolding(crate::specs::Handled::is_commit))]
-fn is_commit(next: Next) -> bool
-    ensures { result ≡ is_commit next }
-{
-    matches!(next, Next::Commits(_))
-}
-
-// The value that is committed, or 0.
-#[tactic(auto, unfolding(crate::specs::Handled::decided_value))]
-fn decided_value(next: Next) -> u64
-    ensures { result ≡ decided_value next }
-{
-    match next {
-        Next::Commits(v) => v,
-        _ => 0,
-    }
+    reply.put_sent(core_calls::read_answer(own, src, ReadId(message.id), decoded));
+    Ok(())
 }
 
 // A proposal. It commits nothing, so that nothing but the core and the messages is to be written.
-pub fn propose(
-    setup: Setup,
-    core: &mut [u64; 18],
-    v: u64,
-    first: &mut [u64; 20],
-    second: &mut [u64; 20],
-    third: &mut [u64; 20],
-    rest: &mut [u64; 5],
-) -> u64
-    ensures { leaves (with_number result) (left core) (reply_left first second third rest)
-        ≡ put_step (propose_classic (asked_in setup) v (decoded_core (core_of (came core)))) (came core) (reply_came first second third rest) }
+#[tactic(auto, unfolding(crate::specs::Handled::put_step))]
+pub fn propose(setup: Setup, core: &mut [u64; 18], v: u64, reply: &mut ReplyArrays<'_>) -> Outcome
+    ensures same { SameReply reply.old reply.new }
+    ensures written { leaves (no_reads result) core.new (reply_in reply.new)
+        ≡ put_step (propose_classic (asked_in setup) v (decoded_core (core_of core.old))) core.old (reply_in reply.old) }
 {
     let asked = flat_calls::asked_of(setup);
     let decoded = flat::decode_core(arrays::core_in(core));
-    let step = propose::propose_classic(asked, v, decoded);
-    let next = step.next;
-    let after = step.core;
-    let messages = step.messages;
-    let one = messages.first;
-    let two = messages.second;
-    let three = messages.third;
-    let number = refused_by(next);
-    if number != 0 {
-        return number;
-    }
-    // The same five lines end `put_processed`: a function for both would have two callers, and `after` would be copied for it (docs/DECISIONS.md 57).
-    arrays::put_core(core, flat::encode_core(after));
-    arrays::put_message(first, one);
-    arrays::put_message(second, two);
-    arrays::put_message(third, three);
-    arrays::put_rest(rest, None, 0);
-    0
+    let step = propose::propose_classic(asked, v, decoded)?;
+    arrays::put_core(core, flat::encode_core(step.state));
+    reply.put_messages(step.messages);
+    Ok(())
 }
 
 // The step of a message. Most commit nothing, so that nothing but the core and the messages is to be written. A commit needs its value.
+#[tactic(auto, unfolding(crate::specs::Handled::put_processed, crate::specs::Handled::put_next))]
 fn put_processed(
     asked: Asked,
     held: bool,
     core: &mut [u64; 18],
-    first: &mut [u64; 20],
-    second: &mut [u64; 20],
-    third: &mut [u64; 20],
-    rest: &mut [u64; 5],
+    reply: &mut ReplyArrays<'_>,
     step: CoreStep,
-) -> Handled
-    ensures { leaves result (left core) (reply_left first second third rest)
-        ≡ put_processed asked held step (came core) (reply_came first second third rest) }
+) -> Result<bool, Refusal>
+    ensures same { SameReply reply.old reply.new }
+    ensures written { leaves result core.new (reply_in reply.new) ≡ put_processed asked held (Ok step) core.old (reply_in reply.old) }
 {
-    let next = step.next;
-    let after = step.core;
-    let messages = step.messages;
-    let one = messages.first;
-    let two = messages.second;
-    let three = messages.third;
-    let number = refused_by(next);
-    if number != 0 {
-        return with_number(number);
-    }
-    if is_commit(next) {
-        if held {
-            let v = decided_value(next);
-            let decided = core_calls::core_committed(asked, v, after, messages);
-            return put_answer(core, first, second, third, rest, decided);
+    if let Next::Commits(v) = step.next {
+        if !held {
+            return Err(Refusal::ValueNotHeld);
         }
-        return with_number(VALUE_NOT_HELD);
+        let decided = core_calls::core_committed(asked, v, step.state, step.messages);
+        return put_answer(core, reply, decided);
     }
-    arrays::put_core(core, flat::encode_core(after));
-    arrays::put_message(first, one);
-    arrays::put_message(second, two);
-    arrays::put_message(third, three);
-    arrays::put_rest(rest, None, 0);
-    with_number(0)
+    arrays::put_core(core, flat::encode_core(step.state));
+    reply.put_messages(step.messages);
+    Ok(false)
 }
 
 // A Commit, or what the rounds handle.
+#[tactic(auto, unfolding(crate::specs::Handled::handled_by, crate::specs::Handled::put_processed))]
 pub fn handle(
     setup: Setup,
-    committers: &[u64; 64],
-    delegates: &[u64; 64],
+    tables: Tables<'_>,
     core: &mut [u64; 18],
     f: FlatCall,
-    first: &mut [u64; 20],
-    second: &mut [u64; 20],
-    third: &mut [u64; 20],
-    rest: &mut [u64; 5],
-) -> Handled
-    ensures { leaves result (left core) (reply_left first second third rest)
-        ≡ handled_by setup committers.now delegates.now (came core) f (reply_came first second third rest) }
+    reply: &mut ReplyArrays<'_>,
+) -> Result<bool, Refusal>
+    ensures same { SameReply reply.old reply.new }
+    ensures written { leaves result core.new (reply_in reply.new)
+        ≡ handled_by setup tables.entry.committers.now tables.entry.delegates.now core.old f (reply_in reply.old) }
 {
     let asked = flat_calls::asked_of(setup);
     let decoded = flat::decode_core(arrays::core_in(core));
     let message = f.message;
     if message.kind == COMMIT {
         let committed = core_calls::core_on_commit(asked, message.slot, message.v, decoded);
-        return put_answer(core, first, second, third, rest, committed);
+        return put_answer(core, reply, committed);
     }
-    let heard = flat_calls::heard_of(setup, committers, delegates, f);
+    let heard = flat_calls::heard_of(setup, tables, f);
     let held = flat::is_yes(f.value_held);
     let msg = flat::decode_msg(message);
-    let step = paxos_family::process_classic(asked, heard, msg, decoded);
-    put_processed(asked, held, core, first, second, third, rest, step)
+    let step = paxos_family::process_classic(asked, heard, msg, decoded)?;
+    put_processed(asked, held, core, reply, step)
 }

@@ -1,20 +1,22 @@
--- What a call in EPaxos or SwiftPaxos leaves in the arrays that are lent, and the number that it hands back: 0 where it is taken, a refusal's number,
--- or `passed_on` where the fast half has no part in it.
+-- What a call in EPaxos or SwiftPaxos leaves in the arrays that are lent, and what is told of it: that it is taken, why it is refused, or that the fast half
+-- has no part in it.
 -- Assumes nothing.
-use Rattle.std.specs.Prelude.{Bool, cond, not, ◌&&◌, ◌||◌, List, ℕ, eqb}
+use Rattle.std.specs.Prelude.{Bool, cond, not, ◌&&◌, ◌||◌, List, ℕ, eqb, Result, Ok, Err}
 use Rattle.arrays.specs.Arrays.{core_of}
 use Rattle.arrays.specs.declared.Setup.{Setup}
-use Rattle.direct.specs.Direct.{direct, Direct, served, concerns_slot, is_older}
-use Rattle.direct_core.specs.Handled.{Written, put_served, Left, leaves, passed_on, put_answer, asked_in, heard_in}
+use Rattle.direct.specs.Direct.{direct, Direct, numbered, served, concerns_slot, is_older}
+use Rattle.direct_core.specs.Handled.{Written, put_served, CallOutcome, Left, leaves, put_taken, asked_in, heard_in}
 use Rattle.direct_core.specs.Lent.{Array, came, left}
-use Rattle.direct_core.specs.declared.Handled.{Handled}
+use Rattle.direct_core.specs.declared.NotTaken.TheVariants.{Refused, PassedOn}
 use Rattle.fast_arrays.specs.FastArrays.{FastArrays, fast_arrays, answers_in, put_after}
 use Rattle.fast_calls.specs.FastCall.{fast_finish}
 use Rattle.fast_calls.specs.declared.FastAnswer.{FastAnswer}
 use Rattle.fast_state.specs.Adopt.{lowest_best}
 use Rattle.fast_state.specs.Fast.{unchanged}
 use Rattle.fast_state.specs.declared.FastAnswers.{FastAnswers}
-use Rattle.message.specs.Modes.{has_fast_path}
+use Rattle.message.specs.Modes.{has_fast_path, mode_of_number}
+use Rattle.message.specs.Outcomes.{Outcome}
+use Rattle.message.specs.declared.Refusal.{Refusal}
 use Rattle.paxos_family.specs.Process.{process_change}
 use Rattle.propose.specs.Propose.{propose_change}
 use Rattle.read_tracker.specs.declared.ReadTable.{ReadTable}
@@ -23,7 +25,7 @@ use Rattle.steps.specs.declared.Asked.{Asked}
 use Rattle.steps.specs.declared.ChangeStep.{ChangeStep}
 use Rattle.steps.specs.declared.Core.{Core}
 use Rattle.flat_calls.specs.Refusals.{refusal_of}
-use Rattle.flat.specs.Decode.{is_yes, decoded_core, decoded_mode, decoded_msg}
+use Rattle.flat.specs.Decode.{is_yes, decoded_core, decoded_msg}
 use Rattle.flat.specs.declared.FlatCall.{FlatCall}
 use Rattle.flat.specs.declared.FlatCore.{FlatCore}
 
@@ -39,19 +41,19 @@ half_left answers values epaxos swift = fast_arrays (left answers) (left values)
 
 -- ---- a proposal, a Commit, and what the rounds handle
 
-unfoldable pub fast_step : Asked → Setup → List ℕ → List ℕ → Core → FastAnswers → List ℕ → List ℕ → List ℕ → FlatCall → ChangeStep
-fast_step asked s committers delegates core answers values epaxos swift f =
-    cond (eqb f.kind 0) (propose_change asked f.v core answers epaxos swift)
-    (cond (eqb f.message.kind 4) (with_change (unchanged answers) (commits f.message.v core no_messages))
-    (process_change lowest_best asked (heard_in s committers delegates f) (decoded_msg f.message) core answers values epaxos swift))
+unfoldable pub fast_step : Asked → Setup → List ℕ → List ℕ → Core → FastAnswers → FastArrays → FlatCall → Result ChangeStep Refusal
+fast_step asked s committers delegates core answers fast f =
+    cond (eqb f.kind 0) (propose_change asked f.v core answers fast.epaxos fast.swift)
+    (cond (eqb f.message.kind 4) (Ok (with_change (unchanged answers) (commits f.message.v core no_messages)))
+    (process_change lowest_best asked (heard_in s committers delegates f) (decoded_msg f.message) core answers fast.values fast.epaxos fast.swift))
 
 -- the value that is proposed, and that of a Commit, which refusal 6 has asked for
 unfoldable pub holds_value : FlatCall → Bool
 holds_value f = eqb f.kind 0 || (eqb f.message.kind 4 || is_yes f.value_held)
 
-unfoldable pub fast_answer : Setup → List ℕ → List ℕ → Core → FastAnswers → List ℕ → List ℕ → List ℕ → FlatCall → FastAnswer
-fast_answer s committers delegates core answers values epaxos swift f =
-    fast_finish (asked_in s) (holds_value f) core (fast_step (asked_in s) s committers delegates core answers values epaxos swift f)
+unfoldable pub fast_answer : Setup → List ℕ → List ℕ → Core → FastArrays → FlatCall → Result FastAnswer Refusal
+fast_answer s committers delegates core fast f =
+    fast_finish (asked_in s) (holds_value f) (fast_step (asked_in s) s committers delegates core (answers_in fast.answers) fast f)
 
 -- ---- what is written
 
@@ -60,55 +62,63 @@ pub record FastLeft : Type 0 where
   pub common : Left
   pub fast : FastArrays
 
-abbrev pub fast_leaves : Handled → List ℕ → FastArrays → Written → FastLeft
+abbrev pub fast_leaves : Result Bool Refusal → List ℕ → FastArrays → Written → FastLeft
 fast_leaves handled core fast reply = record { common = leaves handled core reply; fast = fast }
 
--- a refusal has another number than 0, and writes nothing
-unfoldable pub put_fast : FastAnswer → List ℕ → FastArrays → Written → FastLeft
-put_fast x core fast w =
-    record {
-      common = put_answer x.answer core w;
-      fast = cond (eqb (put_answer x.answer core w).handled.number 0) (put_after x.after fast) fast;
-    }
+-- a call that is taken
+abbrev pub put_fast : FastAnswer → FastArrays → Written → FastLeft
+put_fast x fast w = record { common = put_taken x.answer w; fast = put_after x.after fast }
+
+-- a refusal writes nothing
+unfoldable pub put_answered : Result FastAnswer Refusal → List ℕ → FastArrays → Written → FastLeft
+put_answered (Ok x) core fast w = put_fast x fast w
+put_answered (Err why) core fast w = fast_leaves (Err why) core fast w
 
 -- the answer of the fast half to a call that is not too old
 abbrev pub fast_written : Setup → List ℕ → List ℕ → List ℕ → FastArrays → FlatCall → Written → FastLeft
 fast_written s committers delegates core fast f w =
-    put_fast (fast_answer s committers delegates (decoded_core (core_of core)) (answers_in fast.answers) fast.values fast.epaxos fast.swift f)
-    core
-    fast
-    w
+    put_answered (fast_answer s committers delegates (decoded_core (core_of core)) fast f) core fast w
 
 -- what a call leaves
-pub record FastDirect : Type 0 where
-  pub direct : Direct
+pub record FastDirect (A : Type 0) : Type 0 where
+  pub direct : Direct A
   pub fast : FastArrays
 
-abbrev pub fast_direct : ℕ → List ℕ → FastArrays → ReadTable → Written → FastDirect
-fast_direct number core fast table reply = record { direct = direct number core table reply; fast = fast }
+abbrev pub fast_direct : {A : Type 0} → A → List ℕ → FastArrays → ReadTable → Written → FastDirect A
+fast_direct told core fast table reply = record { direct = direct told core table reply; fast = fast }
 
 -- ---- calls
 
 -- the fast half is as the answer left it
-abbrev pub fast_served : Setup → ReadTable → FastLeft → FastDirect
+abbrev pub fast_served : Setup → ReadTable → FastLeft → FastDirect CallOutcome
 fast_served s table l = record { direct = served s table l.common; fast = l.fast }
 
 -- a message that is too old does nothing
 unfoldable pub is_old : FlatCore → FlatCall → Bool
 is_old c f = not (eqb f.kind 0) && is_older c f.message
 
-unfoldable pub fast_handled : Setup → List ℕ → List ℕ → List ℕ → FastArrays → ReadTable → FlatCall → Written → FastDirect
+unfoldable pub fast_handled : Setup → List ℕ → List ℕ → List ℕ → FastArrays → ReadTable → FlatCall → Written → FastDirect CallOutcome
 fast_handled s committers delegates core fast table f w =
-    cond (is_old (core_of core) f) (fast_direct 0 core fast table (put_served 0 w))
+    cond (is_old (core_of core) f) (fast_direct (Ok tt) core fast table (put_served 0 w))
     (fast_served s table (fast_written s committers delegates core fast f w))
 
 -- in EPaxos and SwiftPaxos, in what concerns a slot and is no new read
 unfoldable pub fast_half_acts : Setup → FlatCall → Bool
-fast_half_acts s f = not (eqb f.kind 1) && (has_fast_path (decoded_mode s.mode) && concerns_slot f)
+fast_half_acts s f = not (eqb f.kind 1) && (has_fast_path (mode_of_number s.mode) && concerns_slot f)
 
-unfoldable pub fast_call : Setup → List ℕ → List ℕ → List ℕ → FastArrays → ReadTable → FlatCall → Written → FastDirect
-fast_call s committers delegates core fast table f w =
-    cond (fast_half_acts s f)
-    (cond (eqb (refusal_of s (core_of core) f) 0) (fast_handled s committers delegates core fast table f w)
-    (fast_direct (refusal_of s (core_of core) f) core fast table w))
-    (fast_direct passed_on core fast table w)
+-- by the refusal, if there is one
+unfoldable pub fast_unless_refused : Setup → List ℕ → List ℕ → Outcome → List ℕ → FastArrays → ReadTable → FlatCall → Written → FastDirect CallOutcome
+fast_unless_refused s committers delegates (Ok tt) core fast table f w = fast_handled s committers delegates core fast table f w
+fast_unless_refused s committers delegates (Err why) core fast table f w = fast_direct (Err (Refused why)) core fast table w
+
+unfoldable pub fast_made : Setup → List ℕ → List ℕ → List ℕ → FastArrays → ReadTable → FlatCall → Written → FastDirect CallOutcome
+fast_made s committers delegates core fast table f w =
+    cond (fast_half_acts s f) (fast_unless_refused s committers delegates (refusal_of s (core_of core) f) core fast table f w)
+    (fast_direct (Err PassedOn) core fast table w)
+
+-- with the number that a host gets
+abbrev pub fast_numbered : FastDirect CallOutcome → FastDirect ℕ
+fast_numbered d = record { direct = numbered d.direct; fast = d.fast }
+
+unfoldable pub fast_call : Setup → List ℕ → List ℕ → List ℕ → FastArrays → ReadTable → FlatCall → Written → FastDirect ℕ
+fast_call s committers delegates core fast table f w = fast_numbered (fast_made s committers delegates core fast table f w)

@@ -2,18 +2,23 @@
 // that is refused writes nothing. It stands in a library of its own, so that the handlers, which the classic modes share, have one caller in each.
 #![tactic(auto)]
 
-ghost use Rattle.std.specs.Prelude.{◌≡◌};
+ghost use Rattle.std.specs.Prelude.{◌≡◌, Ok, OnErr};
+ghost use Rattle.array_reads.specs.Rows.{reads_in, SameReads};
 ghost use Rattle.arrays.specs.Arrays.{setup_of, call_of};
 ghost use Rattle.direct_core.specs.Lent.{came, left};
-ghost use Rattle.direct_core.specs.Handled.{reply_came, reply_left};
-ghost use Rattle.direct.specs.Direct.{reads_came, reads_left, LeftUnlessTaken};
-ghost use Rattle.direct_fast.specs.DirectFast.{half_came, half_left, fast_step, holds_value, fast_answer, fast_leaves, put_fast, fast_written, fast_direct, fast_handled, is_old, fast_half_acts, fast_call};
+ghost use Rattle.direct_core.specs.Handled.{reply_came, reply_left, reply_in, SameReply};
+ghost use Rattle.direct.specs.Direct.{reads_came, reads_left, SameNumbers, LeftUnlessTaken};
+ghost use Rattle.fast_arrays.specs.FastArrays.{half_in, SameHalf};
+ghost use Rattle.direct_fast.specs.DirectFast.{half_came, half_left, fast_step, holds_value, fast_answer, fast_leaves, put_fast, fast_written, fast_direct, fast_handled, is_old, fast_half_acts, fast_made, fast_call};
 
-use arrays::Setup;
-use direct_core::{COMMIT, Handled, NEW_READ, PASSED_ON, PROPOSAL};
+use array_reads::ReadArrays;
+use arrays::{Setup, Tables};
+use direct_core::{COMMIT, NEW_READ, NotTaken, PROPOSAL, ReplyArrays};
+use fast_arrays::FastHalf;
 use fast_calls::FastAnswer;
-use fast_state::FastAnswers;
+use fast_state::{FastAnswers, FastTables};
 use flat::{FlatCall, FlatCore};
+use message::{PFMode, Refusal};
 use steps::{Asked, ChangeStep, Core};
 
 // Whether the fast half has a part in the call: in EPaxos and SwiftPaxos, in what concerns a slot and is no new read.
@@ -21,7 +26,7 @@ use steps::{Asked, ChangeStep, Core};
 fn fast_half_acts(setup: Setup, f: FlatCall) -> bool
     ensures { result ≡ fast_half_acts setup f }
 {
-    let mode = flat::decode_mode(setup.mode);
+    let mode = PFMode::of_number(setup.mode);
     if f.kind == NEW_READ {
         return false;
     }
@@ -43,30 +48,33 @@ fn is_old(c: FlatCore, f: FlatCall) -> bool
 }
 
 // The step of a proposal, of a Commit of the own slot, or of what the rounds handle.
+#[tactic(auto, unfolding(crate::specs::DirectFast::fast_step))]
 fn fast_step(
     asked: Asked,
     setup: Setup,
-    committers: &[u64; 64],
-    delegates: &[u64; 64],
+    tables: Tables<'_>,
     core: Core,
     answers: FastAnswers,
-    values: &[u64; 64],
-    epaxos: &[u64; 64],
-    swift: &[u64; 64],
+    half: &FastHalf<'_>,
     f: FlatCall,
-) -> ChangeStep
-    ensures { result ≡ fast_step asked setup committers.now delegates.now core answers values.now epaxos.now swift.now f }
+) -> Result<ChangeStep, Refusal>
+    ensures { result ≡ fast_step asked setup tables.entry.committers.now tables.entry.delegates.now core answers (half_in half.now) f }
 {
     let message = f.message;
     if f.kind == PROPOSAL {
-        return propose::propose_change(asked, f.v, core, answers, epaxos, swift);
+        return propose::propose_change(asked, f.v, core, answers, half.epaxos, half.swift);
     }
     if message.kind == COMMIT {
-        return core.commits_silent(message.v).unchanged(answers);
+        return Ok(core.commits_silent(message.v).unchanged(answers));
     }
-    let heard = flat_calls::heard_of(setup, committers, delegates, f);
+    let heard = flat_calls::heard_of(setup, tables, f);
     let msg = flat::decode_msg(message);
-    paxos_family::process_change(asked, heard, msg, core, answers, values, epaxos, swift)
+    let scores = FastTables {
+        values: half.values,
+        epaxos_scores: half.epaxos,
+        swift_scores: half.swift,
+    };
+    paxos_family::process_change(asked, heard, msg, core, answers, scores)
 }
 
 // Whether the host holds the value: the one that it proposes, and that of a Commit, which refusal 6 has asked for.
@@ -84,120 +92,110 @@ fn holds_value(f: FlatCall) -> bool
 }
 
 // All that is not refused ends here, so that the end has one caller.
+#[tactic(auto, unfolding(crate::specs::DirectFast::fast_answer))]
 fn fast_answer(
     setup: Setup,
-    committers: &[u64; 64],
-    delegates: &[u64; 64],
+    tables: Tables<'_>,
     core: Core,
-    answers: FastAnswers,
-    values: &[u64; 64],
-    epaxos: &[u64; 64],
-    swift: &[u64; 64],
+    half: &FastHalf<'_>,
     f: FlatCall,
-) -> FastAnswer
-    ensures { result ≡ fast_answer setup committers.now delegates.now core answers values.now epaxos.now swift.now f }
+) -> Result<FastAnswer, Refusal>
+    ensures { result ≡ fast_answer setup tables.entry.committers.now tables.entry.delegates.now core (half_in half.now) f }
 {
     let asked = flat_calls::asked_of(setup);
-    let step = fast_step(
-        asked, setup, committers, delegates, core, answers, values, epaxos, swift, f,
-    );
-    fast_calls::fast_finish(asked, holds_value(f), core, step)
+    let answers = fast_arrays::answers_in(half.answers);
+    let step = fast_step(asked, setup, tables, core, answers, half, f);
+    fast_calls::fast_finish(asked, holds_value(f), step)
 }
 
-// What is answered, written into the arrays. A refusal writes nothing.
+// What is answered to a call that is taken, written into the arrays. Hands back whether open reads may have become ready.
 fn put_fast(
     core: &mut [u64; 18],
-    answers: &mut [u64; 5],
-    values: &mut [u64; 64],
-    epaxos: &mut [u64; 64],
-    swift: &mut [u64; 64],
-    first: &mut [u64; 20],
-    second: &mut [u64; 20],
-    third: &mut [u64; 20],
-    rest: &mut [u64; 5],
+    half: &mut FastHalf<'_>,
+    reply: &mut ReplyArrays<'_>,
     x: FastAnswer,
-) -> Handled
-    ensures { fast_leaves result (left core) (half_left answers values epaxos swift) (reply_left first second third rest)
-        ≡ put_fast x (came core) (half_came answers values epaxos swift) (reply_came first second third rest) }
+) -> bool
+    ensures same { SameHalf half.old half.new × SameReply reply.old reply.new }
+    ensures written { fast_leaves (Ok result) core.new (half_in half.new) (reply_in reply.new) ≡ put_fast x (half_in half.old) (reply_in reply.old) }
 {
-    let answer = x.answer;
-    let after = x.after;
-    let h = direct_core::put_answer(core, first, second, third, rest, answer);
-    if h.number == 0 {
-        fast_arrays::put_after(answers, values, epaxos, swift, after);
-    }
-    h
+    half.put_after(x.after);
+    direct_core::put_taken(core, reply, x.answer)
 }
 
-// The answer to a call that is not too old, written into the arrays.
+// The answer to a call that is not too old, written into the arrays. A refusal writes nothing.
+#[tactic(auto, unfolding(crate::specs::DirectFast::put_answered))]
 fn fast_written(
     setup: Setup,
-    committers: &[u64; 64],
-    delegates: &[u64; 64],
+    tables: Tables<'_>,
     core: &mut [u64; 18],
-    answers: &mut [u64; 5],
-    values: &mut [u64; 64],
-    epaxos: &mut [u64; 64],
-    swift: &mut [u64; 64],
+    half: &mut FastHalf<'_>,
     f: FlatCall,
-    first: &mut [u64; 20],
-    second: &mut [u64; 20],
-    third: &mut [u64; 20],
-    rest: &mut [u64; 5],
-) -> Handled
-    ensures { fast_leaves result (left core) (half_left answers values epaxos swift) (reply_left first second third rest)
-        ≡ fast_written setup committers.now delegates.now (came core) (half_came answers values epaxos swift) f (reply_came first second third rest) }
+    reply: &mut ReplyArrays<'_>,
+) -> Result<bool, Refusal>
+    ensures same { SameHalf half.old half.new × SameReply reply.old reply.new }
+    ensures written { fast_leaves result core.new (half_in half.new) (reply_in reply.new)
+        ≡ fast_written setup tables.entry.committers.now tables.entry.delegates.now core.old (half_in half.old) f (reply_in reply.old) }
 {
     let decoded = flat::decode_core(arrays::core_in(core));
-    let before = fast_arrays::answers_in(answers);
-    let x = fast_answer(
-        setup, committers, delegates, decoded, before, values, epaxos, swift, f,
-    );
-    put_fast(
-        core, answers, values, epaxos, swift, first, second, third, rest, x,
-    )
+    let x = fast_answer(setup, tables, decoded, half, f)?;
+    Ok(put_fast(core, half, reply, x))
 }
 
 // What is old does nothing. Where a value is committed, the open reads that became ready are served.
+#[tactic(auto, unfolding(crate::specs::DirectFast::fast_handled, direct::specs::Direct::served_after))]
 fn fast_handled(
     setup: Setup,
-    committers: &[u64; 64],
-    delegates: &[u64; 64],
+    tables: Tables<'_>,
     core: &mut [u64; 18],
-    answers: &mut [u64; 5],
-    values: &mut [u64; 64],
-    epaxos: &mut [u64; 64],
-    swift: &mut [u64; 64],
-    reads: &mut [u64; 640],
-    served: &mut [u64; 512],
+    half: &mut FastHalf<'_>,
+    reads: &mut ReadArrays<'_>,
     f: FlatCall,
-    first: &mut [u64; 20],
-    second: &mut [u64; 20],
-    third: &mut [u64; 20],
-    rest: &mut [u64; 5],
-) -> u64
-    ensures rest_value { fast_direct result (left core) (half_left answers values epaxos swift) (reads_left reads served) (reply_left first second third rest)
-        ≡ fast_handled setup committers.now delegates.now (came core) (half_came answers values epaxos swift)
-        (reads_came reads served) f (reply_came first second third rest) }
-    ensures left_unless_taken { LeftUnlessTaken result reads × LeftUnlessTaken result served }
+    reply: &mut ReplyArrays<'_>,
+) -> Result<(), NotTaken>
+    ensures same { SameHalf half.old half.new × SameReads reads.old reads.new × SameReply reply.old reply.new }
+    ensures written { fast_direct result core.new (half_in half.new) (reads_in reads.new) (reply_in reply.new)
+        ≡ fast_handled setup tables.entry.committers.now tables.entry.delegates.now core.old (half_in half.old) (reads_in reads.old) f (reply_in reply.old) }
+    ensures refused { OnErr result (SameNumbers reads.old reads.new) }
 {
     if is_old(arrays::core_in(core), f) {
-        direct_core::put_served(first, second, third, rest, 0);
-        return 0;
+        reply.put_served(0);
+        return Ok(());
     }
-    let h = fast_written(
-        setup, committers, delegates, core, answers, values, epaxos, swift, f, first, second,
-        third, rest,
-    );
-    if h.may_serve {
-        direct::serve_ready(setup, core, reads, served, rest);
-        return 0;
+    if fast_written(setup, tables, core, half, f, reply)? {
+        direct::serve_ready(setup, core, reads, reply.rest);
     }
-    h.number
+    Ok(())
+}
+
+// A call on the parts of a shard. What the fast half has no part in is passed on.
+#[tactic(auto, unfolding(crate::specs::DirectFast::fast_made, crate::specs::DirectFast::fast_unless_refused))]
+fn fast_made(
+    setup: &[u64; 10],
+    tables: Tables<'_>,
+    core: &mut [u64; 18],
+    half: &mut FastHalf<'_>,
+    reads: &mut ReadArrays<'_>,
+    call: &[u64; 25],
+    reply: &mut ReplyArrays<'_>,
+) -> Result<(), NotTaken>
+    ensures same { SameHalf half.old half.new × SameReads reads.old reads.new × SameReply reply.old reply.new }
+    ensures written { fast_direct result core.new (half_in half.new) (reads_in reads.new) (reply_in reply.new)
+        ≡ fast_made (setup_of setup.now) tables.entry.committers.now tables.entry.delegates.now core.old (half_in half.old) (reads_in reads.old) (call_of call.now)
+        (reply_in reply.old) }
+    ensures refused { OnErr result (SameNumbers reads.old reads.new) }
+{
+    let s = arrays::setup_in(setup);
+    let f = arrays::call_in(call);
+    if !fast_half_acts(s, f) {
+        return Err(NotTaken::PassedOn);
+    }
+    flat_calls::refusal(setup, core, call)?;
+    fast_handled(s, tables, core, half, reads, f, reply)
 }
 
 // A call on the parts of a shard. 0: it was taken, and core, fast half, reads and reply are written. 1 to 12: it is refused with this number. 255: it
 // goes to `chanbook_direct_call`, since the fast half has no part in it.
+#[tactic(auto, unfolding(crate::specs::DirectFast::fast_call))]
 pub fn chanbook_fast_call(
     setup: &[u64; 10],
     committers: &[u64; 64],
@@ -220,17 +218,30 @@ pub fn chanbook_fast_call(
         (reads_came reads served) (call_of call.now) (reply_came first second third rest) }
     ensures left_unless_taken { LeftUnlessTaken result reads × LeftUnlessTaken result served }
 {
-    let s = arrays::setup_in(setup);
-    let f = arrays::call_in(call);
-    if !fast_half_acts(s, f) {
-        return PASSED_ON;
-    }
-    let number = flat_calls::refusal(setup, core, call);
-    if number != 0 {
-        return number;
-    }
-    fast_handled(
-        s, committers, delegates, core, answers, values, epaxos, swift, reads, served, f, first,
-        second, third, rest,
-    )
+    let tables = Tables {
+        committers,
+        delegates,
+    };
+    let mut half = FastHalf {
+        answers,
+        values,
+        epaxos,
+        swift,
+    };
+    let mut lent_reads = ReadArrays { reads, served };
+    let mut reply = ReplyArrays {
+        first,
+        second,
+        third,
+        rest,
+    };
+    direct_core::call_number(fast_made(
+        setup,
+        tables,
+        core,
+        &mut half,
+        &mut lent_reads,
+        call,
+        &mut reply,
+    ))
 }

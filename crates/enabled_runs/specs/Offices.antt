@@ -31,8 +31,7 @@ office_settings member =
       first_leader = 0;
       mode = Paxos;
       quorum = None;
-      has_committers = false;
-      committers = replicate 64 0;
+      committers = None;
       delegates = replicate 64 0;
     }
 

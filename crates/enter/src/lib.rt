@@ -41,25 +41,31 @@ fn is_older(core: Core, slot: u64, round: PaxosRound) -> bool
 }
 
 #[tactic(auto, unfolding(crate::specs::Enter::from_live))]
-fn from_live(asked: Asked, heard: Heard, round: PaxosRound, core: Core) -> CoreStep
+fn from_live(asked: Asked, heard: Heard, round: PaxosRound, core: Core) -> Result<CoreStep, Refusal>
     ensures { result ≡ from_live asked heard round core }
 {
     if source_taken(asked, heard) {
-        return in_round(core, round).continues(no_messages());
+        return Ok(in_round(core, round).continues(no_messages()));
     }
-    core.refuses(Refusal::SourceNotLive)
+    Err(Refusal::SourceNotLive)
 }
 
 // What a Prepare and an Accept have in common. One that is simply old does nothing, before anything else of it is looked at.
 #[tactic(auto, unfolding(crate::specs::Enter::enter))]
-pub fn enter(asked: Asked, heard: Heard, slot: u64, round: PaxosRound, core: Core) -> CoreStep
+pub fn enter(
+    asked: Asked,
+    heard: Heard,
+    slot: u64,
+    round: PaxosRound,
+    core: Core,
+) -> Result<CoreStep, Refusal>
     ensures { result ≡ enter asked heard slot round core }
 {
     if can_propose(asked) {
         if is_older(core, slot, round) {
-            return core.stays_silent();
+            return Ok(core.stays_silent());
         }
         return from_live(asked, heard, round, core);
     }
-    core.stays_silent()
+    Ok(core.stays_silent())
 }

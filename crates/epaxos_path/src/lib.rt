@@ -9,6 +9,9 @@ use fast_state::{FastAnswers, FastChange};
 use message::{PaxosRound, Refusal, RoundV};
 use steps::{Asked, ChangeStep, Core, CoreStep, Heard};
 
+// asked, heard and round are parameters of their own: 4 of these 6 functions take one or two of the three, and a struct of them is no plainer (accept tells of
+// a trial).
+
 // The requester of a value by the host's two answers: the first is for the message's value v, and the second for the value that was
 // held when the call came.
 fn requester_of(heard: Heard, v: u64, held: u64) -> Option<u64>
@@ -30,7 +33,7 @@ fn epaxos_commit(asked: Asked, heard: Heard, v: u64, core: Core) -> CoreStep
 
 // An adopted value goes into the accept phase, for which a majority must have promised.
 #[tactic(auto, unfolding(crate::specs::EPaxos::adopting))]
-fn adopting(asked: Asked, round: PaxosRound, v: u64, core: Core) -> CoreStep
+fn adopting(asked: Asked, round: PaxosRound, v: u64, core: Core) -> Result<CoreStep, Refusal>
     ensures { result ≡ adopting asked round v core }
 {
     let me = asked.member;
@@ -38,7 +41,7 @@ fn adopting(asked: Asked, round: PaxosRound, v: u64, core: Core) -> CoreStep
         let accepted = core.paxos.adopt_from_epaxos(me, round, v);
         return prepare::after_own_accept(asked, round, core, accepted);
     }
-    core.refuses(Refusal::Panic)
+    Err(Refusal::Panic)
 }
 
 fn epaxos_adopt(
@@ -46,13 +49,12 @@ fn epaxos_adopt(
     round: PaxosRound,
     core: Core,
     adoption: Result<Option<u64>, Refusal>,
-) -> CoreStep
+) -> Result<CoreStep, Refusal>
     ensures { result ≡ epaxos_adopt asked round core adoption }
 {
-    match adoption {
-        Ok(None) => core.stays_silent(),
-        Ok(Some(v)) => adopting(asked, round, v, core),
-        Err(why) => core.refuses(why),
+    match adoption? {
+        None => Ok(core.stays_silent()),
+        Some(v) => adopting(asked, round, v, core),
     }
 }
 
@@ -67,12 +69,12 @@ fn epaxos_decide(
     change: FastChange,
     values: &[u64; 64],
     scores: &[u64; 64],
-) -> CoreStep
+) -> Result<CoreStep, Refusal>
     ensures { result ≡ epaxos_decide lowest_best asked heard round v core change values.now scores.now }
 {
     let me = asked.member;
     if epaxos_state::epaxos_can_commit(change.answers, me) {
-        return epaxos_commit(asked, heard, v, core);
+        return Ok(epaxos_commit(asked, heard, v, core));
     }
     let adoption = epaxos_state::epaxos_try_adopt(change, values, scores, me);
     epaxos_adopt(asked, round, core, adoption)
@@ -89,19 +91,22 @@ pub fn epaxos_answer(
     answers: FastAnswers,
     values: &[u64; 64],
     scores: &[u64; 64],
-) -> ChangeStep
+) -> Result<ChangeStep, Refusal>
     ensures { result ≡ epaxos_answer lowest_best asked heard round rv core answers values.now scores.now }
 {
     match rv {
         RoundV::FastV { proposer, v } => {
-            let me = asked.member;
-            match epaxos_state::epaxos_answered(answers, scores, me, heard.src, proposer, v) {
-                Ok(change) => epaxos_decide(
-                    asked, heard, round, v, core, change, values, scores,
-                ).with_change(change),
-                Err(why) => core.refuses_unchanged(why, answers),
-            }
+            let change = epaxos_state::epaxos_answered(
+                answers,
+                scores,
+                asked.member,
+                heard.src,
+                proposer,
+                v,
+            )?;
+            let step = epaxos_decide(asked, heard, round, v, core, change, values, scores)?;
+            Ok(step.with_change(change))
         }
-        RoundV::PaxosV { .. } => core.refuses_unchanged(Refusal::Panic, answers),
+        RoundV::PaxosV { .. } => Err(Refusal::Panic),
     }
 }

@@ -22,6 +22,8 @@ fn score_after(src: u64, proposer: u64, score: u64) -> u64
     message::increment(score)
 }
 
+// Answers, scores and member are parameters of their own: a caller has them from three places, the state, its table and the settings, so a struct of them
+// would be made for one call and taken apart in each contract. So are source, proposer and value, which come from the message and from what it promises.
 fn epaxos_counted(
     answers: FastAnswers,
     scores: &[u64; 64],
@@ -157,10 +159,10 @@ fn best(proposers: u64, entry: Entry, scores: &[u64; 64]) -> Best
 }
 
 #[tactic(auto, unfolding(fast_state::specs::Adopt::adopted))]
-fn adopted(entry: Entry, values: &[u64; 64], proposer: Option<u64>) -> Result<Option<u64>, Refusal>
-    ensures { result ≡ adopted (value_in entry values.now) proposer }
+fn adopted(entry: Entry, values: &[u64; 64], proposer: Option<u64>) -> Option<u64>
+    ensures { Ok result ≡ adopted (value_in entry values.now) proposer }
 {
-    Ok(proposer.map(|p| value_in(entry, values, p)))
+    proposer.map(|p| value_in(entry, values, p))
 }
 
 // The value of the best proposer, once a majority has answered and there are two proposers or more.
@@ -184,5 +186,5 @@ pub fn epaxos_try_adopt(
         return Ok(None);
     }
     let lowest = best(answers.fast_proposers, entry, scores);
-    adopted(entry, values, lowest.proposer)
+    Ok(adopted(entry, values, lowest.proposer))
 }

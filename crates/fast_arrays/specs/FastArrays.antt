@@ -1,6 +1,6 @@
 -- The fast half of a shard as arrays of numbers: the five numbers of the answers, and the three tables by proposer.
 -- Assumes nothing.
-use Rattle.std.specs.Prelude.{List, [], ◌∷◌, ℕ, get_or, replicate}
+use Rattle.std.specs.Prelude.{List, [], ◌∷◌, ◌≡◌, ℕ, get_or, replicate}
 use Rattle.fast_calls.specs.declared.After.{After}
 use Rattle.fast_calls.specs.declared.After.TheVariants.{Changed, Cleared}
 use Rattle.fast_state.specs.Fast.{answers_of, to_v_after, epaxos_scores_after, swift_scores_after}
@@ -10,6 +10,7 @@ use Rattle.fast_state.specs.declared.FastState.{FastState}
 use Rattle.flat.specs.Encode.{encoded_option}
 use Rattle.flat.specs.Decode.{decoded_fast}
 use Rattle.flat.specs.declared.FlatFast.{FlatFast}
+use Rattle.fast_arrays.specs.declared.FastHalf.{FastHalf}
 
 pub record FastArrays : Type 0 where
   pub answers : List ℕ
@@ -19,6 +20,18 @@ pub record FastArrays : Type 0 where
 
 abbrev pub fast_arrays : List ℕ → List ℕ → List ℕ → List ℕ → FastArrays
 fast_arrays answers values epaxos swift = record { answers = answers; values = values; epaxos = epaxos; swift = swift }
+
+-- what stands in the lent arrays
+abbrev pub half_in : FastHalf → FastArrays
+half_in h = fast_arrays h.answers.now h.values.now h.epaxos.now h.swift.now
+
+-- they are the arrays that were lent
+abbrev pub SameHalf : FastHalf → FastHalf → Type 0
+SameHalf h k =
+    (k.answers.ghost_name ≡ h.answers.ghost_name)
+    × (k.values.ghost_name ≡ h.values.ghost_name)
+    × (k.epaxos.ghost_name ≡ h.epaxos.ghost_name)
+    × (k.swift.ghost_name ≡ h.swift.ghost_name)
 
 -- ---- what the arrays stand for
 

@@ -2,11 +2,20 @@
 #![tactic(auto)]
 
 ghost use Rattle.std.specs.Prelude.{◌≡◌};
-ghost use Rattle.fast_arrays.specs.FastArrays.{fast_arrays, answers_in, answers_numbers, put_change, cleared, put_after};
+ghost use Rattle.fast_arrays.specs.FastArrays.{half_in, SameHalf, answers_in, answers_numbers, put_change, cleared, put_after};
 
 use fast_calls::After;
 use fast_state::{FastAnswers, FastChange};
 use flat::FlatOption;
+
+// The arrays of a fast half, which are lent. Any numbers may stand in them.
+#[derive(Drop)]
+pub struct FastHalf<'a> {
+    pub answers: &'a mut [u64; 5],
+    pub values: &'a mut [u64; 64],
+    pub epaxos: &'a mut [u64; 64],
+    pub swift: &'a mut [u64; 64],
+}
 
 pub fn answers_in(a: &[u64; 5]) -> FastAnswers
     ensures { result ≡ answers_in a.now }
@@ -37,50 +46,33 @@ fn put_answers(a: &mut [u64; 5], answers: FastAnswers)
     ];
 }
 
-fn put_change(
-    answers: &mut [u64; 5],
-    values: &mut [u64; 64],
-    epaxos: &mut [u64; 64],
-    swift: &mut [u64; 64],
-    change: FastChange,
-)
-    ensures { fast_arrays answers.new values.new epaxos.new swift.new ≡ put_change change (fast_arrays answers.old values.old epaxos.old swift.old) }
-{
-    let counted = change.answers;
-    put_answers(answers, counted);
-    change.entry.put(values, epaxos, swift);
-}
+impl FastHalf<'_> {
+    fn put_change(&mut self, change: FastChange)
+        ensures same { SameHalf self.old self.new }
+        ensures changed { half_in self.new ≡ put_change change (half_in self.old) }
+    {
+        put_answers(self.answers, change.answers);
+        change.entry.put(self.values, self.epaxos, self.swift);
+    }
 
-fn clear(
-    answers: &mut [u64; 5],
-    values: &mut [u64; 64],
-    epaxos: &mut [u64; 64],
-    swift: &mut [u64; 64],
-)
-    ensures { fast_arrays answers.new values.new epaxos.new swift.new ≡ cleared }
-{
-    *answers = [0; 5];
-    *values = [0; 64];
-    *epaxos = [2; 64];
-    *swift = [0; 64];
-}
+    fn clear(&mut self)
+        ensures same { SameHalf self.old self.new }
+        ensures cleared { half_in self.new ≡ cleared }
+    {
+        *self.answers = [0; 5];
+        *self.values = [0; 64];
+        *self.epaxos = [2; 64];
+        *self.swift = [0; 64];
+    }
 
-// What becomes of the fast half where a call is taken.
-pub fn put_after(
-    answers: &mut [u64; 5],
-    values: &mut [u64; 64],
-    epaxos: &mut [u64; 64],
-    swift: &mut [u64; 64],
-    after: After,
-)
-    ensures { fast_arrays answers.new values.new epaxos.new swift.new ≡ put_after after (fast_arrays answers.old values.old epaxos.old swift.old) }
-{
-    match after {
-        After::Changed(change) => {
-            put_change(answers, values, epaxos, swift, change);
-        }
-        After::Cleared => {
-            clear(answers, values, epaxos, swift);
+    // What becomes of the fast half where a call is taken.
+    pub fn put_after(&mut self, after: After)
+        ensures same { SameHalf self.old self.new }
+        ensures after { half_in self.new ≡ put_after after (half_in self.old) }
+    {
+        match after {
+            After::Changed(change) => self.put_change(change),
+            After::Cleared => self.clear(),
         }
     }
 }

@@ -1,25 +1,30 @@
 -- The end of a call in EPaxos or SwiftPaxos: what it makes of the core, and what becomes of the fast half.
 -- Assumes nothing.
-use Rattle.std.specs.Prelude.{Bool}
-use Rattle.core_calls.specs.CoreCall.{core_finish_at}
+use Rattle.std.specs.Prelude.{Bool, cond, Result, Ok, Err}
+use Rattle.core_calls.specs.CoreCall.{CoreAnswer, sends_from, core_committed}
 use Rattle.fast_state.specs.declared.FastChange.{FastChange}
+use Rattle.message.specs.declared.Refusal.{Refusal}
+use Rattle.message.specs.declared.Refusal.TheVariants.{ValueNotHeld}
 use Rattle.steps.specs.declared.Asked.{Asked}
 use Rattle.steps.specs.declared.ChangeStep.{ChangeStep}
 use Rattle.steps.specs.declared.Core.{Core}
+use Rattle.steps.specs.declared.Messages.{Messages}
 use Rattle.steps.specs.declared.Next.{Next}
-use Rattle.steps.specs.declared.Next.TheVariants.{Stays, Continues, Commits, Refuses}
+use Rattle.steps.specs.declared.Next.TheVariants.{Stays, Continues, Commits}
 use Rattle.fast_calls.specs.declared.After.{After}
 use Rattle.fast_calls.specs.declared.After.TheVariants.{Changed, Cleared}
 use Rattle.fast_calls.specs.declared.FastAnswer.{FastAnswer}
 
--- where the call is taken: a commit clears the fast half, and else the step's change is made
-abbrev pub after_next : Next → FastChange → After
-after_next Stays change = Changed change
-after_next Continues change = Changed change
-after_next (Commits v) change = Cleared
-after_next (Refuses why) change = Changed change
+abbrev pub answers_with : CoreAnswer → After → FastAnswer
+answers_with answer after = record { answer = answer; after = after }
+
+-- a commit clears the fast half and needs its value; else the step's change is made
+abbrev pub fast_finish_at : Asked → Bool → Core → Messages → FastChange → Next → Result FastAnswer Refusal
+fast_finish_at a held s messages change Stays = Ok (answers_with (sends_from s messages) (Changed change))
+fast_finish_at a held s messages change Continues = Ok (answers_with (sends_from s messages) (Changed change))
+fast_finish_at a held s messages change (Commits v) = cond held (Ok (answers_with (core_committed a v s messages) Cleared)) (Err ValueNotHeld)
 
 -- a step becomes an answer, as in the classic modes
-unfoldable pub fast_finish : Asked → Bool → Core → ChangeStep → FastAnswer
-fast_finish a held old step =
-    record { answer = core_finish_at a held old step.core step.messages step.next; after = after_next step.next step.change }
+abbrev pub fast_finish : Asked → Bool → Result ChangeStep Refusal → Result FastAnswer Refusal
+fast_finish a held (Ok step) = fast_finish_at a held step.core step.messages step.change step.next
+fast_finish a held (Err why) = Err why

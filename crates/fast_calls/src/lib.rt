@@ -2,52 +2,45 @@
 #![tactic(auto)]
 
 ghost use Rattle.std.specs.Prelude.{◌≡◌};
-ghost use Rattle.fast_calls.specs.FastCall.{after_next, fast_finish};
+ghost use Rattle.fast_calls.specs.FastCall.{fast_finish};
 
 use core_calls::CoreAnswer;
 use fast_state::FastChange;
-use steps::{Asked, ChangeStep, Core, CoreStep, Next};
+use message::Refusal;
+use steps::{Asked, ChangeStep, Next};
 
-// What becomes of the fast half where the call is taken: a change, or a commit clears it.
+// What becomes of the fast half: a change, or a commit clears it.
 #[derive(Clone, Copy)]
 pub enum After {
     Changed(FastChange),
     Cleared,
 }
 
+// What a call that is taken makes of the core and of the fast half.
 #[derive(Clone, Copy)]
 pub struct FastAnswer {
     pub answer: CoreAnswer,
     pub after: After,
 }
 
-fn after_next(next: Next, change: FastChange) -> After
-    ensures { result ≡ after_next next change }
+// A step becomes an answer, as in the classic modes. A commit needs its value.
+pub fn fast_finish(
+    asked: Asked,
+    held: bool,
+    step: Result<ChangeStep, Refusal>,
+) -> Result<FastAnswer, Refusal>
+    ensures { result ≡ fast_finish asked held step }
 {
-    match next {
-        Next::Commits(_) => After::Cleared,
-        _ => After::Changed(change),
-    }
-}
-
-// A step becomes an answer, as in the classic modes.
-#[tactic(auto, unfolding(crate::specs::FastCall::fast_finish))]
-pub fn fast_finish(asked: Asked, held: bool, old: Core, step: ChangeStep) -> FastAnswer
-    ensures { result ≡ fast_finish asked held old step }
-{
-    let ChangeStep {
-        core,
-        messages,
-        next,
-        change,
-    } = step;
-    let core_step = CoreStep {
-        core,
-        messages,
-        next,
-    };
-    FastAnswer {
-        answer: core_calls::core_finish(asked, held, old, core_step),
-        after: after_next(next, change),
+    let step = step?;
+    match step.next {
+        Next::Stays | Next::Continues => Ok(FastAnswer {
+            answer: core_calls::sends_from(step.core, step.messages),
+            after: After::Changed(step.change),
+        }),
+        Next::Commits(v) if held => Ok(FastAnswer {
+            answer: core_calls::core_committed(asked, v, step.core, step.messages),
+            after: After::Cleared,
+        }),
+        Next::Commits(_) => Err(Refusal::ValueNotHeld),
     }
 }

@@ -31,7 +31,16 @@ pub struct FastAnswers {
     pub swift_leader_answer: Option<u64>,
 }
 
-// What a call changes in the tables: nothing, the value of a proposer, or its value and its score.
+// The three tables by proposer, where they stand: in a state, or in memory that a host lends.
+#[derive(Clone, Copy)]
+pub struct FastTables<'a> {
+    pub values: &'a [u64; 64],
+    pub epaxos_scores: &'a [u64; 64],
+    pub swift_scores: &'a [u64; 64],
+}
+
+// What a call changes in the tables: nothing, the value of a proposer, or its value and its score. "Nothing" is a case of its own, and no None: it is
+// what most calls do, and no value is missing.
 #[derive(Clone, Copy, PartialEq, Eq, Debug)]
 pub enum Entry {
     SameEntries,
@@ -150,6 +159,18 @@ impl FastState {
             fast_preaccepted: self.fast_preaccepted,
             fast_proposers: self.fast_proposers,
             swift_leader_answer: self.swift_leader_answer,
+        }
+    }
+
+    pub fn tables(&self) -> FastTables<'_>
+        ensures values { result.values.now ≡ self.now.fast_proposer_to_v }
+        ensures epaxos { result.epaxos_scores.now ≡ self.now.epaxos_proposer_scores }
+        ensures swift { result.swift_scores.now ≡ self.now.swift_proposer_scores }
+    {
+        FastTables {
+            values: &self.fast_proposer_to_v,
+            epaxos_scores: &self.epaxos_proposer_scores,
+            swift_scores: &self.swift_proposer_scores,
         }
     }
 

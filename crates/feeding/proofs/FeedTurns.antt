@@ -1,6 +1,6 @@
 -- One turn of the loop of `feed_all`, its end, and what `feed` needs of it.
 -- Assumes nothing.
-use mathlib.Core.Path.{◌≡◌, refl, sym, ap, ◌∙◌}
+use mathlib.Core.Path.{◌≡◌, refl, sym}
 use mathlib.Core.Bool.{false, not}
 use Prim.Native.Nat.{ℕ, suc, ◌+◌, ◌-◌, ◌≤◌, ◌<◌}
 use native.Mathlib.Omega.{arith}
@@ -8,34 +8,24 @@ use lib.Dec.{ltb, eqb}
 use lib.ListN.{length}
 use Rattle.std.proofs.lemmas.Bool.{or_parts}
 use borrow.Author.Tests.{eqb-true, not-false}
-use Rattle.std.specs.Prelude.{Option, Result}
 use Rattle.register.specs.Register.{apply}
-use Rattle.register.specs.declared.Applied.{Applied}
-use Rattle.register.specs.declared.CellEntry.{CellEntry}
-use Rattle.register.specs.declared.Entered.{Entered}
-use Rattle.register.specs.declared.EntryRefusal.{EntryRefusal}
-use Rattle.register.specs.declared.Register.{Register}
-use Rattle.feeding.specs.declared.FirstRefused.{FirstRefused}
-use Rattle.feeding.specs.Feeding.{FedList, SameLengths, entry_in, entries_from, FedTo, fed_to, or_refused, feed_all, outside_fed}
+use Rattle.feeding.specs.declared.EntryList.{EntryList}
+use Rattle.feeding.specs.Feeding.{FedList, SameLengths, fed_list, entry_in, entries_from, FedTo, fed_to, or_refused, feed_all, outside_fed}
 
--- what an entry makes of a register and what becomes of it, and the first refused one
-pub feed_turn : (l : FedList) (i n : ℕ) (first : Option FirstRefused) (r r' : Register) (outcome : Result Entered EntryRefusal) (next : Option FirstRefused) (e : CellEntry) → i < n
-    → e ≡ entry_in l i → record { register = r'; outcome = outcome } ≡ apply r e → next ≡ or_refused first e.slot outcome
-    → feed_all (fed_to next r') (entries_from l (i + 1) (n - (i + 1))) ≡ feed_all (fed_to first r) (entries_from l i (n - i))
+-- one entry and those behind it: the entry is applied, and the first refused one told
+pub feed_next : (l : FedList) (i n : ℕ) (f : FedTo) → i < n
+    → feed_all f (entries_from l i (n - i))
+    ≡ feed_all
+    (fed_to (or_refused f.first (entry_in l i).slot (apply f.register (entry_in l i)).outcome) (apply f.register (entry_in l i)).register)
+    (entries_from l (i + 1) (n - (i + 1)))
 unfolding feed_all entries_from
-feed_turn l i n first r r' outcome next e h is applied_e told_e =
-    let applied : record { register = r'; outcome = outcome } ≡ apply r (entry_in l i) = applied_e ∙ ap (apply r) is in
-    let told : next ≡ or_refused first (entry_in l i).slot outcome = told_e ∙ ap (λ (x : CellEntry). or_refused first x.slot outcome) is in
-    let left : n - i ≡ suc (n - (i + 1)) = omega arith in
-    let one : r' ≡ (apply r (entry_in l i)).register = ap (λ (a : Applied). a.register) applied in
-    let two : outcome ≡ (apply r (entry_in l i)).outcome = ap (λ (a : Applied). a.outcome) applied in
-    rw left (simp (told, one, two))
+feed_next l i n f h = let left : n - i ≡ suc (n - (i + 1)) = omega arith in rw left refl
 
 pub feed_end : (l : FedList) (i n : ℕ) (f : FedTo) → n ≤ i → feed_all f (entries_from l i (n - i)) ≡ f
 unfolding feed_all entries_from
 feed_end l i n f h = let none : n - i ≡ 0 = omega arith in rw none refl
 
-pub inside_same : (l : FedList) → outside_fed l ≡ false → SameLengths l
+inside_same : (l : FedList) → outside_fed l ≡ false → SameLengths l
 unfolding outside_fed
 inside_same l e =
     let one = (or_parts (ltb 8192 (length l.slots)) _ e).1 in
@@ -48,3 +38,17 @@ inside_same l e =
   where
     equal : (m n : ℕ) → not (eqb m n) ≡ false → n ≡ m
     equal m n t = sym (eqb-true m n (not-false (eqb m n) t))
+
+-- the same of a list that a host lends, slice by slice
+module _ (l : EntryList) (inside : outside_fed (fed_list l) ≡ false) where
+  pub kinds_same : length l.kinds.now ≡ length l.commits.slots.now
+  kinds_same = (inside_same (fed_list l) inside).kinds
+
+  pub cells_same : length l.cells.now ≡ length l.commits.slots.now
+  cells_same = (inside_same (fed_list l) inside).cells
+
+  pub carriers_same : length l.carriers.now ≡ length l.commits.slots.now
+  carriers_same = (inside_same (fed_list l) inside).carriers
+
+  pub widths_same : length l.widths.now ≡ length l.commits.slots.now
+  widths_same = (inside_same (fed_list l) inside).widths

@@ -86,6 +86,7 @@ impl EntryList<'_> {
 }
 
 // Every entry of the list in its order.
+#[tactic(auto, using(crate::proofs::FeedTurns::feed_next, crate::proofs::FeedTurns::feed_end))]
 fn feed_all(columns: &mut Columns, list: EntryList) -> Option<FirstRefused>
     requires { SameLengths (fed_list list) }
     ensures same { SameArrays columns.old columns.new }
@@ -102,7 +103,7 @@ fn feed_all(columns: &mut Columns, list: EntryList) -> Option<FirstRefused>
 }
 
 // Feeds a list: 2, 18 or 19 and nothing fed, or every entry taken as in E6 and the first refused slot with its number.
-#[tactic(auto, unfolding(crate::specs::Feeding::feeding))]
+#[tactic(auto, using(crate::proofs::FeedTurns::kinds_same, crate::proofs::FeedTurns::cells_same, crate::proofs::FeedTurns::carriers_same, crate::proofs::FeedTurns::widths_same), unfolding(crate::specs::Feeding::feeding))]
 pub fn feed(columns: &mut Columns, list: EntryList) -> Result<Option<FirstRefused>, JoinRefusal>
     ensures same { SameArrays columns.old columns.new }
     ensures fed { feeding_in result (register_in columns.new) ≡ feeding (register_in columns.old) (fed_list list.entry) }

@@ -1,13 +1,12 @@
 -- What the flat forms stand for. 0 is no, and any other number yes.
 -- Assumes nothing.
 use Rattle.std.specs.Prelude.{Bool, cond, not, ◌&&◌, map, ℕ, eqb, ltb, leb, Option, None, Some, Ok, Err}
+use Rattle.message.specs.Modes.{mode_of_number}
 use Rattle.message.specs.Outcomes.{Outcome}
 use Rattle.message.specs.declared.PaxosRound.{PaxosRound}
 use Rattle.message.specs.declared.ConsensusMessage.{ConsensusMessage}
 use Rattle.message.specs.declared.ConsensusMsg.{ConsensusMsg}
 use Rattle.message.specs.declared.ConsensusMsg.TheVariants.{Prepare, Accept, ForwardRequest, Commit, ReadRequest, ReadResponse}
-use Rattle.message.specs.declared.PFMode.{PFMode}
-use Rattle.message.specs.declared.PFMode.TheVariants.{Paxos, MultiPaxos, MultiPaxos3P, EPaxos, Pando, SwiftPaxos}
 use Rattle.message.specs.declared.Refusal.TheVariants.{SettingsOutsideLimits}
 use Rattle.message.specs.declared.RoundV.{RoundV}
 use Rattle.message.specs.declared.RoundV.TheVariants.{FastV, PaxosV}
@@ -53,10 +52,6 @@ decoded_held f = cond (eqb f.given 0) None (Some (decoded_promise f.promise))
 
 -- ---- settings
 
-unfoldable pub decoded_mode : ℕ → PFMode
-decoded_mode n =
-    cond (eqb n 1) MultiPaxos (cond (eqb n 2) MultiPaxos3P (cond (eqb n 3) EPaxos (cond (eqb n 4) Pando (cond (eqb n 5) SwiftPaxos Paxos))))
-
 -- a mode that there is not is outside the limits, which are the one cause for which a shard is not made
 unfoldable pub decoded_made : ℕ → ℕ → Outcome
 decoded_made made mode = cond (leb mode 5) (cond (eqb made 0) (Ok tt) (Err SettingsOutsideLimits)) (Err SettingsOutsideLimits)
@@ -69,10 +64,9 @@ decoded_settings f =
       my_pid = f.my_pid;
       alive_replicas = f.alive_replicas;
       first_leader = f.first_leader;
-      mode = decoded_mode f.mode;
+      mode = mode_of_number f.mode;
       quorum = decoded_option f.quorum;
-      has_committers = is_yes f.has_committers;
-      committers = f.committers;
+      committers = cond (is_yes f.has_committers) (Some f.committers) None;
       delegates = f.delegates;
     }
 

@@ -1,6 +1,6 @@
 -- The flat forms that the engine writes: 1 for yes, and 0 for what is not given.
 -- Assumes nothing.
-use Rattle.std.specs.Prelude.{Bool, cond, map, ℕ, Option, None, Some, Ok, Err}
+use Rattle.std.specs.Prelude.{Bool, cond, map, ℕ, leb, Option, None, Some, Ok, Err}
 use Rattle.message.specs.Outcomes.{Outcome}
 use Rattle.message.specs.declared.PaxosRound.{PaxosRound}
 use Rattle.steps.specs.declared.Outgoing.{Outgoing}
@@ -45,6 +45,10 @@ encoded_outcome (Err why) = refusal_number why
 
 abbrev pub not_given : FlatOption
 not_given = record { given = 0; n = 0 }
+
+-- the number for which a shard, or the settings of a group, are not made, or 0. A mode that there is not is outside the limits.
+unfoldable pub encoded_made : Outcome → ℕ → ℕ
+encoded_made made mode = cond (leb mode 5) (encoded_outcome made) 1
 
 unfoldable pub encoded_option : Option ℕ → FlatOption
 encoded_option None = not_given

@@ -4,8 +4,8 @@
 #![tactic(auto)]
 
 ghost use Rattle.std.specs.Prelude.{ℕ, ◌≡◌, ◌<◌, length, slice_index_or};
-ghost use Rattle.flat.specs.Decode.{is_yes, decoded_option, decoded_round, decoded_promise, decoded_held, decoded_mode, decoded_made, decoded_settings, decoded_core, decoded_fast, decoded_rounds, decoded_open, decoded_served, decoded_table, decoded_msg, is_known, decoded_source, decoded_message, decoded_delivery, decoded_call};
-ghost use Rattle.flat.specs.Encode.{encoded_bool, encoded_outcome, encoded_option, encoded_round, encoded_promise, encoded_held, encoded_core, encoded_fast, encoded_rounds, encoded_open, encoded_served, encoded_table, encoded_msg, encoded_message, encoded_to, encoded_outgoing, encoded_commit, encoded_reply, no_promise, no_message};
+ghost use Rattle.flat.specs.Decode.{is_yes, decoded_option, decoded_round, decoded_promise, decoded_held, decoded_made, decoded_settings, decoded_core, decoded_fast, decoded_rounds, decoded_open, decoded_served, decoded_table, decoded_msg, is_known, decoded_source, decoded_message, decoded_delivery, decoded_call};
+ghost use Rattle.flat.specs.Encode.{encoded_bool, encoded_outcome, encoded_made, encoded_option, encoded_round, encoded_promise, encoded_held, encoded_core, encoded_fast, encoded_rounds, encoded_open, encoded_served, encoded_table, encoded_msg, encoded_message, encoded_to, encoded_outgoing, encoded_commit, encoded_reply, no_promise, no_message};
 
 use calls::{Call, CommittedSlot, Reply};
 use delivery::{Delivery, Said};
@@ -51,7 +51,8 @@ pub struct FlatHeld {
     pub promise: FlatPromise,
 }
 
-// Mode: 0 Paxos, 1 MultiPaxos, 2 MultiPaxos3P, 3 EPaxos, 4 Pando, 5 SwiftPaxos.
+// Mode: 0 Paxos, 1 MultiPaxos, 2 MultiPaxos3P, 3 EPaxos, 4 Pando, 5 SwiftPaxos. The committers count where their flag is set: the C interface has the
+// flag beside the table, and Settings an Option.
 #[repr(C)]
 #[derive(Clone, Copy)]
 pub struct FlatSettings {
@@ -245,20 +246,6 @@ pub fn decode_held(f: FlatHeld) -> Option<RoundV>
     Some(decode_promise(f.promise))
 }
 
-#[tactic(auto, unfolding(crate::specs::Decode::decoded_mode))]
-pub fn decode_mode(n: u64) -> PFMode
-    ensures { result ≡ decoded_mode n }
-{
-    match n {
-        1 => PFMode::MultiPaxos,
-        2 => PFMode::MultiPaxos3P,
-        3 => PFMode::EPaxos,
-        4 => PFMode::Pando,
-        5 => PFMode::SwiftPaxos,
-        _ => PFMode::Paxos,
-    }
-}
-
 // A mode that there is not is outside the limits. Settings outside the limits are the one cause for which a shard is not made.
 #[tactic(auto, unfolding(crate::specs::Decode::decoded_made))]
 pub fn decode_made(made: u64, mode: u64) -> Outcome
@@ -273,7 +260,6 @@ pub fn decode_made(made: u64, mode: u64) -> Outcome
 pub fn decode_settings(f: FlatSettings) -> Settings
     ensures { result ≡ decoded_settings f }
 {
-    let committers = f.committers;
     let delegates = f.delegates;
     Settings {
         process_count: f.process_count,
@@ -281,10 +267,9 @@ pub fn decode_settings(f: FlatSettings) -> Settings
         my_pid: f.my_pid,
         alive_replicas: f.alive_replicas,
         first_leader: f.first_leader,
-        mode: decode_mode(f.mode),
+        mode: PFMode::of_number(f.mode),
         quorum: decode_option(f.quorum),
-        has_committers: is_yes(f.has_committers),
-        committers,
+        committers: is_yes(f.has_committers).then_some(f.committers),
         delegates,
     }
 }
@@ -371,10 +356,18 @@ pub fn encode_bool(b: bool) -> u64
 pub fn encode_outcome(outcome: Outcome) -> u64
     ensures { result ≡ encoded_outcome outcome }
 {
-    match outcome {
-        Ok(()) => 0,
-        Err(why) => why.number(),
+    refusals::refusal(outcome)
+}
+
+// The number for which a shard, or the settings of a group, are not made, or 0. A mode that there is not is outside the limits.
+#[tactic(auto, unfolding(crate::specs::Encode::encoded_made))]
+pub fn encode_made(made: Outcome, mode: u64) -> u64
+    ensures { result ≡ encoded_made made mode }
+{
+    if mode <= 5 {
+        return encode_outcome(made);
     }
+    1
 }
 
 #[tactic(auto, unfolding(crate::specs::Encode::encoded_option))]
@@ -523,6 +516,7 @@ fn encode_served(read: ServedRead) -> FlatServedRead
 }
 
 // Puts what `make` gives for each element of `from` into its place of `to`. By array::map, which proves too, a table of reads took twice as long.
+// By the index and no zip of `iter_mut` and `iter`: `each` speaks of a place of both, so the index is there in any case.
 fn put_each<A: Copy, B: Copy, F: Fn(A) -> B>(from: &[A], to: &mut [B], make: F)
     requires long { length to.old ≡ length from.now }
     requires callable { F.IsAlwaysCallable make }

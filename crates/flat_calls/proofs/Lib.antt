@@ -1,2 +1,1 @@
 mod Plain
-mod Refusals

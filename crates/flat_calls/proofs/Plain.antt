@@ -1,6 +1,6 @@
 -- A message that is plain fits: its numbers, and its processes.
 -- Assumes nothing.
-use Rattle.std.specs.Prelude.{Option}
+use Rattle.std.specs.Prelude.{Option, Ok}
 use Rattle.message.specs.declared.PaxosRound.{PaxosRound}
 use mathlib.Core.Bool.{true, ◌&&◌}
 use mathlib.Core.Path.{◌≡◌, refl}
@@ -170,7 +170,7 @@ module _ (n own : ℕ) (f : FlatCall) where
         (of-both Below (eqb f.message.kind 2) leader_below
         (of-both Below (eqb f.message.kind 3) refl (of-both Below (eqb f.message.kind 4) refl (of-both Below (eqb f.message.kind 6) refl refl))))
 
-  pub plain_fits : is_plain n f ≡ true → 0 ≡ unfit (numbers_fit (decoded_delivery n own f)) (processes_fit n (decoded_delivery n own f))
+  pub plain_fits : is_plain n f ≡ true → Ok tt ≡ unfit (numbers_fit (decoded_delivery n own f)) (processes_fit n (decoded_delivery n own f))
   unfolding is_plain decoded_source numbers_fit processes_fit
   plain_fits e =
       let low = and_left (leb 1 f.message.kind) _ e in

@@ -1,26 +1,24 @@
--- With which number a call is refused before it is handled, and a test that most messages pass, by which nothing else is to be asked of their numbers.
+-- Why a call is refused before it is handled, and a test that most messages pass, by which nothing else is to be asked of their numbers.
 -- Assumes nothing.
-use Rattle.std.specs.Prelude.{Bool, cond, ◌&&◌, ℕ, leb, ltb}
+use Rattle.std.specs.Prelude.{Bool, cond, ◌&&◌, ℕ, leb, ltb, Ok, Err}
 use Rattle.std.specs.Int.Bits.{bit_or}
 use Rattle.arrays.specs.declared.Setup.{Setup}
 use Rattle.calls.specs.Decision.{if_made}
-use Rattle.message.specs.Refusals.{refusal_number}
+use Rattle.message.specs.Outcomes.{Outcome}
 use Rattle.message.specs.declared.Refusal.TheVariants.{NumberTooLarge, NoSuchProcess}
 use Rattle.limits.specs.Limits.{is_number, is_slot}
-use Rattle.flat.specs.Encode.{encoded_outcome}
 use Rattle.flat.specs.Decode.{decoded_call, decoded_core, decoded_made}
 use Rattle.flat.specs.declared.FlatCall.{FlatCall}
 use Rattle.flat.specs.declared.FlatCore.{FlatCore}
 
--- the number of the refusal, or 0
-abbrev pub refusal_of : Setup → FlatCore → FlatCall → ℕ
+-- why the call is refused, if it is
+abbrev pub refusal_of : Setup → FlatCore → FlatCall → Outcome
 refusal_of s core f =
-    encoded_outcome
-    (if_made (decoded_made s.made s.mode) s.process_count s.my_pid (decoded_core core) (decoded_call s.process_count s.my_pid f))
+    if_made (decoded_made s.made s.mode) s.process_count s.my_pid (decoded_core core) (decoded_call s.process_count s.my_pid f)
 
--- 2 before 3
-abbrev pub unfit : Bool → Bool → ℕ
-unfit numbers processes = cond numbers (cond processes 0 (refusal_number NoSuchProcess)) (refusal_number NumberTooLarge)
+-- numbers before processes
+abbrev pub unfit : Bool → Bool → Outcome
+unfit numbers processes = cond numbers (cond processes (Ok tt) (Err NoSuchProcess)) (Err NumberTooLarge)
 
 -- ---- messages that fit whatever their kind
 

@@ -2,42 +2,34 @@
 // numbers that it needs, so that no table and no message is copied for a call that is refused or ignored.
 #![tactic(auto)]
 
-ghost use Rattle.std.specs.Prelude.{◌≡◌, []};
+ghost use Rattle.std.specs.Prelude.{◌≡◌, cond, [], None, Some, option_copied};
 ghost use Rattle.arrays.specs.Arrays.{settings_of, setup_of, core_of, call_of};
 ghost use Rattle.calls.specs.Asked.{asked_of, heard_of};
 ghost use Rattle.calls.specs.Decision.{admission_of};
-ghost use Rattle.delivery.specs.Admit.{needs_value, admit, ready};
+ghost use Rattle.delivery.specs.Admit.{admit, ready};
 ghost use Rattle.delivery.specs.Limits.{numbers_fit, processes_fit};
-ghost use Rattle.message.specs.Messages.{msg_slot};
-ghost use Rattle.flat.specs.Encode.{encoded_outcome};
-ghost use Rattle.flat.specs.Decode.{decoded_call, decoded_core, decoded_delivery, decoded_msg, decoded_settings};
+ghost use Rattle.flat.specs.Decode.{is_yes, decoded_call, decoded_core, decoded_delivery, decoded_settings};
 ghost use Rattle.flat_calls.specs.Refusals.{is_small, is_below, is_plain, unfit, refusal_of};
 
-use arrays::Setup;
-use flat::{FlatCall, FlatCore, FlatMessage};
-use message::PaxosRound;
+use arrays::{Setup, Tables};
+use flat::{FlatCall, FlatCore};
+use message::{Outcome, PFMode, PaxosRound, Refusal};
 use round_state::Member;
 use steps::{Asked, Heard};
 
 // Whether a message has no large number at all, whatever its kind: neither its own nor what the host adds to it. Nearly all have none, and this is
 // one test of all bits together.
+#[tactic(auto, unfolding(crate::specs::Refusals::is_small))]
 fn is_small(f: FlatCall) -> bool
     ensures { result ≡ is_small f }
 {
     let m = f.message;
-    let rv = m.rv;
-    let at = rv.accept_round;
-    let last_v = m.last_v;
-    let requester = f.requester;
-    let held = f.held_requester;
+    let at = m.rv.accept_round;
     let round = m.round_group | m.leader;
-    let promise = rv.proposer | at.round_group | at.leader | rv.v;
+    let promise = m.rv.proposer | at.round_group | at.leader | m.rv.v;
     let own = m.v | m.id | m.next_readable_slot | m.src;
-    let added = last_v.n | requester.n | held.n;
-    if limits::is_number(round | promise | own | added) {
-        return limits::is_slot(m.slot);
-    }
-    false
+    let added = m.last_v.n | f.requester.n | f.held_requester.n;
+    limits::is_number(round | promise | own | added) && limits::is_slot(m.slot)
 }
 
 // Whether every number that can be a process is below the count, whatever the kind.
@@ -83,72 +75,48 @@ fn processes_fit_in(process_count: u64, own: u64, call: &[u64; 25]) -> bool
     flat::decode_delivery(process_count, own, arrays::call_in(call)).processes_fit(process_count)
 }
 
-// Refusals 2 and 3, or 0.
-fn unfit(process_count: u64, own: u64, call: &[u64; 25]) -> u64
+// Refusals 2 and 3.
+fn unfit(process_count: u64, own: u64, call: &[u64; 25]) -> Outcome
     ensures { result ≡ unfit (numbers_fit (decoded_delivery process_count own (call_of call.now))) (processes_fit process_count (decoded_delivery process_count own (call_of call.now))) }
 {
     if is_plain_in(process_count, call) {
-        return 0;
+        return Ok(());
     }
-    if numbers_fit_in(process_count, own, call) {
-        if processes_fit_in(process_count, own, call) {
-            return 0;
-        }
-        return 3;
+    if !numbers_fit_in(process_count, own, call) {
+        return Err(Refusal::NumberTooLarge);
     }
-    2
+    if !processes_fit_in(process_count, own, call) {
+        return Err(Refusal::NoSuchProcess);
+    }
+    Ok(())
 }
 
-#[tactic(auto, unfolding(flat::specs::Decode::decoded_msg))]
-fn slot_in(m: FlatMessage) -> Option<u64>
-    ensures { result ≡ msg_slot (decoded_msg m) }
+// Refusals 5, and 4 before 6. Of another slot than the own one neither 4 nor 6 is asked. The process count is there for the contract alone. Not `ready` of a
+// Delivery, which takes the whole message with the host's words: of another slot nothing but the slot is read here.
+#[tactic(auto, unfolding(delivery::specs::Admit::ready, delivery::specs::Admit::other_last_value, delivery::specs::Admit::value_awaited))]
+fn ready(process_count: u64, own: u64, core: FlatCore, f: FlatCall) -> Outcome
+    ensures { result ≡ ready own (decoded_core core) (decoded_delivery process_count own f) }
 {
-    match m.kind {
-        1 | 2 | 4 => Some(m.slot),
-        6 => Some(m.next_readable_slot),
-        _ => None,
-    }
-}
-
-#[tactic(auto, unfolding(flat::specs::Decode::decoded_msg))]
-fn needs_value(own: u64, m: FlatMessage) -> bool
-    ensures { result ≡ needs_value own (decoded_msg m) }
-{
-    match m.kind {
-        1 | 2 => m.leader == own,
-        4 => true,
-        _ => false,
-    }
-}
-
-// Refusals 5, and 4 before 6. Of another slot than the own one neither 4 nor 6 is asked. The process count is there for the contract alone.
-fn ready(process_count: u64, own: u64, core: FlatCore, f: FlatCall) -> u64
-    ensures { result ≡ encoded_outcome (ready own (decoded_core core) (decoded_delivery process_count own f)) }
-{
-    let message = f.message;
-    let last_v = message.last_v;
-    let slot = slot_in(message);
+    let msg = flat::decode_msg(f.message);
+    let slot = msg.get_slot();
     let at = flat::decode_core(core);
     if delivery::is_ahead(at, slot) {
-        return 5;
+        return Err(Refusal::SlotAhead);
     }
-    if delivery::is_own_slot(at, slot) {
-        if delivery::is_other_last(at, flat::decode_option(last_v)) {
-            return 4;
-        }
-        if needs_value(own, message) {
-            if f.value_held == 0 {
-                return 6;
-            }
-            return 0;
-        }
-        return 0;
+    if !delivery::is_own_slot(at, slot) {
+        return Ok(());
     }
-    0
+    if delivery::is_other_last(at, flat::decode_option(f.message.last_v)) {
+        return Err(Refusal::OtherLastValue);
+    }
+    if delivery::needs_value(own, msg) && !flat::is_yes(f.value_held) {
+        return Err(Refusal::ValueNotHeld);
+    }
+    Ok(())
 }
 
-fn ready_in(process_count: u64, own: u64, core: &[u64; 18], call: &[u64; 25]) -> u64
-    ensures { result ≡ encoded_outcome (ready own (decoded_core (core_of core.now)) (decoded_delivery process_count own (call_of call.now))) }
+fn ready_in(process_count: u64, own: u64, core: &[u64; 18], call: &[u64; 25]) -> Outcome
+    ensures { result ≡ ready own (decoded_core (core_of core.now)) (decoded_delivery process_count own (call_of call.now)) }
 {
     ready(
         process_count,
@@ -159,64 +127,50 @@ fn ready_in(process_count: u64, own: u64, core: &[u64; 18], call: &[u64; 25]) ->
 }
 
 // A message: 2, 3, then 5, or 4 before 6.
-fn message_refusal(process_count: u64, own: u64, core: &[u64; 18], call: &[u64; 25]) -> u64
-    ensures { result ≡ encoded_outcome (admit process_count own (decoded_core (core_of core.now)) (decoded_delivery process_count own (call_of call.now))) }
+#[tactic(auto, unfolding(delivery::specs::Admit::admit))]
+fn message_refusal(process_count: u64, own: u64, core: &[u64; 18], call: &[u64; 25]) -> Outcome
+    ensures { result ≡ admit process_count own (decoded_core (core_of core.now)) (decoded_delivery process_count own (call_of call.now)) }
 {
-    let number = unfit(process_count, own, call);
-    if number != 0 {
-        return number;
-    }
+    unfit(process_count, own, call)?;
     ready_in(process_count, own, core, call)
 }
 
 // A proposal and a new read are refused for their numbers.
-fn call_refusal(process_count: u64, own: u64, core: &[u64; 18], call: &[u64; 25]) -> u64
-    ensures { result ≡ encoded_outcome (admission_of process_count own (decoded_core (core_of core.now)) (decoded_call process_count own (call_of call.now))) }
+#[tactic(auto, unfolding(calls::specs::Decision::admission_of, flat::specs::Decode::decoded_call))]
+fn call_refusal(process_count: u64, own: u64, core: &[u64; 18], call: &[u64; 25]) -> Outcome
+    ensures { result ≡ admission_of process_count own (decoded_core (core_of core.now)) (decoded_call process_count own (call_of call.now)) }
 {
     let f = arrays::call_in(call);
-    if f.kind == 0 {
-        if limits::is_number(f.v) {
-            return 0;
-        }
-        return 2;
+    let fits = match f.kind {
+        0 => limits::is_number(f.v),
+        1 => limits::is_number(f.v) && limits::is_slot(f.arrival_slot),
+        _ => return message_refusal(process_count, own, core, call),
+    };
+    if fits {
+        return Ok(());
     }
-    if f.kind == 1 {
-        if limits::is_number(f.v) {
-            if limits::is_slot(f.arrival_slot) {
-                return 0;
-            }
-            return 2;
-        }
-        return 2;
-    }
-    message_refusal(process_count, own, core, call)
+    Err(Refusal::NumberTooLarge)
 }
 
-// The number with which a call is refused before it is handled, or 0: 1 of a shard that is not made, 2 of one whose slots are spent, and then that of
-// the call.
-pub fn refusal(setup: &[u64; 10], core: &[u64; 18], call: &[u64; 25]) -> u64
+// Why a call is refused before it is handled: 1 of a shard that is not made, 2 of one whose slots are spent, and then what refuses the call.
+#[tactic(auto, unfolding(calls::specs::Decision::unless_spent))]
+pub fn refusal(setup: &[u64; 10], core: &[u64; 18], call: &[u64; 25]) -> Outcome
     ensures { result ≡ refusal_of (setup_of setup.now) (core_of core.now) (call_of call.now) }
 {
     let s = arrays::setup_in(setup);
+    flat::decode_made(s.made, s.mode)?;
     let c = arrays::core_in(core);
-    if s.mode <= 5 {
-        if s.made == 0 {
-            if c.slot >= 9223372036854775807 {
-                return 2;
-            }
-            return call_refusal(s.process_count, s.my_pid, core, call);
-        }
-        return 1;
+    if c.slot >= 9223372036854775807 {
+        return Err(Refusal::NumberTooLarge);
     }
-    1
+    call_refusal(s.process_count, s.my_pid, core, call)
 }
 
-// What the handlers ask of the settings. None of it is in the tables.
+// What the handlers ask of the settings. None of it is in the tables. Not by calls::asked_of, which takes the settings with their tables: they would be copied.
 pub fn asked_of(setup: Setup) -> Asked
     ensures { result ≡ asked_of (decoded_settings (settings_of setup [] [])) }
 {
-    let quorum = setup.quorum;
-    let mode = flat::decode_mode(setup.mode);
+    let mode = PFMode::of_number(setup.mode);
     let member = Member {
         my_pid: setup.my_pid,
         replica: sets::contains(setup.alive_replicas, setup.my_pid),
@@ -227,29 +181,32 @@ pub fn asked_of(setup: Setup) -> Asked
         mode,
         starting_round: PaxosRound::starting(mode, setup.first_leader),
         first_leader: setup.first_leader,
-        quorum: flat::decode_option(quorum),
+        quorum: flat::decode_option(setup.quorum),
     }
 }
 
-// What the handlers ask of a message.
-pub fn heard_of(setup: Setup, committers: &[u64; 64], delegates: &[u64; 64], f: FlatCall) -> Heard
-    ensures { result ≡ heard_of (decoded_settings (settings_of setup committers.now delegates.now)) (decoded_delivery setup.process_count setup.my_pid f) }
+// The table of committers, where committers are given.
+fn table_given(flag: u64, table: &[u64; 64]) -> Option<&[u64; 64]>
+    ensures { option_copied result ≡ cond (is_yes flag) (Some table.now) None }
 {
-    let message = f.message;
-    let named = f.requester;
-    let held_named = f.held_requester;
-    let src = flat::decode_source(setup.process_count, setup.my_pid, message);
-    let requester = flat::decode_option(named);
-    let mode = flat::decode_mode(setup.mode);
-    let gathers = calls::gatherer_in(setup.my_pid, mode, delegates, flat::decode_msg(message));
-    let given = flat::is_yes(setup.has_committers);
-    let commits = settings::committer_in(given, committers, mode, requester);
+    flat::is_yes(flag).then_some(table)
+}
+
+// What the handlers ask of a message. Not by calls::heard_of, which takes the settings with their tables: they would be copied.
+pub fn heard_of(setup: Setup, tables: Tables<'_>, f: FlatCall) -> Heard
+    ensures { result ≡ heard_of (decoded_settings (settings_of setup tables.entry.committers.now tables.entry.delegates.now)) (decoded_delivery setup.process_count setup.my_pid f) }
+{
+    let src = flat::decode_source(setup.process_count, setup.my_pid, f.message);
+    let requester = flat::decode_option(f.requester);
+    let mode = PFMode::of_number(setup.mode);
+    let msg = flat::decode_msg(f.message);
+    let given = table_given(setup.has_committers, tables.committers);
     Heard {
         src,
         source_live: sets::contains(setup.alive_replicas, src),
-        delegate: gathers,
+        delegate: calls::gatherer_in(setup.my_pid, mode, tables.delegates, msg),
         requester,
-        committer: commits,
-        held_requester: flat::decode_option(held_named),
+        committer: settings::committer_in(given, mode, requester),
+        held_requester: flat::decode_option(f.held_requester),
     }
 }

@@ -1,6 +1,6 @@
 -- Handling an Accept, in the classic modes and in EPaxos, is the model's `on_accept`.
 -- Assumes nothing.
-use Rattle.std.specs.Prelude.{Option, None, Some}
+use Rattle.std.specs.Prelude.{Option, None, Some, Result, Ok, Err}
 use Rattle.message.specs.declared.RoundV.{RoundV}
 use mathlib.Core.Path.{◌≡◌, refl, sym, ap, ap₂, subst, ◌∙◌}
 use mathlib.Core.Logic.{◌⊎◌, inl, inr}
@@ -15,6 +15,7 @@ use Rattle.sets.specs.Sets.{contains, count, size}
 use Rattle.message.specs.Modes.{is_swift_paxos}
 use Rattle.message.specs.Promises.{is_process}
 use Rattle.message.specs.declared.PaxosRound.{PaxosRound}
+use Rattle.message.specs.declared.Refusal.{Refusal}
 use Rattle.message.specs.declared.Refusal.TheVariants.{Panic, AcceptUnlikeHeld}
 use Rattle.message.specs.declared.RoundV.TheVariants.{FastV, PaxosV}
 use Rattle.round_state.specs.Paxos.{get_last_accepted_round, paxos_can_commit, accept_fits, after_accept, receive_accept}
@@ -22,22 +23,21 @@ use Rattle.settings.specs.Questions.{quorums_of, delegate_of, committer_of, comm
 use Rattle.settings.specs.declared.Settings.{Settings}
 use Rattle.accept.specs.Accept.{tells_committer, is_committer, accept_to, committer_hears, answer_accept, commit_message, tells_commit, commit_messages, try_commit, answered, follower, accepted, accepting}
 use Rattle.enter.specs.Enter.{in_round, enter}
-use Rattle.steps.specs.Steps.{no_messages, one_message, two_messages, also, held_v, with_paxos, left_fast_path, stays, commits, refuses, goes_on}
+use Rattle.steps.specs.Steps.{CoreStep, no_messages, one_message, two_messages, also, held_v, with_paxos, left_fast_path, stays, commits, goes_on, then_in, map_step}
 use Rattle.steps.specs.declared.Core.{Core}
-use Rattle.steps.specs.declared.CoreStep.{CoreStep}
 use Rattle.steps.specs.declared.Heard.{Heard}
 use Rattle.steps.specs.declared.Messages.{Messages}
 use Rattle.steps.specs.declared.Next.{Next}
-use Rattle.steps.specs.declared.Next.TheVariants.{Stays, Continues, Commits, Refuses}
+use Rattle.steps.specs.declared.Next.TheVariants.{Stays, Continues, Commits}
 use Rattle.steps.specs.declared.Outgoing.{Outgoing}
 use Rattle.consensus.proofs.Handled.{eqb_sym}
 use Rattle.agreement.specs.Model.{View, Answers, Outcome, Host, accepted_by, voted, refuse, say}
 use Rattle.agreement.specs.Model as model
 use Rattle.agreement.specs.Refinement.{meanings}
 use Rattle.group.specs.Claim.{member_settings}
-use Rattle.group.proofs.View.{round_number, LeaderFits, leader_of, leader_of_lem, before_number, equal_number, process_number, process_of_lem, meaning_of, envelope, envelopes, view_of, Leaders, setup_of, SeenAs, Follows, then_in}
+use Rattle.group.proofs.View.{round_number, LeaderFits, leader_of, leader_of_lem, before_number, equal_number, process_number, process_of_lem, meaning_of, envelope, envelopes, view_of, Leaders, setup_of, SeenAs, Follows}
 use Rattle.group.proofs.Entering.{add_other_way, counted_add, in_round_leaders, in_round_round, enter_follows}
-use Rattle.group.proofs.Preparing.{asked_by, follows_both}
+use Rattle.group.proofs.Preparing.{asked_by, with_accepted, follows_both}
 
 -- ---- whether an accept fits
 
@@ -119,7 +119,7 @@ module _ (ans : Answers) (s : Settings) (i : ℕ) (no-swift : is_swift_paxos s.m
   commit_messages_lem core ms app false e = ap (λ (t : Bool). meanings meaning_of (envelopes (cond t (also ms (commit_message (asked_by s i) core h.requester)) ms))) e
 
   try_commit_follows : (v : ℕ) (core : Core) (ms : Messages) → Appends ms → held_v core.paxos.max_rv ≡ v → (tell : Bool) → tells_commit (asked_by s i) h round ≡ tell
-      → Follows (setup_of s) ans (try_commit (asked_by s i) h round v core ms) (model.commits (setup_of s) (view_of ans core) (meanings meaning_of (envelopes ms)) tell)
+      → Follows (setup_of s) ans (Ok (try_commit (asked_by s i) h round v core ms)) (model.commits (setup_of s) (view_of ans core) (meanings meaning_of (envelopes ms)) tell)
   unfolding model.commits size
   try_commit_follows v core ms app same tell e = go (either (leb (quorums_of s).majority (count (contains core.paxos.accepted_set) 64)))
     where
@@ -136,9 +136,9 @@ module _ (ans : Answers) (s : Settings) (i : ℕ) (no-swift : is_swift_paxos s.m
           }
 
       go : (leb (quorums_of s).majority (count (contains core.paxos.accepted_set) 64) ≡ true) ⊎ (leb (quorums_of s).majority (count (contains core.paxos.accepted_set) 64) ≡ false)
-          → Follows (setup_of s) ans (try_commit (asked_by s i) h round v core ms) (cond (leb (quorums_of s).majority (count (contains core.paxos.accepted_set) 64)) chosen (say (view_of ans core) os))
+          → Follows (setup_of s) ans (Ok (try_commit (asked_by s i) h round v core ms)) (cond (leb (quorums_of s).majority (count (contains core.paxos.accepted_set) 64)) chosen (say (view_of ans core) os))
       go (inl f) =
-          follows_both (commit_full v core ms f) (ap (λ (t : Bool). cond t chosen (say (view_of ans core) os)) f)
+          follows_both (ap Ok (commit_full v core ms f)) (ap (λ (t : Bool). cond t chosen (say (view_of ans core) os)) f)
           (record {
             seen_as =
                 ap₂
@@ -147,7 +147,7 @@ module _ (ans : Answers) (s : Settings) (i : ℕ) (no-swift : is_swift_paxos s.m
                 (commit_messages_lem core ms app tell e)
                 (sym same);
           })
-      go (inr f) = follows_both (commit_waits v core ms f) (ap (λ (t : Bool). cond t chosen (say (view_of ans core) os)) f) (record { seen_as = refl })
+      go (inr f) = follows_both (ap Ok (commit_waits v core ms f)) (ap (λ (t : Bool). cond t chosen (say (view_of ans core) os)) f) (record { seen_as = refl })
 
   -- ---- the answers to an Accept
 
@@ -258,27 +258,27 @@ module _ (ans : Answers) (s : Settings) (i : ℕ) (no-swift : is_swift_paxos s.m
   abbrev outcome_of : View → Core → Outcome
   outcome_of x0 core = model.after_accept (setup_of s) i h.src host x0 (view_of ans core)
 
-  accepted_leader : (v : ℕ) (core : Core) → eqb i round.leader ≡ true → accepted (asked_by s i) h round v core ≡ try_commit (asked_by s i) h round v core no_messages
+  accepted_leader : (v : ℕ) (core : Core) → eqb i round.leader ≡ true → accepted (asked_by s i) h round v core ≡ Ok (try_commit (asked_by s i) h round v core no_messages)
   unfolding accepted
   accepted_leader v core e = simp e
 
   accepted_answered : (v : ℕ) (core : Core) → eqb i round.leader ≡ false → eqb h.src h.delegate ≡ true → is_committer (asked_by s i) h ≡ false
-      → accepted (asked_by s i) h round v core ≡ stays core (answer_accept (asked_by s i) round core h.committer)
+      → accepted (asked_by s i) h round v core ≡ Ok (stays core (answer_accept (asked_by s i) round core h.committer))
   unfolding accepted follower answered
   accepted_answered v core e d c = simp (e, d, c)
 
   accepted_committer : (v : ℕ) (core : Core) → eqb i round.leader ≡ false → eqb h.src h.delegate ≡ true → is_committer (asked_by s i) h ≡ true
-      → accepted (asked_by s i) h round v core ≡ try_commit (asked_by s i) h round v core (answer_accept (asked_by s i) round core h.committer)
+      → accepted (asked_by s i) h round v core ≡ Ok (try_commit (asked_by s i) h round v core (answer_accept (asked_by s i) round core h.committer))
   unfolding accepted follower answered
   accepted_committer v core e d c = simp (e, d, c, no-swift)
 
   accepted_other : (v : ℕ) (core : Core) → eqb i round.leader ≡ false → eqb h.src h.delegate ≡ false → is_committer (asked_by s i) h ≡ true
-      → accepted (asked_by s i) h round v core ≡ try_commit (asked_by s i) h round v core no_messages
+      → accepted (asked_by s i) h round v core ≡ Ok (try_commit (asked_by s i) h round v core no_messages)
   unfolding accepted follower
   accepted_other v core e d c = simp (e, d, c)
 
   accepted_refused : (v : ℕ) (core : Core) → eqb i round.leader ≡ false → eqb h.src h.delegate ≡ false → is_committer (asked_by s i) h ≡ false
-      → accepted (asked_by s i) h round v core ≡ refuses Panic core
+      → accepted (asked_by s i) h round v core ≡ Err Panic
   unfolding accepted follower
   accepted_refused v core e d c = simp (e, d, c)
 
@@ -345,26 +345,13 @@ module _ (ans : Answers) (s : Settings) (i : ℕ) (no-swift : is_swift_paxos s.m
   unfolding accepting receive_accept
   accepting_fits v core e = simp (e, no-swift)
 
-  accepting_unfit : (v : ℕ) (core : Core) → accept_fits core.paxos.max_rv round v ≡ false → accepting (asked_by s i) h round v core ≡ refuses AcceptUnlikeHeld core
+  accepting_unfit : (v : ℕ) (core : Core) → accept_fits core.paxos.max_rv round v ≡ false → accepting (asked_by s i) h round v core ≡ Err AcceptUnlikeHeld
   unfolding accepting receive_accept
   accepting_unfit v core e = simp e
 
   accepted_view_lem : (v : ℕ) (core : Core) → core.paxos.round ≡ Some round → view_of ans (accepted_core v core) ≡ accepted_by h.src (voted i v (view_of ans core))
   accepted_view_lem v core at =
-      ap₂
-      (λ (r : ℕ) (f : ℕ → Bool).
-      record {
-        slot = core.slot;
-        round = round_number core.paxos.round;
-        holds = true;
-        held_round = r;
-        held_proposer = 0;
-        held_value = v;
-        prepared = contains core.paxos.prepared_set;
-        accepted = f;
-        answers = ans;
-      })
-      (ap round_number (sym at))
+      ap₂ (with_accepted ans core v) (ap round_number (sym at))
       (counted_add (asked_by s i).member h.src core.paxos.accepted_set alive small src-small ∙ add_other_way i h.src (contains core.paxos.accepted_set))
 
   abbrev fits_model : ℕ → View → Bool
@@ -392,21 +379,24 @@ module _ (ans : Answers) (s : Settings) (i : ℕ) (no-swift : is_swift_paxos s.m
       go (inr e) = follows_both (accepting_unfit v core e) (ap goal (sym same ∙ e)) (record { seen_as = tt })
 
 -- a step that is the model's does not go on
-pub ends : (S : model.Setup) (ans : Answers) (X : Type 0) (lift : CoreStep → X) (Fits : X → Outcome → Type 0) → ((step : CoreStep) (r : Outcome) → Follows S ans step r → Fits (lift step) r)
-    → (step : CoreStep) (r : Outcome) (rest : Core → X) → Follows S ans step r → Fits (then_in lift step rest) r
+pub ends : (S : model.Setup) (ans : Answers) (X : Type 0) (lift : CoreStep → X) (Fits : Result X Refusal → Outcome → Type 0)
+    → ((step : Result CoreStep Refusal) (r : Outcome) → Follows S ans step r → Fits (map_step lift step) r)
+    → (step : CoreStep) (r : Outcome) (rest : Core → Result X Refusal) → Follows S ans (Ok step) r → Fits (then_in lift (Ok step) rest) r
 ends S ans X lift Fits lifted step r rest f = go step.next refl f.seen_as
   where
-    go : (n : Next) → step.next ≡ n → SeenAs S ans step.core step.messages n r → Fits (then_in lift step rest) r
-    go Stays e g = subst (λ (t : Bool). Fits (cond t (rest step.core) (lift step)) r) (ap (λ (n : Next). goes_on n) (sym e)) (lifted step r f)
+    stops : (n : Next) → step.next ≡ n → goes_on n ≡ false → Fits (then_in lift (Ok step) rest) r
+    stops n e d = subst (λ (t : Bool). Fits (cond t (rest step.state) (Ok (lift step))) r) (sym (ap (λ (n : Next). goes_on n) e ∙ d)) (lifted (Ok step) r f)
+
+    go : (n : Next) → step.next ≡ n → SeenAs S ans step.state step.messages n r → Fits (then_in lift (Ok step) rest) r
+    go Stays e g = stops Stays e refl
     go Continues e g = absurd g
-    go (Commits v) e g = subst (λ (t : Bool). Fits (cond t (rest step.core) (lift step)) r) (ap (λ (n : Next). goes_on n) (sym e)) (lifted step r f)
-    go (Refuses why) e g = subst (λ (t : Bool). Fits (cond t (rest step.core) (lift step)) r) (ap (λ (n : Next). goes_on n) (sym e)) (lifted step r f)
+    go (Commits v) e g = stops (Commits v) e refl
 
 -- An Accept is the model's, with the host's requester; X is what the handler makes of it, as in Entering.antt.
 module _ (ans : Answers) (s : Settings) (i : ℕ) (no-swift : is_swift_paxos s.mode ≡ false) (small : i < 64) (h : Heard) (src : h.src < 64) (slot : ℕ) (round : PaxosRound) (below : round.leader < 64) (v : ℕ)
     (live : h.source_live ≡ contains s.alive_replicas h.src) (delegate_of_lem : h.delegate ≡ delegate_of s s.mode round.leader) (by-requester : h.committer ≡ committer_of s h.requester)
-    (X : Type 0) (lift : CoreStep → X) (Fits : X → Outcome → Type 0) (lifted : (step : CoreStep) (r : Outcome) → Follows (setup_of s) ans step r → Fits (lift step) r)
-    (rest : Core → X) (rest-follows : contains s.alive_replicas i ≡ true → (core : Core) (r : Outcome) → Follows (setup_of s) ans (accepting (asked_by s i) h round v core) r → Fits (rest core) r) where
+    (X : Type 0) (lift : CoreStep → X) (Fits : Result X Refusal → Outcome → Type 0) (lifted : (step : Result CoreStep Refusal) (r : Outcome) → Follows (setup_of s) ans step r → Fits (map_step lift step) r)
+    (rest : Core → Result X Refusal) (rest-follows : contains s.alive_replicas i ≡ true → (core : Core) (r : Outcome) → Follows (setup_of s) ans (accepting (asked_by s i) h round v core) r → Fits (rest core) r) where
   pub on_accept_follows : (core : Core) → Leaders core → slot ≤ core.slot
       → Fits (then_in lift (enter (asked_by s i) h slot round core) rest)
       (model.on_accept (setup_of s) i (view_of ans core) h.src slot (round_number (Some round)) v (record { allows = true; requester = process_number h.requester; adoptee = 0 }))

@@ -180,7 +180,7 @@ mode_same s i j Pando = refl
 mode_same s i j SwiftPaxos = refl
 
 limits_same : (s : Settings) (i : ℕ) → i < s.process_count → within_limits (member_settings s i) ≡ within_limits (member_settings s 0)
-unfolding within_limits counts_fit members_fit committers_fit
+unfolding within_limits counts_fit members_fit
 limits_same s i l =
     let own : ltb i s.process_count ≡ true = lt-ltb i s.process_count l in
     let first : ltb 0 s.process_count ≡ true = lt-ltb 0 s.process_count (omega arith) in
@@ -188,7 +188,7 @@ limits_same s i l =
     (λ (t u : Bool).
     counts_fit (member_settings s i)
     && (t && ltb s.first_leader s.process_count && fits s.alive_replicas s.process_count && leb (size s.alive_replicas) s.replica_count)
-    && committers_fit (member_settings s i)
+    && committers_fit s.committers s.process_count
     && u)
     (own ∙ sym first)
     (mode_same s i 0 s.mode)

@@ -1,6 +1,6 @@
 -- An answer on the fast path of EPaxos is the model's `answering`: the fast half with the answer in it, its commit and the value that is adopted.
 -- Assumes nothing.
-use Rattle.std.specs.Prelude.{Option, None, Some, Result, Ok, Err}
+use Rattle.std.specs.Prelude.{Option, None, Some, Result, Ok, Err, IfOk}
 use Rattle.std.proofs.lemmas.List.{get_or-replicate}
 use mathlib.Core.Path.{◌≡◌, refl, sym, ap, ap₂, subst, fun_ext, ◌∙◌}
 use mathlib.Core.Logic.{◌⊎◌, inl, inr}
@@ -36,21 +36,20 @@ use Rattle.fast_state.specs.Adopt.{Choice, value_in, score_in, adopted, epaxos_t
 use Rattle.fast_state.specs.Fast as fast_half
 use Rattle.fast_state.specs.Fast.{answers_of, unchanged, changed, no_answers, to_v_after, epaxos_scores_after, preaccepted_after, second_answer, epaxos_counted, epaxos_answered, epaxos_can_commit}
 use Rattle.fast_state.proofs.Stored.{value_stored, score_stored}
+use Rattle.fast_state.specs.declared.FastAnswers.{FastAnswers}
 use Rattle.fast_state.specs.declared.FastChange.{FastChange}
 use Rattle.fast_state.specs.declared.FastState.{FastState}
 use Rattle.prepare.specs.Prepare.{after_own_accept}
 use Rattle.epaxos_path.specs.EPaxos.{epaxos_commit, adopting, epaxos_adopt, epaxos_decide, after_epaxos_answer, epaxos_answer}
-use Rattle.steps.specs.Steps.{with_paxos, refuses, with_change}
+use Rattle.steps.specs.Steps.{CoreStep, with_paxos, map_step, with_change}
 use Rattle.steps.specs.declared.ChangeStep.{ChangeStep}
 use Rattle.steps.specs.declared.Core.{Core}
-use Rattle.steps.specs.declared.CoreStep.{CoreStep}
 use Rattle.steps.specs.declared.Heard.{Heard}
 use Rattle.agreement.specs.Model.{View, Answers, Host, Outcome, with_answer, with_answers, quiet, refuse, say, voted}
 use Rattle.agreement.specs.Model as model
 use Rattle.agreement.proofs.Answers.{count_none}
 use Rattle.group.specs.Claim.{PicksBest}
-use Rattle.group.proofs.View.{round_number, process_number, insert_add, proposer_of, is_e_paxos, answers_in, view_of, setup_of, Follows}
-use Rattle.group.proofs.Changes.{change_left}
+use Rattle.group.proofs.View.{round_number, process_number, insert_add, proposer_of, is_e_paxos, answers_in, view_of, setup_of, SeenAs, Follows}
 use Rattle.group.proofs.Preparing.{asked_by, follows_both, own_accept_view, broadcast_classic}
 
 -- ---- the fast half as the engine keeps it
@@ -189,25 +188,30 @@ module _ (me : Member) (src p v : ℕ) (src-small : src < 64) (p-small : p < 64)
 -- ---- what follows an answer
 
 -- a step of the handlers with a fast half is the model's: with the change made to the fast half
-abbrev pub core_step_of : ChangeStep → CoreStep
-core_step_of cs = record { core = cs.core; messages = cs.messages; next = cs.next }
+pub record FollowsChange (S : model.Setup) (fast : FastState) (step : Result ChangeStep Refusal) (r : Outcome) : Type 0 where
+  pub seen_as : IfOk step (λ x. SeenAs S (answers_in (changed x.change fast)) x.core x.messages x.next r)
 
-pub record FollowsChange (S : model.Setup) (fast : FastState) (cs : ChangeStep) (r : Outcome) : Type 0 where
-  pub follows : Follows S (answers_in (changed cs.change fast)) (core_step_of cs) r
+-- a step of the core, with a change of the fast half
+pub changes_follow : (S : model.Setup) (fast : FastState) (change : FastChange) (step : Result CoreStep Refusal) (r : Outcome) → Follows S (answers_in (changed change fast)) step r
+    → FollowsChange S fast (map_step (with_change change) step) r
+changes_follow S fast change (Ok step) r f = record { seen_as = f.seen_as }
+changes_follow S fast change (Err why) r f = record { seen_as = tt }
 
 -- a step that changes nothing of the fast half
-pub lifted : (S : model.Setup) (fast : FastState) (step : CoreStep) (r : Outcome) → Follows S (answers_in fast) step r → FollowsChange S fast (with_change (unchanged (answers_of fast)) step) r
-lifted S fast step r f = record { follows = subst (λ (a : Answers). Follows S a step r) (sym (unchanged_answers fast)) f }
-
--- a refused step
-pub refuses_follows : (S : model.Setup) (fast : FastState) (change : FastChange) (why : Refusal) (core : Core) (r : Outcome) → FollowsChange S fast (with_change change (refuses why core)) r
-refuses_follows S fast change why core r = record { follows = record { seen_as = tt } }
+pub lifted : (S : model.Setup) (fast : FastState) (step : Result CoreStep Refusal) (r : Outcome) → Follows S (answers_in fast) step r
+    → FollowsChange S fast (map_step (with_change (unchanged (answers_of fast))) step) r
+lifted S fast step r f = changes_follow S fast (unchanged (answers_of fast)) step r (subst (λ (a : Answers). Follows S a step r) (sym (unchanged_answers fast)) f)
 
 not_ltb : (a b : ℕ) → ltb a b ≡ true → leb b a ≡ false
 not_ltb a b e = lt-leb b a (ltb-true a b e)
 
 not_ltb' : (a b : ℕ) → ltb a b ≡ false → leb b a ≡ true
 not_ltb' a b e = le-leb b a (ltb-false a b e)
+
+-- the change that a step of the fast half leaves: none where the step is refused
+abbrev change_left : FastAnswers → Result FastChange Refusal → FastChange
+change_left answers (Ok change) = change
+change_left answers (Err why) = unchanged answers
 
 -- the host of a call whose answers are f and scores are `score`
 abbrev pub host_with : Choice → FastChange → List ℕ → Host
@@ -250,7 +254,7 @@ module _ (choose : Choice) (picks_best : PicksBest choose) (s : Settings) (i : �
   unfolding adopting
   adopting_step v step p e = simp p (ap (after_own_accept (asked_by s i) round core) e)
 
-  adopting_unprepared : (v : ℕ) → is_prepared (asked_by s i).member core.paxos ≡ false → adopting (asked_by s i) round v core ≡ refuses Panic core
+  adopting_unprepared : (v : ℕ) → is_prepared (asked_by s i).member core.paxos ≡ false → adopting (asked_by s i) round v core ≡ Err Panic
   unfolding adopting
   adopting_unprepared v p = simp p
 
@@ -270,7 +274,7 @@ module _ (choose : Choice) (picks_best : PicksBest choose) (s : Settings) (i : �
       go : (is_empty core.paxos.accepted_set ≡ true) ⊎ (is_empty core.paxos.accepted_set ≡ false) → Follows (setup_of s) ans (adopting (asked_by s i) round v core) (model.casts (setup_of s) i x0 v (view_of ans core))
       go (inr e) = follows_both (adopting_step v _ p (adopted_full v e)) refl (record { seen_as = tt })
       go (inl e) =
-          follows_both (adopting_step v _ p (adopted_state v e) ∙ broadcast_classic ans s i no-swift alive small h src-small round below (record { allows = true; requester = 0; adoptee = 0 }) accepted) (model_casts ans v e)
+          follows_both (adopting_step v _ p (adopted_state v e) ∙ ap Ok (broadcast_classic ans s i no-swift alive small h src-small round below (record { allows = true; requester = 0; adoptee = 0 }) accepted)) (model_casts ans v e)
           (record {
             seen_as =
                 ap₂ (λ (x : View) (r : ℕ). say x (record { destination = model.all; message = model.accept core.slot r v } ∷ [])) (own_accept_view ans s i alive small round core v at) (ap round_number (sym at));
@@ -388,8 +392,8 @@ module _ (choose : Choice) (picks_best : PicksBest choose) (s : Settings) (i : �
     unfolding epaxos_decide model.decides
     decide_follows v = go (either (epaxos_can_commit (asked_by s i).member change.answers))
       where
-        steps : Bool → CoreStep
-        steps t = cond t (epaxos_commit (asked_by s i) h v core) (epaxos_adopt (asked_by s i) round core adoption)
+        steps : Bool → Result CoreStep Refusal
+        steps t = cond t (Ok (epaxos_commit (asked_by s i) h v core)) (epaxos_adopt (asked_by s i) round core adoption)
 
         fast_commit : Outcome
         fast_commit =
@@ -442,7 +446,7 @@ module _ (choose : Choice) (picks_best : PicksBest choose) (s : Settings) (i : �
 
     -- by what epaxos_answered says
     by_step : (p v : ℕ) (step : Result FastChange Refusal) → answered_by p v ≡ step
-        → FollowsChange (setup_of s) fast (after_epaxos_answer choose (asked_by s i) h round v core (answers_of fast) fast.fast_proposer_to_v fast.epaxos_proposer_scores step)
+        → FollowsChange (setup_of s) fast (after_epaxos_answer choose (asked_by s i) h round v core fast.fast_proposer_to_v fast.epaxos_proposer_scores step)
         (model.answering (setup_of s) i h.src (suc p) v (host_with choose (change_left (answers_of fast) step) fast.epaxos_proposer_scores) x0 view)
         → FollowsChange (setup_of s) fast (epaxos_answer choose (asked_by s i) h round (FastV p v) core (answers_of fast) fast.fast_proposer_to_v fast.epaxos_proposer_scores)
         (model.answering (setup_of s) i h.src (suc p) v (host_with choose (change_left (answers_of fast) (answered_by p v)) fast.epaxos_proposer_scores) x0 view)
@@ -450,14 +454,14 @@ module _ (choose : Choice) (picks_best : PicksBest choose) (s : Settings) (i : �
     by_step p v step e f =
         subst
         (λ (t : Result FastChange Refusal).
-        FollowsChange (setup_of s) fast (after_epaxos_answer choose (asked_by s i) h round v core (answers_of fast) fast.fast_proposer_to_v fast.epaxos_proposer_scores t)
+        FollowsChange (setup_of s) fast (after_epaxos_answer choose (asked_by s i) h round v core fast.fast_proposer_to_v fast.epaxos_proposer_scores t)
         (model.answering (setup_of s) i h.src (suc p) v (host_with choose (change_left (answers_of fast) t) fast.epaxos_proposer_scores) x0 view))
         (sym e)
         f
 
     decided : (change : FastChange) (v : ℕ) (r : Outcome) → r ≡ model.decides (setup_of s) i v (host_with choose change fast.epaxos_proposer_scores) x0 (view_of (answers_in (changed change fast)) core)
-        → FollowsChange (setup_of s) fast (with_change change (epaxos_decide choose (asked_by s i) h round v core change fast.fast_proposer_to_v fast.epaxos_proposer_scores)) r
-    decided change v r e = record { follows = follows_both refl e (decide_follows fast change ok.long_values ok.long_epaxos v) }
+        → FollowsChange (setup_of s) fast (map_step (with_change change) (epaxos_decide choose (asked_by s i) h round v core change fast.fast_proposer_to_v fast.epaxos_proposer_scores)) r
+    decided change v r e = changes_follow (setup_of s) fast change _ r (follows_both refl e (decide_follows fast change ok.long_values ok.long_epaxos v))
 
     fast_answer_follows : (p v : ℕ) → p < 64
         → FollowsChange (setup_of s) fast (epaxos_answer choose (asked_by s i) h round (FastV p v) core (answers_of fast) fast.fast_proposer_to_v fast.epaxos_proposer_scores)
@@ -471,7 +475,7 @@ module _ (choose : Choice) (picks_best : PicksBest choose) (s : Settings) (i : �
             by_step p v (Ok (unchanged (answers_of fast))) (answered_again p v e d)
             (decided (unchanged (answers_of fast)) v _
             (model_again p v _ e d ∙ ap (λ (a : Answers). model.decides (setup_of s) i v (host_with choose (unchanged (answers_of fast)) fast.epaxos_proposer_scores) x0 (view_of a core)) (sym (unchanged_answers fast))))
-        go (inl e) (inr d) = by_step p v (Err SecondFastAnswer) (answered_refused p v e d) (refuses_follows (setup_of s) fast _ SecondFastAnswer core _)
+        go (inl e) (inr d) = by_step p v (Err SecondFastAnswer) (answered_refused p v e d) (record { seen_as = tt })
         go (inr e) d =
             let change : FastChange = epaxos_counted (asked_by s i).member h.src p v (answers_of fast) fast.epaxos_proposer_scores in
             by_step p v (Ok change) (answered_first p v e)
@@ -482,7 +486,7 @@ module _ (choose : Choice) (picks_best : PicksBest choose) (s : Settings) (i : �
         → FollowsChange (setup_of s) fast (epaxos_answer choose (asked_by s i) h round (PaxosV at-round v) core (answers_of fast) fast.fast_proposer_to_v fast.epaxos_proposer_scores)
         (model.answering (setup_of s) i h.src 0 v (record { allows = true; requester = 0; adoptee = 0 }) x0 view)
     unfolding epaxos_answer
-    slow_answer_follows at-round v = refuses_follows (setup_of s) fast (unchanged (answers_of fast)) Panic core _
+    slow_answer_follows at-round v = record { seen_as = tt }
 
     pub answer_follows : (rv : RoundV) → ProposerFits rv
         → FollowsChange (setup_of s) fast (epaxos_answer choose (asked_by s i) h round rv core (answers_of fast) fast.fast_proposer_to_v fast.epaxos_proposer_scores)

@@ -1,6 +1,7 @@
 -- Each call on a shard of the group is the model's call, or is refused, or has no part in the agreement.
 -- Assumes nothing.
-use Rattle.std.specs.Prelude.{Option, None, Some, Result, Ok, Err}
+use Rattle.std.specs.Prelude.{Option, None, Some, Result, Ok, Err, IfOk}
+use Rattle.std.proofs.lemmas.Result.{IfOk-weaker}
 use Rattle.message.specs.Outcomes.{Outcome}
 use Rattle.calls.specs.declared.CommittedSlot.{CommittedSlot}
 use mathlib.Core.Path.{◌≡◌, refl, sym, ap, subst, fun_ext, ◌∙◌}
@@ -37,20 +38,19 @@ use Rattle.settings.specs.Settings.{within_limits}
 use Rattle.settings.specs.declared.Settings.{Settings}
 use Rattle.settings.proofs.Limits.{within_counts, within_members}
 use Rattle.paxos_family.specs.Commit.{commit_slot}
+use Rattle.read_tracker.specs.declared.Inserted.{Inserted}
 use Rattle.accept.specs.Accept.{accepting}
 use Rattle.paxos_family.specs.Process.{on_accept, process_classic, on_fast_prepare, on_fast_accept, process_change, process_fast}
 use Rattle.propose.specs.Propose.{propose_classic, propose_change, propose_fast}
-use Rattle.steps.specs.Steps.{no_messages, one_message, stays, with_change, on_rounds, change_rounds}
+use Rattle.steps.specs.Steps.{RoundsStep, CoreStep, no_messages, one_message, stays, map_step, with_change, on_rounds, change_rounds}
 use Rattle.steps.specs.declared.ChangeStep.{ChangeStep}
 use Rattle.steps.specs.declared.Core.{Core}
-use Rattle.steps.specs.declared.CoreStep.{CoreStep}
 use Rattle.steps.specs.declared.Destination.TheVariants.{One}
 use Rattle.steps.specs.declared.Heard.{Heard}
 use Rattle.steps.specs.declared.Messages.{Messages}
 use Rattle.steps.specs.declared.Next.{Next}
-use Rattle.steps.specs.declared.Next.TheVariants.{Stays, Continues, Commits, Refuses}
+use Rattle.steps.specs.declared.Next.TheVariants.{Stays, Continues, Commits}
 use Rattle.steps.specs.declared.Rounds.{Rounds}
-use Rattle.steps.specs.declared.RoundsStep.{RoundsStep}
 use Rattle.delivery.specs.Admit.{is_ahead, other_last_value, value_awaited, ready, admit}
 use Rattle.consensus.specs.Answers.{refused, sent, nothing, committed, finish_at, finish}
 use Rattle.consensus.specs.Call.{proposing, propose, read, admitted, receive, dispatch, unless_spent, if_made, call_with}
@@ -72,13 +72,13 @@ use Rattle.agreement.specs.Refinement.{meanings, seen, AsModel, outcome, deliver
 use Rattle.group.specs.Claim.{member_settings, begun, PicksBest, MemberCall, NotSwift}
 pub use Rattle.group.specs.Steps.{is_done}
 use Rattle.group.proofs.View.{round_number, LeaderIn, LeaderFits, process_number, no_member, meaning_of, meaning_is, proposer_of, is_e_paxos, answers_in, envelopes, view_of, Leaders, setup_of, SeenAs, Follows}
-use Rattle.group.proofs.Preparing.{asked_by, on_prepare_follows}
+use Rattle.group.proofs.Preparing.{asked_by, same_steps, on_prepare_follows}
 use Rattle.group.proofs.Accepting.{committer_same, on_accept_follows}
 use Rattle.group.proofs.Proposing.{propose_follows}
-use Rattle.group.proofs.Answering.{FastFits, begins_with, values_begin, FollowsChange, lifted, core_step_of, host_for, host-allows}
+use Rattle.group.proofs.Answering.{FastFits, begins_with, values_begin, FollowsChange, lifted, host_for, host-allows}
 use Rattle.group.proofs.FastPath.{fast_prepare_follows, fast_accept_follows, fast_propose_follows}
 use Rattle.group.proofs.StepBounds.{MessageFits}
-use Rattle.group.proofs.Invariants.{admit_cond, source_below, message_numbers, message_fits, LeadsIn, Lasts, CallLasts, proposed_fits, message_processed_fits, call_lasts}
+use Rattle.group.proofs.Invariants.{admit_cond, source_below, message_numbers, message_fits, LeadsIn, Lasts, CallLasts, proposed_slot, processed_slot, call_lasts}
 
 -- ---- the group as an engine
 
@@ -194,12 +194,9 @@ refuse_as_model S i x reads = (refl, refl, tt)
 
 -- ---- the end of a call
 
-abbrev core_step : RoundsStep → CoreStep
-core_step step = record { core = step.rounds.core; messages = step.messages; next = step.next }
-
 -- a step on the rounds is the model's
-abbrev StepFollows : Settings → RoundsStep → model.Outcome → Type 0
-StepFollows s step r = Follows (setup_of s) (answers_for s.mode step.rounds.fast) (core_step step) r
+record StepFollows (s : Settings) (step : Result RoundsStep Refusal) (r : model.Outcome) : Type 0 where
+  seen_as : IfOk step (λ x. SeenAs (setup_of s) (answers_for s.mode x.state.fast) x.state.core x.messages x.next r)
 
 module _ (s : Settings) (i : ℕ) (made : Outcome) (state : State) where
   commit_seen : (v : ℕ) (rounds : Rounds) (ms : Messages) → rounds.core.slot < 9223372036854775807
@@ -223,19 +220,19 @@ module _ (s : Settings) (i : ℕ) (made : Outcome) (state : State) where
     taken = true;
   }
 
-  finish_seen : (held : Bool) (step : RoundsStep) (r : model.Outcome) → StepFollows s step r → step.rounds.core.slot < 9223372036854775807
+  finish_seen : (held : Bool) (step : Result RoundsStep Refusal) (r : model.Outcome) → StepFollows s step r → IfOk step (λ x. x.state.core.slot < 9223372036854775807)
       → (seen_answer (finish (shard_of s i made state) (asked_by s i) held step) ≡ r)
       ⊎ (seen_answer (finish (shard_of s i made state) (asked_by s i) held step) ≡ refuse (view_shard (shard_of s i made state)))
-  finish_seen held step r f l = go step.next held f.seen_as
+  finish_seen held (Err why) r f l = inr refl
+  finish_seen held (Ok step) r f l = go step.next held f.seen_as
     where
-      go : (n : Next) (held : Bool) → SeenAs (setup_of s) (answers_for s.mode step.rounds.fast) step.rounds.core step.messages n r
-          → (seen_answer (finish_at (shard_of s i made state) (asked_by s i) held step.rounds step.messages n) ≡ r)
-          ⊎ (seen_answer (finish_at (shard_of s i made state) (asked_by s i) held step.rounds step.messages n) ≡ refuse (view_shard (shard_of s i made state)))
+      go : (n : Next) (held : Bool) → SeenAs (setup_of s) (answers_for s.mode step.state.fast) step.state.core step.messages n r
+          → (seen_answer (finish_at (shard_of s i made state) (asked_by s i) held step.state step.messages n) ≡ r)
+          ⊎ (seen_answer (finish_at (shard_of s i made state) (asked_by s i) held step.state step.messages n) ≡ refuse (view_shard (shard_of s i made state)))
       go Stays held e = inl e
       go Continues held e = absurd e
-      go (Commits v) true e = inl (commit_seen v step.rounds step.messages l ∙ e)
+      go (Commits v) true e = inl (commit_seen v step.state step.messages l ∙ e)
       go (Commits v) false e = inr refl
-      go (Refuses why) held e = inr refl
 
 -- ---- what is known of an admitted message
 
@@ -332,12 +329,16 @@ module _ (s : Settings) (i : ℕ) (claimed : NotSwift s.mode) (choose : Choice) 
     abbrev as_model : Kind ConsensusMessage → Answer → Type 0
     as_model k r = AsModel meaning_of (setup_of s) i (view_shard shard) k (seen_answer r)
 
+    -- the slot of a step is that of the shard, which has one after it
+    has_room : (step : Result RoundsStep Refusal) → IfOk step (λ x. x.state.core.slot ≡ core.slot) → IfOk step (λ x. x.state.core.slot < 9223372036854775807)
+    has_room step = IfOk-weaker step _ _ (λ x same. subst (λ (n : ℕ). n < 9223372036854775807) (sym same) room)
+
     -- a step that is the model's ends as the model's call, or is refused
-    deliver_ends : (held : Bool) (source : ℕ) (message : ConsensusMessage) (host : model.Host) (step : RoundsStep)
-        → StepFollows s step (outcome (setup_of s) (view_shard shard) (deliver i source (meaning_of message) host)) → step.rounds.core.slot ≡ core.slot
+    deliver_ends : (held : Bool) (source : ℕ) (message : ConsensusMessage) (host : model.Host) (step : Result RoundsStep Refusal)
+        → StepFollows s step (outcome (setup_of s) (view_shard shard) (deliver i source (meaning_of message) host)) → IfOk step (λ x. x.state.core.slot ≡ core.slot)
         → as_model (delivers source message) (finish shard (asked_by s i) held step)
     deliver_ends held source message host step f same =
-        go (finish_seen s i made state held step (outcome (setup_of s) (view_shard shard) (deliver i source (meaning_of message) host)) f (subst (λ (n : ℕ). n < 9223372036854775807) (sym same) room))
+        go (finish_seen s i made state held step (outcome (setup_of s) (view_shard shard) (deliver i source (meaning_of message) host)) f (has_room step same))
       where
         result : model.Outcome
         result = seen_answer (finish shard (asked_by s i) held step)
@@ -348,32 +349,46 @@ module _ (s : Settings) (i : ℕ) (claimed : NotSwift s.mode) (choose : Choice) 
         go (inr r) = subst (AsModel meaning_of (setup_of s) i (view_shard shard) (delivers source message)) (sym r) (refuse_as_model (setup_of s) i (view_shard shard) (delivers source message))
 
     -- the step of the mode
-    processed_slow : (h : Heard) (m : ConsensusMsg) → has_fast_path s.mode ≡ false → processed choose (asked_by s i) h m state.rounds ≡ on_rounds fast_state (process_classic (asked_by s i) h m core)
+    processed_slow : (h : Heard) (m : ConsensusMsg) → has_fast_path s.mode ≡ false → processed choose (asked_by s i) h m state.rounds ≡ map_step (on_rounds fast_state) (process_classic (asked_by s i) h m core)
     unfolding processed
     processed_slow h m e = simp e
 
     processed_fast : (h : Heard) (m : ConsensusMsg) → has_fast_path s.mode ≡ true
         → processed choose (asked_by s i) h m state.rounds
-        ≡ change_rounds fast_state (process_change choose (asked_by s i) h m core (answers_of fast_state) fast_state.fast_proposer_to_v fast_state.epaxos_proposer_scores fast_state.swift_proposer_scores)
+        ≡ map_step (change_rounds fast_state) (process_change choose (asked_by s i) h m core (answers_of fast_state) fast_state.fast_proposer_to_v fast_state.epaxos_proposer_scores fast_state.swift_proposer_scores)
     unfolding processed process_fast
     processed_fast h m e = simp e
 
     fast_view : is_e_paxos s.mode ≡ true → (f : FastState) → answers_for s.mode f ≡ answers_in f
     fast_view e f = ap (λ (t : Bool). cond t (answers_in f) model.no_answers) e
 
+    -- a step of the core alone
+    classic_step_lem : (step : Result CoreStep Refusal) (r : model.Outcome) → Follows (setup_of s) (answers_for s.mode fast_state) step r → StepFollows s (map_step (on_rounds fast_state) step) r
+    classic_step_lem (Ok step) r f = record { seen_as = f.seen_as }
+    classic_step_lem (Err why) r f = record { seen_as = tt }
+
     -- a step of EPaxos
-    fast_step_lem : is_e_paxos s.mode ≡ true → (cs : ChangeStep) (r : View → model.Outcome) → FollowsChange (setup_of s) fast_state cs (r (view_of (answers_in fast_state) core)) → StepFollows s (change_rounds fast_state cs) (r (view_shard shard))
-    fast_step_lem e cs r f =
-        subst (λ (a : Answers). Follows (setup_of s) a (core_step_of cs) (r (view_shard shard))) (sym (fast_view e (changed cs.change fast_state)))
-        (subst (λ (a : Answers). Follows (setup_of s) (answers_in (changed cs.change fast_state)) (core_step_of cs) (r (view_of a core))) (sym (fast_view e fast_state)) f.follows)
+    fast_step_lem : is_e_paxos s.mode ≡ true → (step : Result ChangeStep Refusal) (r : View → model.Outcome) → FollowsChange (setup_of s) fast_state step (r (view_of (answers_in fast_state) core))
+        → StepFollows s (map_step (change_rounds fast_state) step) (r (view_shard shard))
+    fast_step_lem e (Err why) r f = record { seen_as = tt }
+    fast_step_lem e (Ok step) r f =
+        record {
+          seen_as =
+              subst (λ (a : Answers). SeenAs (setup_of s) a step.core step.messages step.next (r (view_shard shard))) (sym (fast_view e (changed step.change fast_state)))
+              (subst (λ (a : Answers). SeenAs (setup_of s) (answers_in (changed step.change fast_state)) step.core step.messages step.next (r (view_of a core))) (sym (fast_view e fast_state)) f.seen_as);
+        }
 
     module _ (d : Delivery) (adm : Admitted s.process_count core d) where
       abbrev h : Heard
       h = heard_of (member_settings s i) d
 
-      same_slot : (m : ConsensusMsg) → d.message.msg ≡ m → (processed choose (asked_by s i) h m state.rounds).rounds.core.slot ≡ core.slot
-      same_slot m e = subst (λ (m : ConsensusMsg). (processed choose (asked_by s i) h m state.rounds).rounds.core.slot ≡ core.slot) e
-          (message_processed_fits choose shard lasts limits room d adm.numbers adm.processes).core_fits.same_slot
+      same_slot : (m : ConsensusMsg) → d.message.msg ≡ m → IfOk (processed choose (asked_by s i) h m state.rounds) (λ x. x.state.core.slot ≡ core.slot)
+      same_slot m e =
+          subst (λ (m : ConsensusMsg). IfOk (processed choose (asked_by s i) h m state.rounds) (λ x. x.state.core.slot ≡ core.slot)) e
+          (processed_slot choose shard lasts limits room d adm.numbers adm.processes)
+
+      not_ahead_of : (m : ConsensusMsg) → d.message.msg ≡ m → is_ahead core (msg_slot m) ≡ false
+      not_ahead_of m e = sym (ap (λ (x : ConsensusMsg). is_ahead core (msg_slot x)) e) ∙ adm.not_ahead
 
       prepare_ok : (slot : ℕ) (round : PaxosRound) (rv : RoundV) → d.message.msg ≡ Prepare slot round rv
           → (host : model.Host)
@@ -389,12 +404,12 @@ module _ (s : Settings) (i : ℕ) (claimed : NotSwift s.mode) (choose : Choice) 
           delegate_of_lem = ap (gatherer_of (member_settings s i)) e ∙ gatherer slot round rv
 
           le : slot ≤ core.slot
-          le = slot_of core slot (sym (ap (λ (m : ConsensusMsg). is_ahead core (msg_slot m)) e) ∙ adm.not_ahead)
+          le = slot_of core slot (not_ahead_of (Prepare slot round rv) e)
 
           slow_host : model.Host
           slow_host = record { allows = true; requester = 0; adoptee = 0 }
 
-          goal : model.Host → RoundsStep → Type 0
+          goal : model.Host → Result RoundsStep Refusal → Type 0
           goal host step = StepFollows s step (model.on_prepare (setup_of s) i (view_shard shard) d.message.src slot (round_number (Some round)) (round_number (accept_round_of rv)) (proposer_of rv) (value_of rv) host)
 
           go : ModeIs s.mode
@@ -403,7 +418,7 @@ module _ (s : Settings) (i : ℕ) (claimed : NotSwift s.mode) (choose : Choice) 
           go (is_classic no-fast no-epaxos) = (
             slow_host,
             subst (goal slow_host) (sym (processed_slow h (Prepare slot round rv) no-fast))
-                (on_prepare_follows (answers_for s.mode fast_state) s i (not_swift s.mode claimed) no-epaxos own_small h (source_small d adm.processes) slot round parts.0.1 rv parts.1 refl delegate_of_lem core ok le slow_host),
+                (classic_step_lem _ _ (on_prepare_follows (answers_for s.mode fast_state) s i (not_swift s.mode claimed) no-epaxos own_small h (source_small d adm.processes) slot round parts.0.1 rv parts.1 refl delegate_of_lem core ok le slow_host)),
           )
           go (is_fast has-fast epaxos single) = (
             host_for choose s i d.message.src fast_state rv,
@@ -431,19 +446,20 @@ module _ (s : Settings) (i : ℕ) (claimed : NotSwift s.mode) (choose : Choice) 
           delegate_of_lem = ap (gatherer_of (member_settings s i)) e ∙ accept_gatherer slot round v
 
           le : slot ≤ core.slot
-          le = slot_of core slot (sym (ap (λ (m : ConsensusMsg). is_ahead core (msg_slot m)) e) ∙ adm.not_ahead)
+          le = slot_of core slot (not_ahead_of (Accept slot round v) e)
 
           host : model.Host
           host = record { allows = true; requester = process_number d.said.requester; adoptee = 0 }
 
-          goal : RoundsStep → Type 0
+          goal : Result RoundsStep Refusal → Type 0
           goal step = StepFollows s step (model.on_accept (setup_of s) i (view_shard shard) d.message.src slot (round_number (Some round)) v host)
 
           go : ModeIs s.mode → goal (processed choose (asked_by s i) h (Accept slot round v) state.rounds)
           go (is_classic no-fast no-epaxos) =
               subst goal (sym (processed_slow h (Accept slot round v) no-fast))
+              (classic_step_lem _ _
               (on_accept_follows (answers_for s.mode fast_state) s i (not_swift s.mode claimed) own_small h (source_small d adm.processes) slot round leader v refl delegate_of_lem (committer_same s i d.said.requester)
-              CoreStep (λ t. t) (Follows (setup_of s) (answers_for s.mode fast_state)) (λ step r f. f) (accepting (asked_by s i) h round v) (λ alive c r f. f) core ok le)
+              CoreStep (λ t. t) (Follows (setup_of s) (answers_for s.mode fast_state)) (same_steps (setup_of s) (answers_for s.mode fast_state)) (accepting (asked_by s i) h round v) (λ alive c r f. f) core ok le))
           go (is_fast has-fast epaxos single) =
               subst goal (sym (processed_fast h (Accept slot round v) has-fast))
               (fast_step_lem epaxos (on_fast_accept (asked_by s i) h slot round v core (answers_of fast_state) fast_state.swift_proposer_scores)
@@ -455,40 +471,40 @@ module _ (s : Settings) (i : ℕ) (claimed : NotSwift s.mode) (choose : Choice) 
       unfolding process_classic process_change
       forward_ok v = go (mode_is s.mode claimed)
         where
-          goal : RoundsStep → Type 0
+          goal : Result RoundsStep Refusal → Type 0
           goal step = StepFollows s step (quiet (view_shard shard))
 
           go : ModeIs s.mode → goal (processed choose (asked_by s i) h (ForwardRequest v) state.rounds)
           go (is_classic no-fast no-epaxos) = subst goal (sym (processed_slow h (ForwardRequest v) no-fast)) (record { seen_as = refl })
           go (is_fast has-fast epaxos single) =
               subst goal (sym (processed_fast h (ForwardRequest v) has-fast))
-              (fast_step_lem epaxos (with_change (unchanged (answers_of fast_state)) (stays core no_messages)) quiet
-              (lifted (setup_of s) fast_state (stays core no_messages) (quiet (view_of (answers_in fast_state) core)) (record { seen_as = refl })))
+              (fast_step_lem epaxos (Ok (with_change (unchanged (answers_of fast_state)) (stays core no_messages))) quiet
+              (lifted (setup_of s) fast_state (Ok (stays core no_messages)) (quiet (view_of (answers_in fast_state) core)) (record { seen_as = refl })))
 
       processed_step : (m : ConsensusMsg) → d.message.msg ≡ m
           → process_message choose shard d ≡ finish shard (asked_by s i) d.said.value_held (processed choose (asked_by s i) h m state.rounds)
       unfolding process_message
       processed_step m e = ap (λ (m : ConsensusMsg). finish shard (asked_by s i) d.said.value_held (processed choose (asked_by s i) h m state.rounds)) e
 
+      -- a message whose step is the model's, with some host, is handled as the model's call
+      processed_ok : (m : ConsensusMsg) → d.message.msg ≡ m → (host : model.Host)
+          → StepFollows s (processed choose (asked_by s i) h m state.rounds)
+          (outcome (setup_of s) (view_shard shard) (deliver i d.message.src (meaning_of (record { msg = m; src = d.message.src; last_v = d.message.last_v })) host))
+          → as_model (kind_of (Receive d)) (process_message choose shard d)
+      processed_ok m e host f =
+          subst (as_model (delivers d.message.src d.message)) (sym (processed_step m e))
+          (subst (λ (x : ConsensusMsg). as_model (delivers d.message.src (record { msg = x; src = d.message.src; last_v = d.message.last_v })) (finish shard (asked_by s i) d.said.value_held (processed choose (asked_by s i) h m state.rounds))) (sym e)
+          (deliver_ends d.said.value_held d.message.src (record { msg = m; src = d.message.src; last_v = d.message.last_v }) host (processed choose (asked_by s i) h m state.rounds) f (same_slot m e)))
+
       on_prepare_lem : (slot : ℕ) (round : PaxosRound) (rv : RoundV) → d.message.msg ≡ Prepare slot round rv → as_model (kind_of (Receive d)) (process_message choose shard d)
-      on_prepare_lem slot round rv e =
-          let k = prepare_ok slot round rv e in
-          subst (as_model (delivers d.message.src d.message)) (sym (processed_step (Prepare slot round rv) e))
-          (subst (λ (m : ConsensusMsg). as_model (delivers d.message.src (record { msg = m; src = d.message.src; last_v = d.message.last_v })) (finish shard (asked_by s i) d.said.value_held (processed choose (asked_by s i) h (Prepare slot round rv) state.rounds))) (sym e)
-          (deliver_ends d.said.value_held d.message.src (record { msg = Prepare slot round rv; src = d.message.src; last_v = d.message.last_v }) k.0 (processed choose (asked_by s i) h (Prepare slot round rv) state.rounds) k.1 (same_slot (Prepare slot round rv) e)))
+      on_prepare_lem slot round rv e = let k = prepare_ok slot round rv e in processed_ok (Prepare slot round rv) e k.0 k.1
 
       on_accept_lem : (slot : ℕ) (round : PaxosRound) (v : ℕ) → d.message.msg ≡ Accept slot round v → as_model (kind_of (Receive d)) (process_message choose shard d)
-      on_accept_lem slot round v e =
-          subst (as_model (delivers d.message.src d.message)) (sym (processed_step (Accept slot round v) e))
-          (subst (λ (m : ConsensusMsg). as_model (delivers d.message.src (record { msg = m; src = d.message.src; last_v = d.message.last_v })) (finish shard (asked_by s i) d.said.value_held (processed choose (asked_by s i) h (Accept slot round v) state.rounds))) (sym e)
-          (deliver_ends d.said.value_held d.message.src (record { msg = Accept slot round v; src = d.message.src; last_v = d.message.last_v }) (record { allows = true; requester = process_number d.said.requester; adoptee = 0 }) (processed choose (asked_by s i) h (Accept slot round v) state.rounds) (accept_ok slot round v e) (same_slot (Accept slot round v) e)))
+      on_accept_lem slot round v e = processed_ok (Accept slot round v) e (record { allows = true; requester = process_number d.said.requester; adoptee = 0 }) (accept_ok slot round v e)
 
       on_forward : (v : ℕ) → d.message.msg ≡ ForwardRequest v → as_model (kind_of (Receive d)) (process_message choose shard d)
       unfolding outcome model.on_message
-      on_forward v e =
-          subst (as_model (delivers d.message.src d.message)) (sym (processed_step (ForwardRequest v) e))
-          (subst (λ (m : ConsensusMsg). as_model (delivers d.message.src (record { msg = m; src = d.message.src; last_v = d.message.last_v })) (finish shard (asked_by s i) d.said.value_held (processed choose (asked_by s i) h (ForwardRequest v) state.rounds))) (sym e)
-          (deliver_ends d.said.value_held d.message.src (record { msg = ForwardRequest v; src = d.message.src; last_v = d.message.last_v }) (record { allows = true; requester = 0; adoptee = 0 }) (processed choose (asked_by s i) h (ForwardRequest v) state.rounds) (forward_ok v) (same_slot (ForwardRequest v) e)))
+      on_forward v e = processed_ok (ForwardRequest v) e (record { allows = true; requester = 0; adoptee = 0 }) (forward_ok v)
 
     commit_older : (slot v : ℕ) → ltb slot core.slot ≡ true → on_commit shard slot v ≡ nothing shard
     unfolding on_commit
@@ -537,7 +553,7 @@ module _ (s : Settings) (i : ℕ) (claimed : NotSwift s.mode) (choose : Choice) 
     handled d adm (ForwardRequest v) e = on_forward d adm v e
     handled d adm (Commit slot v) e =
         subst (λ (m : ConsensusMsg). as_model (delivers d.message.src (record { msg = m; src = d.message.src; last_v = d.message.last_v })) (on_commit shard slot v)) (sym e)
-        (on_commit_lem d.message.src d.message.last_v slot v (slot_of core slot (sym (ap (λ (m : ConsensusMsg). is_ahead core (msg_slot m)) e) ∙ adm.not_ahead)))
+        (on_commit_lem d.message.src d.message.last_v slot v (slot_of core slot (not_ahead_of d adm (Commit slot v) e)))
     handled d adm (ReadRequest id) e = on_read_request_lem d.message.src d.message id (meaning_is d.message (ReadRequest id) e)
     handled d adm (ReadResponse id next) e = on_read_response_lem d.message.src d.message id d.said.fast (meaning_is d.message (ReadResponse id next) e)
 
@@ -551,25 +567,25 @@ module _ (s : Settings) (i : ℕ) (claimed : NotSwift s.mode) (choose : Choice) 
 
     -- ---- proposals
 
-    proposing_slow : (v : ℕ) → has_fast_path s.mode ≡ false → proposing (asked_by s i) v state.rounds ≡ on_rounds fast_state (propose_classic (asked_by s i) v core)
+    proposing_slow : (v : ℕ) → has_fast_path s.mode ≡ false → proposing (asked_by s i) v state.rounds ≡ map_step (on_rounds fast_state) (propose_classic (asked_by s i) v core)
     unfolding proposing
     proposing_slow v e = simp e
 
     proposing_fast : (v : ℕ) → has_fast_path s.mode ≡ true
-        → proposing (asked_by s i) v state.rounds ≡ change_rounds fast_state (propose_change (asked_by s i) v core (answers_of fast_state) fast_state.epaxos_proposer_scores fast_state.swift_proposer_scores)
+        → proposing (asked_by s i) v state.rounds ≡ map_step (change_rounds fast_state) (propose_change (asked_by s i) v core (answers_of fast_state) fast_state.epaxos_proposer_scores fast_state.swift_proposer_scores)
     unfolding proposing propose_fast
     proposing_fast v e = simp e
 
     propose_ok : (v : ℕ) → StepFollows s (proposing (asked_by s i) v state.rounds) (model.on_propose (setup_of s) i (view_shard shard) v)
     propose_ok v = go (mode_is s.mode claimed)
       where
-        goal : RoundsStep → Type 0
+        goal : Result RoundsStep Refusal → Type 0
         goal step = StepFollows s step (model.on_propose (setup_of s) i (view_shard shard) v)
 
         go : ModeIs s.mode → goal (proposing (asked_by s i) v state.rounds)
         go (is_classic no-fast no-epaxos) =
             subst goal (sym (proposing_slow v no-fast))
-            (propose_follows (answers_for s.mode fast_state) s i (not_swift s.mode claimed) own_small leader_small v core ok no-epaxos)
+            (classic_step_lem _ _ (propose_follows (answers_for s.mode fast_state) s i (not_swift s.mode claimed) own_small leader_small v core ok no-epaxos))
         go (is_fast has-fast epaxos single) =
             subst goal (sym (proposing_fast v has-fast))
             (fast_step_lem epaxos (propose_change (asked_by s i) v core (answers_of fast_state) fast_state.epaxos_proposer_scores fast_state.swift_proposer_scores)
@@ -578,7 +594,7 @@ module _ (s : Settings) (i : ℕ) (claimed : NotSwift s.mode) (choose : Choice) 
 
     propose_ends : (v : ℕ) → as_model (proposes v) (finish shard (asked_by s i) true (proposing (asked_by s i) v state.rounds))
     unfolding outcome
-    propose_ends v = go (finish_seen s i made state true (proposing (asked_by s i) v state.rounds) (model.on_propose (setup_of s) i (view_shard shard) v) (propose_ok v) (subst (λ (n : ℕ). n < 9223372036854775807) (sym (proposed_fits choose shard lasts limits room v).core_fits.same_slot) room))
+    propose_ends v = go (finish_seen s i made state true (proposing (asked_by s i) v state.rounds) (model.on_propose (setup_of s) i (view_shard shard) v) (propose_ok v) (has_room _ (proposed_slot choose shard lasts limits room v)))
       where
         result : model.Outcome
         result = seen_answer (finish shard (asked_by s i) true (proposing (asked_by s i) v state.rounds))
@@ -601,12 +617,12 @@ module _ (s : Settings) (i : ℕ) (claimed : NotSwift s.mode) (choose : Choice) 
     unfolding read start_read
     new_read_lem tag arrival = go (is_number tag && is_slot arrival)
       where
-        opened : (o : Result ReadId Refusal) → as_model reads (after_insert shard (read_inserted shard tag arrival) o)
+        opened : (r : Result Inserted Refusal) → as_model reads (after_insert shard r)
         opened (Err why) = (refl, refl, tt)
-        opened (Ok id) = (refl, refl, (refl, tt))
+        opened (Ok ins) = (refl, refl, (refl, tt))
 
-        go : (t : Bool) → as_model reads (cond t (after_insert shard (read_inserted shard tag arrival) (read_inserted shard tag arrival).opened) (refused NumberTooLarge shard))
-        go true = opened (read_inserted shard tag arrival).opened
+        go : (t : Bool) → as_model reads (cond t (after_insert shard (read_inserted shard tag arrival)) (refused NumberTooLarge shard))
+        go true = opened (read_inserted shard tag arrival)
         go false = (refl, refl, tt)
 
     dispatched : (c : Call) → as_model (kind_of c) (dispatch choose shard c)

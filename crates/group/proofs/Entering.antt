@@ -1,6 +1,7 @@
 -- What a Prepare and an Accept have in common is the model's `enter`; and the views of a round entered, of a promise and of an accept.
 -- Assumes nothing.
-use Rattle.std.specs.Prelude.{Option, Some, is_some}
+use Rattle.std.specs.Prelude.{Option, Some, is_some, Result, Ok, Err}
+use Rattle.std.proofs.Math.Bool.{or_assoc, or_comm, or_self_left}
 use mathlib.Core.Path.{◌≡◌, refl, sym, ap, subst, fun_ext, ◌∙◌}
 use mathlib.Core.Logic.{◌⊎◌, inl, inr}
 use mathlib.Core.Bool.{Bool, true, false, cond, ◌||◌}
@@ -14,6 +15,7 @@ use Rattle.message.specs.Modes.{is_swift_paxos}
 use Rattle.message.specs.Rounds.{before}
 use Rattle.message.proofs.Order.{optional_rounds_ordered}
 use Rattle.message.specs.declared.PaxosRound.{PaxosRound}
+use Rattle.message.specs.declared.Refusal.{Refusal}
 use Rattle.message.specs.declared.Refusal.TheVariants.{SourceNotLive}
 use Rattle.round_state.specs.Paxos.{get_last_accepted_round, goto_round, with_sender, counted}
 use Rattle.round_state.specs.declared.Member.{Member}
@@ -21,14 +23,13 @@ use Rattle.round_state.proofs.Counting.{with_sender_own, with_sender_other, with
 use Rattle.settings.specs.declared.Settings.{Settings}
 use Rattle.calls.specs.Asked.{asked_of}
 use Rattle.enter.specs.Enter.{in_round, is_older, from_live, enter}
-use Rattle.steps.specs.Steps.{no_messages, held_rv, held_v, with_paxos, stays, continues, refuses}
+use Rattle.steps.specs.Steps.{CoreStep, no_messages, held_rv, held_v, with_paxos, stays, continues, then_in, map_step}
 use Rattle.steps.specs.declared.Core.{Core}
-use Rattle.steps.specs.declared.CoreStep.{CoreStep}
 use Rattle.steps.specs.declared.Heard.{Heard}
 use Rattle.agreement.specs.Model.{View, Answers, Outcome, add, joined, quiet}
 use Rattle.agreement.specs.Model as model
 use Rattle.group.specs.Claim.{member_settings}
-use Rattle.group.proofs.View.{round_number, before_number, no_member, insert_add, proposer_of, view_of, Leaders, setup_of, Follows, then_in}
+use Rattle.group.proofs.View.{round_number, before_number, no_member, insert_add, proposer_of, view_of, Leaders, setup_of, Follows}
 
 -- ---- views
 
@@ -84,20 +85,11 @@ in_round_round round core no-older = go (either (before core.paxos.round (Some r
 -- ---- counting
 
 pub add_again : (p : ℕ) (f : ℕ → Bool) → add p (add p f) ≡ add p f
-add_again p f = fun_ext (λ q. go (eqb q p) (f q))
-  where
-    go : (a b : Bool) → (a || (a || b)) ≡ (a || b)
-    go true b = refl
-    go false b = refl
+add_again p f = fun_ext (λ q. or_self_left (eqb q p) (f q))
 
 pub add_other_way : (p q : ℕ) (f : ℕ → Bool) → add p (add q f) ≡ add q (add p f)
-add_other_way p q f = fun_ext (λ k. go (eqb k p) (eqb k q) (f k))
-  where
-    go : (a b c : Bool) → (a || (b || c)) ≡ (b || (a || c))
-    go true true c = refl
-    go true false c = refl
-    go false true c = refl
-    go false false c = refl
+add_other_way p q f =
+    fun_ext (λ k. sym (or_assoc (eqb k p) (eqb k q) (f k)) ∙ ap (λ (t : Bool). t || f k) (or_comm (eqb k p) (eqb k q)) ∙ or_assoc (eqb k q) (eqb k p) (f k))
 
 pub counted_add : (me : Member) (src set : ℕ) → me.replica ≡ true → me.my_pid < 64 → src < 64
     → contains (counted me src set) ≡ add me.my_pid (add src (contains set))
@@ -114,21 +106,21 @@ counted_add me src set r l k = ap contains (with_own_replica me src (with_sender
 -- ---- entering
 
 module _ (ans : Answers) (s : Settings) (i : ℕ) (no-swift : is_swift_paxos s.mode ≡ false) (core : Core) (h : Heard) (slot : ℕ) (round : PaxosRound) where
-  enter_client : contains s.alive_replicas i ≡ false → enter (asked_of (member_settings s i)) h slot round core ≡ stays core no_messages
+  enter_client : contains s.alive_replicas i ≡ false → enter (asked_of (member_settings s i)) h slot round core ≡ Ok (stays core no_messages)
   unfolding enter
   enter_client e = simp (e, no-swift)
 
-  enter_older : contains s.alive_replicas i ≡ true → is_older slot round core ≡ true → enter (asked_of (member_settings s i)) h slot round core ≡ stays core no_messages
+  enter_older : contains s.alive_replicas i ≡ true → is_older slot round core ≡ true → enter (asked_of (member_settings s i)) h slot round core ≡ Ok (stays core no_messages)
   unfolding enter
   enter_older e o = simp (e, o)
 
   enter_live : contains s.alive_replicas i ≡ true → is_older slot round core ≡ false → h.source_live ≡ true
-      → enter (asked_of (member_settings s i)) h slot round core ≡ continues (in_round round core) no_messages
+      → enter (asked_of (member_settings s i)) h slot round core ≡ Ok (continues (in_round round core) no_messages)
   unfolding enter from_live
   enter_live e o l = simp (e, o, l)
 
   enter_not_live : contains s.alive_replicas i ≡ true → is_older slot round core ≡ false → h.source_live ≡ false
-      → enter (asked_of (member_settings s i)) h slot round core ≡ refuses SourceNotLive core
+      → enter (asked_of (member_settings s i)) h slot round core ≡ Err SourceNotLive
   unfolding enter from_live
   enter_not_live e o l = simp (e, o, l, no-swift)
 
@@ -166,32 +158,32 @@ module _ (ans : Answers) (s : Settings) (i : ℕ) (no-swift : is_swift_paxos s.m
       simp (e, d, q, v) (ap k (sym (in_round_view ans round core ok l)))
 
   -- entering is the model's, where the rest is; X is what the handler makes, of which Fits says that it is the model's
-  module _ (X : Type 0) (lift : CoreStep → X) (Fits : X → Outcome → Type 0) (lifted : (step : CoreStep) (r : Outcome) → Follows (setup_of s) ans step r → Fits (lift step) r) where
+  module _ (X : Type 0) (lift : CoreStep → X) (Fits : Result X Refusal → Outcome → Type 0) (lifted : (step : Result CoreStep Refusal) (r : Outcome) → Follows (setup_of s) ans step r → Fits (map_step lift step) r) where
     pub enter_follows : Leaders core → round.leader < 64 → h.source_live ≡ contains s.alive_replicas h.src → slot ≤ core.slot
-        → (rest : Core → X) (k : View → Outcome)
+        → (rest : Core → Result X Refusal) (k : View → Outcome)
         → (contains s.alive_replicas i ≡ true → slot ≡ core.slot → before (Some round) core.paxos.round ≡ false → Fits (rest (in_round round core)) (k (view_of ans (in_round round core))))
         → Fits (then_in lift (enter (asked_of (member_settings s i)) h slot round core) rest)
         (model.enter (setup_of s) i (view_of ans core) h.src slot (round_number (Some round)) k)
     enter_follows ok l live le rest k go_on = go (either (contains s.alive_replicas i)) (either (is_older slot round core)) (either (contains s.alive_replicas h.src))
       where
-        put : (step : CoreStep) (r : Outcome) → enter (asked_of (member_settings s i)) h slot round core ≡ step
+        put : (step : Result CoreStep Refusal) (r : Outcome) → enter (asked_of (member_settings s i)) h slot round core ≡ step
             → model.enter (setup_of s) i (view_of ans core) h.src slot (round_number (Some round)) k ≡ r → Fits (then_in lift step rest) r
             → Fits (then_in lift (enter (asked_of (member_settings s i)) h slot round core) rest)
             (model.enter (setup_of s) i (view_of ans core) h.src slot (round_number (Some round)) k)
         put step r e d f =
             subst (λ (o : Outcome). Fits (then_in lift (enter (asked_of (member_settings s i)) h slot round core) rest) o) (sym d)
-            (subst (λ (t : CoreStep). Fits (then_in lift t rest) r) (sym e) f)
+            (subst (λ (t : Result CoreStep Refusal). Fits (then_in lift t rest) r) (sym e) f)
 
         go : (contains s.alive_replicas i ≡ true) ⊎ (contains s.alive_replicas i ≡ false)
             → (is_older slot round core ≡ true) ⊎ (is_older slot round core ≡ false)
             → (contains s.alive_replicas h.src ≡ true) ⊎ (contains s.alive_replicas h.src ≡ false)
             → Fits (then_in lift (enter (asked_of (member_settings s i)) h slot round core) rest)
             (model.enter (setup_of s) i (view_of ans core) h.src slot (round_number (Some round)) k)
-        go (inr e) o v = put (stays core no_messages) (quiet (view_of ans core)) (enter_client e) (model_client k e) (lifted (stays core no_messages) (quiet (view_of ans core)) (record { seen_as = refl }))
-        go (inl e) (inl o) v = put (stays core no_messages) (quiet (view_of ans core)) (enter_older e o) (model_older k e ok l o) (lifted (stays core no_messages) (quiet (view_of ans core)) (record { seen_as = refl }))
+        go (inr e) o v = put (Ok (stays core no_messages)) (quiet (view_of ans core)) (enter_client e) (model_client k e) (lifted (Ok (stays core no_messages)) (quiet (view_of ans core)) (record { seen_as = refl }))
+        go (inl e) (inl o) v = put (Ok (stays core no_messages)) (quiet (view_of ans core)) (enter_older e o) (model_older k e ok l o) (lifted (Ok (stays core no_messages)) (quiet (view_of ans core)) (record { seen_as = refl }))
         go (inl e) (inr o) (inr v) =
-            put (refuses SourceNotLive core) (model.enter (setup_of s) i (view_of ans core) h.src slot (round_number (Some round)) k) (enter_not_live e o (live ∙ v)) refl
-            (lifted (refuses SourceNotLive core) (model.enter (setup_of s) i (view_of ans core) h.src slot (round_number (Some round)) k) (record { seen_as = tt }))
+            put (Err SourceNotLive) (model.enter (setup_of s) i (view_of ans core) h.src slot (round_number (Some round)) k) (enter_not_live e o (live ∙ v)) refl
+            (lifted (Err SourceNotLive) (model.enter (setup_of s) i (view_of ans core) h.src slot (round_number (Some round)) k) (record { seen_as = tt }))
         go (inl e) (inr o) (inl v) =
-            put (continues (in_round round core) no_messages) (k (view_of ans (in_round round core))) (enter_live e o (live ∙ v)) (model_live k e ok l o (not_older le o).0 v)
+            put (Ok (continues (in_round round core) no_messages)) (k (view_of ans (in_round round core))) (enter_live e o (live ∙ v)) (model_live k e ok l o (not_older le o).0 v)
             (go_on e (not_older le o).0 (not_older le o).1)

@@ -17,7 +17,7 @@ use Rattle.message.specs.Modes.{is_multi_paxos, is_swift_paxos}
 use Rattle.message.specs.Promises.{value_of, accept_round_of}
 use Rattle.message.specs.declared.PaxosRound.{PaxosRound}
 use Rattle.message.specs.declared.Refusal.{Refusal}
-use Rattle.message.specs.declared.Refusal.TheVariants.{Panic, ProposalNotAllowed}
+use Rattle.message.specs.declared.Refusal.TheVariants.{Panic}
 use Rattle.message.specs.declared.RoundV.{RoundV}
 use Rattle.message.specs.declared.RoundV.TheVariants.{FastV}
 use Rattle.round_state.specs.Paxos.{get_last_accepted_round, receive_promise}
@@ -33,23 +33,22 @@ use Rattle.enter.specs.Enter.{in_round}
 use Rattle.epaxos_path.specs.EPaxos.{epaxos_answer}
 use Rattle.prepare.specs.Prepare.{prepared, accept_phase, with_promise, becomes_prepared, gather, has_accepted}
 use Rattle.swift_path.specs.Swift.{swift_client_prepare, swift_client_accept, swift_answered_accept}
-use Rattle.paxos_family.specs.Process.{fast_prepared, fast_promised, leads_round, starts_accept, waits, fast_answered, fast_gather, in_fast_prepare, on_fast_prepare, replica_accept, in_fast_accept, on_fast_accept}
+use Rattle.paxos_family.specs.Process.{fast_prepared, fast_promised, leads_round, starts_accept, waits, fast_answered, fast_gather, in_fast_prepare, on_fast_prepare, after_replica_accept, replica_accept, in_fast_accept, on_fast_accept}
 use Rattle.propose.specs.Propose.{not_allowed, electing, proposal_round, propose_accept, may_propose, after_own_answer, own_answer, leads_from_start, propose_change}
-use Rattle.steps.specs.Steps.{no_messages, stays, continues, with_change}
+use Rattle.steps.specs.Steps.{CoreStep, no_messages, stays, continues, then_in, map_step, with_change}
 use Rattle.steps.specs.declared.Asked.{Asked}
 use Rattle.steps.specs.declared.ChangeStep.{ChangeStep}
 use Rattle.steps.specs.declared.Core.{Core}
-use Rattle.steps.specs.declared.CoreStep.{CoreStep}
 use Rattle.steps.specs.declared.Heard.{Heard}
 use Rattle.agreement.specs.Model.{View, Answers, Host, joined, adopted, prepared_by, with_answers, say}
 use Rattle.agreement.specs.Model as model
 use Rattle.group.specs.Claim.{PicksBest}
-use Rattle.group.proofs.View.{round_number, LeaderFits, process_number, proposer_of, is_e_paxos, answers_in, view_of, Leaders, setup_of, Follows, then_in}
+use Rattle.group.proofs.View.{round_number, LeaderFits, process_number, proposer_of, is_e_paxos, answers_in, view_of, Leaders, setup_of, Follows}
 use Rattle.group.proofs.Entering.{in_round_leaders, in_round_round, enter_follows}
 use Rattle.group.proofs.Preparing.{asked_by, follows_both, promise_view, gather_follows, in_prepare_follows}
 use Rattle.group.proofs.Accepting.{ends, on_accept_follows}
 use Rattle.group.proofs.Proposing.{Allowed, allowed, promised, prepare_step, promised_view, may_model, first_own}
-use Rattle.group.proofs.Answering.{FastFits, counted_answers, FollowsChange, lifted, refuses_follows, host_for, ProposerFits, answer_follows}
+use Rattle.group.proofs.Answering.{FastFits, counted_answers, FollowsChange, changes_follow, lifted, host_for, ProposerFits, answer_follows}
 
 -- a round is none exactly where its number is 0
 round_number_lem : (r : Option PaxosRound) → is_some r ≡ not (eqb (round_number r) 0)
@@ -58,10 +57,10 @@ round_number_lem (Some r) = ap not (sym (eqb-suc-zero (r.round_group * 64 + r.le
 
 -- what the delegate makes of a promise: by whether it completes a majority behind an accepted value, and whether a value was accepted
 module _ (choose : Choice) (a : Asked) (h : Heard) (round : PaxosRound) (rv : RoundV) where
-  abbrev pub gathered : FastAnswers → List ℕ → List ℕ → Core → Bool → Bool → ChangeStep
+  abbrev pub gathered : FastAnswers → List ℕ → List ℕ → Core → Bool → Bool → Result ChangeStep Refusal
   gathered answers values scores promised starts slow =
-      cond starts (with_change (unchanged answers) (accept_phase a round promised))
-      (cond slow (with_change (unchanged answers) (stays promised no_messages)) (epaxos_answer choose a h round rv promised answers values scores))
+      cond starts (map_step (with_change (unchanged answers)) (accept_phase a round promised))
+      (cond slow (Ok (with_change (unchanged answers) (stays promised no_messages))) (epaxos_answer choose a h round rv promised answers values scores))
 
   gather_by : (core : Core) (answers : FastAnswers) (values scores swifts : List ℕ) → a.member.replica ≡ true → is_swift_paxos a.mode ≡ false
       → fast_gather choose a h round rv core answers values scores swifts
@@ -70,10 +69,10 @@ module _ (choose : Choice) (a : Asked) (h : Heard) (round : PaxosRound) (rv : Ro
   gather_by core answers values scores swifts replica no-swift =
       ap (λ (t : Bool). by_mode (cond t (with_promise a h rv core) core) (is_swift_paxos a.mode)) replica ∙ ap (by_mode (with_promise a h rv core)) no-swift
     where
-      by_mode : Core → Bool → ChangeStep
+      by_mode : Core → Bool → Result ChangeStep Refusal
       by_mode promised t =
-          cond (cond t (leads_round a round && not (has_accepted promised)) (has_accepted promised && becomes_prepared a core promised)) (with_change (unchanged answers) (accept_phase a round promised))
-          (cond (cond t (leads_round a round) (has_accepted promised)) (with_change (unchanged answers) (stays promised no_messages))
+          cond (cond t (leads_round a round && not (has_accepted promised)) (has_accepted promised && becomes_prepared a core promised)) (map_step (with_change (unchanged answers)) (accept_phase a round promised))
+          (cond (cond t (leads_round a round) (has_accepted promised)) (Ok (with_change (unchanged answers) (stays promised no_messages)))
           (cond t (swift_client_prepare a h round rv promised answers swifts) (epaxos_answer choose a h round rv promised answers values scores)))
 
 -- where nobody has answered the set of answers is empty
@@ -112,14 +111,14 @@ module _ (choose : Choice) (picks_best : PicksBest choose) (s : Settings) (i : �
       -- ---- what the delegate makes of a promise
 
       gather_slow : has_accepted promised_core ≡ true
-          → fast_gather choose (asked_by s i) h round rv core (answers_of fast) values scores swifts ≡ lift (gather (asked_by s i) h round rv core)
+          → fast_gather choose (asked_by s i) h round rv core (answers_of fast) values scores swifts ≡ map_step lift (gather (asked_by s i) h round rv core)
       unfolding gather
       gather_slow e =
           gather_by choose (asked_by s i) h round rv core (answers_of fast) values scores swifts alive no-swift
           ∙ ap (λ (t : Bool). gathered choose (asked_by s i) h round rv (answers_of fast) values scores promised_core (t && becomes_prepared (asked_by s i) core promised_core) t) e
           ∙ go (becomes_prepared (asked_by s i) core promised_core)
         where
-          go : (t : Bool) → cond t (lift (accept_phase (asked_by s i) round promised_core)) (lift (stays promised_core no_messages)) ≡ lift (cond t (accept_phase (asked_by s i) round promised_core) (stays promised_core no_messages))
+          go : (t : Bool) → cond t (map_step lift (accept_phase (asked_by s i) round promised_core)) (Ok (lift (stays promised_core no_messages))) ≡ map_step lift (cond t (accept_phase (asked_by s i) round promised_core) (Ok (stays promised_core no_messages)))
           go true = refl
           go false = refl
 
@@ -160,14 +159,14 @@ module _ (choose : Choice) (picks_best : PicksBest choose) (s : Settings) (i : �
           go : (has_accepted promised_core ≡ true) ⊎ (has_accepted promised_core ≡ false)
               → FollowsChange (setup_of s) fast (fast_gather choose (asked_by s i) h round rv core (answers_of fast) values scores swifts) (model.gathers (setup_of s) i h.src (proposer_of rv) (value_of rv) host x0 old_view counted_view)
           go (inl e) =
-              subst (λ (t : ChangeStep). FollowsChange (setup_of s) fast t (model.gathers (setup_of s) i h.src (proposer_of rv) (value_of rv) host x0 old_view counted_view)) (sym (gather_slow e))
-              (subst (FollowsChange (setup_of s) fast (lift (gather (asked_by s i) h round rv core))) (sym (model_slow e (proposer_of rv) (value_of rv) old_view))
+              subst (λ (t : Result ChangeStep Refusal). FollowsChange (setup_of s) fast t (model.gathers (setup_of s) i h.src (proposer_of rv) (value_of rv) host x0 old_view counted_view)) (sym (gather_slow e))
+              (subst (FollowsChange (setup_of s) fast (map_step lift (gather (asked_by s i) h round rv core))) (sym (model_slow e (proposer_of rv) (value_of rv) old_view))
               (lifted (setup_of s) fast (gather (asked_by s i) h round rv core) (model.picks (setup_of s) i x0 old_view counted_view)
               (subst (λ (x : View). Follows (setup_of s) (answers_in fast) (gather (asked_by s i) h round rv core) (model.picks (setup_of s) i x0 old_view x))
               (sym (promise_view (answers_in fast) s i no-swift alive small h src-small round below host core rv leaders held fits))
               (gather_follows (answers_in fast) s i no-swift alive small h src-small round below host core rv leaders at held fits x0))))
           go (inr e) =
-              subst (λ (t : ChangeStep). FollowsChange (setup_of s) fast t (model.gathers (setup_of s) i h.src (proposer_of rv) (value_of rv) host x0 old_view counted_view)) (sym (gather_fast e))
+              subst (λ (t : Result ChangeStep Refusal). FollowsChange (setup_of s) fast t (model.gathers (setup_of s) i h.src (proposer_of rv) (value_of rv) host x0 old_view counted_view)) (sym (gather_fast e))
               (subst (FollowsChange (setup_of s) fast (epaxos_answer choose (asked_by s i) h round rv promised_core (answers_of fast) values scores)) (sym (model_fast e (proposer_of rv) (value_of rv) old_view))
               (answer_follows choose picks_best s i no-swift epaxos alive small h src-small round below x0 promised_core at fast ok rv proposer-fits))
 
@@ -178,7 +177,7 @@ module _ (choose : Choice) (picks_best : PicksBest choose) (s : Settings) (i : �
         ≡ then_in lift (prepared (asked_by s i) h round rv core) (λ c. fast_gather choose (asked_by s i) h round rv c (answers_of fast) values scores swifts)
     unfolding in_fast_prepare fast_prepared
     in_prepare_lem alive rv core =
-        ap (λ (t : Bool). then_in lift (cond t (prepared (asked_by s i) h round rv core) (continues core no_messages)) (λ c. fast_gather choose (asked_by s i) h round rv c (answers_of fast) values scores swifts)) alive
+        ap (λ (t : Bool). then_in lift (cond t (prepared (asked_by s i) h round rv core) (Ok (continues core no_messages))) (λ c. fast_gather choose (asked_by s i) h round rv c (answers_of fast) values scores swifts)) alive
 
     in_fast_prepare_follows : contains s.alive_replicas i ≡ true → (rv : RoundV) → LeaderFits (accept_round_of rv) → ProposerFits rv → h.delegate ≡ delegate_of s s.mode round.leader → (x0 : View)
         → (core : Core) → Leaders core → core.paxos.round ≡ Some round
@@ -187,7 +186,7 @@ module _ (choose : Choice) (picks_best : PicksBest choose) (s : Settings) (i : �
         (cond (view_of (answers_in fast) core).holds (view_of (answers_in fast) core) (prepared_by i (adopted (round_number (accept_round_of rv)) (proposer_of rv) (value_of rv) (view_of (answers_in fast) core)))))
     in_fast_prepare_follows alive rv fits proposer-fits d x0 core leaders at =
         subst
-        (λ (t : ChangeStep).
+        (λ (t : Result ChangeStep Refusal).
         FollowsChange (setup_of s) fast t
         (model.promised (setup_of s) i h.src (round_number (accept_round_of rv)) (proposer_of rv) (value_of rv) (host_for choose s i h.src fast rv) x0
         (cond (view_of (answers_in fast) core).holds (view_of (answers_in fast) core) (prepared_by i (adopted (round_number (accept_round_of rv)) (proposer_of rv) (value_of rv) (view_of (answers_in fast) core))))))
@@ -212,10 +211,18 @@ module _ (choose : Choice) (picks_best : PicksBest choose) (s : Settings) (i : �
 
     in_accept_lem : contains s.alive_replicas i ≡ true → (v : ℕ) (core : Core)
         → in_fast_accept (asked_by s i) h round v core (answers_of fast) swifts
-        ≡ then_in lift (accepting (asked_by s i) h round v core) (λ c. swift_answered_accept (asked_by s i) h round v c (accepting (asked_by s i) h round v core).messages (answers_of fast) swifts)
+        ≡ after_replica_accept (asked_by s i) h round v (answers_of fast) swifts (accepting (asked_by s i) h round v core)
     unfolding in_fast_accept replica_accept
     in_accept_lem alive v core =
         ap (λ (t : Bool). cond t (replica_accept (asked_by s i) h round v core (answers_of fast) swifts) (swift_client_accept (asked_by s i) h round v core (answers_of fast) swifts)) alive
+
+    -- what a replica makes of an Accept goes no further
+    replica_follows : (v : ℕ) (step : Result CoreStep Refusal) (r : model.Outcome) → Follows (setup_of s) (answers_in fast) step r
+        → FollowsChange (setup_of s) fast (after_replica_accept (asked_by s i) h round v (answers_of fast) swifts step) r
+    replica_follows v (Ok step) r f =
+        ends (setup_of s) (answers_in fast) ChangeStep lift (FollowsChange (setup_of s) fast) (lifted (setup_of s) fast) step r
+        (λ c. swift_answered_accept (asked_by s i) h round v c step.messages (answers_of fast) swifts) f
+    replica_follows v (Err why) r f = record { seen_as = tt }
 
     pub fast_accept_follows : (slot v : ℕ) → h.source_live ≡ contains s.alive_replicas h.src → h.delegate ≡ delegate_of s s.mode round.leader
         → h.committer ≡ committer_of s h.requester → (core : Core) → Leaders core → slot ≤ core.slot
@@ -226,9 +233,8 @@ module _ (choose : Choice) (picks_best : PicksBest choose) (s : Settings) (i : �
         on_accept_follows (answers_in fast) s i no-swift small h src-small slot round below v live d c ChangeStep lift (FollowsChange (setup_of s) fast) (lifted (setup_of s) fast)
         (λ c. in_fast_accept (asked_by s i) h round v c (answers_of fast) swifts)
         (λ alive core1 r f.
-        subst (λ (t : ChangeStep). FollowsChange (setup_of s) fast t r) (sym (in_accept_lem alive v core1))
-        (ends (setup_of s) (answers_in fast) ChangeStep lift (FollowsChange (setup_of s) fast) (lifted (setup_of s) fast) (accepting (asked_by s i) h round v core1) r
-        (λ c. swift_answered_accept (asked_by s i) h round v c (accepting (asked_by s i) h round v core1).messages (answers_of fast) swifts) f))
+        subst (λ (t : Result ChangeStep Refusal). FollowsChange (setup_of s) fast t r) (sym (in_accept_lem alive v core1))
+        (replica_follows v (accepting (asked_by s i) h round v core1) r f))
         core leaders le
 
   -- ---- a proposal
@@ -265,32 +271,32 @@ module _ (choose : Choice) (picks_best : PicksBest choose) (s : Settings) (i : �
 
     -- the steps of a proposal
     change_allowed : may_propose (asked_by s i) core ≡ true
-        → propose_change (asked_by s i) v core (answers_of fast) scores swifts ≡ after_own_answer (asked_by s i) (proposal_round (asked_by s i) core) v core (answers_of fast) own_answer_lem
+        → propose_change (asked_by s i) v core (answers_of fast) scores swifts ≡ after_own_answer (asked_by s i) (proposal_round (asked_by s i) core) v core own_answer_lem
     unfolding propose_change leads_from_start
     change_allowed e =
         ap₂
         (λ (t u : Bool).
         cond t
-        (cond (u && eqb (electing (asked_by s i)) i) (with_change (unchanged (answers_of fast)) (propose_accept (asked_by s i) (proposal_round (asked_by s i) core) v core))
-        (after_own_answer (asked_by s i) (proposal_round (asked_by s i) core) v core (answers_of fast) own_answer_lem))
-        (with_change (unchanged (answers_of fast)) (not_allowed core)))
+        (cond (u && eqb (electing (asked_by s i)) i) (map_step lift (propose_accept (asked_by s i) (proposal_round (asked_by s i) core) v core))
+        (after_own_answer (asked_by s i) (proposal_round (asked_by s i) core) v core own_answer_lem))
+        (Err not_allowed))
         e
         no-swift
 
-    change_refused : may_propose (asked_by s i) core ≡ false → propose_change (asked_by s i) v core (answers_of fast) scores swifts ≡ with_change (unchanged (answers_of fast)) (not_allowed core)
+    change_refused : may_propose (asked_by s i) core ≡ false → propose_change (asked_by s i) v core (answers_of fast) scores swifts ≡ Err not_allowed
     unfolding propose_change
     change_refused e =
         ap
         (λ (t : Bool).
         cond t
-        (cond (leads_from_start (asked_by s i)) (with_change (unchanged (answers_of fast)) (propose_accept (asked_by s i) (proposal_round (asked_by s i) core) v core))
-        (after_own_answer (asked_by s i) (proposal_round (asked_by s i) core) v core (answers_of fast) own_answer_lem))
-        (with_change (unchanged (answers_of fast)) (not_allowed core)))
+        (cond (leads_from_start (asked_by s i)) (map_step lift (propose_accept (asked_by s i) (proposal_round (asked_by s i) core) v core))
+        (after_own_answer (asked_by s i) (proposal_round (asked_by s i) core) v core own_answer_lem))
+        (Err not_allowed))
         e
 
     after_step_lem : (step : Result FastChange Refusal) → own_answer_lem ≡ step → may_propose (asked_by s i) core ≡ true
-        → propose_change (asked_by s i) v core (answers_of fast) scores swifts ≡ after_own_answer (asked_by s i) (proposal_round (asked_by s i) core) v core (answers_of fast) step
-    after_step_lem step e may = change_allowed may ∙ ap (after_own_answer (asked_by s i) (proposal_round (asked_by s i) core) v core (answers_of fast)) e
+        → propose_change (asked_by s i) v core (answers_of fast) scores swifts ≡ after_own_answer (asked_by s i) (proposal_round (asked_by s i) core) v core step
+    after_step_lem step e may = change_allowed may ∙ ap (after_own_answer (asked_by s i) (proposal_round (asked_by s i) core) v core) e
 
     -- the model's proposal
     abbrev view : View
@@ -310,22 +316,20 @@ module _ (choose : Choice) (picks_best : PicksBest choose) (s : Settings) (i : �
     follows_proposal m e d =
         let may = allowed (answers_in fast) s i no-swift small first_small v core leaders m in
         let r : PaxosRound = proposal_round (asked_by s i) core in
-        subst (λ (t : ChangeStep). FollowsChange (setup_of s) fast t (model.on_propose (setup_of s) i view v))
+        subst (λ (t : Result ChangeStep Refusal). FollowsChange (setup_of s) fast t (model.on_propose (setup_of s) i view v))
         (sym (after_step_lem (Ok counts_own) (own_first e d) m))
+        (changes_follow (setup_of s) fast counts_own _ (model.on_propose (setup_of s) i view v)
+        (follows_both (prepare_step (answers_in fast) s i no-swift small first_small v core leaders may r (FastV i v)) (model_fast_proposal may e)
         (record {
-          follows =
-              follows_both (prepare_step (answers_in fast) s i no-swift small first_small v core leaders may r (FastV i v)) (model_fast_proposal may e)
-              (record {
-                seen_as =
-                    ap (λ (x : View). say (with_answers (answers_in (changed counts_own fast)) x) (record { destination = model.all; message = model.prepare core.slot (round_number (Some r)) 0 (suc i) v } ∷ []))
-                    (promised_view (answers_in fast) s i no-swift small first_small v core leaders may r (FastV i v))
-                    ∙ ap₂
-                    (λ (n : ℕ) (a : Answers).
-                    say (with_answers a (prepared_by i (adopted 0 (suc i) v (joined n view)))) (record { destination = model.all; message = model.prepare core.slot n 0 (suc i) v } ∷ []))
-                    (first_own (answers_in fast) s i no-swift small first_small v core leaders may single)
-                    (counted_answers (asked_by s i).member i i v small small fast ok);
-              });
-        })
+          seen_as =
+              ap (λ (x : View). say (with_answers (answers_in (changed counts_own fast)) x) (record { destination = model.all; message = model.prepare core.slot (round_number (Some r)) 0 (suc i) v } ∷ []))
+              (promised_view (answers_in fast) s i no-swift small first_small v core leaders may r (FastV i v))
+              ∙ ap₂
+              (λ (n : ℕ) (a : Answers).
+              say (with_answers a (prepared_by i (adopted 0 (suc i) v (joined n view)))) (record { destination = model.all; message = model.prepare core.slot n 0 (suc i) v } ∷ []))
+              (first_own (answers_in fast) s i no-swift small first_small v core leaders may single)
+              (counted_answers (asked_by s i).member i i v small small fast ok);
+        })))
 
     pub fast_propose_follows : FollowsChange (setup_of s) fast (propose_change (asked_by s i) v core (answers_of fast) scores swifts) (model.on_propose (setup_of s) i view v)
     fast_propose_follows = go (either (may_propose (asked_by s i) core)) (either (is_unanswered (answers_of fast) && eqb (look_up scores i) 2))
@@ -334,9 +338,9 @@ module _ (choose : Choice) (picks_best : PicksBest choose) (s : Settings) (i : �
             → ((is_unanswered (answers_of fast) && eqb (look_up scores i) 2) ≡ true) ⊎ ((is_unanswered (answers_of fast) && eqb (look_up scores i) 2) ≡ false)
             → FollowsChange (setup_of s) fast (propose_change (asked_by s i) v core (answers_of fast) scores swifts) (model.on_propose (setup_of s) i view v)
         go (inr m) e =
-            subst (λ (t : ChangeStep). FollowsChange (setup_of s) fast t (model.on_propose (setup_of s) i view v)) (sym (change_refused m))
-            (refuses_follows (setup_of s) fast (unchanged (answers_of fast)) ProposalNotAllowed core (model.on_propose (setup_of s) i view v))
+            subst (λ (t : Result ChangeStep Refusal). FollowsChange (setup_of s) fast t (model.on_propose (setup_of s) i view v)) (sym (change_refused m))
+            (record { seen_as = tt })
         go (inl m) (inr e) =
-            subst (λ (t : ChangeStep). FollowsChange (setup_of s) fast t (model.on_propose (setup_of s) i view v)) (sym (after_step_lem (Err Panic) (own_refused e) m))
-            (refuses_follows (setup_of s) fast (unchanged (answers_of fast)) ProposalNotAllowed core (model.on_propose (setup_of s) i view v))
+            subst (λ (t : Result ChangeStep Refusal). FollowsChange (setup_of s) fast t (model.on_propose (setup_of s) i view v)) (sym (after_step_lem (Err Panic) (own_refused e) m))
+            (record { seen_as = tt })
         go (inl m) (inl e) = follows_proposal m (and_left (is_unanswered (answers_of fast)) (eqb (look_up scores i) 2) e) (and_right (is_unanswered (answers_of fast)) (eqb (look_up scores i) 2) e)

@@ -19,7 +19,7 @@ use Rattle.steps.specs.declared.Destination.{Destination}
 use Rattle.steps.specs.declared.Destination.TheVariants.{One, All}
 use Rattle.steps.specs.declared.Messages.{Messages}
 use Rattle.steps.specs.declared.Next.{Next}
-use Rattle.steps.specs.declared.Next.TheVariants.{Stays, Continues, Commits, Refuses}
+use Rattle.steps.specs.declared.Next.TheVariants.{Stays, Continues, Commits}
 use Rattle.steps.specs.declared.Outgoing.{Outgoing}
 use Rattle.steps.specs.declared.Rounds.{Rounds}
 use Rattle.consensus.specs.Answers.{finish_at, finish}
@@ -31,7 +31,7 @@ use Rattle.consensus.specs.declared.Shard.{Shard}
 use Rattle.basics.specs.Lists.{In}
 use Rattle.group.specs.Claim.{begun, ours, MemberCall, Entry, entry_of, after_call, entries_from, entries, Reaches, SentTo, WasSent, MayStand, LegalFrom, Legal}
 use Rattle.group.proofs.Sending.{ToAll}
-use Rattle.group.proofs.Handlers.{Any, TwoAtMost, each_in, EndsUncommitted, Keeps, proposing_holds, call_holds}
+use Rattle.group.proofs.Handlers.{Any, any_holds, TwoAtMost, each_in, EndsUncommitted, Keeps, proposing_holds, call_holds, finish_holds}
 
 -- ---- proposals and new reads, on any shard
 
@@ -63,8 +63,9 @@ keeps a =
 
 propose_to_all : (shard : Shard) (v : ℕ) → CallToAll (finish shard (asked_of shard.settings) true (proposing (asked_of shard.settings) v shard.state.rounds)).reply
 propose_to_all shard v =
-    proposing_holds a Any Any Any (λ round. ⊥) (λ round v. ⊥) Any MessageToAll (keeps a) (λ step. CallToAll (finish shard a true step).reply) (λ core t. tt) v tt shard.state.rounds Any tt tt
-    (λ step t q. go _ step.messages _ step.next q.0.1) (λ step t q. go _ step.messages _ step.next q.1) tt
+    finish_holds (λ r. CallToAll r.reply) shard a true (proposing a v shard.state.rounds) (λ why. ((tt, tt), refl))
+    (proposing_holds a Any Any Any (λ round. ⊥) (λ round v. ⊥) Any MessageToAll (keeps a) (λ step. CallToAll (finish_at shard a true step.state step.messages step.next).reply) (λ core t. tt) v tt shard.state.rounds Any tt (any_holds _)
+    (λ step t q. go _ step.messages _ step.next q.0.1) (λ step t q. go _ step.messages _ step.next q.1) tt)
   where
     a : Asked
     a = asked_of shard.settings
@@ -73,7 +74,6 @@ propose_to_all shard v =
     go s ms held Stays q = (q.0, refl)
     go s ms held Continues q = absurd q
     go s ms held (Commits v) q = absurd q
-    go s ms held (Refuses why) q = ((tt, tt), refl)
 
 -- ---- a run of a group of one
 
@@ -115,7 +115,7 @@ nothing_sent past q m member z w =
 
 call_to_all : (past : List Entry) → RunToAll past → (shard : Shard) (member : ℕ) → member ≡ 0 → (c : Call) → MayStand past member c → CallToAll (call_of shard c).reply
 call_to_all past q shard member z =
-    call_holds lowest_best shard (λ c r. MayStand past member c → CallToAll r.reply) (λ c why m. ((tt, tt), refl)) (λ v m. propose_to_all shard v) (λ tag arrival id m. ((tt, tt), refl))
+    call_holds lowest_best shard (λ c r. MayStand past member c → CallToAll r.reply) (λ c why m. ((tt, tt), refl)) (λ v m. propose_to_all shard v) (λ tag arrival ins e m. ((tt, tt), refl))
     (λ d m. absurd (nothing_sent past q d.message member z m))
 
 run_to_all : (shards : ℕ → Shard) (past : List Entry) → RunToAll past → (cs : List MemberCall) → LegalFrom 1 ours shards past cs → RunToAll (entries_from ours shards past cs)

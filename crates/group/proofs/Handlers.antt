@@ -1,8 +1,9 @@
 -- The handlers of every mode, once: any property of the core that is kept by the few ways in which a handler changes it, and any property of a
 -- message that is met where a handler sends one, hold of what every proposal and every Prepare and Accept leave. Besides, two messages at most are
--- sent, none where nothing is held (so `held_rv` of nothing is not met: "the Rust unwraps"), and no handler ends with `Continues`.
+-- sent, none where nothing is held (so `held_rv` of nothing is not met: "the Rust unwraps"), and no handler ends with `Continues`. A refusal leaves
+-- nothing, and nothing is asked of it.
 -- Assumes nothing.
-use Rattle.std.specs.Prelude.{Option, None, Some, Result, Ok, Err, is_some}
+use Rattle.std.specs.Prelude.{Option, None, Some, Result, Ok, Err, is_some, IfOk}
 use Rattle.message.specs.Outcomes.{Outcome}
 use mathlib.Core.Path.{◌≡◌, refl, sym, subst}
 use mathlib.Core.Logic.{◌⊎◌, inl, inr}
@@ -20,7 +21,6 @@ use Rattle.message.specs.declared.ConsensusMsg.TheVariants.{Prepare, Accept, For
 use Rattle.message.specs.declared.PFMode.{PFMode}
 use Rattle.message.specs.declared.PFMode.TheVariants.{Paxos, MultiPaxos, MultiPaxos3P, EPaxos, Pando, SwiftPaxos}
 use Rattle.message.specs.declared.PaxosRound.{PaxosRound}
-use Rattle.message.specs.declared.ReadId.{ReadId}
 use Rattle.message.specs.declared.Refusal.{Refusal}
 use Rattle.message.specs.declared.Refusal.TheVariants.{NumberTooLarge}
 use Rattle.message.specs.declared.RoundV.{RoundV}
@@ -36,21 +36,20 @@ use Rattle.accept.specs.Accept.{tells_committer, is_committer, accept_to, commit
 use Rattle.enter.specs.Enter.{can_propose, source_taken, in_round, is_older, from_live, enter}
 use Rattle.epaxos_path.specs.EPaxos.{requester_of, adopting, epaxos_adopt, epaxos_decide, after_epaxos_answer, epaxos_answer}
 use Rattle.prepare.specs.Prepare.{hold_first, may_answer, answer_prepare, answers_nothing, preparing, after_held, prepared, off_fast_path, broadcast_accept, after_own_accept, accept_phase, with_promise, becomes_prepared, gather, has_accepted}
-use Rattle.paxos_family.specs.Process.{in_prepare, on_prepare, on_accept, process_classic, fast_prepared, fast_promised, leads_round, starts_accept, waits, fast_answered, fast_gather, in_fast_prepare, on_fast_prepare, replica_accept, in_fast_accept, on_fast_accept, process_change, process_fast}
+use Rattle.paxos_family.specs.Process.{in_prepare, on_prepare, on_accept, process_classic, fast_prepared, fast_promised, leads_round, starts_accept, waits, fast_answered, fast_gather, in_fast_prepare, on_fast_prepare, replica_accept, in_fast_accept, on_fast_accept, process_change, process_fast, after_replica_accept}
 use Rattle.propose.specs.Propose.{proposal_round, may_propose, proposed, propose_prepare, after_own_promise, propose_accept, propose_classic, after_own_answer, own_answer, leads_from_start, propose_change, propose_fast}
-use Rattle.steps.specs.Steps.{no_messages, also_at, also, sends, to_all, held_rv, held_v, goes_on, and_then, and_then_change, with_change, with_paxos, left_fast_path, on_rounds, change_rounds}
+use Rattle.steps.specs.Steps.{RoundsStep, CoreStep, no_messages, also_at, also, sends, to_all, held_rv, held_v, goes_on, and_then, then_in, map_step, and_then_change, with_change, with_paxos, left_fast_path, on_rounds, change_rounds}
+use Rattle.read_tracker.specs.declared.Inserted.{Inserted}
 use Rattle.steps.specs.declared.Asked.{Asked}
 use Rattle.steps.specs.declared.ChangeStep.{ChangeStep}
 use Rattle.steps.specs.declared.Core.{Core}
-use Rattle.steps.specs.declared.CoreStep.{CoreStep}
 use Rattle.steps.specs.declared.Destination.TheVariants.{One}
 use Rattle.steps.specs.declared.Heard.{Heard}
 use Rattle.steps.specs.declared.Messages.{Messages}
 use Rattle.steps.specs.declared.Next.{Next}
-use Rattle.steps.specs.declared.Next.TheVariants.{Stays, Continues, Commits, Refuses}
+use Rattle.steps.specs.declared.Next.TheVariants.{Stays, Continues, Commits}
 use Rattle.steps.specs.declared.Outgoing.{Outgoing}
 use Rattle.steps.specs.declared.Rounds.{Rounds}
-use Rattle.steps.specs.declared.RoundsStep.{RoundsStep}
 use Rattle.swift_path.specs.Swift.{swift_commits, after_step, after_swift_answer, swift_answer, swift_client_prepare, after_client_accept, client_accept, leader_answered, from_leader, accept_answered, after_accept_answer, swift_accept, swift_client_accept, after_replica_answer, swift_answered_accept}
 use Rattle.delivery.specs.Admit.{admit}
 use Rattle.delivery.specs.Limits.{is_number, is_slot}
@@ -58,7 +57,7 @@ use Rattle.delivery.specs.declared.Delivery.{Delivery}
 use Rattle.calls.specs.Asked.{asked_of}
 use Rattle.calls.specs.declared.Call.{Call}
 use Rattle.calls.specs.declared.Call.TheVariants.{Propose, StartRead, Receive}
-use Rattle.consensus.specs.Answers.{refused, finish}
+use Rattle.consensus.specs.Answers.{refused, finish_at, finish}
 use Rattle.consensus.specs.Call.{proposing, propose, read, admitted, receive, dispatch, unless_spent, if_made, call_with}
 use Rattle.consensus.specs.Handle.{after_insert, read_inserted, start_read, processed, handle}
 use Rattle.consensus.specs.declared.Answer.{Answer}
@@ -66,21 +65,24 @@ use Rattle.consensus.specs.declared.Shard.{Shard}
 use Rattle.basics.specs.Lists.{In}
 use Rattle.agreement.proofs.Tests.{by_test, and_both, neqb→ne}
 use Rattle.group.specs.Claim.{listed, messages_of}
-use Rattle.group.proofs.Changes.{change_left}
 
 -- nothing is asked
 abbrev pub Any : {A : Type 0} → A → Type 0
 Any x = Unit {0}
 
+pub any_holds : {A : Type 0} (r : Result A Refusal) → IfOk r Any
+any_holds (Ok x) = tt
+any_holds (Err why) = tt
+
+-- what holds of every step made of one that is taken
+pub mapped : {A B : Type 0} {Q : A → Type 0} (make : A → B) (P : B → Type 0) (r : Result A Refusal) → ((x : A) → Q x → P (make x)) → IfOk r Q → IfOk (map_step make r) P
+mapped make P (Ok x) f q = f x q
+mapped make P (Err why) f q = tt
+
 -- ---- what is held
 
-abbrev pub Holds : Option RoundV → Type 0
-Holds None = ⊥
-Holds (Some rv) = Unit {0}
-
-holds_of : (held : Option RoundV) → T (is_some held) → Holds held
-holds_of None t = t
-holds_of (Some rv) t = tt
+abbrev pub Holds : {A : Type 0} → Option A → Type 0
+Holds held = T (is_some held)
 
 pub promise_held : (held : Option RoundV) (rv : RoundV) → Holds (held_after_promise held rv)
 unfolding held_after_promise
@@ -147,12 +149,11 @@ module _ (O : Outgoing → Type 0) where
   abbrev pub Sends : Messages → Option RoundV → Type 0
   Sends ms held = TwoAtMost ms × ((ms ≡ no_messages) ⊎ Holds held)
 
-  -- the end of a step that may go on, where the condition holds; what is refused sends nothing
+  -- the end of a step that may go on, where the condition holds
   abbrev EndsOr : (Messages → Option RoundV → Type 0) → Messages → Option RoundV → Next → Type 0
   EndsOr If ms held Stays = Sends ms held
   EndsOr If ms held Continues = If ms held
   EndsOr If ms held (Commits v) = Sends ms held
-  EndsOr If ms held (Refuses why) = Unit {0}
 
   abbrev Never : Messages → Option RoundV → Type 0
   Never ms held = ⊥
@@ -169,13 +170,11 @@ module _ (O : Outgoing → Type 0) where
   EndsUncommitted ms held Stays = Sends ms held
   EndsUncommitted ms held Continues = ⊥
   EndsUncommitted ms held (Commits v) = ⊥
-  EndsUncommitted ms held (Refuses why) = Unit {0}
 
   pub ends : (ms : Messages) (held : Option RoundV) (n : Next) → EndsUncommitted ms held n → Ends ms held n
   ends ms held Stays q = q
   ends ms held Continues q = q
   ends ms held (Commits v) q = absurd q
-  ends ms held (Refuses why) q = q
 
 silent : {Held : Type 0} → (Unit {0} × Unit {0}) × ((no_messages ≡ no_messages) ⊎ Held)
 silent = ((tt, tt), inl refl)
@@ -212,31 +211,37 @@ module _ (a : Asked) (Source : ℕ → Type 0) (Enters : PaxosRound → Type 0) 
     pub propose_accept_lem : (v : ℕ) (core : Core) → T (may_propose a core) → Promise (PaxosV None v) → K core → O (sends a core to_all (Accept core.slot (proposal_round a core) v))
 
   module _ (keeps : Keeps) where
-    abbrev StepEndsOr : (Messages → Option RoundV → Type 0) → CoreStep → Type 0
-    StepEndsOr If step = K step.core × EndsOr O If step.messages step.core.paxos.max_rv step.next
+    abbrev StepEndsOr : (Messages → Option RoundV → Type 0) → Result CoreStep Refusal → Type 0
+    StepEndsOr If r = IfOk r (λ step. K step.state × EndsOr O If step.messages step.state.paxos.max_rv step.next)
 
-    abbrev pub StepEnds : CoreStep → Type 0
+    abbrev pub StepEnds : Result CoreStep Refusal → Type 0
     StepEnds = StepEndsOr (Never O)
 
-    then_ends : (If : Messages → Option RoundV → Type 0) (step : CoreStep) (rest : Core → CoreStep) → StepEndsOr If step
-        → (If step.messages step.core.paxos.max_rv → StepEnds (rest step.core)) → StepEnds (and_then step rest)
-    then_ends If step rest q r = go step.next q.1
-      where
-        go : (n : Next) → EndsOr O If step.messages step.core.paxos.max_rv n
-            → StepEnds (cond (goes_on n) (rest step.core) (record { core = step.core; messages = step.messages; next = n }))
-        go Stays e = (q.0, e)
-        go Continues e = r e
-        go (Commits v) e = (q.0, e)
-        go (Refuses why) e = (q.0, tt)
+    -- what is made of a step, where it is over, and else of the rest of the handler
+    module _ {X : Type 0} (make : CoreStep → X) (Q : X → Type 0) (made : (step : CoreStep) → K step.state × Ends O step.messages step.state.paxos.max_rv step.next → Q (make step)) where
+      step_then : (If : Messages → Option RoundV → Type 0) (step : CoreStep) (rest : Core → Result X Refusal) → StepEndsOr If (Ok step)
+          → (If step.messages step.state.paxos.max_rv → IfOk (rest step.state) Q) → IfOk (then_in make (Ok step) rest) Q
+      step_then If step rest q f = go step.next q.1
+        where
+          go : (n : Next) → EndsOr O If step.messages step.state.paxos.max_rv n
+              → IfOk (cond (goes_on n) (rest step.state) (Ok (make (record { state = step.state; messages = step.messages; next = n })))) Q
+          go Stays e = made _ (q.0, e)
+          go Continues e = f e
+          go (Commits v) e = made _ (q.0, e)
+
+      each_then : (If : Messages → Option RoundV → Type 0) (r : Result CoreStep Refusal) (rest : Core → Result X Refusal) → StepEndsOr If r
+          → ((step : CoreStep) → K step.state → If step.messages step.state.paxos.max_rv → IfOk (rest step.state) Q) → IfOk (then_in make r rest) Q
+      each_then If (Ok step) rest q f = step_then If step rest q (f step q.0)
+      each_then If (Err why) rest q f = tt
+
+    then_ends : (If : Messages → Option RoundV → Type 0) (r : Result CoreStep Refusal) (rest : Core → Result CoreStep Refusal) → StepEndsOr If r
+        → ((step : CoreStep) → K step.state → If step.messages step.state.paxos.max_rv → StepEnds (rest step.state)) → StepEnds (and_then r rest)
+    then_ends = each_then (λ step. step) (λ step. K step.state × Ends O step.messages step.state.paxos.max_rv step.next) (λ step q. q)
 
     -- ---- steps of the round state: a state that is taken is held to both
 
-    abbrev TakenBy : (PaxosState → Type 0) → Result PaxosState Refusal → Type 0
-    TakenBy Q (Ok s) = Q s
-    TakenBy Q (Err why) = Unit {0}
-
     abbrev After : (Option RoundV → Type 0) → Core → Result PaxosState Refusal → Type 0
-    After H core step = TakenBy (λ s. K (with_paxos s core) × H s.max_rv) step
+    After H core step = IfOk step (λ s. K (with_paxos s core) × H s.max_rv)
 
     propose_after : (rv : RoundV) (core : Core) → Promise rv → K core → After Holds core (paxos_propose_v me rv core.paxos)
     unfolding paxos_propose_v receive_promise
@@ -267,7 +272,7 @@ module _ (a : Asked) (Source : ℕ → Type 0) (Enters : PaxosRound → Type 0) 
     unfolding broadcast_accept
     own_accept_ends round core (Ok s) t k q =
         (off_keeps (with_paxos s core) q.0, ((keeps.accept_to_all round (with_paxos s core) t, tt), inr (off_holds Holds (with_paxos s core) q.1)))
-    own_accept_ends round core (Err why) t k q = (k, tt)
+    own_accept_ends round core (Err why) t k q = tt
 
     phase_ends : (round : PaxosRound) (core : Core) → Prepares round → Enters round → K core → StepEnds (accept_phase a round core)
     unfolding accept_phase
@@ -284,10 +289,10 @@ module _ (a : Asked) (Source : ℕ → Type 0) (Enters : PaxosRound → Type 0) 
       enter_ends slot round core e k =
           by_test End (can_propose a) _ _
           (λ t. by_test End (is_older slot round core) _ _ (λ u. (k, silent))
-          (λ u. by_test End (source_taken a h) _ _ (λ w. (of-both K (before core.paxos.round (Some round)) (keeps.enters round core e k) k, (t, u, w))) (λ w. (k, tt))))
+          (λ u. by_test End (source_taken a h) _ _ (λ w. (of-both K (before core.paxos.round (Some round)) (keeps.enters round core e k) k, (t, u, w))) (λ w. tt)))
           (λ t. (k, silent))
         where
-          End : CoreStep → Type 0
+          End : Result CoreStep Refusal → Type 0
           End = StepEndsOr (Entered slot round core)
 
       prepared_ends : (round : PaxosRound) (rv : RoundV) (core : Core) → Promise rv → Prepares round → K core → StepEndsOr (Always O) (prepared a h round rv core)
@@ -295,14 +300,14 @@ module _ (a : Asked) (Source : ℕ → Type 0) (Enters : PaxosRound → Type 0) 
       prepared_ends round rv core p w k = go (hold_first a rv core.paxos) first
         where
           first : After Holds core (hold_first a rv core.paxos)
-          first = by_test (After Holds core) (is_some core.paxos.max_rv) _ _ (λ t. (k, holds_of core.paxos.max_rv t)) (λ t. propose_after rv core p k)
+          first = by_test (After Holds core) (is_some core.paxos.max_rv) _ _ (λ t. (k, t)) (λ t. propose_after rv core p k)
 
           go : (step : Result PaxosState Refusal) → After Holds core step → StepEndsOr (Always O) (after_held a h round core step)
           go (Ok s) q =
               by_test (StepEndsOr (Always O)) (eqb h.delegate own) _ _ (λ t. (q.0, tt))
               (λ t. of-both (StepEndsOr (Always O)) (answers_nothing a h round (with_paxos s core)) (q.0, silent)
-              (of-both (StepEndsOr (Always O)) (may_answer h round) (q.0, ((keeps.prepare_to round (with_paxos s core) h.delegate w (neqb→ne h.delegate own t), tt), inr q.1)) (q.0, tt)))
-          go (Err why) q = (k, tt)
+              (of-both (StepEndsOr (Always O)) (may_answer h round) (q.0, ((keeps.prepare_to round (with_paxos s core) h.delegate w (neqb→ne h.delegate own t), tt), inr q.1)) tt))
+          go (Err why) q = tt
 
       promise_keeps : (rv : RoundV) (core : Core) → T (source_taken a h) → Promise rv → K core → K (with_promise a h rv core)
       promise_keeps rv core t p k = keeps.promises h.src rv core (counts t) p k
@@ -316,10 +321,10 @@ module _ (a : Asked) (Source : ℕ → Type 0) (Enters : PaxosRound → Type 0) 
       -- ---- accepts; a Commit may come to one message at most
 
       try_ends : (If : Messages → Option RoundV → Type 0) (round : PaxosRound) (v : ℕ) (core : Core) (ms : Messages) → OneAtMost O ms → CoreHolds core → K core
-          → StepEndsOr If (try_commit a h round v core ms)
+          → StepEndsOr If (Ok (try_commit a h round v core ms))
       unfolding try_commit commit_messages
       try_ends If round v core ms u q k =
-          of-both (StepEndsOr If) (paxos_can_commit me core.paxos) (
+          of-both (λ step. StepEndsOr If (Ok step)) (paxos_can_commit me core.paxos) (
             keeps.leaves core k,
             (of-both (TwoAtMost O) (tells_commit a h round) (also_sends O ms (commit_message a core h.requester) u (keeps.commit_to_all core h.requester)) (two_of_one O ms u), inr q),
           )
@@ -359,11 +364,14 @@ module _ (a : Asked) (Source : ℕ → Type 0) (Enters : PaxosRound → Type 0) 
           unfolding follower answered is_committer
           follower_ends =
               of-both (StepEndsOr GoesOn) (eqb h.src h.delegate)
-              (by_test (StepEndsOr GoesOn) (tells_committer a.mode && is_process h.committer own) _ _
-              (λ t. by_test (StepEndsOr GoesOn) (is_swift_paxos a.mode) _ _ (λ u. (k, (u, one t, held))) (λ u. try_ends GoesOn round v core (answer_accept a round core h.committer) (one t) held k))
+              (by_test GoesOnAfter (tells_committer a.mode && is_process h.committer own) _ _
+              (λ t. by_test GoesOnAfter (is_swift_paxos a.mode) _ _ (λ u. (k, (u, one t, held))) (λ u. try_ends GoesOn round v core (answer_accept a round core h.committer) (one t) held k))
               (λ t. (k, (answer_sends h.committer, inr held))))
-              (of-both (StepEndsOr GoesOn) (tells_committer a.mode && is_process h.committer own) (try_ends GoesOn round v core no_messages tt held k) (k, tt))
+              (of-both (StepEndsOr GoesOn) (tells_committer a.mode && is_process h.committer own) (try_ends GoesOn round v core no_messages tt held k) tt)
             where
+              GoesOnAfter : CoreStep → Type 0
+              GoesOnAfter step = StepEndsOr GoesOn (Ok step)
+
               one : T (tells_committer a.mode && is_process h.committer own) → OneAtMost O (answer_accept a round core h.committer)
               one t = own_answer_sends h.committer (and_both (tells_committer a.mode) (is_process h.committer own) t).1
 
@@ -384,7 +392,7 @@ module _ (a : Asked) (Source : ℕ → Type 0) (Enters : PaxosRound → Type 0) 
           where
             go : (step : Result PaxosState Refusal) → After IsAccepted core step → StepEndsOr GoesOn (after_accepted a h round v core step)
             go (Ok s) q = accepted_ends round v taken (off_fast_path a (with_paxos s core)) (off_keeps (with_paxos s core) q.0) (off_holds IsAccepted (with_paxos s core) q.1)
-            go (Err why) q = (k, tt)
+            go (Err why) q = tt
 
         client_accept_ends : StepEnds (client_accept a h round v core)
         unfolding client_accept
@@ -392,8 +400,8 @@ module _ (a : Asked) (Source : ℕ → Type 0) (Enters : PaxosRound → Type 0) 
             go (receive_accept me h.src round v core.paxos) (accept_after Holds h.src round v core tt source e k)
           where
             go : (step : Result PaxosState Refusal) → After Holds core step → StepEnds (after_client_accept a v core step)
-            go (Ok s) q = of-both StepEnds (paxos_can_commit me s) (q.0, silent) (q.0, silent)
-            go (Err why) q = (k, tt)
+            go (Ok s) q = of-both (λ step. StepEnds (Ok step)) (paxos_can_commit me s) (q.0, silent) (q.0, silent)
+            go (Err why) q = tt
 
       -- ---- the classic modes
 
@@ -409,30 +417,21 @@ module _ (a : Asked) (Source : ℕ → Type 0) (Enters : PaxosRound → Type 0) 
       classic_ends : T (not (is_swift_paxos a.mode)) → (m : ConsensusMsg) (core : Core) → Comes core m → K core → StepEnds (process_classic a h m core)
       unfolding process_classic on_prepare in_prepare on_accept
       classic_ends classic (Prepare slot round rv) core c k =
-          then_ends (Entered slot round core) (enter a h slot round core) (in_prepare a h round rv) inside
-          (λ t. then_ends (Always O) (prepared a h round rv (enter a h slot round core).core) (gather a h round rv) (first t)
-          (λ u. gather_ends round rv (prepared a h round rv (enter a h slot round core).core).core t.2 c.0 c.1 c.2 (first t).0))
-        where
-          inside : StepEndsOr (Entered slot round core) (enter a h slot round core)
-          inside = enter_ends slot round core c.0 k
-
-          first : Entered slot round core no_messages None → StepEndsOr (Always O) (prepared a h round rv (enter a h slot round core).core)
-          first t = prepared_ends round rv (enter a h slot round core).core c.1 c.2 inside.0
+          then_ends (Entered slot round core) (enter a h slot round core) (in_prepare a h round rv) (enter_ends slot round core c.0 k)
+          (λ entered k t. then_ends (Always O) (prepared a h round rv entered.state) (gather a h round rv) (prepared_ends round rv entered.state c.1 c.2 k)
+          (λ first k u. gather_ends round rv first.state t.2 c.0 c.1 c.2 k))
       classic_ends classic (Accept slot round v) core c k =
-          then_ends (Entered slot round core) (enter a h slot round core) (accepting a h round v) inside
-          (λ t. stops (accepting a h round v (enter a h slot round core).core) (accepting_ends round v (enter a h slot round core).core (counts t.2) c.0 inside.0 (c.1 t.1)))
+          then_ends (Entered slot round core) (enter a h slot round core) (accepting a h round v) (enter_ends slot round core c.0 k)
+          (λ entered k t. stops (accepting a h round v entered.state) (accepting_ends round v entered.state (counts t.2) c.0 k (c.1 t.1)))
         where
-          inside : StepEndsOr (Entered slot round core) (enter a h slot round core)
-          inside = enter_ends slot round core c.0 k
-
-          stops : (step : CoreStep) → StepEndsOr GoesOn step → StepEnds step
-          stops step q = (q.0, go step.next q.1)
+          stops : (r : Result CoreStep Refusal) → StepEndsOr GoesOn r → StepEnds r
+          stops (Err why) q = tt
+          stops (Ok step) q = (q.0, go step.next q.1)
             where
-              go : (n : Next) → EndsOr O GoesOn step.messages step.core.paxos.max_rv n → Ends O step.messages step.core.paxos.max_rv n
+              go : (n : Next) → EndsOr O GoesOn step.messages step.state.paxos.max_rv n → Ends O step.messages step.state.paxos.max_rv n
               go Stays q = q
               go Continues q = T_not (is_swift_paxos a.mode) classic q.0
               go (Commits v) q = q
-              go (Refuses why) q = tt
       classic_ends classic (ForwardRequest v) core c k = (k, silent)
       classic_ends classic (Commit slot v) core c k = (k, silent)
       classic_ends classic (ReadRequest id) core c k = (k, silent)
@@ -446,8 +445,8 @@ module _ (a : Asked) (Source : ℕ → Type 0) (Enters : PaxosRound → Type 0) 
       adopt_ends round core (Ok (Some v)) fresh t e k =
           of-both StepEnds (is_prepared me core.paxos)
           (own_accept_ends round core (adopt_from_epaxos me round v core.paxos) t k
-          (self_after round (with_paxos (with_held (Some (PaxosV None v)) core.paxos) core) e (keeps.adopts v core fresh k))) (k, tt)
-      adopt_ends round core (Err why) fresh t e k = (k, tt)
+          (self_after round (with_paxos (with_held (Some (PaxosV None v)) core.paxos) core) e (keeps.adopts v core fresh k))) tt
+      adopt_ends round core (Err why) fresh t e k = tt
 
       -- a promise that is counted is held; in EPaxos only replicas take part
       promise_holds : (rv : RoundV) (core : Core) → T (can_propose a) → T (not (is_swift_paxos a.mode)) → CoreHolds (fast_promised a h rv core)
@@ -470,50 +469,52 @@ module _ (a : Asked) (Source : ℕ → Type 0) (Enters : PaxosRound → Type 0) 
 
       -- F is the property of what changes in the fast half
       module _ (choose : Choice) (answers : FastAnswers) (values epaxos_scores swift_scores : List ℕ) (F : FastChange → Type 0) (same : F (unchanged answers))
-          (by-epaxos : (p v : ℕ) → Promise (FastV p v) → F (change_left answers (epaxos_answered me h.src p v answers epaxos_scores)))
-          (by-swift : (p v : ℕ) (leader : Bool) → Promise (FastV p v) → F (change_left answers (swift_answered me h.src p v a.quorum leader answers swift_scores))) where
-        abbrev ChangeEnds : ChangeStep → Type 0
-        ChangeEnds step = (K step.core × Ends O step.messages step.core.paxos.max_rv step.next) × F step.change
+          (by-epaxos : (p v : ℕ) → Promise (FastV p v) → IfOk (epaxos_answered me h.src p v answers epaxos_scores) F)
+          (by-swift : (p v : ℕ) (leader : Bool) → Promise (FastV p v) → IfOk (swift_answered me h.src p v a.quorum leader answers swift_scores) F) where
+        abbrev Changes : ChangeStep → Type 0
+        Changes step = (K step.core × Ends O step.messages step.core.paxos.max_rv step.next) × F step.change
 
-        then_changes : (If : Messages → Option RoundV → Type 0) (step : CoreStep) (rest : Core → ChangeStep) → StepEndsOr If step
-            → (If step.messages step.core.paxos.max_rv → ChangeEnds (rest step.core)) → ChangeEnds (and_then_change answers step rest)
-        then_changes If step rest q r = go step.next q.1
-          where
-            go : (n : Next) → EndsOr O If step.messages step.core.paxos.max_rv n
-                → ChangeEnds (cond (goes_on n) (rest step.core) (with_change (unchanged answers) (record { core = step.core; messages = step.messages; next = n })))
-            go Stays e = ((q.0, e), same)
-            go Continues e = r e
-            go (Commits v) e = ((q.0, e), same)
-            go (Refuses why) e = ((q.0, tt), same)
+        abbrev ChangeEnds : Result ChangeStep Refusal → Type 0
+        ChangeEnds r = IfOk r Changes
+
+        then_changes : (If : Messages → Option RoundV → Type 0) (r : Result CoreStep Refusal) (rest : Core → Result ChangeStep Refusal) → StepEndsOr If r
+            → ((step : CoreStep) → K step.state → If step.messages step.state.paxos.max_rv → ChangeEnds (rest step.state)) → ChangeEnds (and_then_change answers r rest)
+        then_changes = each_then (with_change (unchanged answers)) Changes (λ step q. (q, same))
+
+        -- a step of the core with a change of the fast half
+        with_change_ends : (change : FastChange) (r : Result CoreStep Refusal) → F change → StepEnds r → ChangeEnds (map_step (with_change change) r)
+        with_change_ends change r f = mapped (with_change change) Changes r (λ step q. (q, f))
+
+        -- a step of the fast half, and the rest of the handler with the answers that it leaves
+        after_step_ends : (rest : FastAnswers → Result CoreStep Refusal) (r : Result FastChange Refusal) → IfOk r F → ((after : FastAnswers) → StepEnds (rest after)) → ChangeEnds (after_step rest r)
+        after_step_ends rest (Ok change) f q = with_change_ends change (rest change.answers) f (q change.answers)
+        after_step_ends rest (Err why) f q = tt
 
         epaxos_ends : (round : PaxosRound) (rv : RoundV) (core : Core) → Promise rv → Prepares round → Enters round → T (not (has_accepted core)) → CoreHolds core → K core
             → ChangeEnds (epaxos_answer choose a h round rv core answers values epaxos_scores)
         unfolding epaxos_answer epaxos_decide
         epaxos_ends round (FastV p v) core w t e fresh q k = go (epaxos_answered me h.src p v answers epaxos_scores) (by-epaxos p v w)
           where
-            go : (step : Result FastChange Refusal) → F (change_left answers step) → ChangeEnds (after_epaxos_answer choose a h round v core answers values epaxos_scores step)
-            go (Ok change) f = (
-              of-both StepEnds (epaxos_can_commit me change.answers) (k, ((keeps.commit_to_all core (requester_of h v (held_v core.paxos.max_rv)), tt), inr q))
-                  (adopt_ends round core (epaxos_try_adopt_after choose me change values epaxos_scores) fresh t e k),
-              f,
-            )
-            go (Err why) f = ((k, tt), f)
-        epaxos_ends round (PaxosV at v) core w t e fresh q k = ((k, tt), same)
+            go : (step : Result FastChange Refusal) → IfOk step F → ChangeEnds (after_epaxos_answer choose a h round v core values epaxos_scores step)
+            go (Ok change) f =
+                with_change_ends change (epaxos_decide choose a h round v core change values epaxos_scores) f
+                (of-both StepEnds (epaxos_can_commit me change.answers) (k, ((keeps.commit_to_all core (requester_of h v (held_v core.paxos.max_rv)), tt), inr q))
+                (adopt_ends round core (epaxos_try_adopt_after choose me change values epaxos_scores) fresh t e k))
+            go (Err why) f = tt
+        epaxos_ends round (PaxosV at v) core w t e fresh q k = tt
 
         swift_prepare_ends : (round : PaxosRound) (rv : RoundV) (core : Core) → Promise rv → K core → ChangeEnds (swift_client_prepare a h round rv core answers swift_scores)
         unfolding swift_client_prepare swift_answer
         swift_prepare_ends round rv core w k = of-both ChangeEnds (is_process h.committer own) (by_promise rv w) ((k, silent), same)
           where
-            go : (v : ℕ) (step : Result FastChange Refusal) → F (change_left answers step) → ChangeEnds (after_step core answers (after_swift_answer a v core) step)
-            go v (Ok change) f = (of-both StepEnds (swift_commits a change.answers) (k, silent) (k, silent), f)
-            go v (Err why) f = ((k, tt), f)
-
             by_promise : (rv : RoundV) → Promise rv → ChangeEnds (swift_answer a h round rv core answers swift_scores)
             by_promise (FastV p v) w =
-                of-both ChangeEnds (eqb h.src round.leader) ((k, tt), same) (go v (swift_answered me h.src p v a.quorum false answers swift_scores) (by-swift p v false w))
-            by_promise (PaxosV at v) w = ((k, tt), same)
+                of-both ChangeEnds (eqb h.src round.leader) tt
+                (after_step_ends (λ after. Ok (after_swift_answer a v core after)) (swift_answered me h.src p v a.quorum false answers swift_scores) (by-swift p v false w)
+                (λ after. of-both (λ step. StepEnds (Ok step)) (swift_commits a after) (k, silent) (k, silent)))
+            by_promise (PaxosV at v) w = tt
 
-        leader_keeps : (v : ℕ) → F (change_left answers (leader_answered a h v answers swift_scores))
+        leader_keeps : (v : ℕ) → IfOk (leader_answered a h v answers swift_scores) F
         unfolding leader_answered
         leader_keeps v = by-swift own v true (keeps.own_fast v)
 
@@ -522,38 +523,28 @@ module _ (a : Asked) (Source : ℕ → Type 0) (Enters : PaxosRound → Type 0) 
           unfolding swift_client_accept swift_accept accept_answered
           swift_accept_ends =
               of-both ChangeEnds (is_process h.committer own)
-              (go (accept_answered a h round v answers swift_scores) (of-both (λ (x : Result FastChange Refusal). F (change_left answers x)) (from_leader h round) (leader_keeps v) same))
+              (after_step_ends (after_accept_answer a h round v core) (accept_answered a h round v answers swift_scores)
+              (of-both (λ (x : Result FastChange Refusal). IfOk x F) (from_leader h round) (leader_keeps v) same)
+              (λ after. of-both StepEnds (from_leader h round && swift_commits a after) (k, silent) (client_accept_ends round v core source e k)))
               ((k, silent), same)
-            where
-              go : (step : Result FastChange Refusal) → F (change_left answers step) → ChangeEnds (after_step core answers (after_accept_answer a h round v core) step)
-              go (Ok change) f = (of-both StepEnds (from_leader h round && swift_commits a change.answers) (k, silent) (client_accept_ends round v core source e k), f)
-              go (Err why) f = ((k, tt), f)
 
           replica_accept_ends : Accepts round v → ChangeEnds (replica_accept a h round v core answers swift_scores)
           unfolding replica_accept swift_answered_accept
-          replica_accept_ends taken =
-              then_changes GoesOn step (λ c. swift_answered_accept a h round v c step.messages answers swift_scores) stepped
-              (λ q. go (leader_answered a h v answers swift_scores) (leader_keeps v) q.1 q.2)
+          replica_accept_ends taken = go (accepting a h round v core) (accepting_ends round v core source e k taken)
             where
-              step : CoreStep
-              step = accepting a h round v core
-
-              stepped : StepEndsOr GoesOn step
-              stepped = accepting_ends round v core source e k taken
-
-              go : (x : Result FastChange Refusal) → F (change_left answers x) → OneAtMost O step.messages → CoreHolds step.core
-                  → ChangeEnds (after_step step.core answers (after_replica_answer a h round v step.core step.messages) x)
-              go (Ok change) f u q = (
-                of-both StepEnds (swift_commits a change.answers) (stepped.0, (two_of_one O step.messages u, inr q)) (try_ends (Never O) round v step.core step.messages u q stepped.0),
-                f,
-              )
-              go (Err why) f u q = ((stepped.0, tt), f)
+              go : (r : Result CoreStep Refusal) → StepEndsOr GoesOn r → ChangeEnds (after_replica_accept a h round v answers swift_scores r)
+              go (Err why) q = tt
+              go (Ok step) q =
+                  step_then (with_change (unchanged answers)) Changes (λ step q. (q, same)) GoesOn step (λ c. swift_answered_accept a h round v c step.messages answers swift_scores) q
+                  (λ g. after_step_ends (λ after. Ok (after_replica_answer a h round v step.state step.messages after)) (leader_answered a h v answers swift_scores) (leader_keeps v)
+                  (λ after. of-both (λ step. StepEnds (Ok step)) (swift_commits a after) (q.0, (two_of_one O step.messages g.1, inr g.2)) (try_ends (Never O) round v step.state step.messages g.1 g.2 q.0)))
 
         fast_gather_ends : (round : PaxosRound) (rv : RoundV) (core : Core) → T (can_propose a) → T (source_taken a h) → Enters round → Promise rv → Prepares round → K core
             → ChangeEnds (fast_gather choose a h round rv core answers values epaxos_scores swift_scores)
         unfolding fast_gather fast_answered waits
         fast_gather_ends round rv core part source e w t k =
-            of-both ChangeEnds (starts_accept a round core (fast_promised a h rv core)) (phase_ends round (fast_promised a h rv core) t e q, same)
+            of-both ChangeEnds (starts_accept a round core (fast_promised a h rv core))
+            (with_change_ends (unchanged answers) (accept_phase a round (fast_promised a h rv core)) same (phase_ends round (fast_promised a h rv core) t e q))
             (by_test ChangeEnds (waits a round (fast_promised a h rv core)) _ _ (λ u. ((q, silent), same))
             (λ u. by_test ChangeEnds (is_swift_paxos a.mode) _ _ (λ x. swift_prepare_ends round rv (fast_promised a h rv core) w q)
             (λ x. epaxos_ends round rv (fast_promised a h rv core) w t e (second (is_swift_paxos a.mode) (leads_round a round) (has_accepted (fast_promised a h rv core)) u x)
@@ -569,22 +560,14 @@ module _ (a : Asked) (Source : ℕ → Type 0) (Enters : PaxosRound → Type 0) 
         change_ends : (m : ConsensusMsg) (core : Core) → Comes core m → K core → ChangeEnds (process_change choose a h m core answers values epaxos_scores swift_scores)
         unfolding process_change on_fast_prepare in_fast_prepare fast_prepared on_fast_accept in_fast_accept
         change_ends (Prepare slot round rv) core c k =
-            then_changes (Entered slot round core) (enter a h slot round core) (λ d. in_fast_prepare choose a h round rv d answers values epaxos_scores swift_scores) inside
-            (λ t. then_changes (Always O) (fast_prepared a h round rv (enter a h slot round core).core) (λ d. fast_gather choose a h round rv d answers values epaxos_scores swift_scores) first
-            (λ u. fast_gather_ends round rv (fast_prepared a h round rv (enter a h slot round core).core).core t.0 t.2 c.0 c.1 c.2 first.0))
-          where
-            inside : StepEndsOr (Entered slot round core) (enter a h slot round core)
-            inside = enter_ends slot round core c.0 k
-
-            first : StepEndsOr (Always O) (fast_prepared a h round rv (enter a h slot round core).core)
-            first = fast_prepared_ends round rv (enter a h slot round core).core c.1 c.2 inside.0
+            then_changes (Entered slot round core) (enter a h slot round core) (λ d. in_fast_prepare choose a h round rv d answers values epaxos_scores swift_scores) (enter_ends slot round core c.0 k)
+            (λ entered k t. then_changes (Always O) (fast_prepared a h round rv entered.state) (λ d. fast_gather choose a h round rv d answers values epaxos_scores swift_scores)
+            (fast_prepared_ends round rv entered.state c.1 c.2 k)
+            (λ first k u. fast_gather_ends round rv first.state t.0 t.2 c.0 c.1 c.2 k))
         change_ends (Accept slot round v) core c k =
-            then_changes (Entered slot round core) (enter a h slot round core) (λ d. in_fast_accept a h round v d answers swift_scores) inside
-            (λ t. of-both ChangeEnds me.replica (replica_accept_ends round v (enter a h slot round core).core (counts t.2) c.0 inside.0 (c.1 t.1))
-            (swift_accept_ends round v (enter a h slot round core).core (counts t.2) c.0 inside.0))
-          where
-            inside : StepEndsOr (Entered slot round core) (enter a h slot round core)
-            inside = enter_ends slot round core c.0 k
+            then_changes (Entered slot round core) (enter a h slot round core) (λ d. in_fast_accept a h round v d answers swift_scores) (enter_ends slot round core c.0 k)
+            (λ entered k t. of-both ChangeEnds me.replica (replica_accept_ends round v entered.state (counts t.2) c.0 k (c.1 t.1))
+            (swift_accept_ends round v entered.state (counts t.2) c.0 k))
         change_ends (ForwardRequest v) core c k = ((k, silent), same)
         change_ends (Commit slot v) core c k = ((k, silent), same)
         change_ends (ReadRequest id) core c k = ((k, silent), same)
@@ -600,26 +583,27 @@ module _ (a : Asked) (Source : ℕ → Type 0) (Enters : PaxosRound → Type 0) 
       not_swift Pando t = tt
       not_swift SwiftPaxos t = t
 
-      -- What holds of every step that ends so holds of what a message leaves.
+      -- What holds of every step that ends so holds of what a message leaves, where it is not refused.
       pub processed_holds : (P : RoundsStep → Type 0) (choose : Choice) (s : Rounds) (F : FastChange → Type 0) → F (unchanged (answers_of s.fast))
-          → ((p v : ℕ) → Promise (FastV p v) → F (change_left (answers_of s.fast) (epaxos_answered me h.src p v (answers_of s.fast) s.fast.epaxos_proposer_scores)))
-          → ((p v : ℕ) (leader : Bool) → Promise (FastV p v) → F (change_left (answers_of s.fast) (swift_answered me h.src p v a.quorum leader (answers_of s.fast) s.fast.swift_proposer_scores)))
+          → ((p v : ℕ) → Promise (FastV p v) → IfOk (epaxos_answered me h.src p v (answers_of s.fast) s.fast.epaxos_proposer_scores) F)
+          → ((p v : ℕ) (leader : Bool) → Promise (FastV p v) → IfOk (swift_answered me h.src p v a.quorum leader (answers_of s.fast) s.fast.swift_proposer_scores) F)
           → ((step : ChangeStep) → T (has_fast_path a.mode) → (K step.core × Ends O step.messages step.core.paxos.max_rv step.next) × F step.change → P (change_rounds s.fast step))
-          → ((step : CoreStep) → T (not (has_fast_path a.mode)) → StepEnds step → P (on_rounds s.fast step))
-          → (m : ConsensusMsg) → Comes s.core m → K s.core → P (processed choose a h m s)
+          → ((step : CoreStep) → T (not (has_fast_path a.mode)) → K step.state × Ends O step.messages step.state.paxos.max_rv step.next → P (on_rounds s.fast step))
+          → (m : ConsensusMsg) → Comes s.core m → K s.core → IfOk (processed choose a h m s) P
       unfolding processed process_fast
       processed_holds P choose s F same by-epaxos by-swift fast slow m c k =
-          by_test P (has_fast_path a.mode) _ _ (λ t. fast _ t (change_ends choose (answers_of s.fast) _ _ _ F same by-epaxos by-swift m s.core c k))
-          (λ t. slow _ t (classic_ends (not_swift a.mode t) m s.core c k))
+          by_test (λ (r : Result RoundsStep Refusal). IfOk r P) (has_fast_path a.mode) _ _
+          (λ t. mapped (change_rounds s.fast) P _ (λ step. fast step t) (change_ends choose (answers_of s.fast) _ _ _ F same by-epaxos by-swift m s.core c k))
+          (λ t. mapped (on_rounds s.fast) P _ (λ step. slow step t) (classic_ends (not_swift a.mode t) m s.core c k))
 
     -- ---- proposals
 
-    abbrev StepUncommitted : CoreStep → Type 0
-    StepUncommitted step = K step.core × EndsUncommitted O step.messages step.core.paxos.max_rv step.next
+    abbrev StepUncommitted : Result CoreStep Refusal → Type 0
+    StepUncommitted r = IfOk r (λ step. K step.state × EndsUncommitted O step.messages step.state.paxos.max_rv step.next)
 
-    proposed_ends : (msg : ConsensusMsg) (core : Core) (step : Result PaxosState Refusal) → O (sends a core to_all msg) → K core → After Holds core step → StepUncommitted (proposed a msg core step)
-    proposed_ends msg core (Ok s) w k q = (q.0, ((w, tt), inr q.1))
-    proposed_ends msg core (Err why) w k q = (k, tt)
+    proposed_ends : (msg : ConsensusMsg) (core : Core) (step : Result PaxosState Refusal) → O (sends a core to_all msg) → After Holds core step → StepUncommitted (proposed a msg core step)
+    proposed_ends msg core (Ok s) w q = (q.0, ((w, tt), inr q.1))
+    proposed_ends msg core (Err why) w q = tt
 
     -- a proposal is made in a round that may be entered
     module _ (enters : (core : Core) → T (may_propose a core) → Enters (proposal_round a core)) (core : Core) (k : K core) where
@@ -629,7 +613,7 @@ module _ (a : Asked) (Source : ℕ → Type 0) (Enters : PaxosRound → Type 0) 
       propose_prepare_ends : (rv : RoundV) → Promise rv → T (may_propose a core) → StepUncommitted (propose_prepare a round rv core)
       unfolding propose_prepare
       propose_prepare_ends rv p t =
-          proposed_ends (Prepare core.slot round rv) core (paxos_propose_v me rv (goto_round (Some round) core.paxos)) (keeps.propose_prepare_lem round rv core) k
+          proposed_ends (Prepare core.slot round rv) core (paxos_propose_v me rv (goto_round (Some round) core.paxos)) (keeps.propose_prepare_lem round rv core)
           (propose_after rv (with_paxos (goto_round (Some round) core.paxos) core) p (keeps.enters round core (enters core t) k))
 
       propose_accept_ends : (v : ℕ) → Promise (PaxosV None v) → T (may_propose a core) → StepUncommitted (propose_accept a round v core)
@@ -640,54 +624,66 @@ module _ (a : Asked) (Source : ℕ → Type 0) (Enters : PaxosRound → Type 0) 
         where
           go : (step : Result PaxosState Refusal) → After Holds core step → StepUncommitted (after_own_promise a round v core step)
           go (Ok s) q =
-              proposed_ends (Accept core.slot round v) core (self_accept me round s) (keeps.propose_accept_lem v core t p k) k
+              proposed_ends (Accept core.slot round v) core (self_accept me round s) (keeps.propose_accept_lem v core t p k)
               (self_after round (with_paxos s core) (enters core t) q.0)
-          go (Err why) q = (k, tt)
+          go (Err why) q = tt
 
       propose_classic_ends : (v : ℕ) → Promise (PaxosV None v) → StepUncommitted (propose_classic a v core)
       unfolding propose_classic
       propose_classic_ends v p =
           by_test StepUncommitted (may_propose a core) _ _
-          (λ t. of-both StepUncommitted (is_multi_paxos a.mode) (propose_accept_ends v p t) (propose_prepare_ends (PaxosV None v) p t)) (λ t. (k, tt))
+          (λ t. of-both StepUncommitted (is_multi_paxos a.mode) (propose_accept_ends v p t) (propose_prepare_ends (PaxosV None v) p t)) (λ t. tt)
 
       module _ (answers : FastAnswers) (epaxos_scores swift_scores : List ℕ) (F : FastChange → Type 0) (same : F (unchanged answers)) (v : ℕ) (p : Promise (PaxosV None v))
-          (by-own : F (change_left answers (own_answer a v answers epaxos_scores swift_scores))) where
-        abbrev ChangeUncommitted : ChangeStep → Type 0
-        ChangeUncommitted step = (K step.core × EndsUncommitted O step.messages step.core.paxos.max_rv step.next) × F step.change
+          (by-own : IfOk (own_answer a v answers epaxos_scores swift_scores) F) where
+        abbrev ChangeUncommitted : Result ChangeStep Refusal → Type 0
+        ChangeUncommitted r = IfOk r (λ step. (K step.core × EndsUncommitted O step.messages step.core.paxos.max_rv step.next) × F step.change)
+
+        with_change_uncommitted : (change : FastChange) (r : Result CoreStep Refusal) → F change → StepUncommitted r → ChangeUncommitted (map_step (with_change change) r)
+        with_change_uncommitted change r f = mapped (with_change change) _ r (λ step q. (q, f))
 
         propose_change_ends : ChangeUncommitted (propose_change a v core answers epaxos_scores swift_scores)
         unfolding propose_change
         propose_change_ends =
             by_test ChangeUncommitted (may_propose a core) _ _
-            (λ t. of-both ChangeUncommitted (leads_from_start a) (propose_accept_ends v p t, same)
-            (go t (own_answer a v answers epaxos_scores swift_scores) by-own)) (λ t. ((k, tt), same))
+            (λ t. of-both ChangeUncommitted (leads_from_start a) (with_change_uncommitted (unchanged answers) (propose_accept a round v core) same (propose_accept_ends v p t))
+            (go t (own_answer a v answers epaxos_scores swift_scores) by-own)) (λ t. tt)
           where
-            go : T (may_propose a core) → (step : Result FastChange Refusal) → F (change_left answers step) → ChangeUncommitted (after_own_answer a round v core answers step)
-            go t (Ok change) f = (propose_prepare_ends (FastV own v) (keeps.own_fast v) t, f)
-            go t (Err why) f = ((k, tt), f)
+            go : T (may_propose a core) → (step : Result FastChange Refusal) → IfOk step F → ChangeUncommitted (after_own_answer a round v core step)
+            go t (Ok change) f = with_change_uncommitted change (propose_prepare a round (FastV own v) core) f (propose_prepare_ends (FastV own v) (keeps.own_fast v) t)
+            go t (Err why) f = tt
 
     -- And of what a proposal leaves, which commits nothing.
     pub proposing_holds : (P : RoundsStep → Type 0) → ((core : Core) → T (may_propose a core) → Enters (proposal_round a core)) → (v : ℕ) → Promise (PaxosV None v) → (s : Rounds) (F : FastChange → Type 0)
-        → F (unchanged (answers_of s.fast)) → F (change_left (answers_of s.fast) (own_answer a v (answers_of s.fast) s.fast.epaxos_proposer_scores s.fast.swift_proposer_scores))
+        → F (unchanged (answers_of s.fast)) → IfOk (own_answer a v (answers_of s.fast) s.fast.epaxos_proposer_scores s.fast.swift_proposer_scores) F
         → ((step : ChangeStep) → T (has_fast_path a.mode) → (K step.core × EndsUncommitted O step.messages step.core.paxos.max_rv step.next) × F step.change → P (change_rounds s.fast step))
-        → ((step : CoreStep) → T (not (has_fast_path a.mode)) → StepUncommitted step → P (on_rounds s.fast step)) → K s.core → P (proposing a v s)
+        → ((step : CoreStep) → T (not (has_fast_path a.mode)) → K step.state × EndsUncommitted O step.messages step.state.paxos.max_rv step.next → P (on_rounds s.fast step))
+        → K s.core → IfOk (proposing a v s) P
     unfolding proposing propose_fast
     proposing_holds P enters v p s F same by-own fast slow k =
-        by_test P (has_fast_path a.mode) _ _ (λ t. fast _ t (propose_change_ends enters s.core k (answers_of s.fast) _ _ F same v p by-own)) (λ t. slow _ t (propose_classic_ends enters s.core k v p))
+        by_test (λ (r : Result RoundsStep Refusal). IfOk r P) (has_fast_path a.mode) _ _
+        (λ t. mapped (change_rounds s.fast) P _ (λ step. fast step t) (propose_change_ends enters s.core k (answers_of s.fast) _ _ F same v p by-own))
+        (λ t. mapped (on_rounds s.fast) P _ (λ step. slow step t) (propose_classic_ends enters s.core k v p))
 
 -- ---- calls
+
+-- What holds of a refusal and of the end of every step that is taken holds of the end of the call.
+pub finish_holds : (P : Answer → Type 0) (shard : Shard) (a : Asked) (held : Bool) (r : Result RoundsStep Refusal) → ((why : Refusal) → P (refused why shard))
+    → IfOk r (λ step. P (finish_at shard a held step.state step.messages step.next)) → P (finish shard a held r)
+finish_holds P shard a held (Ok step) refuses q = q
+finish_holds P shard a held (Err why) refuses q = refuses why
 
 -- Every call is refused, or a proposal, a new read or a message is handled.
 pub call_holds : (choose : Choice) (shard : Shard) (P : Call → Answer → Type 0) → ((c : Call) (why : Refusal) → P c (refused why shard))
     → ((v : ℕ) → P (Propose v) (finish shard (asked_of shard.settings) true (proposing (asked_of shard.settings) v shard.state.rounds)))
-    → ((tag arrival : ℕ) (id : ReadId) → P (StartRead tag arrival) (after_insert shard (read_inserted shard tag arrival) (Ok id)))
+    → ((tag arrival : ℕ) (ins : Inserted) → read_inserted shard tag arrival ≡ Ok ins → P (StartRead tag arrival) (after_insert shard (Ok ins)))
     → ((d : Delivery) → P (Receive d) (handle choose shard d d.message.msg)) → (c : Call) → P c (call_with choose shard c)
 unfolding call_with unless_spent dispatch propose read start_read receive
 call_holds choose shard P refuses proposes reads receives c = made shard.made
   where
-    opened : (tag arrival : ℕ) (o : Result ReadId Refusal) → P (StartRead tag arrival) (after_insert shard (read_inserted shard tag arrival) o)
-    opened tag arrival (Err why) = refuses (StartRead tag arrival) why
-    opened tag arrival (Ok id) = reads tag arrival id
+    opened : (tag arrival : ℕ) (r : Result Inserted Refusal) → read_inserted shard tag arrival ≡ r → P (StartRead tag arrival) (after_insert shard r)
+    opened tag arrival (Err why) e = refuses (StartRead tag arrival) why
+    opened tag arrival (Ok ins) e = reads tag arrival ins e
 
     received : (d : Delivery) (o : Outcome) → P (Receive d) (admitted choose shard d o)
     received d (Ok tt) = receives d
@@ -696,7 +692,7 @@ call_holds choose shard P refuses proposes reads receives c = made shard.made
     dispatched : (c : Call) → P c (dispatch choose shard c)
     dispatched (Propose v) = of-both (P (Propose v)) (is_number v) (proposes v) (refuses (Propose v) NumberTooLarge)
     dispatched (StartRead tag arrival) =
-        of-both (P (StartRead tag arrival)) (is_number tag && is_slot arrival) (opened tag arrival (read_inserted shard tag arrival).opened) (refuses (StartRead tag arrival) NumberTooLarge)
+        of-both (P (StartRead tag arrival)) (is_number tag && is_slot arrival) (opened tag arrival (read_inserted shard tag arrival) refl) (refuses (StartRead tag arrival) NumberTooLarge)
     dispatched (Receive d) = received d (admit shard.settings.process_count shard.settings.my_pid shard.state.rounds.core d)
 
     made : (o : Outcome) → P c (if_made choose shard c o)

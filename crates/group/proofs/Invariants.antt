@@ -1,8 +1,9 @@
 -- What holds of every shard after every list of calls, legal or not, in every mode and with every settings: the fast half of the classic modes
--- is as new, the open reads are in order, the prepared and accepted sets hold live replicas (but for SwiftPaxos), and the numbers that calls add to or subtract from
--- have room.
+-- is as new, the open reads are in order, the prepared and accepted sets hold live replicas (but for SwiftPaxos), and the numbers that calls add
+-- to or subtract from have room.
 -- Assumes nothing.
-use Rattle.std.specs.Prelude.{Option, None, Some, Result, Ok, Err, is_some}
+use Rattle.std.specs.Prelude.{Option, None, Some, Result, Ok, Err, is_some, IfOk}
+use Rattle.std.proofs.lemmas.Result.{IfOk-weaker}
 use Rattle.message.specs.Outcomes.{Outcome}
 use Rattle.calls.specs.Commits.{committed_slot}
 use Rattle.calls.specs.declared.CommittedSlot.{CommittedSlot}
@@ -12,10 +13,10 @@ use mathlib.Core.Bool.{Bool, true, false, cond, not, ◌&&◌, ◌||◌}
 use mathlib.Core.List.{List, [], ◌∷◌, ◌++◌}
 use Prim.Native.Nat.{ℕ, suc, ◌+◌, ◌-◌, ◌≤◌, ◌<◌, min}
 use native.Mathlib.Omega.{arith}
-use lib.Dec.{T, eqb, eqb→eq, ltb, leb}
+use lib.Dec.{T, eqb, eqb→eq, ltb, leb, nleb→lt, nltb→le}
 use lib.ListN.{take, length, length-take}
 use lib.Seq.{take_at, take-suc-set}
-use borrow.Author.Tests.{ltb-true, ltb-false, leb-true, leb-false, le-leb}
+use borrow.Author.Tests.{ltb-true, leb-true, le-leb}
 use Rattle.basics.proofs.Tests.{not_both, and_left, and_right, or_cases, of-both}
 use Rattle.sets.specs.Sets.{contains, size, Within}
 use Rattle.tables.specs.Tables.{look_up}
@@ -41,8 +42,9 @@ use Rattle.round_state.specs.Paxos.{get_last_accepted_round}
 use Rattle.fast_state.specs.Adopt.{Choice}
 use Rattle.fast_state.specs.Fast.{no_answers}
 use Rattle.fast_state.specs.declared.FastState.{FastState}
-use Rattle.read_tracker.specs.Reads.{read_id, new_read, open_places, open_reads, inserted, insert, after_response, after_commit, has_quorum}
+use Rattle.read_tracker.specs.Reads.{read_id, new_read, open_places, open_reads, opening, inserted, insert_opened, open_next, insert, after_response, after_commit, has_quorum}
 use Rattle.read_tracker.specs.declared.Inserted.{Inserted}
+use Rattle.read_tracker.specs.declared.Opening.{Opening}
 use Rattle.read_tracker.specs.declared.OpenRead.{OpenRead}
 use Rattle.read_tracker.specs.declared.ReadTable.{ReadTable}
 use Rattle.read_tracker.specs.declared.ReadTracker.{ReadTracker}
@@ -59,32 +61,28 @@ use Rattle.steps.specs.declared.Asked.{Asked}
 use Rattle.steps.specs.declared.Core.{Core}
 use Rattle.steps.specs.declared.Messages.{Messages}
 use Rattle.steps.specs.declared.Next.{Next}
-use Rattle.steps.specs.declared.Next.TheVariants.{Stays, Continues, Commits, Refuses}
+use Rattle.steps.specs.declared.Next.TheVariants.{Stays, Continues, Commits}
 use Rattle.steps.specs.declared.Rounds.{Rounds}
-use Rattle.steps.specs.declared.RoundsStep.{RoundsStep}
+use Rattle.steps.specs.Steps.{RoundsStep}
 use Rattle.delivery.specs.Admit.{ready, admit}
 use Rattle.delivery.specs.Limits.{is_number, is_slot, round_numbers, rv_numbers, msg_numbers, number_given, numbers_fit, rv_processes, msg_processes, requester_below, processes_fit}
 use Rattle.delivery.specs.declared.Delivery.{Delivery}
 use Rattle.calls.specs.Asked.{asked_of, heard_of}
 use Rattle.calls.specs.declared.Call.{Call}
 use Rattle.calls.specs.declared.Call.TheVariants.{Propose, StartRead, Receive}
-use Rattle.consensus.specs.Answers.{committed, finish_at, finish}
+use Rattle.consensus.specs.Answers.{with_state, committed, finish_at, finish}
 use Rattle.consensus.specs.Call.{new_core, new_shard, proposing, propose, read, admitted, receive, dispatch, unless_spent, if_made, call_with}
 use Rattle.consensus.specs.Handle.{on_commit, on_read_request, on_read_response, after_insert, read_inserted, start_read, processed, process_message, handle}
 use Rattle.consensus.specs.declared.Answer.{Answer}
 use Rattle.consensus.specs.declared.Shard.{Shard}
+use Rattle.state_calls.specs.StateCall.{with_tracker}
 use Rattle.basics.specs.Lists.{In}
 use Rattle.agreement.proofs.Tests.{by_test, and_both, is_true}
 use Rattle.group.specs.Claim.{member_settings, begun, Choices, later_choices, MemberCall, after_call, plus_commit}
 use Rattle.group.specs.Steps.{is_done}
 use Rattle.group.proofs.View.{LeaderIn}
 use Rattle.group.proofs.Answering.{FastFits, size_bound, no_answers_fit, ProposerFits}
-use Rattle.group.proofs.StepBounds.{GroupFits, RoundFits, StateFits, none_accepted, only_empty, CoreFits, MessageFits, RoundsFit, processed_fits, proposing_fits}
-use Rattle.group.proofs.Handlers.{Holds}
-
-not-true : (b : Bool) → T (not b) → b ≡ false
-not-true true t = absurd t
-not-true false t = refl
+use Rattle.group.proofs.StepBounds.{GroupFits, RoundFits, StateFits, none_counted, only_empty, CoreFits, MessageFits, RoundsFit, processed_fits, proposing_fits}
 
 -- ---- the counts of the open reads
 
@@ -94,7 +92,7 @@ LowCounts [] = Unit {0}
 LowCounts (r ∷ rs) = (r.ready_count ≤ 32) × LowCounts rs
 
 below_quorum : (quorum : ℕ) (r : OpenRead) → quorum ≤ 33 → T (not (has_quorum quorum r)) → r.ready_count ≤ 32
-below_quorum quorum r small t = let l : r.ready_count < quorum = leb-false quorum r.ready_count (not-true (leb quorum r.ready_count) t) in omega arith
+below_quorum quorum r small t = let l : r.ready_count < quorum = nleb→lt quorum r.ready_count t in omega arith
 
 ready_low : (id : ReadId) (quorum : ℕ) → quorum ≤ 33 → (l : List OpenRead) → LowCounts l → LowCounts (kept_by_ready id quorum l)
 unfolding kept_by_ready
@@ -147,22 +145,20 @@ module _ (tracker : ReadTracker) (table : ReadTable) where
         ids_fit = ok.ids_fit;
       }
 
-  insert_reads_fit : (tag arrival : ℕ) (local : Bool) → ReadsFit tracker table → (let t : Inserted = insert tracker table tag arrival local in ReadsFit t.tracker t.table)
-  unfolding insert
+  insert_reads_fit : (tag arrival : ℕ) (local : Bool) → ReadsFit tracker table → IfOk (insert tracker table tag arrival local) (λ t. ReadsFit t.tracker t.table)
+  unfolding insert open_next
   insert_reads_fit tag arrival local ok =
-      record {
-        in_order = insert_in_order tracker table tag arrival local ok.in_order;
-        low_counts =
-            by_test Low (leb 128 tracker.open_count) _ _ (λ t. ok.low_counts)
-            (λ t. of-both Low (ltb 9223372036854775807 tracker.next_id) ok.low_counts (new_low (leb-false 128 tracker.open_count (not-true (leb 128 tracker.open_count) t))));
-        ids_fit =
-            of-both (λ (x : Inserted). x.tracker.next_id ≤ 9223372036854775808) (leb 128 tracker.open_count) ok.ids_fit
-            (by_test (λ (x : Inserted). x.tracker.next_id ≤ 9223372036854775808) (ltb 9223372036854775807 tracker.next_id) _ _ (λ t. ok.ids_fit)
-            (λ t. let l = ltb-false 9223372036854775807 tracker.next_id (not-true (ltb 9223372036854775807 tracker.next_id) t) in omega arith));
-      }
+      by_test Fits (leb 128 tracker.open_count) _ _ (λ t q. tt)
+      (λ t. by_test Fits (ltb 9223372036854775807 tracker.next_id) _ _ (λ u q. tt)
+      (λ u q. record {
+        in_order = q;
+        low_counts = new_low (nleb→lt 128 tracker.open_count t);
+        ids_fit = let l = nltb→le 9223372036854775807 tracker.next_id u in omega arith;
+      }))
+      (insert_in_order tracker table tag arrival local ok.in_order)
     where
-      Low : Inserted → Type 0
-      Low x = LowCounts (open_reads x.tracker x.table)
+      Fits : Result Opening Refusal → Type 0
+      Fits r = IfOk (insert_opened tracker table r) (λ t. InOrder t.tracker t.table) → IfOk (insert_opened tracker table r) (λ t. ReadsFit t.tracker t.table)
 
       new : OpenRead
       new = new_read (read_id tracker.next_id) tag arrival local
@@ -171,12 +167,15 @@ module _ (tracker : ReadTracker) (table : ReadTable) where
       one_at_most true = omega arith
       one_at_most false = omega arith
 
-      new_low : tracker.open_count < 128 → Low (inserted tracker table tag arrival local)
+      with_new : Inserted
+      with_new = inserted tracker table (opening tracker tag arrival local)
+
+      new_low : tracker.open_count < 128 → LowCounts (open_reads with_new.tracker with_new.table)
       new_low room =
           let long = ok.in_order.places in
           let n : min (tracker.open_count + 1) 128 ≡ suc tracker.open_count = omega arith in
           let m : min tracker.open_count 128 ≡ tracker.open_count = omega arith in
-          let stands : open_reads (inserted tracker table tag arrival local).tracker (inserted tracker table tag arrival local).table ≡ open_reads tracker table ++ (new ∷ []) =
+          let stands : open_reads with_new.tracker with_new.table ≡ open_reads tracker table ++ (new ∷ []) =
           simp (n, m) (take-suc-set table.reads tracker.open_count new (omega arith)) in
           subst LowCounts (sym stands) (push_low (open_reads tracker table) new ok.low_counts (one_at_most local))
 
@@ -425,6 +424,12 @@ module _ (choose : Choice) (shard : Shard) (k : Lasts shard) where
           reads_fit = subst (λ (t : ReadTracker). ReadsFit t shard.state.table) (sym f.core_fits.same_tracker) k.reads_fit;
         }
 
+    -- with other reads
+    reads_last : (tracker : ReadTracker) (table : ReadTable) → ReadsFit tracker table
+        → Lasts (with_state shard (record { rounds = record { core = with_tracker tracker shard.state.rounds.core; fast = shard.state.rounds.fast }; table = table }))
+    reads_last tracker table f =
+        record { made_within = k.made_within; slot_fits = k.slot_fits; sets_fit = k.sets_fit; fast_fits = k.fast_fits; fast_as_new = k.fast_as_new; reads_fit = f }
+
     commit_lasts : (v : ℕ) (rounds : Rounds) (ms : Messages) → Fits rounds → CallLasts shard (committed shard asked v rounds ms)
     unfolding committed commit_slot
     commit_lasts v rounds ms f =
@@ -454,19 +459,25 @@ module _ (choose : Choice) (shard : Shard) (k : Lasts shard) where
         cleared true e = refl
         cleared false e = f.same_fast (e refl) ∙ k.fast_as_new (e refl)
 
-    finish_lasts : (held : Bool) (step : RoundsStep) → Fits step.rounds → CallLasts shard (finish shard asked held step)
-    finish_lasts held step f = go step.next
+    finish_lasts : (held : Bool) (r : Result RoundsStep Refusal) → IfOk r (λ step. Fits step.state) → CallLasts shard (finish shard asked held r)
+    finish_lasts held (Err why) f = same_lasts _ refl refl
+    finish_lasts held (Ok step) f = go step.next
       where
-        go : (n : Next) → CallLasts shard (finish_at shard asked held step.rounds step.messages n)
-        go Stays = record { lasts = stays_lasts step.rounds f; cleared = tt; same_settings = refl; slot_moves = f.core_fits.same_slot; of_own_slot = tt; served_rising = omega arith }
-        go Continues = record { lasts = stays_lasts step.rounds f; cleared = tt; same_settings = refl; slot_moves = f.core_fits.same_slot; of_own_slot = tt; served_rising = omega arith }
-        go (Commits v) = of-both (CallLasts shard) held (commit_lasts v step.rounds step.messages f) (same_lasts _ refl refl)
-        go (Refuses why) = same_lasts _ refl refl
+        go : (n : Next) → CallLasts shard (finish_at shard asked held step.state step.messages n)
+        go Stays = record { lasts = stays_lasts step.state f; cleared = tt; same_settings = refl; slot_moves = f.core_fits.same_slot; of_own_slot = tt; served_rising = omega arith }
+        go Continues = record { lasts = stays_lasts step.state f; cleared = tt; same_settings = refl; slot_moves = f.core_fits.same_slot; of_own_slot = tt; served_rising = omega arith }
+        go (Commits v) = of-both (CallLasts shard) held (commit_lasts v step.state step.messages f) (same_lasts _ refl refl)
 
-    pub proposed_fits : (v : ℕ) → Fits (proposing asked v shard.state.rounds).rounds
+    slot_stays : (r : Result RoundsStep Refusal) → IfOk r (λ step. Fits step.state) → IfOk r (λ step. step.state.core.slot ≡ shard.state.rounds.core.slot)
+    slot_stays r = IfOk-weaker r (λ step. Fits step.state) _ (λ step f. f.core_fits.same_slot)
+
+    proposed_fits : (v : ℕ) → IfOk (proposing asked v shard.state.rounds) (λ step. Fits step.state)
     proposed_fits v =
         proposing_fits (CountedIn s) (LeadsIn shard.made) asked own_counts own_small shard.state.rounds.core
         (λ core t. (let g = proposal_group s core t in omega arith, λ e. proposal_leader s limits core)) v shard.state.rounds k.fast_fits as_it_is
+
+    pub proposed_slot : (v : ℕ) → IfOk (proposing asked v shard.state.rounds) (λ step. step.state.core.slot ≡ shard.state.rounds.core.slot)
+    proposed_slot v = slot_stays _ (proposed_fits v)
 
     propose_lasts : (v : ℕ) → CallLasts shard (propose shard v)
     unfolding propose
@@ -474,21 +485,17 @@ module _ (choose : Choice) (shard : Shard) (k : Lasts shard) where
 
     read_lasts : (tag arrival : ℕ) → CallLasts shard (read shard tag arrival)
     unfolding read start_read
-    read_lasts tag arrival = of-both (CallLasts shard) (is_number tag && is_slot arrival) (go (read_inserted shard tag arrival).opened) (same_lasts _ refl refl)
+    read_lasts tag arrival =
+        of-both (CallLasts shard) (is_number tag && is_slot arrival)
+        (go (read_inserted shard tag arrival)
+        (insert_reads_fit shard.state.rounds.core.tracker shard.state.table tag arrival (not (is_some shard.state.rounds.core.paxos.max_rv)) k.reads_fit))
+        (same_lasts _ refl refl)
       where
-        go : (o : Result ReadId Refusal) → CallLasts shard (after_insert shard (read_inserted shard tag arrival) o)
-        go (Err why) = same_lasts _ refl refl
-        go (Ok id) =
+        go : (r : Result Inserted Refusal) → IfOk r (λ ins. ReadsFit ins.tracker ins.table) → CallLasts shard (after_insert shard r)
+        go (Err why) f = same_lasts _ refl refl
+        go (Ok ins) f =
             record {
-              lasts =
-                  record {
-                    made_within = k.made_within;
-                    slot_fits = k.slot_fits;
-                    sets_fit = k.sets_fit;
-                    fast_fits = k.fast_fits;
-                    fast_as_new = k.fast_as_new;
-                    reads_fit = insert_reads_fit shard.state.rounds.core.tracker shard.state.table tag arrival (not (is_some shard.state.rounds.core.paxos.max_rv)) k.reads_fit;
-                  };
+              lasts = reads_last ins.tracker ins.table f;
               cleared = tt;
               same_settings = refl;
               slot_moves = refl;
@@ -507,11 +514,14 @@ module _ (choose : Choice) (shard : Shard) (k : Lasts shard) where
           live (inl h) e = h
           live (inr h) e = absurd (not_both h e)
 
-      pub message_processed_fits : Fits (processed choose asked (heard_of s d) d.message.msg shard.state.rounds).rounds
+      message_processed_fits : IfOk (processed choose asked (heard_of s d) d.message.msg shard.state.rounds) (λ step. Fits step.state)
       message_processed_fits =
           let few = few_processes s limits in let l = source in
           processed_fits (CountedIn s) (LeadsIn shard.made) asked own_counts own_small shard.state.rounds.core choose (heard_of s d) (omega arith) source_counts d.message.msg
           (message_fits (LeadsIn shard.made) s.process_count few (λ p below e. omega arith) d.message.msg (message_numbers d numbers) (source_below s.process_count d processes).1) shard.state.rounds k.fast_fits as_it_is
+
+      pub processed_slot : IfOk (processed choose asked (heard_of s d) d.message.msg shard.state.rounds) (λ step. step.state.core.slot ≡ shard.state.rounds.core.slot)
+      processed_slot = slot_stays _ message_processed_fits
 
       process_lasts : CallLasts shard (process_message choose shard d)
       unfolding process_message
@@ -529,15 +539,8 @@ module _ (choose : Choice) (shard : Shard) (k : Lasts shard) where
       handle_lasts (ReadResponse id next) =
           record {
             lasts =
-                record {
-                  made_within = k.made_within;
-                  slot_fits = k.slot_fits;
-                  sets_fit = k.sets_fit;
-                  fast_fits = k.fast_fits;
-                  fast_as_new = k.fast_as_new;
-                  reads_fit =
-                      ready_reads_fit shard.state.rounds.core.tracker shard.state.table id (quorums_of s).majority shard.state.rounds.core.slot d.said.fast (low_majority s limits) k.reads_fit;
-                };
+                reads_last _ _
+                (ready_reads_fit shard.state.rounds.core.tracker shard.state.table id (quorums_of s).majority shard.state.rounds.core.slot d.said.fast (low_majority s limits) k.reads_fit);
             cleared = tt;
             same_settings = refl;
             slot_moves = refl;
@@ -563,7 +566,7 @@ module _ (choose : Choice) (shard : Shard) (k : Lasts shard) where
       go : (o : Outcome) → shard.made ≡ o → CallLasts shard (if_made choose shard c o)
       go (Ok tt) e =
           by_test (CallLasts shard) (leb 9223372036854775807 shard.state.rounds.core.slot) _ _ (λ t. same_lasts _ refl refl)
-          (λ t. dispatch_lasts (k.made_within e) (leb-false 9223372036854775807 shard.state.rounds.core.slot (not-true (leb 9223372036854775807 shard.state.rounds.core.slot) t)) c)
+          (λ t. dispatch_lasts (k.made_within e) (nleb→lt 9223372036854775807 shard.state.rounds.core.slot t) c)
       go (Err why) e = same_lasts _ refl refl
 
 -- ---- sums and differences
@@ -712,17 +715,12 @@ module _ (choices : Choices) (s : Settings) (cs : List MemberCall) (i : ℕ) whe
 
   -- Promises are counted only while something is held: so a Prepare that finds nothing held finds none counted, as `paxos_propose_v` asserts.
   pub promises_while_held : is_some left.state.rounds.core.paxos.max_rv ≡ false → left.state.rounds.core.paxos.prepared_set ≡ 0
-  promises_while_held e = go core.paxos.max_rv e counted.prepared_held
-    where
-      go : (held : Option RoundV) → is_some held ≡ false → Holds held ⊎ (core.paxos.prepared_set ≡ 0) → core.paxos.prepared_set ≡ 0
-      go held e (inr n) = n
-      go None e (inl h) = absurd h
-      go (Some rv) e (inl h) = absurd (not_both refl e)
+  promises_while_held e = none_counted core.paxos.max_rv (subst (λ (b : Bool). T (not b)) (sym e) tt) counted.prepared_held
 
   -- Accepts are counted only while something accepted is held: so the leader in SwiftPaxos and the delegate in EPaxos that find nothing accepted
   -- find none counted, as `self_accept` asserts.
   pub accepts_while_accepted : is_some (get_last_accepted_round left.state.rounds.core.paxos.max_rv) ≡ false → left.state.rounds.core.paxos.accepted_set ≡ 0
-  accepts_while_accepted e = none_accepted (get_last_accepted_round core.paxos.max_rv) (subst (λ (b : Bool). T (not b)) (sym e) tt) counted.accepted_held
+  accepts_while_accepted e = none_counted (get_last_accepted_round core.paxos.max_rv) (subst (λ (b : Bool). T (not b)) (sym e) tt) counted.accepted_held
 
   -- The numbers that calls add to or subtract from have room. That these are all of them is read off the definitions, and no law: `increment`
   -- is in commit_core, next_readable, proposal_round, preaccepted_after, score_after, swift_counted, after_response, after_commit, each of a number of the

@@ -5,7 +5,6 @@ pub mod Accepting
 pub mod Proposing
 pub mod Answering
 pub mod FastPath
-pub mod Changes
 pub mod Handlers
 pub mod StepBounds
 pub mod Invariants
@@ -14,6 +13,7 @@ pub mod Ties
 pub mod Agreement
 pub mod Slots
 pub mod Sending
+pub mod Computed
 pub mod Example
 pub mod FastExample
 pub mod ModeExamples

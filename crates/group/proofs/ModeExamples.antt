@@ -10,40 +10,23 @@ use mathlib.Core.Logic.{inl, inr}
 use Prim.Native.Nat.{ℕ}
 use lib.Dec.{lit<}
 use lib.ListN.{take}
-use Rattle.sets.specs.Sets.{contains, count, size, insert}
-use Rattle.tables.specs.Tables.{look_up, every}
-use Rattle.message.specs.Rounds.{increment, round_of, next_leader_round, round_before, round_equal}
+use Rattle.message.specs.Rounds.{round_of}
 use Rattle.message.specs.declared.ConsensusMsg.{ConsensusMsg}
 use Rattle.message.specs.declared.ConsensusMsg.TheVariants.{Prepare, Accept, Commit, ReadRequest, ReadResponse}
 use Rattle.message.specs.declared.PFMode.TheVariants.{MultiPaxos, MultiPaxos3P, Pando}
 use Rattle.message.specs.declared.RoundV.TheVariants.{PaxosV}
-use Rattle.settings.specs.Settings.{counts_fit, members_fit, committers_fit, mode_fits, within_limits}
-use Rattle.settings.specs.Questions.{committer_for, committer_in, delegate_in}
 use Rattle.settings.specs.declared.Settings.{Settings}
-use Rattle.read_tracker.specs.Reads.{read_id, insert as insert_read, after_response, after_commit}
+use Rattle.read_tracker.specs.Reads.{read_id}
 use Rattle.read_tracker.specs.declared.ServedRead.{ServedRead}
-use Rattle.places.specs.Places.{at_front}
-use Rattle.serving.specs.Serving.{kept_by_ready, served_by_ready, kept_by_commit, served_by_commit, receive_ready, commit_slot as serve_reads}
-use Rattle.round_state.specs.Paxos.{with_sender, with_own, held_after_promise, receive_promise, paxos_propose_v, accept_fits, receive_accept, accept_own, self_accept}
-use Rattle.accept.specs.Accept.{is_committer, committer_hears, answer_accept, tells_commit, commit_messages, try_commit, answered, follower, accepted, accepting}
-use Rattle.paxos_family.specs.Commit.{commit_slot}
-use Rattle.enter.specs.Enter.{in_round, is_older, from_live, enter}
-use Rattle.prepare.specs.Prepare.{hold_first, answer_prepare, answers_nothing, preparing, prepared, broadcast_accept, accept_phase, becomes_prepared, gather}
-use Rattle.paxos_family.specs.Process.{in_prepare, on_prepare, on_accept, process_classic}
-use Rattle.propose.specs.Propose.{electing, may_propose, propose_prepare, propose_accept, propose_classic}
-use Rattle.delivery.specs.Admit.{other_last_value, value_awaited, ready, admit}
-use Rattle.consensus.specs.Answers.{committed}
-use Rattle.consensus.specs.Call.{new_shard, call_of, proposing, propose, read, receive, dispatch, unless_spent, call_with}
-use Rattle.calls.specs.Asked.{gatherer_in}
-use Rattle.consensus.specs.Handle.{on_commit, on_read_request, on_read_response, start_read, processed, process_message, handle}
-use Rattle.delivery.specs.Limits.{round_numbers, rv_numbers, msg_numbers, number_given, numbers_fit, rv_processes, msg_processes, requester_below, processes_fit}
+use Rattle.consensus.specs.Call.{call_of}
 use Rattle.calls.specs.declared.Call.TheVariants.{StartRead}
 use Rattle.fast_state.specs.Adopt.{lowest_best}
 use Rattle.consensus.specs.declared.Answer.{Answer}
 use Rattle.consensus.specs.declared.Shard.{Shard}
 use Rattle.agreement.proofs.Tests.{neqb→ne}
-use Rattle.group.specs.Claim.{begun, MemberCall, entries_from, entries, after_call, LegalFrom, Legal, Claim}
+use Rattle.group.specs.Claim.{begun, MemberCall, entries, after_call, Legal, Claim}
 use Rattle.group.proofs.Agreement.{agreement}
+use Rattle.group.proofs.Computed.{computed}
 use Rattle.group.proofs.Example.{three_with, three, proposes, hears_for, hears, MemberCommit, commits_of, none, commits, first}
 
 -- ---- reads in a run
@@ -172,7 +155,7 @@ delegated_commits =
 pub examples_shown : Shown (three MultiPaxos) led led_commits (serves 2 7 1 ∷ [])
     × Shown with_committer committed_by_third committed_by_third_commits (serves 1 8 1 ∷ [])
     × Shown with_delegate delegated delegated_commits (serves 0 9 1 ∷ [])
-unfolding entries_from LegalFrom served_from new_shard call_with unless_spent dispatch propose read receive admit numbers_fit processes_fit ready other_last_value value_awaited round_numbers rv_numbers msg_numbers number_given rv_processes msg_processes requester_below handle on_commit on_read_request on_read_response start_read insert_read after_response after_commit kept_by_ready served_by_ready kept_by_commit served_by_commit at_front receive_ready serve_reads committed process_message processed gatherer_in proposing propose_classic may_propose electing propose_prepare propose_accept process_classic on_prepare on_accept in_prepare enter from_live is_older in_round prepared hold_first preparing answers_nothing answer_prepare gather becomes_prepared accept_phase broadcast_accept accepting accepted follower answered try_commit commit_messages tells_commit is_committer committer_hears answer_accept commit_slot paxos_propose_v receive_promise held_after_promise receive_accept accept_fits accept_own self_accept with_sender with_own next_leader_round round_before round_equal increment delegate_in committer_in committer_for look_up every within_limits counts_fit members_fit committers_fit mode_fits contains count size insert
+unfolding served_from computed
 examples_shown = (
   record {
     legal =

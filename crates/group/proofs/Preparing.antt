@@ -28,16 +28,15 @@ use Rattle.enter.specs.Enter.{in_round}
 use Rattle.prepare.specs.Prepare.{hold_first, answer_prepare, answers_nothing, preparing, prepared, broadcast_accept, after_own_accept, accept_phase, with_promise, becomes_prepared, gather}
 use Rattle.paxos_family.proofs.Gathering.{gather_proposes, gather_waits}
 use Rattle.paxos_family.specs.Process.{in_prepare, on_prepare}
-use Rattle.steps.specs.Steps.{no_messages, one_message, sends, to_all, held_rv, held_v, with_paxos, left_fast_path, stays, continues, refuses}
+use Rattle.steps.specs.Steps.{CoreStep, no_messages, one_message, sends, to_all, held_rv, held_v, with_paxos, left_fast_path, stays, continues, then_in, map_step}
 use Rattle.steps.specs.declared.Asked.{Asked}
 use Rattle.steps.specs.declared.Core.{Core}
-use Rattle.steps.specs.declared.CoreStep.{CoreStep}
 use Rattle.steps.specs.declared.Destination.TheVariants.{One}
 use Rattle.steps.specs.declared.Heard.{Heard}
 use Rattle.agreement.specs.Model.{View, Answers, Host, Outcome, add, adopted, prepared_by, voted, refuse, say, quiet}
 use Rattle.agreement.specs.Model as model
 use Rattle.group.specs.Claim.{member_settings}
-use Rattle.group.proofs.View.{round_number, LeaderFits, leader_of, leader_of_lem, before_number, equal_number, proposer_of, is_e_paxos, view_of, Leaders, setup_of, Follows, then_in}
+use Rattle.group.proofs.View.{round_number, LeaderFits, leader_of, leader_of_lem, before_number, equal_number, proposer_of, is_e_paxos, view_of, Leaders, setup_of, Follows}
 use Rattle.group.proofs.Entering.{add_again, in_round_leaders, in_round_round, counted_add, enter_follows}
 
 -- ---- what is held
@@ -57,6 +56,21 @@ with_held ans core held f =
       held_value = held_v held;
       prepared = f;
       accepted = contains core.paxos.accepted_set;
+      answers = ans;
+    }
+
+-- the view with a value accepted in the round of a number, and another set of accepts
+abbrev pub with_accepted : Answers → Core → ℕ → ℕ → (ℕ → Bool) → View
+with_accepted ans core v r f =
+    record {
+      slot = core.slot;
+      round = round_number core.paxos.round;
+      holds = true;
+      held_round = r;
+      held_proposer = 0;
+      held_value = v;
+      prepared = contains core.paxos.prepared_set;
+      accepted = f;
       answers = ans;
     }
 
@@ -89,8 +103,13 @@ not_leb a b = go (leb a b) refl
     go false e = sym (lt-ltb b a (leb-false a b e))
 
 -- a step and an outcome, each put in another's place
-pub follows_both : {S : model.Setup} {ans : Answers} {step t : CoreStep} {r o : Outcome} → step ≡ t → r ≡ o → Follows S ans t o → Follows S ans step r
-follows_both {S} {ans} {step} {t} {r} {o} e d f = subst (λ (x : CoreStep). Follows S ans x r) (sym e) (subst (λ (x : Outcome). Follows S ans t x) (sym d) f)
+pub follows_both : {S : model.Setup} {ans : Answers} {step t : Result CoreStep Refusal} {r o : Outcome} → step ≡ t → r ≡ o → Follows S ans t o → Follows S ans step r
+follows_both {S} {ans} {step} {t} {r} {o} e d f = subst (λ (x : Result CoreStep Refusal). Follows S ans x r) (sym e) (subst (λ (x : Outcome). Follows S ans t x) (sym d) f)
+
+-- in the classic modes a handler makes a step of the core
+pub same_steps : (S : model.Setup) (ans : Answers) (step : Result CoreStep Refusal) (r : Outcome) → Follows S ans step r → Follows S ans (map_step (λ t. t) step) r
+same_steps S ans (Ok step) r f = f
+same_steps S ans (Err why) r f = f
 
 -- ---- the first promise that is held, and one's own accept
 
@@ -124,20 +143,7 @@ module _ (ans : Answers) (s : Settings) (i : ℕ) (alive : contains s.alive_repl
   pub own_accept_view : (round : PaxosRound) (core : Core) (v : ℕ) → core.paxos.round ≡ Some round
       → view_of ans (with_paxos (after_accept (asked_by s i).member i round v core.paxos) core) ≡ voted i v (view_of ans core)
   own_accept_view round core v at =
-      ap₂
-      (λ (r : ℕ) (f : ℕ → Bool).
-      record {
-        slot = core.slot;
-        round = round_number core.paxos.round;
-        holds = true;
-        held_round = r;
-        held_proposer = 0;
-        held_value = v;
-        prepared = contains core.paxos.prepared_set;
-        accepted = f;
-        answers = ans;
-      })
-      (ap round_number (sym at))
+      ap₂ (with_accepted ans core v) (ap round_number (sym at))
       (counted_add (asked_by s i).member i core.paxos.accepted_set alive small small ∙ add_again i (contains core.paxos.accepted_set))
 
 module _ (ans : Answers) (s : Settings) (i : ℕ) (no-swift : is_swift_paxos s.mode ≡ false) (alive : contains s.alive_replicas i ≡ true) (small : i < 64) (h : Heard) (src-small : h.src < 64) (round : PaxosRound) (below : round.leader < 64) (host : Host) where
@@ -164,10 +170,10 @@ module _ (ans : Answers) (s : Settings) (i : ℕ) (no-swift : is_swift_paxos s.m
   broadcast_classic core = simp no-swift
 
   broadcast_follows : (core : Core) → core.paxos.round ≡ Some round
-      → Follows (setup_of s) ans (broadcast_accept (asked_by s i) round (with_paxos (after_accept (asked_by s i).member i round (held_v core.paxos.max_rv) core.paxos) core))
+      → Follows (setup_of s) ans (Ok (broadcast_accept (asked_by s i) round (with_paxos (after_accept (asked_by s i).member i round (held_v core.paxos.max_rv) core.paxos) core)))
       (picked (view_of ans core))
   broadcast_follows core at =
-      subst (λ (t : CoreStep). Follows (setup_of s) ans t (picked (view_of ans core))) (sym (broadcast_classic (with_paxos (after_accept (asked_by s i).member i round (held_v core.paxos.max_rv) core.paxos) core)))
+      subst (λ (t : CoreStep). Follows (setup_of s) ans (Ok t) (picked (view_of ans core))) (sym (broadcast_classic (with_paxos (after_accept (asked_by s i).member i round (held_v core.paxos.max_rv) core.paxos) core)))
       (record {
         seen_as =
             ap₂ (λ (x : View) (r : ℕ). say x (record { destination = model.all; message = model.accept core.slot r (held_v core.paxos.max_rv) } ∷ []))
@@ -195,7 +201,7 @@ module _ (ans : Answers) (s : Settings) (i : ℕ) (no-swift : is_swift_paxos s.m
       by_step : (step : Result PaxosState Refusal) → self_accept (asked_by s i).member round core.paxos ≡ step
           → Follows (setup_of s) ans (after_own_accept (asked_by s i) round core step) (cond ((view_of ans core).accepted i) (refuse x0) (picked (view_of ans core)))
           → Follows (setup_of s) ans (accept_phase (asked_by s i) round core) (cond ((view_of ans core).accepted i) (refuse x0) (picked (view_of ans core)))
-      by_step step e f = subst (λ (t : CoreStep). Follows (setup_of s) ans t (cond ((view_of ans core).accepted i) (refuse x0) (picked (view_of ans core)))) (sym (phase_of core step e)) f
+      by_step step e f = subst (λ (t : Result CoreStep Refusal). Follows (setup_of s) ans t (cond ((view_of ans core).accepted i) (refuse x0) (picked (view_of ans core)))) (sym (phase_of core step e)) f
 
       go : (is_empty core.paxos.accepted_set ≡ true) ⊎ (is_empty core.paxos.accepted_set ≡ false)
           → (accept_fits core.paxos.max_rv round (held_v core.paxos.max_rv) ≡ true) ⊎ (accept_fits core.paxos.max_rv round (held_v core.paxos.max_rv) ≡ false)
@@ -207,7 +213,7 @@ module _ (ans : Answers) (s : Settings) (i : ℕ) (no-swift : is_swift_paxos s.m
           by_step (Ok (after_accept (asked_by s i).member i round (held_v core.paxos.max_rv) core.paxos)) (self_accept_fits core held e ∙ simp f)
           (subst
           (λ (t : Bool).
-          Follows (setup_of s) ans (broadcast_accept (asked_by s i) round (with_paxos (after_accept (asked_by s i).member i round (held_v core.paxos.max_rv) core.paxos) core))
+          Follows (setup_of s) ans (Ok (broadcast_accept (asked_by s i) round (with_paxos (after_accept (asked_by s i).member i round (held_v core.paxos.max_rv) core.paxos) core)))
           (cond t (refuse x0) (picked (view_of ans core))))
           (sym (ap (λ (x : ℕ). contains x i) none ∙ contains_empty i))
           (broadcast_follows core at))
@@ -289,19 +295,19 @@ module _ (ans : Answers) (s : Settings) (i : ℕ) (no-swift : is_swift_paxos s.m
       ∙ ap (equal (get_last_accepted_round core.paxos.max_rv)) (sym at)
       ∙ equal_number (get_last_accepted_round core.paxos.max_rv) core.paxos.round ok.in_held ok.in_round_lem
 
-  preparing_delegate : (core : Core) → eqb h.delegate i ≡ true → preparing (asked_by s i) h round core ≡ continues core no_messages
+  preparing_delegate : (core : Core) → eqb h.delegate i ≡ true → preparing (asked_by s i) h round core ≡ Ok (continues core no_messages)
   unfolding preparing
   preparing_delegate core e = simp e
 
-  preparing_silent : (core : Core) → eqb h.delegate i ≡ false → answers_nothing (asked_by s i) h round core ≡ true → preparing (asked_by s i) h round core ≡ stays core no_messages
+  preparing_silent : (core : Core) → eqb h.delegate i ≡ false → answers_nothing (asked_by s i) h round core ≡ true → preparing (asked_by s i) h round core ≡ Ok (stays core no_messages)
   unfolding preparing
   preparing_silent core e n = simp (e, n)
 
   preparing_answer : (core : Core) → eqb h.delegate i ≡ false → answers_nothing (asked_by s i) h round core ≡ false
       → preparing (asked_by s i) h round core
       ≡ cond (eqb h.delegate h.src || not (eqb h.delegate round.leader))
-      (stays core (one_message (sends (asked_by s i) core (One h.delegate) (Prepare core.slot round (held_rv core.paxos.max_rv)))))
-      (refuses Panic core)
+      (Ok (stays core (one_message (sends (asked_by s i) core (One h.delegate) (Prepare core.slot round (held_rv core.paxos.max_rv))))))
+      (Err Panic)
   unfolding preparing answer_prepare
   preparing_answer core e n = simp (e, n)
 
@@ -337,13 +343,13 @@ module _ (ans : Answers) (s : Settings) (i : ℕ) (no-swift : is_swift_paxos s.m
   prepared_first core rv e n = simp (e, n)
 
   prepared_refused : (core : Core) (rv : RoundV) → is_some core.paxos.max_rv ≡ false → is_empty core.paxos.prepared_set ≡ false
-      → prepared (asked_by s i) h round rv core ≡ refuses Panic core
+      → prepared (asked_by s i) h round rv core ≡ Err Panic
   unfolding prepared hold_first paxos_propose_v
   prepared_refused core rv e n = simp (e, n)
 
   -- what the delegate makes of the promise, as the model does: `rest` is what the handler makes of it
-  module _ (X : Type 0) (lift : CoreStep → X) (Fits : X → Outcome → Type 0) (lifted : (step : CoreStep) (r : Outcome) → Follows (setup_of s) ans step r → Fits (lift step) r)
-      (rv : RoundV) (fits : LeaderFits (accept_round_of rv)) (delegate_of_lem : h.delegate ≡ delegate_of s s.mode round.leader) (x0 : View) (rest : Core → X)
+  module _ (X : Type 0) (lift : CoreStep → X) (Fits : Result X Refusal → Outcome → Type 0) (lifted : (step : Result CoreStep Refusal) (r : Outcome) → Follows (setup_of s) ans step r → Fits (map_step lift step) r)
+      (rv : RoundV) (fits : LeaderFits (accept_round_of rv)) (delegate_of_lem : h.delegate ≡ delegate_of s s.mode round.leader) (x0 : View) (rest : Core → Result X Refusal)
       (rest-follows : (core : Core) → Leaders core → core.paxos.round ≡ Some round → is_some core.paxos.max_rv ≡ true
       → Fits (rest core) (model.gathers (setup_of s) i h.src (proposer_of rv) (value_of rv) host x0 (view_of ans core)
       (model.counted (setup_of s) i h.src (round_number (accept_round_of rv)) (proposer_of rv) (value_of rv) (view_of ans core)))) where
@@ -357,26 +363,26 @@ module _ (ans : Answers) (s : Settings) (i : ℕ) (no-swift : is_swift_paxos s.m
         same : (t : Bool) → eqb h.delegate i ≡ t → eqb ((setup_of s).voters.delegate (view_of ans core).round) i ≡ t
         same t e = ap (λ (p : ℕ). eqb p i) dn ∙ e
 
-        step : (t : CoreStep) (r : Outcome) → preparing (asked_by s i) h round core ≡ t → promised_by core rv x0 ≡ r
+        step : (t : Result CoreStep Refusal) (r : Outcome) → preparing (asked_by s i) h round core ≡ t → promised_by core rv x0 ≡ r
             → Fits (then_in lift t rest) r
             → Fits (then_in lift (preparing (asked_by s i) h round core) rest) (promised_by core rv x0)
-        step t r e d f = subst (λ (z : CoreStep). Fits (then_in lift z rest) (promised_by core rv x0)) (sym e) (subst (Fits (then_in lift t rest)) (sym d) f)
+        step t r e d f = subst (λ (z : Result CoreStep Refusal). Fits (then_in lift z rest) (promised_by core rv x0)) (sym e) (subst (Fits (then_in lift t rest)) (sym d) f)
 
         go : (eqb h.delegate i ≡ true) ⊎ (eqb h.delegate i ≡ false)
             → (answers_nothing (asked_by s i) h round core ≡ true) ⊎ (answers_nothing (asked_by s i) h round core ≡ false)
             → ((eqb h.delegate h.src || not (eqb h.delegate round.leader)) ≡ true) ⊎ ((eqb h.delegate h.src || not (eqb h.delegate round.leader)) ≡ false)
             → Fits (then_in lift (preparing (asked_by s i) h round core) rest) (promised_by core rv x0)
-        go (inl e) n k = step (continues core no_messages) _ (preparing_delegate core e) (model_delegate core rv x0 (same true e)) (rest-follows core ok at held)
+        go (inl e) n k = step (Ok (continues core no_messages)) _ (preparing_delegate core e) (model_delegate core rv x0 (same true e)) (rest-follows core ok at held)
         go (inr e) (inl n) k =
-            step (stays core no_messages) (quiet (view_of ans core)) (preparing_silent core e n) (model_silent core rv x0 (same false e) (sym (answers_nothing_lem core ok at) ∙ n))
-            (lifted (stays core no_messages) (quiet (view_of ans core)) (record { seen_as = refl }))
+            step (Ok (stays core no_messages)) (quiet (view_of ans core)) (preparing_silent core e n) (model_silent core rv x0 (same false e) (sym (answers_nothing_lem core ok at) ∙ n))
+            (lifted (Ok (stays core no_messages)) (quiet (view_of ans core)) (record { seen_as = refl }))
         go (inr e) (inr n) (inr k) =
-            step (refuses Panic core) (promised_by core rv x0) (preparing_answer core e n ∙ simp k) refl (lifted (refuses Panic core) (promised_by core rv x0) (record { seen_as = tt }))
+            step (Err Panic) (promised_by core rv x0) (preparing_answer core e n ∙ simp k) refl (lifted (Err Panic) (promised_by core rv x0) (record { seen_as = tt }))
         go (inr e) (inr n) (inl k) =
-            step (stays core (one_message (sends (asked_by s i) core (One h.delegate) (Prepare core.slot round (held_rv core.paxos.max_rv))))) (promised_by core rv x0)
+            step (Ok (stays core (one_message (sends (asked_by s i) core (One h.delegate) (Prepare core.slot round (held_rv core.paxos.max_rv)))))) (promised_by core rv x0)
             (preparing_answer core e n ∙ simp k)
             refl
-            (lifted (stays core (one_message (sends (asked_by s i) core (One h.delegate) (Prepare core.slot round (held_rv core.paxos.max_rv))))) (promised_by core rv x0)
+            (lifted (Ok (stays core (one_message (sends (asked_by s i) core (One h.delegate) (Prepare core.slot round (held_rv core.paxos.max_rv)))))) (promised_by core rv x0)
             (record {
               seen_as =
                   ap₂
@@ -410,17 +416,17 @@ module _ (ans : Answers) (s : Settings) (i : ℕ) (no-swift : is_swift_paxos s.m
         view : Bool → View
         view t = cond t (view_of ans core) (prepared_by i (adopted (round_number (accept_round_of rv)) (proposer_of rv) (value_of rv) (view_of ans core)))
 
-        put : (t : CoreStep) (r : Outcome) → prepared (asked_by s i) h round rv core ≡ t → goal (view (is_some core.paxos.max_rv)) ≡ r → Fits (then_in lift t rest) r
+        put : (t : Result CoreStep Refusal) (r : Outcome) → prepared (asked_by s i) h round rv core ≡ t → goal (view (is_some core.paxos.max_rv)) ≡ r → Fits (then_in lift t rest) r
             → Fits (then_in lift (prepared (asked_by s i) h round rv core) rest) (goal (view (is_some core.paxos.max_rv)))
-        put t r e d f = subst (λ (z : CoreStep). Fits (then_in lift z rest) (goal (view (is_some core.paxos.max_rv)))) (sym e) (subst (Fits (then_in lift t rest)) (sym d) f)
+        put t r e d f = subst (λ (z : Result CoreStep Refusal). Fits (then_in lift z rest) (goal (view (is_some core.paxos.max_rv)))) (sym e) (subst (Fits (then_in lift t rest)) (sym d) f)
 
         go : (is_some core.paxos.max_rv ≡ true) ⊎ (is_some core.paxos.max_rv ≡ false)
             → (is_empty core.paxos.prepared_set ≡ true) ⊎ (is_empty core.paxos.prepared_set ≡ false)
             → Fits (then_in lift (prepared (asked_by s i) h round rv core) rest) (goal (view (is_some core.paxos.max_rv)))
         go (inl e) n = put (preparing (asked_by s i) h round core) (goal (view_of ans core)) (prepared_held core rv e) (ap (λ (t : Bool). goal (view t)) e) (preparing_follows core ok at e)
         go (inr e) (inr n) =
-            put (refuses Panic core) (goal (view (is_some core.paxos.max_rv))) (prepared_refused core rv e n) refl
-            (lifted (refuses Panic core) (goal (view (is_some core.paxos.max_rv))) (record { seen_as = tt }))
+            put (Err Panic) (goal (view (is_some core.paxos.max_rv))) (prepared_refused core rv e n) refl
+            (lifted (Err Panic) (goal (view (is_some core.paxos.max_rv))) (record { seen_as = tt }))
         go (inr e) (inl n) =
             put (preparing (asked_by s i) h round first) (goal (view_of ans first)) (prepared_first core rv e n)
             (ap (λ (t : Bool). goal (view t)) e ∙ ap goal (sym (first_view ans s i alive small core rv e)))
@@ -438,9 +444,9 @@ pub on_prepare_follows : (ans : Answers) (s : Settings) (i : ℕ) → is_swift_p
     (model.on_prepare (setup_of s) i (view_of ans core) h.src slot (round_number (Some round)) (round_number (accept_round_of rv)) (proposer_of rv) (value_of rv) host)
 unfolding on_prepare model.on_prepare in_prepare
 on_prepare_follows ans s i no-swift slow small h src slot round below rv fits live d core ok le host =
-    enter_follows ans s i no-swift core h slot round CoreStep (λ t. t) (Follows (setup_of s) ans) (λ step r f. f) ok below live le (in_prepare (asked_by s i) h round rv) _
+    enter_follows ans s i no-swift core h slot round CoreStep (λ t. t) (Follows (setup_of s) ans) (same_steps (setup_of s) ans) ok below live le (in_prepare (asked_by s i) h round rv) _
     (λ alive same no-older.
-    in_prepare_follows ans s i no-swift alive small h src round below host CoreStep (λ t. t) (Follows (setup_of s) ans) (λ step r f. f) rv fits d (view_of ans core) (gather (asked_by s i) h round rv)
+    in_prepare_follows ans s i no-swift alive small h src round below host CoreStep (λ t. t) (Follows (setup_of s) ans) (same_steps (setup_of s) ans) rv fits d (view_of ans core) (gather (asked_by s i) h round rv)
     (λ core1 ok1 at1 held1.
     subst (Follows (setup_of s) ans (gather (asked_by s i) h round rv core1)) (sym (gathers_classic ans s i no-swift alive small h src round below host slow (proposer_of rv) (value_of rv) (view_of ans core) (view_of ans core1) _))
     (gather_follows ans s i no-swift alive small h src round below host core1 rv ok1 at1 held1 fits (view_of ans core)))

@@ -1,6 +1,6 @@
 -- A proposal in the classic modes is the model's `on_propose`.
 -- Assumes nothing.
-use Rattle.std.specs.Prelude.{Option, None, Some, is_some, Ok}
+use Rattle.std.specs.Prelude.{Option, None, Some, is_some, Ok, Err}
 use mathlib.Core.Path.{◌≡◌, refl, sym, ap, ap₂, subst, ◌∙◌}
 use mathlib.Core.Logic.{◌⊎◌, inl, inr}
 use mathlib.Core.Bool.{Bool, true, false, cond, not, ◌&&◌, ◌||◌}
@@ -129,7 +129,7 @@ module _ (ans : Answers) (s : Settings) (i : ℕ) (no-swift : is_swift_paxos s.m
     propose_promise r rv = simp may.nothing
 
     pub prepare_step : (r : PaxosRound) (rv : RoundV)
-        → propose_prepare (asked_by s i) r rv core ≡ stays (with_paxos (promised r rv) core) (one_message (sends (asked_by s i) core to_all (Prepare core.slot r rv)))
+        → propose_prepare (asked_by s i) r rv core ≡ Ok (stays (with_paxos (promised r rv) core) (one_message (sends (asked_by s i) core to_all (Prepare core.slot r rv))))
     unfolding propose_prepare
     prepare_step r rv = ap (proposed (asked_by s i) (Prepare core.slot r rv) core) (propose_promise r rv)
 
@@ -139,7 +139,7 @@ module _ (ans : Answers) (s : Settings) (i : ℕ) (no-swift : is_swift_paxos s.m
 
     accept_step : (r : PaxosRound)
         → propose_accept (asked_by s i) r v core
-        ≡ stays (with_paxos (after_accept (asked_by s i).member i r v (promised r (PaxosV None v))) core) (one_message (sends (asked_by s i) core to_all (Accept core.slot r v)))
+        ≡ Ok (stays (with_paxos (after_accept (asked_by s i).member i r v (promised r (PaxosV None v))) core) (one_message (sends (asked_by s i) core to_all (Accept core.slot r v))))
     unfolding propose_accept
     accept_step r =
         ap (after_own_promise (asked_by s i) r v core) (propose_promise r (PaxosV None v))
@@ -240,7 +240,7 @@ module _ (ans : Answers) (s : Settings) (i : ℕ) (no-swift : is_swift_paxos s.m
   unfolding propose_classic
   propose_allowed e = simp e
 
-  propose_refused : may_propose (asked_by s i) core ≡ false → propose_classic (asked_by s i) v core ≡ not_allowed core
+  propose_refused : may_propose (asked_by s i) core ≡ false → propose_classic (asked_by s i) v core ≡ Err not_allowed
   unfolding propose_classic
   propose_refused e = simp e
 

@@ -1,7 +1,7 @@
 -- What a call sends, of every shard, in every mode, legal or not: at most two messages ("Out: at most three messages"), each with the own
 -- number as its source, none to oneself ("destination, or all, never the sender; for Commit the first destination"), and a Commit to all.
 -- Assumes nothing.
-use Rattle.std.specs.Prelude.{Option, None, Some}
+use Rattle.std.specs.Prelude.{Option, None, Some, Result, Ok, Err, IfOk}
 use mathlib.Core.Path.{◌≡◌, refl}
 use mathlib.Core.Bool.{Bool, true}
 use mathlib.Core.List.{[]}
@@ -11,8 +11,9 @@ use lib.ListN.{length}
 use lib.Dec.{eqb, ltb}
 use Rattle.message.specs.declared.ConsensusMsg.{ConsensusMsg}
 use Rattle.message.specs.declared.ConsensusMsg.TheVariants.{Prepare, Accept, ForwardRequest, Commit, ReadRequest, ReadResponse}
+use Rattle.message.specs.declared.Refusal.{Refusal}
 use Rattle.fast_state.specs.Adopt.{Choice}
-use Rattle.steps.specs.Steps.{first_served}
+use Rattle.steps.specs.Steps.{RoundsStep, first_served}
 use Rattle.steps.specs.declared.Asked.{Asked}
 use Rattle.steps.specs.declared.Core.{Core}
 use Rattle.steps.specs.declared.Destination.{Destination}
@@ -20,10 +21,9 @@ use Rattle.steps.specs.declared.Destination.TheVariants.{One, All}
 use Rattle.steps.specs.declared.Heard.{Heard}
 use Rattle.steps.specs.declared.Messages.{Messages}
 use Rattle.steps.specs.declared.Next.{Next}
-use Rattle.steps.specs.declared.Next.TheVariants.{Stays, Continues, Commits, Refuses}
+use Rattle.steps.specs.declared.Next.TheVariants.{Stays, Continues, Commits}
 use Rattle.steps.specs.declared.Outgoing.{Outgoing}
 use Rattle.steps.specs.declared.Rounds.{Rounds}
-use Rattle.steps.specs.declared.RoundsStep.{RoundsStep}
 use Rattle.delivery.specs.declared.Delivery.{Delivery}
 use Rattle.calls.specs.Asked.{asked_of, heard_of}
 use Rattle.calls.specs.declared.Call.{Call}
@@ -36,7 +36,7 @@ use Rattle.basics.specs.Lists.{In}
 use Rattle.basics.proofs.Tests.{of-both}
 use Rattle.agreement.proofs.Tests.{by_test, neqb→ne}
 use Rattle.group.specs.Claim.{listed, messages_of, Reaches, SentTo}
-use Rattle.group.proofs.Handlers.{Any, UpToTwo, TwoAtMost, each_in, Ends, ends, Keeps, Comes, processed_holds, proposing_holds, call_holds}
+use Rattle.group.proofs.Handlers.{Any, any_holds, UpToTwo, TwoAtMost, each_in, Ends, ends, Keeps, Comes, processed_holds, proposing_holds, call_holds}
 
 -- ---- a message that a member may send
 
@@ -86,7 +86,7 @@ not_sent own d n (ReadResponse id next) t = not_reached own d n t
 
 -- a step that is over, has sent such messages alone, and none without something held
 abbrev pub RoundsEnd : ℕ → RoundsStep → Type 0
-RoundsEnd own step = Ends (FromOwn own) step.messages step.rounds.core.paxos.max_rv step.next
+RoundsEnd own step = Ends (FromOwn own) step.messages step.state.core.paxos.max_rv step.next
 
 module _ (a : Asked) where
   abbrev own : ℕ
@@ -122,16 +122,16 @@ module _ (a : Asked) where
   comes h core (ReadRequest id) = tt
   comes h core (ReadResponse id next) = tt
 
-  -- Handling a message ends; what it sends, it sends with something held.
-  pub processed_ends : (choose : Choice) (h : Heard) (m : ConsensusMsg) (s : Rounds) → RoundsEnd own (processed choose a h m s)
+  -- Handling a message is refused or ends; what it sends, it sends with something held.
+  pub processed_ends : (choose : Choice) (h : Heard) (m : ConsensusMsg) (s : Rounds) → IfOk (processed choose a h m s) (RoundsEnd own)
   processed_ends choose h m s =
-      processed_holds a Any Any Any Any (λ round. Any) Any (FromOwn own) keeps h (λ t. tt) (RoundsEnd own) choose s Any tt (λ p v w. tt) (λ p v l w. tt) (λ step t q. q.0.1) (λ step t q. q.1) m
+      processed_holds a Any Any Any Any (λ round. Any) Any (FromOwn own) keeps h (λ t. tt) (RoundsEnd own) choose s Any tt (λ p v w. any_holds _) (λ p v l w. any_holds _) (λ step t q. q.0.1) (λ step t q. q.1) m
       (comes h s.core m) tt
 
   -- So does a proposal.
-  pub proposing_ends : (v : ℕ) (s : Rounds) → RoundsEnd own (proposing a v s)
+  pub proposing_ends : (v : ℕ) (s : Rounds) → IfOk (proposing a v s) (RoundsEnd own)
   proposing_ends v s =
-      proposing_holds a Any Any Any Any (λ round. Any) Any (FromOwn own) keeps (RoundsEnd own) (λ core t. tt) v tt s Any tt tt (λ step t q. ends (FromOwn own) _ _ step.next q.0.1)
+      proposing_holds a Any Any Any Any (λ round. Any) Any (FromOwn own) keeps (RoundsEnd own) (λ core t. tt) v tt s Any tt (any_holds _) (λ step t q. ends (FromOwn own) _ _ step.next q.0.1)
       (λ step t q. ends (FromOwn own) _ _ step.next q.1) tt
 
 -- ---- calls
@@ -139,15 +139,15 @@ module _ (a : Asked) where
 abbrev CallSends : ℕ → Answer → Type 0
 CallSends own r = TwoAtMost (FromOwn own) r.reply.messages
 
-finish_sends : (own : ℕ) (shard : Shard) (a : Asked) (held : Bool) (step : RoundsStep) → RoundsEnd own step → CallSends own (finish shard a held step)
+finish_sends : (own : ℕ) (shard : Shard) (a : Asked) (held : Bool) (r : Result RoundsStep Refusal) → IfOk r (RoundsEnd own) → CallSends own (finish shard a held r)
 unfolding committed
-finish_sends own shard a held step q = go step.next q
+finish_sends own shard a held (Err why) q = (tt, tt)
+finish_sends own shard a held (Ok step) q = go step.next q
   where
-    go : (n : Next) → Ends (FromOwn own) step.messages step.rounds.core.paxos.max_rv n → CallSends own (finish_at shard a held step.rounds step.messages n)
+    go : (n : Next) → Ends (FromOwn own) step.messages step.state.core.paxos.max_rv n → CallSends own (finish_at shard a held step.state step.messages n)
     go Stays q = q.0
     go Continues q = absurd q
     go (Commits v) q = of-both (CallSends own) held q.0 (tt, tt)
-    go (Refuses why) q = (tt, tt)
 
 module _ (choose : Choice) (shard : Shard) where
   abbrev number : ℕ
@@ -176,7 +176,7 @@ module _ (choose : Choice) (shard : Shard) where
   call_sends =
       call_holds choose shard (λ c. CallSends number) (λ c why. (tt, tt))
       (λ v. finish_sends number shard asked true (proposing asked v shard.state.rounds) (proposing_ends asked v shard.state.rounds))
-      (λ tag arrival id. (record { source = refl; to_others = tt; commit_to_all = tt }, tt)) (λ d. handle_sends d d.message.msg)
+      (λ tag arrival ins e. (record { source = refl; to_others = tt; commit_to_all = tt }, tt)) (λ d. handle_sends d d.message.msg)
 
   -- ---- what is claimed
 

@@ -1,13 +1,13 @@
 -- What every step of every mode keeps, for any shard within its limits: slot and open reads, whom the prepared and accepted sets hold, who leads
 -- rounds, and the bounds of the numbers that a call adds to or subtracts from.
 -- Assumes nothing.
-use Rattle.std.specs.Prelude.{Option, None, Some, Result, Ok, is_some}
+use Rattle.std.specs.Prelude.{Option, None, Some, Result, Ok, is_some, IfOk}
 use mathlib.Core.Path.{◌≡◌, refl, sym, ap, subst, ◌∙◌}
 use mathlib.Core.Logic.{◌⊎◌, inl, inr}
 use mathlib.Core.Bool.{Bool, true, false, cond, not, ◌&&◌}
 use Prim.Native.Nat.{ℕ, ◌+◌, ◌-◌, ◌≤◌, ◌<◌}
 use native.Mathlib.Omega.{arith}
-use lib.Dec.{T, eqb, eqb→eq, ltb}
+use lib.Dec.{T, eqb, eqb→eq, ltb, T_not}
 use borrow.Author.Tests.{ltb-true, ltb-false, eqb-true}
 use Rattle.basics.proofs.Tests.{either, not_both, fails, or_cases, of-both}
 use Rattle.sets.specs.Sets.{contains, insert, size, one}
@@ -32,11 +32,10 @@ use Rattle.fast_state.specs.declared.FastState.{FastState}
 use Rattle.fast_state.specs.declared.FastChange.{FastChange}
 use Rattle.enter.specs.Enter.{source_taken}
 use Rattle.propose.specs.Propose.{proposal_round, may_propose, own_answer}
-use Rattle.steps.specs.Steps.{with_paxos, on_rounds, change_rounds}
+use Rattle.steps.specs.Steps.{CoreStep, with_paxos, on_rounds, change_rounds}
 use Rattle.steps.specs.declared.Asked.{Asked}
 use Rattle.steps.specs.declared.ChangeStep.{ChangeStep}
 use Rattle.steps.specs.declared.Core.{Core}
-use Rattle.steps.specs.declared.CoreStep.{CoreStep}
 use Rattle.steps.specs.declared.Heard.{Heard}
 use Rattle.steps.specs.declared.Rounds.{Rounds}
 use Rattle.consensus.specs.Call.{proposing}
@@ -44,7 +43,6 @@ use Rattle.consensus.specs.Handle.{processed}
 use Rattle.agreement.proofs.Tests.{by_test, neqb→ne}
 use Rattle.group.proofs.View.{LeaderIn}
 use Rattle.group.proofs.Answering.{FastFits, size_bound, stored, stored_length, ProposerFits}
-use Rattle.group.proofs.Changes.{change_left}
 use Rattle.group.proofs.Handlers.{Any, Holds, promise_held, Keeps, Comes, processed_holds, proposing_holds}
 
 -- ---- rounds
@@ -60,27 +58,23 @@ RoundFits Leads r = GroupFits (Some r) × Leads r.leader
 
 -- ---- what was accepted
 
-abbrev pub HasRound : Option PaxosRound → Type 0
-HasRound None = ⊥
-HasRound (Some r) = Unit {0}
-
-later_round : (x y : Option PaxosRound) → T (before x y) → HasRound y
+later_round : (x y : Option PaxosRound) → T (before x y) → Holds y
 later_round None None t = t
 later_round (Some r) None t = t
 later_round x (Some r) t = tt
 
 -- a promise replaces an accepted one only by one that was accepted later
-promise_accepted : {set : ℕ} (held : Option RoundV) (rv : RoundV) → HasRound (get_last_accepted_round held) ⊎ (set ≡ 0) → HasRound (get_last_accepted_round (held_after_promise held rv)) ⊎ (set ≡ 0)
+promise_accepted : {set : ℕ} (held : Option RoundV) (rv : RoundV) → Holds (get_last_accepted_round held) ⊎ (set ≡ 0) → Holds (get_last_accepted_round (held_after_promise held rv)) ⊎ (set ≡ 0)
 unfolding held_after_promise
 promise_accepted held rv (inr e) = inr e
 promise_accepted None rv (inl h) = absurd h
 promise_accepted (Some old) rv (inl h) =
-    inl (by_test (λ (x : Option RoundV). HasRound (get_last_accepted_round x)) (before (accept_round_of old) (accept_round_of rv)) (Some rv) (Some old) (later_round (accept_round_of old) (accept_round_of rv)) (λ t. h))
+    inl (by_test (λ (x : Option RoundV). Holds (get_last_accepted_round x)) (before (accept_round_of old) (accept_round_of rv)) (Some rv) (Some old) (later_round (accept_round_of old) (accept_round_of rv)) (λ t. h))
 
-pub none_accepted : {set : ℕ} (at : Option PaxosRound) → T (not (is_some at)) → HasRound at ⊎ (set ≡ 0) → set ≡ 0
-none_accepted at fresh (inr e) = e
-none_accepted None fresh (inl h) = absurd h
-none_accepted (Some r) fresh (inl h) = absurd fresh
+-- where nothing is held, or nothing accepted, none is counted
+pub none_counted : {A : Type 0} {set : ℕ} (o : Option A) → T (not (is_some o)) → Holds o ⊎ (set ≡ 0) → set ≡ 0
+none_counted o none (inr e) = e
+none_counted o none (inl h) = absurd (T_not (is_some o) none h)
 
 -- ---- sets that hold only what may be counted, and rounds that are led by who may lead
 
@@ -92,7 +86,7 @@ module _ (Counts Leads : ℕ → Type 0) where
     pub only_prepared : Only s.prepared_set
     pub only_accepted : Only s.accepted_set
     pub prepared_held : Holds s.max_rv ⊎ (s.prepared_set ≡ 0)
-    pub accepted_held : HasRound (get_last_accepted_round s.max_rv) ⊎ (s.accepted_set ≡ 0)
+    pub accepted_held : Holds (get_last_accepted_round s.max_rv) ⊎ (s.accepted_set ≡ 0)
     pub group_fits : GroupFits s.round
     pub round_led : LeaderIn Leads s.round
     pub held_led : LeaderIn Leads (get_last_accepted_round s.max_rv)
@@ -173,7 +167,7 @@ module _ (Counts Leads : ℕ → Type 0) where
         only_prepared = f.only_prepared;
         only_accepted = f.only_accepted;
         prepared_held = inl tt;
-        accepted_held = inr (none_accepted (get_last_accepted_round s.max_rv) fresh f.accepted_held);
+        accepted_held = inr (none_counted (get_last_accepted_round s.max_rv) fresh f.accepted_held);
         group_fits = f.group_fits;
         round_led = f.round_led;
         held_led = tt;
@@ -285,33 +279,33 @@ module _ (me : Member) (src p v : ℕ) (src-small : src < 64) (p-small : p < 64)
         epaxos_first = λ q l e. ok.epaxos_first q l (before_it q e);
       }
 
-module _ (me : Member) (own_small : me.my_pid < 64) (f : FastState) (ok : FastFits f) where
-  abbrev FastStepFits : Result FastChange Refusal → Type 0
-  FastStepFits step = FastFits (changed (change_left (answers_of f) step) f)
+abbrev FastStepFits : FastState → Result FastChange Refusal → Type 0
+FastStepFits f step = IfOk step (λ change. FastFits (changed change f))
 
-  second_fits : (src : ℕ) → FastStepFits (second_answer me src (answers_of f))
+module _ (me : Member) (f : FastState) (ok : FastFits f) where
+  second_fits : (src : ℕ) → FastStepFits f (second_answer me src (answers_of f))
   unfolding second_answer
-  second_fits src = of-both FastStepFits (eqb src me.my_pid) (unchanged_fits f ok) (unchanged_fits f ok)
+  second_fits src = of-both (FastStepFits f) (eqb src me.my_pid) (unchanged_fits f ok) tt
 
-  epaxos_answered_fits : (src p v : ℕ) → src < 64 → p < 64 → FastStepFits (epaxos_answered me src p v (answers_of f) f.epaxos_proposer_scores)
+  epaxos_answered_fits : (src p v : ℕ) → src < 64 → p < 64 → FastStepFits f (epaxos_answered me src p v (answers_of f) f.epaxos_proposer_scores)
   unfolding epaxos_answered
   epaxos_answered_fits src p v l m = go (contains f.fast_answer_set src) refl
     where
       go : (t : Bool) → contains f.fast_answer_set src ≡ t
-          → FastStepFits (cond t (second_answer me src (answers_of f)) (Ok (epaxos_counted me src p v (answers_of f) f.epaxos_proposer_scores)))
+          → FastStepFits f (cond t (second_answer me src (answers_of f)) (Ok (epaxos_counted me src p v (answers_of f) f.epaxos_proposer_scores)))
       go true e = second_fits src
       go false e = epaxos_counted_fits me src p v l m f ok e
 
-  swift_answered_fits : (src p v : ℕ) → src < 64 → p < 64 → (quorum : Option ℕ) (leader : Bool) → FastStepFits (swift_answered me src p v quorum leader (answers_of f) f.swift_proposer_scores)
+  swift_answered_fits : (src p v : ℕ) → src < 64 → p < 64 → (quorum : Option ℕ) (leader : Bool) → FastStepFits f (swift_answered me src p v quorum leader (answers_of f) f.swift_proposer_scores)
   unfolding swift_answered swift_first swift_uncounted
   swift_answered_fits src p v l m quorum leader = go (contains f.fast_answer_set src) refl
     where
       go : (t : Bool) → contains f.fast_answer_set src ≡ t
-          → FastStepFits (cond t (second_answer me src (answers_of f)) (swift_first me src p v quorum leader (answers_of f) f.swift_proposer_scores))
+          → FastStepFits f (cond t (second_answer me src (answers_of f)) (swift_first me src p v quorum leader (answers_of f) f.swift_proposer_scores))
       go true e = second_fits src
       go false e =
-          of-both FastStepFits (in_quorum quorum src) (swift_counted_fits me src p v l m f ok e leader)
-          (of-both FastStepFits leader (unchanged_fits f ok) (swift_recorded_fits me src p v l m f ok e))
+          of-both (FastStepFits f) (in_quorum quorum src) (swift_counted_fits me src p v l m f ok e leader)
+          (of-both (FastStepFits f) leader tt (swift_recorded_fits me src p v l m f ok e))
 
 -- ---- the handlers of every mode
 
@@ -368,10 +362,10 @@ module _ (Counts Leads : ℕ → Type 0) (a : Asked) (own_counts : T a.member.re
     pub fast_fits : FastFits s.fast
     pub same_fast : has_fast_path a.mode ≡ false → s.fast ≡ f
 
-  fast_fit : (f : FastState) (step : ChangeStep) → T (has_fast_path a.mode) → CoreFits step.core → FastFits (changed step.change f) → RoundsFit f (change_rounds f step).rounds
+  fast_fit : (f : FastState) (step : ChangeStep) → T (has_fast_path a.mode) → CoreFits step.core → FastFits (changed step.change f) → RoundsFit f (change_rounds f step).state
   fast_fit f step t k q = record { core_fits = k; fast_fits = q; same_fast = λ e. absurd (subst T e t) }
 
-  classic_fit : (f : FastState) → FastFits f → (step : CoreStep) → CoreFits step.core → RoundsFit f (on_rounds f step).rounds
+  classic_fit : (f : FastState) → FastFits f → (step : CoreStep) → CoreFits step.state → RoundsFit f (on_rounds f step).state
   classic_fit f ok step k = record { core_fits = k; fast_fits = ok; same_fast = λ e. refl }
 
   module _ (h : Heard) (src-small : h.src < 64) (src-counts : T (source_taken a h) → Counts h.src) where
@@ -384,29 +378,26 @@ module _ (Counts Leads : ℕ → Type 0) (a : Asked) (own_counts : T a.member.re
     comes core (ReadResponse id next) fit = tt
 
   pub processed_fits : (choose : Choice) (h : Heard) → h.src < 64 → (T (source_taken a h) → Counts h.src) → (m : ConsensusMsg) → MessageFits Leads m → (s : Rounds) → FastFits s.fast → CoreFits s.core
-      → RoundsFit s.fast (processed choose a h m s).rounds
+      → IfOk (processed choose a h m s) (λ step. RoundsFit s.fast step.state)
   processed_fits choose h small c m fit s ok k =
-      processed_holds a Source (RoundFits Leads) PromiseFits Any (λ round. Any) CoreFits Any keeps h (λ t other. c t) (λ step. RoundsFit s.fast step.rounds) choose s
+      processed_holds a Source (RoundFits Leads) PromiseFits Any (λ round. Any) CoreFits Any keeps h (λ t other. c t) (λ step. RoundsFit s.fast step.state) choose s
       (λ change. FastFits (changed change s.fast)) (unchanged_fits s.fast ok)
-      (λ p v w. epaxos_answered_fits me own_small s.fast ok h.src p v small w.1)
-      (λ p v leader w. swift_answered_fits me own_small s.fast ok h.src p v small w.1 a.quorum leader)
+      (λ p v w. epaxos_answered_fits me s.fast ok h.src p v small w.1)
+      (λ p v leader w. swift_answered_fits me s.fast ok h.src p v small w.1 a.quorum leader)
       (λ step t q. fast_fit s.fast step t q.0.0 q.1) (λ step t q. classic_fit s.fast ok step q.0) m (comes h small c s.core m fit) k
 
-  own_answer_fits : (f : FastState) → FastFits f → (v : ℕ) → FastFits (changed (change_left (answers_of f) (own_answer a v (answers_of f) f.epaxos_proposer_scores f.swift_proposer_scores)) f)
+  own_answer_fits : (f : FastState) → FastFits f → (v : ℕ) → FastStepFits f (own_answer a v (answers_of f) f.epaxos_proposer_scores f.swift_proposer_scores)
   unfolding own_answer epaxos_propose_v swift_propose_v swift_own
   own_answer_fits f ok v =
-      of-both Fits (is_swift_paxos a.mode)
-      (of-both Fits (swift_unanswered me (answers_of f) f.swift_proposer_scores)
-      (of-both Fits me.replica (swift_answered_fits me own_small f ok me.my_pid me.my_pid v own_small own_small a.quorum false) (unchanged_fits f ok)) (unchanged_fits f ok))
-      (of-both Fits (is_unanswered (answers_of f) && eqb (look_up f.epaxos_proposer_scores me.my_pid) 2)
-      (epaxos_answered_fits me own_small f ok me.my_pid me.my_pid v own_small own_small) (unchanged_fits f ok))
-    where
-      Fits : Result FastChange Refusal → Type 0
-      Fits step = FastFits (changed (change_left (answers_of f) step) f)
+      of-both (FastStepFits f) (is_swift_paxos a.mode)
+      (of-both (FastStepFits f) (swift_unanswered me (answers_of f) f.swift_proposer_scores)
+      (of-both (FastStepFits f) me.replica (swift_answered_fits me f ok me.my_pid me.my_pid v own_small own_small a.quorum false) (unchanged_fits f ok)) tt)
+      (of-both (FastStepFits f) (is_unanswered (answers_of f) && eqb (look_up f.epaxos_proposer_scores me.my_pid) 2)
+      (epaxos_answered_fits me f ok me.my_pid me.my_pid v own_small own_small) tt)
 
   -- a proposal is made in the starting round alone, and so its round is of the first groups
   pub proposing_fits : ((core : Core) → T (may_propose a core) → RoundFits Leads (proposal_round a core)) → (v : ℕ) (s : Rounds) → FastFits s.fast → CoreFits s.core
-      → RoundsFit s.fast (proposing a v s).rounds
+      → IfOk (proposing a v s) (λ step. RoundsFit s.fast step.state)
   proposing_fits r v s ok k =
-      proposing_holds a Source (RoundFits Leads) PromiseFits Any (λ round. Any) CoreFits Any keeps (λ step. RoundsFit s.fast step.rounds) r v (tt, tt) s (λ change. FastFits (changed change s.fast))
+      proposing_holds a Source (RoundFits Leads) PromiseFits Any (λ round. Any) CoreFits Any keeps (λ step. RoundsFit s.fast step.state) r v (tt, tt) s (λ change. FastFits (changed change s.fast))
       (unchanged_fits s.fast ok) (own_answer_fits s.fast ok v) (λ step t q. fast_fit s.fast step t q.0.0 q.1) (λ step t q. classic_fit s.fast ok step q.0) k

@@ -8,32 +8,15 @@ use mathlib.Core.List.{List, [], ◌∷◌}
 use mathlib.Core.Logic.{inl, inr}
 use Prim.Native.Nat.{ℕ}
 use lib.Dec.{lit<}
-use Rattle.sets.specs.Sets.{contains, count, size, insert}
-use Rattle.message.specs.Rounds.{increment, round_of, next_leader_round, round_before, round_equal}
+use Rattle.message.specs.Rounds.{round_of}
 use Rattle.message.specs.declared.ConsensusMsg.{ConsensusMsg}
 use Rattle.message.specs.declared.ConsensusMsg.TheVariants.{Prepare, Accept}
 use Rattle.message.specs.declared.RoundV.TheVariants.{FastV}
-use Rattle.settings.specs.Settings.{counts_fit, members_fit, committers_fit, mode_fits, quorum_fits, within_limits}
-use Rattle.settings.specs.Questions.{committer_for, committer_in, delegate_in}
 use Rattle.settings.specs.declared.Settings.{Settings}
-use Rattle.round_state.specs.Paxos.{with_sender, with_own, held_after_promise, receive_promise, paxos_propose_v, accept_fits, receive_accept, accept_own, self_accept}
-use Rattle.accept.specs.Accept.{is_committer, committer_hears, answer_accept, try_commit, answered, follower, accepted, accepting}
-use Rattle.enter.specs.Enter.{in_round, is_older, from_live, enter}
-use Rattle.prepare.specs.Prepare.{hold_first, answer_prepare, answers_nothing, preparing, prepared}
-use Rattle.swift_path.specs.Swift.{swift_answer, swift_client_prepare, client_accept, leader_answered, accept_answered, swift_accept, swift_client_accept}
-use Rattle.fast_state.specs.Fast.{preaccepted_after, is_unanswered, leader_answer_after, swift_first, swift_answered, swift_unanswered, swift_own, swift_propose_v, swift_quorum, swift_can_commit}
-use Rattle.tables.specs.Tables.{look_up, every}
-use Rattle.paxos_family.specs.Process.{fast_prepared, fast_promised, leads_round, starts_accept, waits, fast_answered, fast_gather, in_fast_prepare, on_fast_prepare, replica_accept, in_fast_accept, on_fast_accept, process_change, process_fast}
-use Rattle.propose.specs.Propose.{electing, may_propose, propose_prepare, propose_accept, own_answer, leads_from_start, propose_change, propose_fast}
-use Rattle.delivery.specs.Admit.{other_last_value, value_awaited, ready, admit}
-use Rattle.consensus.specs.Answers.{committed}
-use Rattle.consensus.specs.Call.{new_shard, proposing, propose, receive, dispatch, unless_spent, call_with}
-use Rattle.calls.specs.Asked.{gatherer_in}
-use Rattle.consensus.specs.Handle.{processed, process_message, handle}
-use Rattle.delivery.specs.Limits.{round_numbers, rv_numbers, msg_numbers, number_given, numbers_fit, rv_processes, msg_processes, requester_below, processes_fit}
 use Rattle.agreement.proofs.Tests.{neqb→ne}
-use Rattle.group.specs.Claim.{MemberCall, entries_from, entries, LegalFrom, Legal, CommitAt, Claim}
+use Rattle.group.specs.Claim.{MemberCall, entries, Legal, CommitAt, Claim}
 use Rattle.group.proofs.Example.{proposes, hears_for, commits_of, none, commits, first}
+use Rattle.group.proofs.Computed.{computed}
 use Rattle.group.proofs.SwiftSets.{with_client}
 
 abbrev with_committer : Settings
@@ -66,7 +49,7 @@ pub record SwiftShown : Type 0 where
   pub commits_6 : CommitAt 0 6 (entries with_committer calls)
 
 pub swift_example_shown : SwiftShown
-unfolding entries_from LegalFrom new_shard call_with unless_spent dispatch propose receive admit numbers_fit processes_fit ready other_last_value value_awaited round_numbers rv_numbers msg_numbers number_given rv_processes msg_processes requester_below handle committed process_message processed gatherer_in proposing propose_fast propose_change leads_from_start own_answer swift_propose_v swift_unanswered swift_own is_unanswered may_propose electing propose_prepare propose_accept process_fast process_change on_fast_prepare in_fast_prepare fast_prepared fast_gather starts_accept waits leads_round fast_promised fast_answered swift_client_prepare swift_answer swift_answered swift_first preaccepted_after leader_answer_after swift_can_commit swift_quorum on_fast_accept in_fast_accept swift_client_accept swift_accept accept_answered leader_answered client_accept replica_accept look_up every enter from_live is_older in_round prepared hold_first preparing answers_nothing answer_prepare accepting accepted follower answered try_commit is_committer committer_hears answer_accept paxos_propose_v receive_promise held_after_promise receive_accept accept_fits accept_own self_accept with_sender with_own next_leader_round round_before round_equal increment delegate_in committer_in committer_for within_limits counts_fit members_fit committers_fit mode_fits quorum_fits contains count size insert
+unfolding computed
 swift_example_shown = record {
   legal =
       first (lit< tt) tt

@@ -1,7 +1,7 @@
 -- The core of a shard seen as the model's view of a member: rounds as numbers, sets as tests, messages by their part in the agreement.
 -- Assumes nothing.
-use Rattle.std.specs.Prelude.{Option, None, Some, is_some}
-use Rattle.std.proofs.Math.Bool.{or-false}
+use Rattle.std.specs.Prelude.{Option, None, Some, is_some, Result, IfOk}
+use Rattle.std.proofs.Math.Bool.{or_comm}
 use mathlib.Core.Path.{◌≡◌, refl, sym, ap, ap₂, subst, fun_ext, ◌∙◌}
 use mathlib.Core.Logic.{inl, inr}
 use mathlib.Core.Bool.{Bool, true, false, cond, ◌||◌}
@@ -12,7 +12,7 @@ use native.Mathlib.Decide.{dec_lt}
 use native.Mathlib.Omega.{arith}
 use lib.Dec.{eqb, ltb}
 use borrow.Author.Tests.{lt-ltb, le-ltb, ltb-true, eqb-true, eq-eqb}
-use Rattle.basics.proofs.Tests.{same_test, or_right}
+use Rattle.basics.proofs.Tests.{same_test}
 use Rattle.sets.specs.Sets.{contains, insert}
 use Rattle.sets.proofs.Laws.{contains_empty, contains_insert}
 use Rattle.message.specs.Promises.{value_of, accept_round_of}
@@ -24,6 +24,7 @@ use Rattle.message.specs.declared.ConsensusMsg.TheVariants.{Prepare, Accept, For
 use Rattle.message.specs.declared.PaxosRound.{PaxosRound}
 use Rattle.message.specs.declared.PFMode.{PFMode}
 use Rattle.message.specs.declared.PFMode.TheVariants.{Paxos, MultiPaxos, MultiPaxos3P, EPaxos, Pando, SwiftPaxos}
+use Rattle.message.specs.declared.Refusal.{Refusal}
 use Rattle.message.specs.declared.RoundV.{RoundV}
 use Rattle.message.specs.declared.RoundV.TheVariants.{FastV, PaxosV}
 use Rattle.tables.specs.Tables.{look_up}
@@ -33,15 +34,15 @@ use Rattle.settings.specs.Questions.{quorums_of, delegate_of, committer_of, star
 use Rattle.settings.specs.declared.Settings.{Settings}
 use Rattle.message.specs.Modes.{is_multi_paxos}
 use Rattle.accept.specs.Accept.{tells_committer}
-use Rattle.steps.specs.Steps.{held_rv, held_v, goes_on}
+use Rattle.steps.specs.Steps.{CoreStep, held_rv, held_v}
 use Rattle.steps.specs.declared.Core.{Core}
-use Rattle.steps.specs.declared.CoreStep.{CoreStep}
 use Rattle.steps.specs.declared.Destination.{Destination}
 use Rattle.steps.specs.declared.Destination.TheVariants.{One, All}
 use Rattle.steps.specs.declared.Messages.{Messages}
 use Rattle.steps.specs.declared.Next.{Next}
-use Rattle.steps.specs.declared.Next.TheVariants.{Stays, Continues, Commits, Refuses}
+use Rattle.steps.specs.declared.Next.TheVariants.{Stays, Continues, Commits}
 use Rattle.steps.specs.declared.Outgoing.{Outgoing}
+use Rattle.consensus.proofs.Handled.{eqb_sym}
 use Rattle.agreement.specs.Engine.{Envelope}
 use Rattle.agreement.specs.Model.{View, Answers, Setup, Message, prepare, accept, commit, other, undecided, decided, Outcome, empty, add, advanced}
 use Rattle.agreement.specs.Model as model
@@ -119,11 +120,7 @@ pub no_member : contains 0 ≡ empty
 no_member = fun_ext contains_empty
 
 pub insert_add : (s p : ℕ) → p < 64 → contains (insert s p) ≡ add p (contains s)
-insert_add s p l = fun_ext (λ q. contains_insert s p q l ∙ swap (contains s q) (eqb p q) (eqb q p) (same_test (λ e. eq-eqb q p (sym (eqb-true p q e))) (λ e. eq-eqb p q (sym (eqb-true q p e)))))
-  where
-    swap : (a b c : Bool) → b ≡ c → (a || b) ≡ (c || a)
-    swap true b c e = sym (or_right c refl)
-    swap false b c e = e ∙ sym (or-false c)
+insert_add s p l = fun_ext (λ q. contains_insert s p q l ∙ ap (λ (t : Bool). contains s q || t) (eqb_sym p q) ∙ or_comm (contains s q) (eqb q p))
 
 -- ---- messages
 
@@ -235,19 +232,12 @@ setup_of s =
 
 -- ---- a step as the model's outcome
 
--- what a step leaves is the outcome r, unless it is refused; ans is the fast half behind it
+-- what a step leaves is the outcome r; ans is the fast half behind it
 abbrev pub SeenAs : Setup → Answers → Core → Messages → Next → Outcome → Type 0
 SeenAs S ans core ms Stays r = record { view = view_of ans core; outgoing = meanings meaning_of (envelopes ms); decision = undecided; taken = true } ≡ r
 SeenAs S ans core ms Continues r = ⊥
 SeenAs S ans core ms (Commits v) r =
     record { view = advanced S.voters.start (view_of ans core); outgoing = meanings meaning_of (envelopes ms); decision = decided core.slot v; taken = true } ≡ r
-SeenAs S ans core ms (Refuses why) r = Unit {0}
 
-pub record Follows (S : Setup) (ans : Answers) (step : CoreStep) (r : Outcome) : Type 0 where
-  pub seen_as : SeenAs S ans step.core step.messages step.next r
-
--- ---- chains of steps
-
--- the rest of a handler where it goes on from a step, and else the step: `and_then`, and with another type of result `and_then_change`
-abbrev pub then_in : {X : Type 0} → (CoreStep → X) → CoreStep → (Core → X) → X
-then_in lift step rest = cond (goes_on step.next) (rest step.core) (lift step)
+pub record Follows (S : Setup) (ans : Answers) (step : Result CoreStep Refusal) (r : Outcome) : Type 0 where
+  pub seen_as : IfOk step (λ x. SeenAs S ans x.state x.messages x.next r)

@@ -37,7 +37,6 @@ member_settings s i =
       first_leader = s.first_leader;
       mode = s.mode;
       quorum = s.quorum;
-      has_committers = s.has_committers;
       committers = s.committers;
       delegates = s.delegates;
     }

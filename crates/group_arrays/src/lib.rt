@@ -46,15 +46,7 @@ pub fn apply_group_entry(
     ensures same { SameArrays columns.old columns.new }
     ensures applied { group_applied_in settings.now result columns.new ≡ apply_in_group (group_of settings.now columns.old) entry }
 {
-    let kept = settings_in(settings);
-    if !kept.is_made() {
-        return Err(GroupRefusal::Unmade);
-    }
-    if group_register::gives_odd_width(kept.whole_mhz_from, columns.figures[0], entry) {
-        columns.see(entry.slot);
-        return Err(GroupRefusal::OddWidth);
-    }
-    columns.apply(entry).map_err(GroupRefusal::AsRegister)
+    group_register::apply_in(settings_in(settings), columns, entry)
 }
 
 // The report at the start of out, or the line `refused,1` of a register that is not made, zeros after it; and its length.

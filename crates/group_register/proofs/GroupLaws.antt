@@ -5,6 +5,7 @@ use mathlib.Core.Path.{◌≡◌, refl, sym, ap, ap₂, subst, ◌∙◌}
 use mathlib.Core.Bool.{Bool, true, false, cond, ◌&&◌, not}
 use mathlib.Core.List.{List, [], ◌∷◌, ◌++◌, reverse_aux}
 use Prim.Native.Nat.{ℕ, ◌+◌, ◌≤◌, ◌<◌}
+use native.Mathlib.Omega.{arith}
 use lib.Dec.{ltb, leb, eqb}
 use lib.ListN.{length}
 use borrow.Author.Tests.{ltb-true, ltb-false, leb-true, le-leb, lt-leb, lt-ltb, le-ltb}
@@ -60,9 +61,11 @@ leb_ltb a b = go (ltb b a) refl
     go false h = le-leb a b (ltb-false b a h)
 
 -- what gives 23 has a slot within the limit
-pub odd_slot : (from next : ℕ) (e : CellEntry) → gives_odd_width from next e ≡ true → e.slot ≤ 9223372036854775806
+pub odd_slot : (from next : ℕ) (e : CellEntry) (odd : Bool) → odd ≡ gives_odd_width from next e → odd ≡ true → e.slot < 18446744073709551615
 unfolding gives_odd_width
-odd_slot from next e h = leb-true e.slot 9223372036854775806 (go (is_odd from e) (leb e.slot 9223372036854775806) (leb next e.slot) (change_assignable e.change) h)
+odd_slot from next e odd given h =
+    let within = leb-true e.slot 9223372036854775806 (go (is_odd from e) (leb e.slot 9223372036854775806) (leb next e.slot) (change_assignable e.change) (sym given ∙ h)) in
+    omega arith
   where
     go : (o a b t : Bool) → (o && a && b && t) ≡ true → a ≡ true
     go true true b t k = refl

@@ -1,7 +1,7 @@
 -- A register begun from group settings, and what an entry makes of it (document 02, E13). E6's register stands below it and does not move.
 -- Assumes nothing.
 use Rattle.std.specs.Prelude.{Bool, true, cond, ◌&&◌, ℕ, leb, Result, Ok, Err}
-use Rattle.register.specs.Refusals.{entry_refusal_number, entry_number}
+use Rattle.register.specs.Refusals.{entry_refusal_number, outcome_number}
 use Rattle.register.specs.Register.{new_register, assignable, slot_seen, apply}
 use Rattle.register.specs.declared.Applied.{Applied}
 use Rattle.register.specs.declared.CellEntry.{CellEntry}
@@ -45,8 +45,7 @@ group_refusal_number (AsRegister why) = entry_refusal_number why
 
 -- document 02's number; 0, done, and 64, older, are ours
 abbrev pub group_outcome_number : Result Entered GroupRefusal → ℕ
-group_outcome_number (Ok entered) = entry_number (Ok entered)
-group_outcome_number (Err why) = group_refusal_number why
+group_outcome_number outcome = outcome_number group_refusal_number outcome
 
 -- an outcome of E6
 abbrev pub in_group : Result Entered EntryRefusal → Result Entered GroupRefusal

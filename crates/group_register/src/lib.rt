@@ -5,9 +5,10 @@
 ghost use Rattle.std.specs.Prelude.{◌≡◌};
 ghost use Rattle.group_register.specs.Settings.{settings_from, is_made};
 ghost use Rattle.group_register.specs.WholeMhz.{is_odd};
-ghost use Rattle.group_register.specs.GroupRegister.{new_group_register, group_refusal_number, group_outcome_number, in_group, change_assignable, gives_odd_width, apply_made, apply_in_group, group_page};
+ghost use Rattle.group_register.specs.GroupRegister.{group_register, new_group_register, group_applied, group_refusal_number, change_assignable, gives_odd_width, apply_in_group, group_page};
 
-use register::{CellEntry, Change, Entered, EntryRefusal, Register};
+use refusals::Refused;
+use register::{CellEntry, Change, Entered, EntryRefusal, Register, RegisterPlaces};
 use report::ReportPage;
 
 // What a register keeps of the group settings that it was begun from: their number, 0 where it is made of them, and the slot from which widths are in
@@ -65,26 +66,16 @@ impl RegisterSettings {
     }
 }
 
-impl GroupRefusal {
+impl Refused for GroupRefusal {
+    ghost refusal_number = { group_refusal_number };
+
     // Document 02's number.
-    pub fn number(self) -> u64
-        ensures { result ≡ group_refusal_number self }
-    {
+    fn number(self) -> u64 {
         match self {
             GroupRefusal::Unmade => 1,
             GroupRefusal::OddWidth => 23,
             GroupRefusal::AsRegister(why) => why.number(),
         }
-    }
-}
-
-// Document 02's number for what became of an entry, and where it gives none 0, done, or 64, older.
-pub fn group_outcome_number(outcome: Result<Entered, GroupRefusal>) -> u64
-    ensures { result ≡ group_outcome_number outcome }
-{
-    match outcome {
-        Ok(entered) => register::entry_number(Ok(entered)),
-        Err(why) => why.number(),
     }
 }
 
@@ -135,40 +126,32 @@ pub fn gives_odd_width(whole_mhz_from: u64, next_slot: u64, entry: CellEntry) ->
         && change_assignable(entry.change)
 }
 
-// An entry to a register that is made.
-#[tactic(auto, unfolding(crate::specs::GroupRegister::apply_made))]
-fn apply_made(settings: RegisterSettings, mut register: Register, entry: CellEntry) -> GroupApplied
-    ensures { result ≡ apply_made settings register entry }
+// What becomes of an entry, in a register whose places may be lent: one that is not made stays; 23, with the slot seen; or as in E6.
+#[tactic(auto, using(crate::proofs::GroupLaws::odd_slot), unfolding(crate::specs::GroupRegister::apply_in_group, crate::specs::GroupRegister::apply_made))]
+pub fn apply_in<R: RegisterPlaces>(
+    settings: RegisterSettings,
+    register: &mut R,
+    entry: CellEntry,
+) -> Result<Entered, GroupRefusal>
+    ensures same { R.lent register.new ≡ R.lent register.old }
+    ensures applied { group_applied settings (R.register register.new) result ≡ apply_in_group (group_register settings (R.register register.old)) entry }
 {
-    if gives_odd_width(settings.whole_mhz_from, register.next_slot, entry) {
-        register.next_slot = entry.slot + 1;
-        return GroupApplied {
-            group: GroupRegister { settings, register },
-            outcome: Err(GroupRefusal::OddWidth),
-        };
+    if !settings.is_made() {
+        return Err(GroupRefusal::Unmade);
     }
-    let applied = register::apply(register, entry);
-    GroupApplied {
-        group: GroupRegister {
-            settings,
-            register: applied.register,
-        },
-        outcome: applied.outcome.map_err(GroupRefusal::AsRegister),
+    if gives_odd_width(settings.whole_mhz_from, register.next_slot(), entry) {
+        register.see(entry.slot);
+        return Err(GroupRefusal::OddWidth);
     }
+    register::apply_in(register, entry).map_err(GroupRefusal::AsRegister)
 }
 
-// The register after an entry: one that is not made gives its number and stays.
-#[tactic(auto, unfolding(crate::specs::GroupRegister::apply_in_group))]
-pub fn apply(group: GroupRegister, entry: CellEntry) -> GroupApplied
+// The register after an entry.
+pub fn apply(mut group: GroupRegister, entry: CellEntry) -> GroupApplied
     ensures { result ≡ apply_in_group group entry }
 {
-    if group.settings.is_made() {
-        return apply_made(group.settings, group.register, entry);
-    }
-    GroupApplied {
-        group,
-        outcome: Err(GroupRefusal::Unmade),
-    }
+    let outcome = apply_in(group.settings, &mut group.register, entry);
+    GroupApplied { group, outcome }
 }
 
 // The report, or the one line `refused,1` of a register that is not made.

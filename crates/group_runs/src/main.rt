@@ -8,6 +8,7 @@ use delivery::{Delivery, Said};
 use group_by_value::Group;
 use message::{ConsensusMessage, ConsensusMsg, Outcome, PFMode};
 use network::{Network, Parcel};
+use refusals::Refused;
 use run_checks::{Log, next_random};
 use settings::Settings;
 use std::{fmt, io};
@@ -41,15 +42,14 @@ struct Counts {
 
 // How a run goes: how many turns of its beginning are proposals, so that several go on in one slot; in 256ths of its turns, up to where
 // the later ones are proposals, and up to where messages are delivered and not lost; among how many of the latest messages most
-// deliveries choose. A steady host names one requester in all calls.
+// deliveries choose; and the requester that the host names in all calls, where it is a steady one.
 #[derive(Clone, Copy)]
 struct Habits {
     first_proposals: u64,
     proposals: u64,
     delivered: u64,
     recent: u64,
-    steady: bool,
-    requester: u64,
+    requester: Option<u64>,
 }
 
 // What there is of a run besides the group: the generator's last number, the members that have stopped, those whose answers the leader has
@@ -86,7 +86,7 @@ fn count_in(table: &mut [u64; 64], n: u64) {
 fn random_table(seed: u64, n: u64) -> [u64; 64] {
     let mut table = [0; 64];
     let mut x = seed;
-    for entry in &mut table[..64] {
+    for entry in table.iter_mut() {
         x = next_random(x);
         *entry = remainder(x / 8, n);
     }
@@ -133,8 +133,7 @@ fn random_settings(mode: PFMode, seed: u64) -> Settings {
         first_leader: remainder(b / 65536, replica_count),
         mode,
         quorum: None,
-        has_committers: a / 4096 % 2 == 0,
-        committers: random_table(a, process_count),
+        committers: (a / 4096 % 2 == 0).then(|| random_table(a, process_count)),
         delegates: random_table(b, process_count),
     }
 }
@@ -165,8 +164,7 @@ fn random_habits(x: u64) -> Habits {
         proposals: 8 + x % 3 * 16,
         delivered: 238 - x / 4 % 4 * 4,
         recent: 4 + x / 16 % 4 * 8,
-        steady: x / 64 % 4 > 0,
-        requester: x / 256 % 16,
+        requester: (x / 64 % 4 > 0).then_some(x / 256 % 16),
     }
 }
 
@@ -235,7 +233,7 @@ fn all_sent(mut network: Network, n: u64, messages: Messages) -> Network {
 
 // The terms of E14: MultiPaxos or MultiPaxos3P, no committers, a majority of at least two, and a leader that is a live replica.
 fn has_terms(settings: &Settings) -> bool {
-    !settings.has_committers
+    settings.committers.is_none()
         && settings.quorums().majority >= 2
         && settings.mode.is_multi_paxos()
         && settings.is_live_replica(settings.first_leader)
@@ -301,10 +299,9 @@ impl World {
     }
 
     fn requester(&self, x: u64, n: u64) -> Option<u64> {
-        if self.habits.steady {
-            Some(remainder(self.habits.requester, n))
-        } else {
-            random_requester(x, n)
+        match self.habits.requester {
+            Some(p) => Some(remainder(p, n)),
+            None => random_requester(x, n),
         }
     }
 

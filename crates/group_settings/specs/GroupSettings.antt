@@ -4,7 +4,7 @@ use Rattle.std.specs.Prelude.{◌≡◌, true, false, cond, ◌&&◌, ◌⊎◌,
 use Rattle.message.specs.Outcomes.{Outcome}
 use Rattle.message.specs.declared.Refusal.TheVariants.{SettingsOutsideLimits}
 use Rattle.settings.specs.Settings.{within_limits}
-use Rattle.flat.specs.Encode.{encoded_outcome}
+use Rattle.flat.specs.Encode.{encoded_made, encoded_outcome}
 use Rattle.flat.specs.Decode.{decoded_settings}
 use Rattle.group_settings.specs.declared.FlatGroupSettings.{FlatGroupSettings}
 use Rattle.group_settings.specs.declared.GroupSettings.{GroupSettings}
@@ -30,4 +30,4 @@ decoded_group_settings f = record { settings = decoded_settings f.settings; whol
 
 -- a mode that there is not is outside the limits
 unfoldable pub flat_settings_number : FlatGroupSettings → ℕ
-flat_settings_number f = cond (leb f.settings.mode 5) (settings_number (decoded_group_settings f)) 1
+flat_settings_number f = encoded_made (settings_outcome (decoded_group_settings f)) f.settings.mode

@@ -40,7 +40,7 @@ impl GroupSettings {
         Err(Refusal::SettingsOutsideLimits)
     }
 
-    // The same as a number: 0, or that of the refusal.
+    // The same as a number (C interface): 0, or that of the refusal.
     pub fn number(self) -> u64
         ensures { result ≡ settings_number self }
     {
@@ -64,9 +64,6 @@ pub fn flat_number(f: FlatGroupSettings) -> u64
     ensures { result ≡ flat_settings_number f }
 {
     let settings = f.settings;
-    if settings.mode <= 5 {
-        let decoded = decode_group_settings(f);
-        return decoded.number();
-    }
-    1
+    let decoded = decode_group_settings(f);
+    flat::encode_made(decoded.outcome(), settings.mode)
 }

@@ -23,12 +23,12 @@ use Rattle.calls.specs.declared.Call.{Call}
 use Rattle.consensus.specs.declared.Shard.{Shard}
 use Rattle.consensus.proofs.Refusals.{by_first_cause}
 use Rattle.consensus.proofs.ByParts.{by_parts}
-use Rattle.flat.specs.Encode.{encoded_outcome, encoded_reply}
+use Rattle.flat.specs.Encode.{encoded_made, encoded_outcome, encoded_reply}
 use Rattle.flat.specs.Decode.{decoded_made, decoded_settings}
 use Rattle.flat.specs.declared.FlatCall.{FlatCall}
 use Rattle.flat.specs.declared.FlatSettings.{FlatSettings}
 use Rattle.flat.proofs.Encoded.{rounds_encoded, table_encoded}
-use Rattle.host.specs.Calls.{flat_answer, called, flat_call, flat_made, flat_new}
+use Rattle.host.specs.Calls.{flat_answer, called, flat_call, flat_new}
 use Rattle.host.specs.Shards.{decoded_state, encoded_state, decoded_shard}
 use Rattle.host.specs.declared.FlatAnswer.{FlatAnswer}
 use Rattle.host.specs.declared.FlatShard.{FlatShard}
@@ -40,10 +40,10 @@ state_encoded s = ap₂ (λ (r : Rounds) (t : ReadTable). record { rounds = r; t
 
 -- in a mode that there is, a flat form that begins stands for the new shard with these settings
 pub new_stands : (s : FlatSettings) → leb s.mode 5 ≡ true → decoded_shard (flat_new s) ≡ new_shard (decoded_settings s)
-unfolding flat_new new_shard decoded_made flat_made encoded_outcome
+unfolding flat_new new_shard decoded_made encoded_made encoded_outcome
 new_stands s known = ap₂ (λ (o : Outcome) (t : State). record { made = o; settings = decoded_settings s; state = t }) (go (within_limits (decoded_settings s))) (state_encoded _)
   where
-    go : (t : Bool) → decoded_made (flat_made (cond t (Ok tt) (Err SettingsOutsideLimits)) s.mode) s.mode ≡ cond t (Ok tt) (Err SettingsOutsideLimits)
+    go : (t : Bool) → decoded_made (encoded_made (cond t (Ok tt) (Err SettingsOutsideLimits)) s.mode) s.mode ≡ cond t (Ok tt) (Err SettingsOutsideLimits)
     go true = simp known
     go false = simp known
 

@@ -1,10 +1,10 @@
 -- How the flat form of a shard begins, and a call on it by value. What is refused leaves the flat form as it was, number for number.
 -- Assumes nothing.
-use Rattle.std.specs.Prelude.{cond, ℕ, leb, Ok, Err}
+use Rattle.std.specs.Prelude.{Ok, Err}
 use Rattle.message.specs.Outcomes.{Outcome}
 use Rattle.consensus.specs.Call.{new_shard, call_of}
 use Rattle.consensus.specs.declared.Answer.{Answer}
-use Rattle.flat.specs.Encode.{encoded_outcome, encoded_reply}
+use Rattle.flat.specs.Encode.{encoded_made, encoded_reply}
 use Rattle.flat.specs.Decode.{decoded_settings, decoded_call}
 use Rattle.flat.specs.declared.FlatCall.{FlatCall}
 use Rattle.flat.specs.declared.FlatSettings.{FlatSettings}
@@ -25,14 +25,10 @@ called f c = call_of (decoded_shard f) (decoded_call f.settings.process_count f.
 unfoldable pub flat_call : FlatShard → FlatCall → FlatAnswer
 flat_call f c = flat_answer f (called f c) (called f c).reply.outcome
 
--- a mode that there is not is outside the limits
-unfoldable pub flat_made : Outcome → ℕ → ℕ
-flat_made made mode = cond (leb mode 5) (encoded_outcome made) 1
-
 unfoldable pub flat_new : FlatSettings → FlatShard
 flat_new s =
     record {
-      made = flat_made (new_shard (decoded_settings s)).made s.mode;
+      made = encoded_made (new_shard (decoded_settings s)).made s.mode;
       settings = s;
       state = encoded_state (new_shard (decoded_settings s)).state;
     }

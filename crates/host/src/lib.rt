@@ -4,7 +4,7 @@
 
 ghost use Rattle.std.specs.Prelude.{◌≡◌};
 ghost use Rattle.host.specs.Shards.{decoded_state, encoded_state, decoded_shard};
-ghost use Rattle.host.specs.Calls.{flat_answer, flat_call, flat_made, flat_new};
+ghost use Rattle.host.specs.Calls.{flat_answer, flat_call, flat_new};
 
 use consensus::{Answer, Shard};
 use flat::{FlatCall, FlatReply, FlatRounds, FlatSettings, FlatTable};
@@ -109,16 +109,6 @@ pub fn chanbook_shard_call(shard: FlatShard, call: FlatCall) -> FlatAnswer
     flat_answer(shard, a, outcome)
 }
 
-#[tactic(auto, unfolding(crate::specs::Calls::flat_made))]
-fn flat_made(made: Outcome, mode: u64) -> u64
-    ensures { result ≡ flat_made made mode }
-{
-    if mode <= 5 {
-        return flat::encode_outcome(made);
-    }
-    1
-}
-
 // A shard as it begins. Settings outside the limits give one that is not made.
 #[tactic(auto, unfolding(crate::specs::Calls::flat_new))]
 pub fn chanbook_shard_new(settings: FlatSettings) -> FlatShard
@@ -128,7 +118,7 @@ pub fn chanbook_shard_new(settings: FlatSettings) -> FlatShard
     let made = shard.made;
     let state = shard.state;
     FlatShard {
-        made: flat_made(made, settings.mode),
+        made: flat::encode_made(made, settings.mode),
         settings,
         state: encode_state(state),
     }

@@ -7,7 +7,7 @@ use Rattle.message.specs.Rounds.{increment, round_before, round_equal, next_lead
 use Rattle.round_state.specs.Paxos.{with_sender, with_own, held_after_promise, receive_promise, paxos_propose_v, accept_fits, receive_accept}
 use Rattle.fast_state.specs.Fast.{to_v_after, epaxos_scores_after, swift_scores_after, preaccepted_after, second_answer, score_after, epaxos_answered, is_unanswered, epaxos_propose_v}
 use Rattle.fast_state.specs.Adopt.{better, best_below, adopted, value_in, score_in, epaxos_try_adopt}
-use Rattle.read_tracker.specs.Reads.{insert as insert_read, after_response, after_commit}
+use Rattle.read_tracker.specs.Reads.{open_next, insert as insert_read, after_response, after_commit}
 use Rattle.places.specs.Places.{at_front}
 use Rattle.serving.specs.Serving.{kept_by_ready, served_by_ready, kept_by_commit, served_by_commit, receive_ready, commit_slot}
 use Rattle.settings.specs.Settings.{counts_fit, members_fit, committers_fit, mode_fits, within_limits}
@@ -20,5 +20,5 @@ use Rattle.delivery.specs.Limits.{msg_numbers, number_given, numbers_fit, msg_pr
 use Rattle.instances.specs.Starred.{AllHold, starred}
 
 pub every_row_holds : AllHold starred
-unfolding increment round_before round_equal next_leader_round contains count size insert look_up store every counts_fit members_fit committers_fit mode_fits within_limits with_sender with_own held_after_promise receive_promise accept_fits receive_accept to_v_after epaxos_scores_after swift_scores_after preaccepted_after second_answer score_after epaxos_answered is_unanswered epaxos_propose_v better best_below adopted value_in score_in epaxos_try_adopt insert_read after_response after_commit kept_by_ready served_by_ready kept_by_commit served_by_commit at_front receive_ready commit_slot new_shard call_with unless_spent dispatch propose proposing propose_classic may_propose electing propose_prepare paxos_propose_v read start_read receive admit numbers_fit processes_fit ready other_last_value value_awaited msg_numbers number_given msg_processes requester_below handle on_read_response on_commit committed
-every_row_holds = (refl, (refl, (refl, (refl, (refl, (refl, (refl, (refl, (refl, (refl, (refl, (refl, (refl, (refl, (refl, (refl, (refl, (refl, (refl, (refl, (refl, (refl, (refl, tt)))))))))))))))))))))))
+unfolding increment round_before round_equal next_leader_round contains count size insert look_up store every counts_fit members_fit committers_fit mode_fits within_limits with_sender with_own held_after_promise receive_promise accept_fits receive_accept to_v_after epaxos_scores_after swift_scores_after preaccepted_after second_answer score_after epaxos_answered is_unanswered epaxos_propose_v better best_below adopted value_in score_in epaxos_try_adopt open_next insert_read after_response after_commit kept_by_ready served_by_ready kept_by_commit served_by_commit at_front receive_ready commit_slot new_shard call_with unless_spent dispatch propose proposing propose_classic may_propose electing propose_prepare paxos_propose_v read start_read receive admit numbers_fit processes_fit ready other_last_value value_awaited msg_numbers number_given msg_processes requester_below handle on_read_response on_commit committed
+every_row_holds = (refl, (refl, (refl, (refl, (refl, (refl, (refl, (refl, (refl, (refl, (refl, (refl, (refl, (refl, (refl, (refl, (refl, (refl, (refl, (refl, (refl, (refl, (refl, (refl, tt))))))))))))))))))))))))

@@ -23,7 +23,7 @@ use Rattle.fast_state.specs.Fast.{answers_of, unchanged, changed, no_answers, ep
 use Rattle.fast_state.specs.Adopt.{lowest_best, epaxos_try_adopt_after}
 use Rattle.fast_state.specs.RoundState.{new_round_state}
 use Rattle.read_tracker.specs.declared.Inserted.{Inserted}
-use Rattle.read_tracker.specs.Reads.{read_id, new_tracker, new_table, insert as insert_read}
+use Rattle.read_tracker.specs.Reads.{read_id, new_tracker, new_table, opening, inserted, insert as insert_read}
 use Rattle.serving.specs.Serving.{receive_ready, commit_slot}
 use Rattle.settings.specs.declared.Settings.{Settings}
 use Rattle.steps.specs.Steps.{no_messages, one_message, to_all}
@@ -149,7 +149,10 @@ adopts_lowest = row (adopts 3 2 20) (Ok (Some 10))
 
 -- Quorum 1, nothing held: a new read waits for the next response or commit
 abbrev pub opened : Inserted
-opened = insert_read new_tracker new_table 7 0 true
+opened = inserted new_tracker new_table (opening new_tracker 7 0 true)
+
+abbrev pub read_taken : Row
+read_taken = row (insert_read new_tracker new_table 7 0 true) (Ok opened)
 
 abbrev pub read_waits : Row
 read_waits = row opened.tracker.open_count 1
@@ -173,8 +176,7 @@ group processes replicas live leader =
       first_leader = leader;
       mode = Paxos;
       quorum = None;
-      has_committers = false;
-      committers = replicate 64 0;
+      committers = None;
       delegates = replicate 64 0;
     }
 
@@ -242,6 +244,7 @@ starred =
     ∷ tied_score
     ∷ tied_other_score
     ∷ adopts_lowest
+    ∷ read_taken
     ∷ read_waits
     ∷ response_serves
     ∷ commit_serves

@@ -1,6 +1,6 @@
 -- What a call on the leader's shard does, in a group that is led in its starting round: the engine's call, seen as the model's.
 -- Assumes nothing.
-use Rattle.std.specs.Prelude.{Some, Ok, Err}
+use Rattle.std.specs.Prelude.{None, Some, Ok, Err}
 use Rattle.std.proofs.lemmas.Bool.{and_right as right_fails}
 use Rattle.message.specs.Outcomes.{Outcome}
 use mathlib.Core.Path.{◌≡◌, refl, sym, ap, subst, ◌∙◌}
@@ -66,7 +66,7 @@ claimed_mode EPaxos e = tt
 claimed_mode Pando e = tt
 claimed_mode SwiftPaxos e = absurd (not_both e refl)
 
-pub led_setup : (s : Settings) → is_multi_paxos s.mode ≡ true → s.has_committers ≡ false → s.first_leader < 64 → Led (setup_of s) s.first_leader
+pub led_setup : (s : Settings) → is_multi_paxos s.mode ≡ true → s.committers ≡ None → s.first_leader < 64 → Led (setup_of s) s.first_leader
 unfolding committer_in
 led_setup s multi none small =
     record {
@@ -153,7 +153,7 @@ module _ (s : Settings) (x : Step) where
   when_quiet c e no-proposal same no_commit no_answer =
       rests same no_commit (λ t le. unheard t c e (no_answer t le)) (λ v f done. not_both (ap is_propose (sym e ∙ f)) no-proposal)
 
-module _ (s : Settings) (multi : is_multi_paxos s.mode ≡ true) (none : s.has_committers ≡ false) (live : is_live_replica s s.first_leader ≡ true) (numbers : Numbers s)
+module _ (s : Settings) (multi : is_multi_paxos s.mode ≡ true) (none : s.committers ≡ None) (live : is_live_replica s s.first_leader ≡ true) (numbers : Numbers s)
     (x : Step) (at : (view_before x).round ≡ (setup_of s).voters.start) where
   abbrev l : ℕ
   l = s.first_leader

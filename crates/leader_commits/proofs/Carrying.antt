@@ -1,7 +1,7 @@
 -- What a call leaves of the last value, and what the Accepts that it sends carry, in the modes without a fast path and where no Prepare comes: the own
 -- slot and last value, and the round and value of the proposal, or of the Accept that is answered.
 -- Assumes nothing.
-use Rattle.std.specs.Prelude.{Option, None, Some, is_some}
+use Rattle.std.specs.Prelude.{Option, None, Some, Ok, is_some}
 use Rattle.calls.specs.declared.CommittedSlot.{CommittedSlot}
 use mathlib.Core.Path.{◌≡◌, refl, sym, subst}
 use mathlib.Core.Bool.{Bool, true, false, cond, not, ◌&&◌, ◌||◌}
@@ -25,12 +25,11 @@ use Rattle.settings.specs.Questions.{starting_round_of}
 use Rattle.enter.specs.Enter.{can_propose, is_older}
 use Rattle.paxos_family.specs.Commit.{commit_slot}
 use Rattle.propose.specs.Propose.{proposal_round, may_propose}
-use Rattle.steps.specs.Steps.{no_messages, one_message, held_v, on_rounds}
+use Rattle.steps.specs.Steps.{CoreStep, no_messages, one_message, held_v, on_rounds}
 use Rattle.steps.specs.declared.Asked.{Asked}
 use Rattle.steps.specs.declared.Core.{Core}
-use Rattle.steps.specs.declared.CoreStep.{CoreStep}
 use Rattle.steps.specs.declared.Next.{Next}
-use Rattle.steps.specs.declared.Next.TheVariants.{Stays, Continues, Commits, Refuses}
+use Rattle.steps.specs.declared.Next.TheVariants.{Stays, Continues, Commits}
 use Rattle.steps.specs.declared.Outgoing.{Outgoing}
 use Rattle.delivery.specs.declared.Delivery.{Delivery}
 use Rattle.calls.specs.Asked.{asked_of, heard_of}
@@ -39,12 +38,12 @@ use Rattle.calls.specs.declared.Call.TheVariants.{Propose, StartRead, Receive}
 use Rattle.consensus.specs.Answers.{refused, sent, nothing, committed, finish_at, finish}
 use Rattle.consensus.specs.Call.{proposing, call_of}
 use Rattle.core_calls.specs.CoreCall.{read_answer}
-use Rattle.consensus.specs.Handle.{on_commit, on_read_request, on_read_response, process_message, handle}
+use Rattle.consensus.specs.Handle.{on_commit, on_read_request, on_read_response, processed, process_message, handle}
 use Rattle.consensus.specs.declared.Answer.{Answer}
 use Rattle.consensus.specs.declared.Shard.{Shard}
 use Rattle.fast_state.specs.Adopt.{lowest_best}
 use Rattle.agreement.proofs.Tests.{nor_both, is_true}
-use Rattle.group.proofs.Handlers.{Any, TwoAtMost, Ends, ends, Keeps, Comes, processed_holds, proposing_holds, call_holds}
+use Rattle.group.proofs.Handlers.{Any, any_holds, TwoAtMost, Ends, ends, Keeps, Comes, processed_holds, proposing_holds, finish_holds, call_holds}
 
 -- ---- the steps of a call
 
@@ -114,18 +113,17 @@ module _ (shard : Shard) (multi : is_multi_paxos shard.settings.mode ≡ true) w
   refuses_carries c why = record { same_made = refl; last_value = refl; accepts = (tt, tt) }
 
   -- the same core, and messages that carry what they should
-  finish_carries : (c : Call) (held : Bool) (step : CoreStep) → SameCore core.slot core.last_v (AskedFor shard c) step.core
-      → Ends (Carries shard c) step.messages step.core.paxos.max_rv step.next → CallCarries shard c (finish shard asked held (on_rounds shard.state.rounds.fast step))
+  finish_carries : (c : Call) (held : Bool) (step : CoreStep) → SameCore core.slot core.last_v (AskedFor shard c) step.state
+      → Ends (Carries shard c) step.messages step.state.paxos.max_rv step.next → CallCarries shard c (finish shard asked held (Ok (on_rounds shard.state.rounds.fast step)))
   unfolding committed commit_slot
   finish_carries c held step k q = go step.next held q
     where
-      go : (n : Next) (held : Bool) → Ends (Carries shard c) step.messages step.core.paxos.max_rv n
-          → CallCarries shard c (finish_at shard asked held (on_rounds shard.state.rounds.fast step).rounds step.messages n)
+      go : (n : Next) (held : Bool) → Ends (Carries shard c) step.messages step.state.paxos.max_rv n
+          → CallCarries shard c (finish_at shard asked held (on_rounds shard.state.rounds.fast step).state step.messages n)
       go Stays held q = record { same_made = refl; last_value = k.1; accepts = q.0 }
       go Continues held q = absurd q
       go (Commits v) true q = record { same_made = refl; last_value = refl; accepts = q.0 }
       go (Commits v) false q = refuses_carries c ValueNotHeld
-      go (Refuses why) held q = refuses_carries c why
 
   -- no Prepare is asked, and what is proposed is the call's
   abbrev Proposes : Call → RoundV → Type 0
@@ -164,9 +162,10 @@ module _ (shard : Shard) (multi : is_multi_paxos shard.settings.mode ≡ true) w
 
   proposal_carries : (v : ℕ) → CallCarries shard (Propose v) (finish shard asked true (proposing asked v shard.state.rounds))
   proposal_carries v =
-      proposing_holds asked Any Any (Proposes (Propose v)) (λ round. ⊥) (AskedFor shard (Propose v)) (SameCore core.slot core.last_v (AskedFor shard (Propose v))) (Carries shard (Propose v)) (keeps (Propose v))
-      (λ step. CallCarries shard (Propose v) (finish shard asked true step)) (λ d t. tt) v refl shard.state.rounds Any tt tt (λ step t q. absurd (fast_path_lem t))
-      (λ step t q. finish_carries (Propose v) true step q.0 (ends (Carries shard (Propose v)) _ _ step.next q.1)) (refl, refl)
+      finish_holds (CallCarries shard (Propose v)) shard asked true (proposing asked v shard.state.rounds) (refuses_carries (Propose v))
+      (proposing_holds asked Any Any (Proposes (Propose v)) (λ round. ⊥) (AskedFor shard (Propose v)) (SameCore core.slot core.last_v (AskedFor shard (Propose v))) (Carries shard (Propose v)) (keeps (Propose v))
+      (λ step. CallCarries shard (Propose v) (finish shard asked true (Ok step))) (λ d t. tt) v refl shard.state.rounds Any tt (any_holds _) (λ step t q. absurd (fast_path_lem t))
+      (λ step t q. finish_carries (Propose v) true step q.0 (ends (Carries shard (Propose v)) _ _ step.next q.1)) (refl, refl))
 
   module _ (d : Delivery) (no_prepare : NoPrepare (Receive d)) where
     abbrev Left : Answer → Type 0
@@ -188,9 +187,10 @@ module _ (shard : Shard) (multi : is_multi_paxos shard.settings.mode ≡ true) w
     process_carries : Left (process_message lowest_best shard d)
     unfolding process_message
     process_carries =
-        processed_holds asked Any Any (Proposes (Receive d)) (λ round. ⊥) (AskedFor shard (Receive d)) (SameCore core.slot core.last_v (AskedFor shard (Receive d))) (Carries shard (Receive d)) (keeps (Receive d))
-        (heard_of shard.settings d) (λ t. tt) (λ step. Left (finish shard asked d.said.value_held step)) lowest_best shard.state.rounds Any tt (λ p v w. tt) (λ p v l w. tt)
-        (λ step t q. absurd (fast_path_lem t)) (λ step t q. finish_carries (Receive d) d.said.value_held step q.0 q.1) d.message.msg (comes d.message.msg refl) (refl, refl)
+        finish_holds Left shard asked d.said.value_held (processed lowest_best asked (heard_of shard.settings d) d.message.msg shard.state.rounds) (refuses_carries (Receive d))
+        (processed_holds asked Any Any (Proposes (Receive d)) (λ round. ⊥) (AskedFor shard (Receive d)) (SameCore core.slot core.last_v (AskedFor shard (Receive d))) (Carries shard (Receive d)) (keeps (Receive d))
+        (heard_of shard.settings d) (λ t. tt) (λ step. Left (finish shard asked d.said.value_held (Ok step))) lowest_best shard.state.rounds Any tt (λ p v w. any_holds _) (λ p v l w. any_holds _)
+        (λ step t q. absurd (fast_path_lem t)) (λ step t q. finish_carries (Receive d) d.said.value_held step q.0 q.1) d.message.msg (comes d.message.msg refl) (refl, refl))
 
     handle_carries : (m : ConsensusMsg) → Left (handle lowest_best shard d m)
     unfolding handle on_commit committed commit_slot on_read_request on_read_response
@@ -211,4 +211,4 @@ module _ (shard : Shard) (multi : is_multi_paxos shard.settings.mode ≡ true) w
   pub call_carries : (c : Call) → NoPrepare c → CallCarries shard c (call_of shard c)
   call_carries =
       call_holds lowest_best shard (λ c r. NoPrepare c → CallCarries shard c r) (λ c why none. refuses_carries c why) (λ v none. proposal_carries v)
-      (λ tag arrival id none. record { same_made = refl; last_value = refl; accepts = (tt, tt) }) (λ d none. handle_carries d none d.message.msg)
+      (λ tag arrival ins e none. record { same_made = refl; last_value = refl; accepts = (tt, tt) }) (λ d none. handle_carries d none d.message.msg)

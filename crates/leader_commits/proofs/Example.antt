@@ -9,29 +9,16 @@ use mathlib.Core.Logic.{inl, inr}
 use native.Mathlib.Omega.{arith}
 use lib.Dec.{lit<}
 use lib.ListN.{replicate}
-use Rattle.sets.specs.Sets.{contains, count, size, insert}
-use Rattle.message.specs.Rounds.{increment, round_of, next_leader_round, round_before, round_equal}
+use Rattle.sets.specs.Sets.{contains}
+use Rattle.message.specs.Rounds.{round_of}
 use Rattle.message.specs.declared.ConsensusMsg.TheVariants.{Accept, Commit}
 use Rattle.message.specs.declared.PFMode.TheVariants.{MultiPaxos}
-use Rattle.settings.specs.Settings.{counts_fit, members_fit, committers_fit, mode_fits, within_limits}
-use Rattle.settings.specs.Questions.{committer_for, committer_in, delegate_in}
 use Rattle.settings.specs.declared.Settings.{Settings}
-use Rattle.round_state.specs.Paxos.{with_sender, with_own, held_after_promise, receive_promise, paxos_propose_v, accept_fits, receive_accept, accept_own, self_accept}
-use Rattle.accept.specs.Accept.{is_committer, answer_accept, tells_commit, commit_messages, try_commit, answered, follower, accepted, accepting}
-use Rattle.paxos_family.specs.Commit.{commit_slot}
-use Rattle.enter.specs.Enter.{in_round, is_older, from_live, enter}
-use Rattle.paxos_family.specs.Process.{on_accept, process_classic}
-use Rattle.propose.specs.Propose.{electing, may_propose, propose_accept, propose_classic}
-use Rattle.delivery.specs.Admit.{other_last_value, value_awaited, ready, admit}
-use Rattle.consensus.specs.Answers.{committed}
 use Rattle.consensus.specs.FirstCause.{any_from, joined}
-use Rattle.consensus.specs.Call.{new_shard, proposing, propose, receive, dispatch, unless_spent, call_with}
-use Rattle.calls.specs.Asked.{gatherer_in}
-use Rattle.consensus.specs.Handle.{on_commit, processed, process_message, handle}
-use Rattle.delivery.specs.Limits.{round_numbers, rv_numbers, msg_numbers, number_given, numbers_fit, rv_processes, msg_processes, requester_below, processes_fit}
 use Rattle.agreement.proofs.Tests.{neqb→ne}
-use Rattle.group.specs.Claim.{MemberCall, entries_from, entries, LegalFrom, Legal, At}
+use Rattle.group.specs.Claim.{MemberCall, entries, Legal, At}
 use Rattle.group.specs.Steps.{Step, heard, steps_from, steps}
+use Rattle.group.proofs.Computed.{computed}
 use Rattle.group.proofs.Example.{three, proposes, hears, commits_of, none, commits, first}
 use Rattle.leader_commits.specs.Answers.{Terms, sources, answers_came, Commits, HostHolds, SoundRequesters, SoundAnswers}
 use Rattle.leader_commits.proofs.LeaderCommits.{on_the_very_answer}
@@ -47,8 +34,7 @@ five =
       first_leader = 0;
       mode = MultiPaxos;
       quorum = None;
-      has_committers = false;
-      committers = replicate 64 0;
+      committers = None;
       delegates = replicate 64 0;
     }
 
@@ -69,11 +55,11 @@ calls_of_three =
 
 pub three_commits : commits_of (entries (three MultiPaxos) calls_of_three)
     ≡ (commits 0 1 20 false ∷ none 2 ∷ none 0 ∷ commits 2 0 10 false ∷ none 0 ∷ commits 0 0 10 false ∷ none 2 ∷ none 1 ∷ none 0 ∷ [])
-unfolding entries_from new_shard call_with unless_spent dispatch propose receive admit numbers_fit processes_fit ready other_last_value value_awaited round_numbers rv_numbers msg_numbers number_given rv_processes msg_processes requester_below handle on_commit committed process_message processed gatherer_in proposing propose_classic may_propose electing propose_accept process_classic on_accept enter from_live is_older in_round accepting accepted follower answered try_commit is_committer commit_slot paxos_propose_v receive_promise held_after_promise receive_accept accept_fits accept_own self_accept with_sender with_own next_leader_round round_before round_equal increment delegate_in within_limits counts_fit members_fit committers_fit mode_fits contains count size insert
+unfolding computed
 three_commits = refl
 
 pub three_legal : Legal (three MultiPaxos) calls_of_three
-unfolding LegalFrom new_shard call_with unless_spent dispatch propose receive admit numbers_fit processes_fit ready other_last_value value_awaited round_numbers rv_numbers msg_numbers number_given rv_processes msg_processes requester_below handle on_commit committed process_message processed gatherer_in proposing propose_classic may_propose electing propose_accept process_classic on_accept enter from_live is_older in_round accepting accepted follower answered try_commit commit_messages tells_commit is_committer answer_accept commit_slot paxos_propose_v receive_promise held_after_promise receive_accept accept_fits accept_own self_accept with_sender with_own next_leader_round round_before round_equal increment delegate_in committer_in committer_for within_limits counts_fit members_fit committers_fit mode_fits contains count size insert
+unfolding computed
 three_legal =
     first (lit< tt) tt
     (first (lit< tt) (_, _, inl refl, refl, inl refl, refl, neqb→ne 0 1 tt)
@@ -97,11 +83,11 @@ calls_of_five =
     ∷ []
 
 pub five_commits : commits_of (entries five calls_of_five) ≡ (commits 0 0 10 false ∷ none 0 ∷ none 0 ∷ none 2 ∷ none 1 ∷ none 0 ∷ [])
-unfolding entries_from new_shard call_with unless_spent dispatch propose receive admit numbers_fit processes_fit ready other_last_value value_awaited round_numbers rv_numbers msg_numbers number_given rv_processes msg_processes requester_below handle committed process_message processed gatherer_in proposing propose_classic may_propose electing propose_accept process_classic on_accept enter from_live is_older in_round accepting accepted follower answered try_commit is_committer commit_slot paxos_propose_v receive_promise held_after_promise receive_accept accept_fits accept_own self_accept with_sender with_own next_leader_round round_before round_equal increment delegate_in within_limits counts_fit members_fit committers_fit mode_fits contains count size insert
+unfolding computed
 five_commits = refl
 
 pub five_legal : Legal five calls_of_five
-unfolding LegalFrom new_shard call_with unless_spent dispatch propose receive admit numbers_fit processes_fit ready other_last_value value_awaited round_numbers rv_numbers msg_numbers number_given rv_processes msg_processes requester_below handle committed process_message processed gatherer_in proposing propose_classic may_propose electing propose_accept process_classic on_accept enter from_live is_older in_round accepting accepted follower answered try_commit commit_messages tells_commit is_committer answer_accept commit_slot paxos_propose_v receive_promise held_after_promise receive_accept accept_fits accept_own self_accept with_sender with_own next_leader_round round_before round_equal increment delegate_in committer_in committer_for within_limits counts_fit members_fit committers_fit mode_fits contains count size insert
+unfolding computed
 five_legal =
     first (lit< tt) tt
     (first (lit< tt) (_, _, inl refl, refl, inl refl, refl, neqb→ne 0 1 tt)
@@ -130,7 +116,7 @@ five_sound x (inr (inr (inr (inr (inr (inr k)))))) came = absurd k
 
 -- the last step: before it one answer has come, with it two, which is majority less one; so the theorem says that the leader commits 10
 pub five_by_theorem : (x : Step) × (past : List Step) × At x past (steps five calls_of_five) × (answers_came five 0 past ≡ 1) × (answers_came five 0 (x ∷ past) ≡ 2) × Commits x 0 10
-unfolding steps_from sources new_shard call_with unless_spent dispatch propose receive admit numbers_fit processes_fit ready other_last_value value_awaited round_numbers rv_numbers msg_numbers number_given rv_processes msg_processes requester_below handle committed process_message processed gatherer_in proposing propose_classic may_propose electing propose_accept process_classic on_accept enter from_live is_older in_round accepting accepted follower answered try_commit is_committer commit_slot paxos_propose_v receive_promise held_after_promise receive_accept accept_fits accept_own self_accept with_sender with_own next_leader_round round_before round_equal increment delegate_in within_limits counts_fit members_fit committers_fit mode_fits contains count size insert
+unfolding steps_from sources computed
 five_by_theorem = (
   _,
   _,

@@ -6,7 +6,7 @@ use Rattle.calls.specs.Commits.{committed_slot}
 use Rattle.calls.specs.declared.CommittedSlot.{CommittedSlot}
 use mathlib.Core.Path.{◌≡◌, refl, sym, ap, ap₂, subst, ◌∙◌}
 use mathlib.Core.Logic.{◌⊎◌, inl, inr}
-use mathlib.Core.Bool.{Bool, true, false, cond, not, ◌&&◌}
+use mathlib.Core.Bool.{Bool, true, false, cond, not, ◌&&◌, and-true}
 use mathlib.Core.List.{List, [], ◌∷◌}
 use Prim.Native.Nat.{ℕ, suc, ◌+◌, ◌≤◌, ◌<◌}
 use native.Mathlib.Nat.{le_refl, le_trans}
@@ -208,14 +208,10 @@ module _ (s : Settings) where
         ∙ ap (λ (b : Bool). b && (is_live_replica s source && not (eqb source l))) (ap (is_accept_of t) accept)
         ∙ ap (λ (b : Bool). eqb slot t && (b && not (eqb source l))) a.live_source
 
-    and_true : (b : Bool) → (b && true) ≡ b
-    and_true true = refl
-    and_true false = refl
-
     hears_it : (t : ℕ) → hears s t y ≡ (eqb slot t && not (eqb source l))
     hears_it t =
         ap₂ (λ (b c : Bool). (is_answer s t (heard y) && b) && c) (eq-eqb y.member l own) done
-        ∙ and_true (is_answer s t (heard y) && true) ∙ and_true (is_answer s t (heard y)) ∙ is_answer_lem t
+        ∙ and-true (is_answer s t (heard y) && true) ∙ and-true (is_answer s t (heard y)) ∙ is_answer_lem t
 
     -- it is of no other slot
     hears_other : (t : ℕ) → (x.slot ≡ t → ⊥) → hears s t y ≡ false

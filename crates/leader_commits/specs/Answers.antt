@@ -22,7 +22,7 @@ use Rattle.group.specs.Steps.{Step, reply_of, is_done, heard, steps, entries_of}
 -- "a MultiPaxos slot": of MultiPaxos or MultiPaxos3P; "with a majority of at least two, no committer set and a leader that is a live replica"
 pub record Terms (s : Settings) : Type 0 where
   pub multi_paxos : is_multi_paxos s.mode ≡ true
-  pub no_committer : s.has_committers ≡ false
+  pub no_committer : s.committers ≡ None
   pub at_least_two : 2 ≤ (quorums_of s).majority
   pub live_leader : is_live_replica s s.first_leader ≡ true
 

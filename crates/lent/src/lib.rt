@@ -33,7 +33,7 @@ fn rounds_in_place(s: &mut Shard, d: Result<Taken, Refusal>) -> Reply
     if a.deeper {
         return state_in_place(s, d);
     }
-    s.state.rounds = a.rounds;
+    s.state.rounds = a.state;
     a.reply
 }
 
@@ -47,7 +47,7 @@ fn core_in_place(s: &mut Shard, d: Result<Taken, Refusal>) -> Reply
     if a.deeper {
         return rounds_in_place(s, d);
     }
-    s.state.rounds.core = a.core;
+    s.state.rounds.core = a.state;
     a.reply
 }
 

@@ -1,6 +1,6 @@
 -- Where a line ends, and what is kept of a block of input.
 -- Assumes nothing.
-use Rattle.std.specs.Prelude.{◌≡◌, Bool, true, false, cond, List, ◌++◌, ℕ, suc, ◌≤◌, ◌<◌, ltb, length, get_or, take, drop}
+use Rattle.std.specs.Prelude.{◌≡◌, Bool, true, false, cond, List, [], ◌∷◌, ◌++◌, ℕ, suc, ◌≤◌, ◌<◌, eqb, ltb, length, get_or, take, drop}
 use Rattle.line_blocks.specs.declared.Start.{Start}
 
 -- the place of the first LF (10) from a place on, or the length where there is none
@@ -27,3 +27,26 @@ moved_to_start from n input = take n (drop from input) ++ drop n input
 -- how much of the output is put once there is room for the longest answer: what is put already, or nothing, once that is written
 abbrev pub with_room : ℕ → ℕ
 with_room put = cond (ltb put 32768) put 0
+
+-- ---- the lines of a block, where bytes of the first one stand before the block
+
+-- those that an LF ends, without it
+unfoldable pub ended_behind : List ℕ → List ℕ → List (List ℕ)
+ended_behind begun [] = []
+ended_behind begun (b ∷ bytes) = cond (eqb b 10) (begun ∷ ended_behind [] bytes) (ended_behind (begun ++ (b ∷ [])) bytes)
+
+-- what stands behind the last LF: the line that has not ended
+unfoldable pub open_behind : List ℕ → List ℕ → List ℕ
+open_behind begun [] = begun
+open_behind begun (b ∷ bytes) = cond (eqb b 10) (open_behind [] bytes) (open_behind (begun ++ (b ∷ [])) bytes)
+
+abbrev pub ended_lines : List ℕ → List (List ℕ)
+ended_lines bytes = ended_behind [] bytes
+
+abbrev pub open_line : List ℕ → List ℕ
+open_line bytes = open_behind [] bytes
+
+-- what follows the last LF of an input is a line, where there is something
+abbrev pub last_line : List ℕ → List (List ℕ)
+last_line [] = []
+last_line (b ∷ bytes) = (b ∷ bytes) ∷ []

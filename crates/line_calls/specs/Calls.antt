@@ -1,6 +1,6 @@
 -- The calls of the lines of kind 3 to 10, from their numbers (docs/ORACLE.md, "Call lines").
 -- Assumes nothing.
-use Rattle.std.specs.Prelude.{cond, List, ℕ, ◌+◌, eqb, get_or, Option, None, Some}
+use Rattle.std.specs.Prelude.{cond, List, ℕ, ◌+◌, eqb, get_or, Option, None, Some, unwrap_or}
 use Rattle.message.specs.declared.ConsensusMsg.{ConsensusMsg}
 use Rattle.message.specs.declared.ConsensusMsg.TheVariants.{Prepare, Accept, ForwardRequest, Commit, ReadRequest, ReadResponse}
 use Rattle.message.specs.declared.PaxosRound.{PaxosRound}
@@ -51,10 +51,11 @@ message_of ns =
     (cond (eqb (at ns 0) 8) (Commit (at ns 4) (at ns 5)) (cond (eqb (at ns 0) 9) (ReadRequest (read_id (at ns 4)))
     (ReadResponse (read_id (at ns 4)) (at ns 5))))))
 
--- where WORDS begins on a line of this kind, and 0 where the kind has none
-unfoldable pub words_place : ℕ → ℕ
+-- where WORDS begins on a line of this kind, if it has them
+unfoldable pub words_place : ℕ → Option ℕ
 words_place kind =
-    cond (eqb kind 5) 11 (cond (eqb kind 6) 8 (cond (eqb kind 7) 5 (cond (eqb kind 8) 6 (cond (eqb kind 9) 5 (cond (eqb kind 10) 6 0)))))
+    cond (eqb kind 5) (Some 11) (cond (eqb kind 6) (Some 8) (cond (eqb kind 7) (Some 5) (cond (eqb kind 8) (Some 6)
+    (cond (eqb kind 9) (Some 5) (cond (eqb kind 10) (Some 6) None)))))
 
 unfoldable pub said_at : List ℕ → ℕ → Said
 said_at ns w =
@@ -73,4 +74,4 @@ delivery_at ns w =
 unfoldable pub call_of_numbers : List ℕ → Call
 call_of_numbers ns =
     cond (eqb (at ns 0) 3) (Propose (at ns 1)) (cond (eqb (at ns 0) 4) (StartRead (at ns 1) (at ns 2))
-    (Receive (delivery_at ns (words_place (at ns 0)))))
+    (Receive (delivery_at ns (unwrap_or (words_place (at ns 0)) 0))))

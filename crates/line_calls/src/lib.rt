@@ -3,7 +3,7 @@
 // each is looked at in one place, and any number has an answer there.
 #![tactic(auto)]
 
-ghost use Rattle.std.specs.Prelude.{◌≡◌, ◌<◌, ◌==◌, get_or, cond};
+ghost use Rattle.std.specs.Prelude.{◌≡◌, ◌<◌, ◌==◌, get_or, cond, IfSome};
 ghost use Rattle.line_calls.specs.Calls.{promise_of, prepare_of, accept_of, message_of, words_place, said_at, delivery_at, call_of_numbers};
 
 use calls::Call;
@@ -101,21 +101,22 @@ fn message_of(numbers: &[u64]) -> ConsensusMsg
     }
 }
 
-// Where the host's words begin on a line of this kind, and 0 where the kind has none.
+// Where the host's words begin on a line of this kind, if it has some.
 #[tactic(auto, unfolding(crate::specs::Calls::words_place))]
-pub fn words_place(kind: u64) -> usize
+pub fn words_place(kind: u64) -> Option<usize>
     ensures value { result ≡ words_place kind }
-    ensures upper_bound { result < 100 }
+    ensures upper_bound { IfSome result (λ at. at < 100) }
 {
     match kind {
-        5 => 11,
-        6 => 8,
-        7 | 9 => 5,
-        8 | 10 => 6,
-        _ => 0,
+        5 => Some(11),
+        6 => Some(8),
+        7 | 9 => Some(5),
+        8 | 10 => Some(6),
+        _ => None,
     }
 }
 
+// A place and no slice that begins there: a line may end before it, so that the place would be cut to its length first. So in `delivery_at`.
 #[tactic(auto, unfolding(crate::specs::Calls::said_at, crate::specs::Calls::optional_process))]
 fn said_at(numbers: &[u64], at: usize) -> Said
     requires { at < 100 }
@@ -154,7 +155,7 @@ fn delivery_at(numbers: &[u64], at: usize) -> Delivery
     }
 }
 
-// The call of a line of kind 3 to 10.
+// The call of a line of kind 3 to 10. On a line of another kind, which is no call, the words count as those from its first number on.
 #[tactic(auto, unfolding(crate::specs::Calls::call_of_numbers))]
 pub fn call_of(numbers: &[u64]) -> Call
     ensures { result ≡ call_of_numbers numbers.now }
@@ -165,6 +166,6 @@ pub fn call_of(numbers: &[u64]) -> Call
             tag: number_at(numbers, 1),
             arrival_slot: number_at(numbers, 2),
         },
-        kind => Call::Receive(delivery_at(numbers, words_place(kind))),
+        kind => Call::Receive(delivery_at(numbers, words_place(kind).unwrap_or(0))),
     }
 }

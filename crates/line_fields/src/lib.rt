@@ -17,6 +17,7 @@ pub struct NumberField {
     pub end: usize,
 }
 
+#[tactic(auto, using(crate::proofs::Words::starts))]
 pub fn begins(line: &[u8], word: &[u8]) -> bool
     ensures { result ≡ begins word.now line.now }
 {
@@ -32,6 +33,7 @@ pub fn is_line(line: &[u8], word: &[u8]) -> bool
 }
 
 // Whether the bytes of a line from a place on begin with a word.
+#[tactic(auto, using(crate::proofs::Places::from_place))]
 pub fn begins_at(line: &[u8], at: usize, word: &[u8]) -> bool
     ensures { result ≡ begins word.now (drop at line.now) }
 {
@@ -50,6 +52,7 @@ fn one_number(scan: Scan) -> Option<u64>
 }
 
 // The number that a line holds from a place to its end.
+#[tactic(auto, using(crate::proofs::Places::to_the_end), unfolding(crate::specs::Fields::number_from, crate::specs::Fields::one_number, call_lines::specs::Reading::scan_to, call_lines::specs::Reading::start))]
 pub fn number_from(line: &[u8], at: usize) -> Option<u64>
     ensures { result ≡ number_from line.now at }
 {
@@ -60,7 +63,9 @@ pub fn number_from(line: &[u8], at: usize) -> Option<u64>
     one_number(call_lines::read_numbers(&line[at..], &mut place))
 }
 
-// Where the field from a place on ends: the first blank from there on, or the length where there is none.
+// Where the field from a place on ends: the first blank from there on, or the length where there is none. A `for` and no `position`: the place may be
+// past the line, so that a slice from there would need it cut to the length first.
+#[tactic(auto, using(crate::proofs::Places::at_blank, crate::proofs::Places::past_byte, crate::proofs::Places::at_the_end))]
 fn field_end(line: &[u8], at: usize) -> usize
     ensures value { result ≡ field_end line.now at }
     ensures prefix_len { IsPrefixLen result line.now }
@@ -82,6 +87,7 @@ pub fn next_field(line: &[u8], end: usize) -> usize
 }
 
 // The field from a place on, as a number.
+#[tactic(auto, using(crate::proofs::Places::field_bytes), unfolding(crate::specs::Fields::number_from, crate::specs::Fields::number_field))]
 pub fn number_field(line: &[u8], at: usize) -> NumberField
     ensures { result ≡ number_field line.now at }
 {

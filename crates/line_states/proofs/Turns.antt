@@ -8,11 +8,7 @@ use lib.ListN.{set}
 use Rattle.tables.specs.Tables.{store}
 use Rattle.read_tracker.specs.declared.OpenRead.{OpenRead}
 use Rattle.line_calls.specs.Calls.{at}
-use Rattle.line_states.specs.States.{entry_at, table_to, proposers_to, read_at, reads_to}
-
-pub table_next : (ns : List ℕ) (w n i : ℕ) (t : List ℕ) (x : ℕ) → t ≡ table_to ns w n i → x ≡ entry_at ns w n i → set t i x ≡ table_to ns w n (i + 1)
-unfolding table_to
-table_next ns w n i t x h e = simp (add-one, ← h, e)
+use Rattle.line_states.specs.States.{proposers_to, read_at, reads_to}
 
 pub proposers_next : (ns : List ℕ) (k i : ℕ) (t u : List ℕ) (p x : ℕ) → t ≡ proposers_to ns k i → p ≡ at ns (21 + 4 * i)
     → x ≡ at ns (21 + 4 * i + k) → u ≡ store t p x → u ≡ proposers_to ns k (i + 1)

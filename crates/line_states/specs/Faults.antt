@@ -1,6 +1,6 @@
 -- What is wrong with the numbers of a line (docs/ORACLE.md, "Answer lines": the reasons, in their order of looking).
 -- Assumes nothing.
-use Rattle.std.specs.Prelude.{Bool, true, cond, ◌&&◌, List, ℕ, zero, suc, ◌+◌, ◌*◌, min, eqb, leb, ltb, length, Result, Ok, Err}
+use Rattle.std.specs.Prelude.{Bool, true, cond, ◌&&◌, List, ℕ, zero, suc, ◌+◌, ◌*◌, min, eqb, leb, ltb, length, Option, None, Some, unwrap_or, Result, Ok, Err}
 use Rattle.line_calls.specs.Calls.{at, words_place}
 use Rattle.call_lines.specs.declared.Fault.{Fault}
 use Rattle.call_lines.specs.declared.Fault.TheVariants.{UnknownKind, WrongCount, NotFlag, NoSuchMode, NoSuchPromise, PlaceAboveLimit}
@@ -19,7 +19,7 @@ state_count_at ns p = 22 + 4 * p + 5 * min (at ns (21 + 4 * p)) 2048
 unfoldable pub expected_count : List ℕ → ℕ
 expected_count ns =
     cond (eqb (at ns 0) 1) (settings_count_at ns (min (at ns 10) 2048)) (cond (eqb (at ns 0) 2) (state_count_at ns (min (at ns 20) 2048))
-    (cond (eqb (at ns 0) 3) 2 (cond (eqb (at ns 0) 4) 3 (words_place (at ns 0) + 6))))
+    (cond (eqb (at ns 0) 3) 2 (cond (eqb (at ns 0) 4) 3 (unwrap_or (words_place (at ns 0)) 0 + 6))))
 
 -- ---- flags
 
@@ -43,10 +43,15 @@ state_flags_at ns w =
 unfoldable pub message_flags : List ℕ → ℕ → Bool
 message_flags ns w = is_flag (at ns 2) && is_flag (at ns w) && is_flag (at ns (w + 1)) && is_flag (at ns (w + 3)) && is_flag (at ns (w + 4))
 
+-- the flags of a line with WORDS at this place, if there are some
+abbrev pub words_flags : List ℕ → Option ℕ → Bool
+words_flags ns None = true
+words_flags ns (Some w) = message_flags ns w
+
 unfoldable pub flags_fit : List ℕ → Bool
 flags_fit ns =
     cond (eqb (at ns 0) 1) (settings_flags ns) (cond (eqb (at ns 0) 2) (state_flags_at ns (21 + 4 * min (at ns 20) 2048))
-    (cond (eqb (words_place (at ns 0)) 0) true (message_flags ns (words_place (at ns 0)))))
+    (words_flags ns (words_place (at ns 0))))
 
 -- ---- mode, promise, table places
 

@@ -3,8 +3,7 @@
 use Rattle.std.specs.Prelude.{cond, List, ℕ, zero, suc, ◌+◌, ◌*◌, min, eqb, ltb, set, replicate, Option, None, Some}
 use Rattle.message.specs.declared.RoundV.{RoundV}
 use Rattle.tables.specs.Tables.{store}
-use Rattle.message.specs.declared.PFMode.{PFMode}
-use Rattle.message.specs.declared.PFMode.TheVariants.{Paxos, MultiPaxos, MultiPaxos3P, EPaxos, Pando, SwiftPaxos}
+use Rattle.message.specs.Modes.{mode_of_number}
 use Rattle.settings.specs.declared.Settings.{Settings}
 use Rattle.round_state.specs.declared.PaxosState.{PaxosState}
 use Rattle.fast_state.specs.declared.FastState.{FastState}
@@ -19,10 +18,6 @@ use Rattle.line_calls.specs.Calls.{at, optional_value, optional_round, promise_o
 
 unfoldable pub optional_set : ℕ → ℕ → Option ℕ
 optional_set flag s = cond (eqb flag 1) (Some s) None
-
-unfoldable pub mode_of : ℕ → PFMode
-mode_of n =
-    cond (eqb n 1) MultiPaxos (cond (eqb n 2) MultiPaxos3P (cond (eqb n 3) EPaxos (cond (eqb n 4) Pando (cond (eqb n 5) SwiftPaxos Paxos))))
 
 -- the number at place i of a table that begins at w and has n places
 unfoldable pub entry_at : List ℕ → ℕ → ℕ → ℕ → ℕ
@@ -42,10 +37,9 @@ settings_with ns committers delegates =
       my_pid = at ns 3;
       alive_replicas = at ns 4;
       first_leader = at ns 5;
-      mode = mode_of (at ns 6);
+      mode = mode_of_number (at ns 6);
       quorum = optional_set (at ns 7) (at ns 8);
-      has_committers = eqb (at ns 9) 1;
-      committers = committers;
+      committers = cond (eqb (at ns 9) 1) (Some committers) None;
       delegates = delegates;
     }
 

@@ -2,8 +2,9 @@
 // promises and modes are the numbers of that format here, and no enums: what stands in a line may be any number, and each has an answer.
 #![tactic(auto)]
 
-ghost use Rattle.std.specs.Prelude.{◌≡◌, ◌≤◌, ◌<◌, min};
-ghost use Rattle.line_states.specs.States.{mode_of, entry_at, table_to, settings_with, settings_at, settings_of, held_of, paxos_of, core_at, proposers_to, fast_at, read_at, read_table_at, state_at, state_of};
+ghost use Rattle.std.specs.Prelude.{◌≡◌, ◌+◌, ◌*◌, ◌≤◌, ◌<◌, min};
+ghost use Rattle.line_calls.specs.Calls.{at};
+ghost use Rattle.line_states.specs.States.{entry_at, table_to, settings_with, settings_at, settings_of, held_of, paxos_of, core_at, proposers_to, fast_at, read_at, read_table_at, state_at, state_of};
 ghost use Rattle.line_states.specs.Faults.{is_kind, settings_count_at, state_count_at, expected_count, is_flag, read_flags, settings_flags, state_flags_at, message_flags, flags_fit, mode_fits, promise_fits, settings_places, proposers_fit, state_places_at, places_fit, numbers_fault};
 
 use call_lines::Fault;
@@ -27,50 +28,21 @@ fn held_promise(kind: u64, a: u64, b: u64, v: u64) -> Option<RoundV>
     }
 }
 
-// Modes are numbers of the format; one that it does not have is refused before it is asked for here.
-#[tactic(auto, unfolding(crate::specs::States::mode_of))]
-fn mode_of(n: u64) -> PFMode
-    ensures { result ≡ mode_of n }
-{
-    match n {
-        1 => PFMode::MultiPaxos,
-        2 => PFMode::MultiPaxos3P,
-        3 => PFMode::EPaxos,
-        4 => PFMode::Pando,
-        5 => PFMode::SwiftPaxos,
-        _ => PFMode::Paxos,
-    }
-}
-
 fn at_most(n: u64, limit: usize) -> usize
     ensures { result ≡ min n limit }
 {
     n.min(limit as u64) as usize
 }
 
-// The number at place i behind `at`, and 0 from the count on.
-#[tactic(auto, unfolding(crate::specs::States::entry_at))]
-fn entry(numbers: &[u64], at: usize, count: usize, i: usize) -> u64
-    requires { (at < 10000) × (count ≤ 64) }
-    ensures { result ≡ entry_at numbers.now at count i }
-{
-    if i < count {
-        number_at(numbers, at + i)
-    } else {
-        0
-    }
-}
-
-// A table whose first count places stand at `at`.
-#[tactic(auto, using(crate::proofs::Turns::table_next), unfolding(crate::specs::States::table_to))]
+// A table whose first count places stand at `at`. The line's numbers end there or sooner, and 0 stands in the rest.
+#[tactic(auto, using(crate::proofs::Tables::table_copied))]
 fn table_at(numbers: &[u64], at: usize, count: usize) -> [u64; 64]
-    requires { (at < 10000) × (count ≤ 64) }
     ensures { result ≡ table_to numbers.now at count 64 }
 {
     let mut table = [0u64; 64];
-    for i in 0..64usize {
-        table[i] = entry(numbers, at, count, i);
-    }
+    let from = &numbers[at.min(numbers.len())..];
+    let n = count.min(64).min(from.len());
+    table[..n].copy_from_slice(&from[..n]);
     table
 }
 
@@ -81,38 +53,31 @@ fn settings_with(numbers: &[u64], committers: [u64; 64], delegates: [u64; 64]) -
 {
     let quorum = number_at(numbers, 7);
     let set = number_at(numbers, 8);
-    let has_committers = number_at(numbers, 9);
+    let given = number_at(numbers, 9);
     Settings {
         process_count: number_at(numbers, 1),
         replica_count: number_at(numbers, 2),
         my_pid: number_at(numbers, 3),
         alive_replicas: number_at(numbers, 4),
         first_leader: number_at(numbers, 5),
-        mode: mode_of(number_at(numbers, 6)),
+        // A number that is no mode is refused before it is asked for here (mode_fits).
+        mode: PFMode::of_number(number_at(numbers, 6)),
         quorum: optional(quorum, set),
-        has_committers: has_committers == 1,
-        committers,
+        committers: (given == 1).then_some(committers),
         delegates,
     }
 }
 
-// The settings of a line of kind 1 with c committers.
-#[tactic(auto, unfolding(crate::specs::States::settings_at))]
-fn settings_at(numbers: &[u64], c: usize) -> Settings
-    requires { c ≤ 64 }
-    ensures { result ≡ settings_at numbers.now c }
-{
-    let delegate_count = at_most(number_at(numbers, 11 + c), 64);
-    let committers = table_at(numbers, 11, c);
-    let delegates = table_at(numbers, 12 + c, delegate_count);
-    settings_with(numbers, committers, delegates)
-}
-
 // The settings of a line of kind 1.
+#[tactic(auto, unfolding(crate::specs::States::settings_at))]
 pub fn settings_of(numbers: &[u64]) -> Settings
     ensures { result ≡ settings_of numbers.now }
 {
-    settings_at(numbers, at_most(number_at(numbers, 10), 64))
+    let committer_count = at_most(number_at(numbers, 10), 64);
+    let delegate_count = at_most(number_at(numbers, 11 + committer_count), 64);
+    let committers = table_at(numbers, 11, committer_count);
+    let delegates = table_at(numbers, 12 + committer_count, delegate_count);
+    settings_with(numbers, committers, delegates)
 }
 
 #[tactic(auto, unfolding(crate::specs::States::paxos_of, line_calls::specs::Calls::optional_round))]
@@ -158,13 +123,14 @@ fn core_at(numbers: &[u64], open_count: u64) -> Core
 }
 
 // The table of one number of each proposer that the line names: its value, with which 1, or one of its scores, with 2 and 3.
+// A `for` over places and no `chunks_exact(4)`: the numbers of a proposer that the line no longer has are 0, and chunks would leave the proposer out.
 #[tactic(auto, using(crate::proofs::Turns::proposers_next), unfolding(crate::specs::States::proposers_to))]
-fn proposer_table(numbers: &[u64], count: usize, which: usize) -> [u64; 64]
-    requires { (count ≤ 64) × (which < 4) }
-    ensures { result ≡ proposers_to numbers.now which count }
+fn proposer_table(numbers: &[u64], which: usize) -> [u64; 64]
+    requires { which < 4 }
+    ensures { result ≡ proposers_to numbers.now which (min (at numbers.now 20) 64) }
 {
     let mut table = [0u64; 64];
-    for i in 0..count {
+    for i in 0..at_most(number_at(numbers, 20), 64) {
         let at = 21 + 4 * i;
         let proposer = number_at(numbers, at);
         tables::store(&mut table, proposer, number_at(numbers, at + which));
@@ -172,17 +138,16 @@ fn proposer_table(numbers: &[u64], count: usize, which: usize) -> [u64; 64]
     table
 }
 
-// The fast half of a line of kind 2 with p proposers.
+// The fast half of a line of kind 2.
 #[tactic(auto, unfolding(crate::specs::States::fast_at, line_calls::specs::Calls::optional_value))]
-fn fast_at(numbers: &[u64], p: usize) -> FastState
-    requires { p ≤ 64 }
-    ensures { result ≡ fast_at numbers.now p }
+fn fast_of(numbers: &[u64]) -> FastState
+    ensures { result ≡ fast_at numbers.now (min (at numbers.now 20) 64) }
 {
     let flag = number_at(numbers, 17);
     let answer = number_at(numbers, 18);
-    let fast_proposer_to_v = proposer_table(numbers, p, 1);
-    let epaxos_proposer_scores = proposer_table(numbers, p, 2);
-    let swift_proposer_scores = proposer_table(numbers, p, 3);
+    let fast_proposer_to_v = proposer_table(numbers, 1);
+    let epaxos_proposer_scores = proposer_table(numbers, 2);
+    let swift_proposer_scores = proposer_table(numbers, 3);
     FastState {
         fast_answer_set: number_at(numbers, 14),
         fast_preaccepted: number_at(numbers, 15),
@@ -209,7 +174,8 @@ fn read_at(numbers: &[u64], at: usize) -> OpenRead
     }
 }
 
-// The table of the reads that stand at `at`, with none served.
+// The table of the reads that stand at `at`, with none served. A `for` over places: the index says a place of the table and one of the line, where
+// `iter_mut().enumerate()` would need `take(count)` besides, and the index all the same.
 #[tactic(auto, using(crate::proofs::Turns::reads_next), unfolding(crate::specs::States::reads_to, crate::specs::States::read_table_at))]
 fn reads_at(numbers: &[u64], at: usize, count: usize) -> ReadTable
     requires { (at < 1000) × (count ≤ 128) }
@@ -224,47 +190,40 @@ fn reads_at(numbers: &[u64], at: usize, count: usize) -> ReadTable
     ReadTable { reads, served }
 }
 
-// The state of a line of kind 2 with p proposers.
+// The state of a line of kind 2.
 #[tactic(auto, unfolding(crate::specs::States::state_at))]
-fn state_at(numbers: &[u64], p: usize) -> State
-    requires { p ≤ 64 }
-    ensures { result ≡ state_at numbers.now p }
+pub fn state_of(numbers: &[u64]) -> State
+    ensures { result ≡ state_of numbers.now }
 {
-    let open_count = number_at(numbers, 21 + 4 * p);
+    let proposer_count = at_most(number_at(numbers, 20), 64);
+    let open_count = number_at(numbers, 21 + 4 * proposer_count);
     let core = core_at(numbers, open_count);
-    let fast = fast_at(numbers, p);
-    let table = reads_at(numbers, 22 + 4 * p, at_most(open_count, 128));
+    let fast = fast_of(numbers);
+    let table = reads_at(numbers, 22 + 4 * proposer_count, at_most(open_count, 128));
     State {
         rounds: Rounds { core, fast },
         table,
     }
 }
 
-// The state of a line of kind 2.
-pub fn state_of(numbers: &[u64]) -> State
-    ensures { result ≡ state_of numbers.now }
-{
-    state_at(numbers, at_most(number_at(numbers, 20), 64))
-}
-
-// How many numbers a line of kind 1 with c committers has.
+// How many numbers a line of kind 1 has.
 #[tactic(auto, unfolding(crate::specs::Faults::settings_count_at))]
-fn settings_count_at(numbers: &[u64], c: usize) -> usize
-    requires { c ≤ 2048 }
-    ensures { result ≡ settings_count_at numbers.now c }
+fn settings_count(numbers: &[u64]) -> usize
+    ensures { result ≡ settings_count_at numbers.now (min (at numbers.now 10) 2048) }
 {
-    let delegate_count = at_most(number_at(numbers, 11 + c), 2048);
-    12 + c + delegate_count
+    let committer_count = at_most(number_at(numbers, 10), 2048);
+    let delegate_count = at_most(number_at(numbers, 11 + committer_count), 2048);
+    12 + committer_count + delegate_count
 }
 
-// How many numbers a line of kind 2 with p proposers has.
+// How many numbers a line of kind 2 has.
 #[tactic(auto, unfolding(crate::specs::Faults::state_count_at))]
-fn state_count_at(numbers: &[u64], p: usize) -> usize
-    requires { p ≤ 2048 }
-    ensures { result ≡ state_count_at numbers.now p }
+fn state_count(numbers: &[u64]) -> usize
+    ensures { result ≡ state_count_at numbers.now (min (at numbers.now 20) 2048) }
 {
-    let open_count = at_most(number_at(numbers, 21 + 4 * p), 2048);
-    22 + 4 * p + 5 * open_count
+    let proposer_count = at_most(number_at(numbers, 20), 2048);
+    let open_count = at_most(number_at(numbers, 21 + 4 * proposer_count), 2048);
+    22 + 4 * proposer_count + 5 * open_count
 }
 
 // How many numbers the line has by its kind and the counts that stand on it. A count from 2048 on gives more numbers than a line may have.
@@ -273,11 +232,11 @@ fn expected_count(numbers: &[u64]) -> usize
     ensures { result ≡ expected_count numbers.now }
 {
     match number_at(numbers, 0) {
-        1 => settings_count_at(numbers, at_most(number_at(numbers, 10), 2048)),
-        2 => state_count_at(numbers, at_most(number_at(numbers, 20), 2048)),
+        1 => settings_count(numbers),
+        2 => state_count(numbers),
         3 => 2,
         4 => 3,
-        kind => words_place(kind) + 6,
+        kind => words_place(kind).unwrap_or(0) + 6,
     }
 }
 
@@ -307,19 +266,15 @@ fn read_flags(numbers: &[u64], at: usize, count: usize) -> bool
     requires { (at < 10000) × (count ≤ 2048) }
     ensures { result ≡ read_flags numbers.now at count }
 {
-    let mut fit = true;
-    for i in 0..count {
-        fit = is_flag(number_at(numbers, at + 5 * i)) && fit;
-    }
-    fit
+    (0..count).all(|i| is_flag(number_at(numbers, at + 5 * i)))
 }
 
-// The flags of a line of kind 2 whose reads are counted at `at`.
+// The flags of a line of kind 2.
 #[tactic(auto, unfolding(crate::specs::Faults::state_flags_at))]
-fn state_flags_at(numbers: &[u64], at: usize) -> bool
-    requires { at < 9000 }
-    ensures { result ≡ state_flags_at numbers.now at }
+fn state_flags(numbers: &[u64]) -> bool
+    ensures { result ≡ state_flags_at numbers.now (21 + 4 * min (at numbers.now 20) 2048) }
 {
+    let at = 21 + 4 * at_most(number_at(numbers, 20), 2048);
     let open_count = at_most(number_at(numbers, at), 2048);
     is_flag(number_at(numbers, 2))
         && is_flag(number_at(numbers, 4))
@@ -328,6 +283,7 @@ fn state_flags_at(numbers: &[u64], at: usize) -> bool
         && read_flags(numbers, at + 5, open_count)
 }
 
+// The flags of a message whose host's words begin at `at`: a place, and no slice that begins there, as in `said_at` of `line_calls`.
 #[tactic(auto, unfolding(crate::specs::Faults::message_flags))]
 fn message_flags(numbers: &[u64], at: usize) -> bool
     requires { at < 100 }
@@ -349,11 +305,12 @@ fn flags_fit(numbers: &[u64]) -> bool
         return settings_flags(numbers);
     }
     if kind == 2 {
-        let proposer_count = at_most(number_at(numbers, 20), 2048);
-        return state_flags_at(numbers, 21 + 4 * proposer_count);
+        return state_flags(numbers);
     }
-    let at = words_place(kind);
-    at == 0 || message_flags(numbers, at)
+    match words_place(kind) {
+        Some(at) => message_flags(numbers, at),
+        None => true,
+    }
 }
 
 #[tactic(auto, unfolding(crate::specs::Faults::mode_fits))]
@@ -388,19 +345,15 @@ fn proposers_fit(numbers: &[u64], count: usize) -> bool
     requires { count ≤ 64 }
     ensures { result ≡ proposers_fit numbers.now count }
 {
-    let mut fit = true;
-    for i in 0..count {
-        fit = number_at(numbers, 21 + 4 * i) < 64 && fit;
-    }
-    fit
+    (0..count).all(|i| number_at(numbers, 21 + 4 * i) < 64)
 }
 
-// The places of a line of kind 2 with p proposers.
+// The places of a line of kind 2.
 #[tactic(auto, unfolding(crate::specs::Faults::state_places_at))]
-fn state_places_at(numbers: &[u64], p: usize) -> bool
-    requires { p ≤ 65 }
-    ensures { result ≡ state_places_at numbers.now p }
+fn state_places(numbers: &[u64]) -> bool
+    ensures { result ≡ state_places_at numbers.now (min (at numbers.now 20) 65) }
 {
+    let p = at_most(number_at(numbers, 20), 65);
     p <= 64 && number_at(numbers, 21 + 4 * p) <= 128 && proposers_fit(numbers, p)
 }
 
@@ -410,7 +363,7 @@ fn places_fit(numbers: &[u64]) -> bool
 {
     match number_at(numbers, 0) {
         1 => settings_places(numbers),
-        2 => state_places_at(numbers, at_most(number_at(numbers, 20), 65)),
+        2 => state_places(numbers),
         _ => true,
     }
 }

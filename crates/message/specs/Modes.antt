@@ -1,8 +1,14 @@
 -- What the modes have in common (the Rust's is_multi_paxos, has_fast_path, and its matches on SwiftPaxos).
 -- Assumes nothing.
-use Rattle.std.specs.Prelude.{Bool, true, false}
+use Rattle.std.specs.Prelude.{Bool, true, false, cond, ℕ, eqb}
 use Rattle.message.specs.declared.PFMode.{PFMode}
 use Rattle.message.specs.declared.PFMode.TheVariants.{Paxos, MultiPaxos, MultiPaxos3P, EPaxos, Pando, SwiftPaxos}
+
+-- the mode that a number stands for in the flat forms of hosts and in the lines of calls. Any other number stands for Paxos here, and is refused where it
+-- is read (`mode ≤ 5`).
+unfoldable pub mode_of_number : ℕ → PFMode
+mode_of_number n =
+    cond (eqb n 1) MultiPaxos (cond (eqb n 2) MultiPaxos3P (cond (eqb n 3) EPaxos (cond (eqb n 4) Pando (cond (eqb n 5) SwiftPaxos Paxos))))
 
 -- is_multi_paxos: a leader is there from the start of each slot
 abbrev pub is_multi_paxos : PFMode → Bool

@@ -3,11 +3,13 @@
 #![tactic(auto)]
 
 ghost use Rattle.std.specs.Prelude.{◌≡◌, ◌-◌};
-ghost use Rattle.message.specs.Modes.{is_multi_paxos, is_swift_paxos, has_fast_path};
+ghost use Rattle.message.specs.Modes.{mode_of_number, is_multi_paxos, is_swift_paxos, has_fast_path};
 ghost use Rattle.message.specs.Rounds.{increment, starting_round, next_leader_round};
 ghost use Rattle.message.specs.Promises.{accept_round_of, value_of};
 ghost use Rattle.message.specs.Refusals.{refusal_number};
 ghost use Rattle.message.specs.Messages.{msg_slot};
+
+use refusals::Refused;
 
 // The modes of the paxos family: the Rust's PFModeSetting, whose tables stand beside it in the settings.
 #[derive(Clone, Copy, PartialEq, Eq, Debug)]
@@ -21,6 +23,22 @@ pub enum PFMode {
 }
 
 impl PFMode {
+    // The mode of a number in flat forms and lines. A number that names none is refused where it is read, and has a mode here, so that each flat form
+    // stands for some settings.
+    #[tactic(auto, unfolding(crate::specs::Modes::mode_of_number))]
+    pub fn of_number(n: u64) -> PFMode
+        ensures { result ≡ mode_of_number n }
+    {
+        match n {
+            1 => PFMode::MultiPaxos,
+            2 => PFMode::MultiPaxos3P,
+            3 => PFMode::EPaxos,
+            4 => PFMode::Pando,
+            5 => PFMode::SwiftPaxos,
+            _ => PFMode::Paxos,
+        }
+    }
+
     pub fn is_multi_paxos(self) -> bool
         ensures { result ≡ is_multi_paxos self }
     {
@@ -122,11 +140,11 @@ pub enum Refusal {
 // What became of a call, or of a step of it.
 pub type Outcome = Result<(), Refusal>;
 
-impl Refusal {
+impl Refused for Refusal {
+    ghost refusal_number = { refusal_number };
+
     // The number by which document 01 names the refusal.
-    pub fn number(self) -> u64
-        ensures { result ≡ refusal_number self }
-    {
+    fn number(self) -> u64 {
         match self {
             Refusal::SettingsOutsideLimits => 1,
             Refusal::NumberTooLarge => 2,
@@ -170,6 +188,7 @@ impl PaxosRound {
     }
 
     // The first round of my_pid that does not come before this one. (The group of a round that a call may hold is not the largest number.)
+    #[tactic(auto, unfolding(crate::specs::Rounds::next_leader_round))]
     pub fn next_leader_round(self, my_pid: u64) -> PaxosRound
         ensures { result ≡ next_leader_round self my_pid }
     {

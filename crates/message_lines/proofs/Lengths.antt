@@ -1,6 +1,6 @@
 -- How long the messages are.
 -- Assumes nothing.
-use Rattle.std.specs.Prelude.{ℕ, Option, None, Some}
+use Rattle.std.specs.Prelude.{Option, None, Some}
 use Rattle.steps.specs.declared.Outgoing.{Outgoing}
 use mathlib.Core.List.{[], ◌∷◌}
 use Prim.Native.Nat.{◌≤◌}
@@ -12,14 +12,9 @@ use Rattle.steps.specs.declared.Destination.{Destination}
 use Rattle.steps.specs.declared.Destination.TheVariants.{One, All}
 use Rattle.steps.specs.declared.Messages.{Messages}
 use Rattle.texts.specs.Text.{ascii}
-use Rattle.message_lines.specs.Messages.{optional_process_text, message_text, destination_text, outgoing_text, optional_message_text, messages_text}
+use Rattle.message_lines.specs.Messages.{message_text, destination_text, outgoing_text, optional_message_text, messages_text}
 use Rattle.texts.proofs.Lengths.{number, fields_length}
 use Rattle.promise_lines.proofs.Lengths.{value, promise}
-
-process : (p : Option ℕ) → length (optional_process_text p) ≤ 21
-unfolding optional_process_text
-process None = omega arith
-process (Some p) = number p
 
 message : (m : ConsensusMsg) → length (message_text m) ≤ 140
 unfolding message_text
@@ -34,7 +29,7 @@ message (ReadResponse id slot) = omega (arith, fields_length (ascii " read_respo
 destination : (d : Destination) → length (destination_text d) ≤ 25
 unfolding destination_text
 destination (One p) = simp length-append (omega (arith, number p))
-destination (All first) = simp length-append (omega (arith, process first))
+destination (All first) = simp length-append (omega (arith, value first))
 
 optional_message : (m : Option Outgoing) → length (optional_message_text m) ≤ 193
 unfolding optional_message_text outgoing_text

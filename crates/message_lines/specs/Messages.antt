@@ -10,11 +10,6 @@ use Rattle.steps.specs.declared.Outgoing.{Outgoing}
 use Rattle.texts.specs.Text.{ascii, field, fields}
 use Rattle.promise_lines.specs.Promises.{optional_value_text, promise_text}
 
--- FIRST
-unfoldable pub optional_process_text : Option ℕ → List ℕ
-optional_process_text None = ascii " -"
-optional_process_text (Some p) = field p
-
 -- MESSAGE
 unfoldable pub message_text : ConsensusMsg → List ℕ
 message_text (Prepare slot round rv) = fields (ascii " prepare") (slot ∷ round.round_group ∷ round.leader ∷ []) ++ promise_text rv
@@ -24,10 +19,10 @@ message_text (Commit slot v) = fields (ascii " commit") (slot ∷ v ∷ [])
 message_text (ReadRequest id) = fields (ascii " read_request") (id.0 ∷ [])
 message_text (ReadResponse id slot) = fields (ascii " read_response") (id.0 ∷ slot ∷ [])
 
--- `DEST FIRST`
+-- `DEST FIRST`: FIRST, which may be none, is written as a value is
 unfoldable pub destination_text : Destination → List ℕ
 destination_text (One process) = field process ++ ascii " -"
-destination_text (All first) = ascii " all" ++ optional_process_text first
+destination_text (All first) = ascii " all" ++ optional_value_text first
 
 -- `send DEST FIRST LAST MESSAGE`
 unfoldable pub outgoing_text : Outgoing → List ℕ

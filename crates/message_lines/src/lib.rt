@@ -3,21 +3,11 @@
 
 ghost use Rattle.std.specs.Prelude.{◌≡◌};
 ghost use Rattle.texts.specs.Text.{put};
-ghost use Rattle.message_lines.specs.Messages.{optional_process_text, message_text, destination_text, optional_message_text, messages_text};
+ghost use Rattle.message_lines.specs.Messages.{message_text, destination_text, optional_message_text, messages_text};
 
 use message::ConsensusMsg;
 use steps::{Destination, Messages, Outgoing};
 use texts::Output;
-
-#[tactic(auto, unfolding(crate::specs::Messages::optional_process_text))]
-fn put_optional_process(out: &mut Output, process: Option<u64>)
-    ensures { out.new ≡ put (optional_process_text process) out.old }
-{
-    match process {
-        None => out.put_bytes(b" -"),
-        Some(p) => out.put_field(p),
-    }
-}
 
 #[tactic(auto, using(texts::proofs::Putting::put_then), unfolding(crate::specs::Messages::message_text))]
 fn put_message(out: &mut Output, msg: ConsensusMsg)
@@ -41,7 +31,7 @@ fn put_message(out: &mut Output, msg: ConsensusMsg)
     }
 }
 
-#[tactic(auto, using(texts::proofs::Putting::put_then), unfolding(crate::specs::Messages::destination_text))]
+#[tactic(auto, using(texts::proofs::Putting::put_append), unfolding(crate::specs::Messages::destination_text, texts::specs::Text::put))]
 fn put_destination(out: &mut Output, destination: Destination)
     ensures { out.new ≡ put (destination_text destination) out.old }
 {
@@ -52,12 +42,12 @@ fn put_destination(out: &mut Output, destination: Destination)
         }
         Destination::All(first) => {
             out.put_bytes(b" all");
-            put_optional_process(out, first);
+            promise_lines::put_optional_value(out, first);
         }
     }
 }
 
-#[tactic(auto, using(texts::proofs::Putting::put_then, texts::proofs::Putting::put_nothing), unfolding(crate::specs::Messages::optional_message_text, crate::specs::Messages::outgoing_text))]
+#[tactic(auto, using(texts::proofs::Putting::put_append), unfolding(crate::specs::Messages::optional_message_text, crate::specs::Messages::outgoing_text, texts::specs::Text::put))]
 fn put_optional_message(out: &mut Output, message: Option<Outgoing>)
     ensures { out.new ≡ put (optional_message_text message) out.old }
 {
@@ -69,7 +59,7 @@ fn put_optional_message(out: &mut Output, message: Option<Outgoing>)
     }
 }
 
-#[tactic(auto, using(texts::proofs::Putting::put_then), unfolding(crate::specs::Messages::messages_text))]
+#[tactic(auto, using(texts::proofs::Putting::put_append), unfolding(crate::specs::Messages::messages_text, texts::specs::Text::put))]
 pub fn put_messages(out: &mut Output, messages: Messages)
     ensures { out.new ≡ put (messages_text messages) out.old }
 {

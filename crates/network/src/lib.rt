@@ -14,8 +14,8 @@ pub struct Parcel {
     pub message: ConsensusMessage,
 }
 
-// The messages under way, in the first count places. A buffer with its count, and no vector: `at` answers for every place, also one behind the count, where the message that was taken out still stands, and any
-// count is answered.
+// The messages under way, in the first count places. A buffer with its count, and no vector: `at` answers for every place, also one behind the count,
+// where the message that was taken out still stands, and any count is answered.
 #[derive(Clone, Copy)]
 pub struct Network {
     pub parcels: [Parcel; 128],

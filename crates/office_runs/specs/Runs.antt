@@ -1,6 +1,6 @@
 -- A run as the lister keeps it: the group of three after the run, who proposed, and in time order what was sent, the events and the commits.
 -- Assumes nothing.
-use Rattle.std.specs.Prelude.{true, false, cond, ℕ, ◌+◌, ltb, get_or, set, replicate, Option, None, Some}
+use Rattle.std.specs.Prelude.{cond, ℕ, ◌+◌, ltb, get_or, set, replicate, Option, None, Some}
 use Rattle.steps.specs.declared.Outgoing.{Outgoing}
 use Rattle.calls.specs.declared.CommittedSlot.{CommittedSlot}
 use Rattle.sets.specs.Sets.{contains, insert}
@@ -18,11 +18,9 @@ use Rattle.enabled_runs.specs.declared.Sending.{Sending}
 use Rattle.enabled_runs.specs.Enabled.{value_of_member}
 use Rattle.enabled_runs.specs.Listing.{is_sent_to}
 use Rattle.enabled_runs.specs.Offices.{office_settings, heard_by}
-use Rattle.office_runs.specs.declared.CommitsSoFar.{CommitsSoFar}
-use Rattle.office_runs.specs.declared.EventsSoFar.{EventsSoFar}
+use Rattle.enabled_runs.specs.declared.CommitBy.{CommitBy}
 use Rattle.office_runs.specs.declared.OfficeRun.{OfficeRun}
-use Rattle.office_runs.specs.declared.SentSoFar.{SentSoFar}
-use Rattle.office_runs.specs.declared.Trial.{Trial}
+use Rattle.office_runs.specs.declared.SoFar.{SoFar}
 
 abbrev pub office : ℕ → Shard
 office member = new_shard (office_settings member)
@@ -41,27 +39,25 @@ no_sending =
       outgoing = record { destination = One 0; message = record { msg = ForwardRequest 0; src = 0; last_v = None } };
     }
 
-unfoldable pub sending_at : SentSoFar → ℕ → Sending
+unfoldable pub sending_at : SoFar Sending 15 → ℕ → Sending
 sending_at s place = cond (ltb place 15) (get_or s.places place no_sending) no_sending
 
-unfoldable pub with_sending : SentSoFar → Sending → SentSoFar
-with_sending s x = cond (ltb s.count 15) (record { places = set s.places s.count x; count = s.count + 1 }) s
+-- with one more at the end, where there is room
+unfoldable pub with_last : {T : Type 0} {room : ℕ} → SoFar T room → T → SoFar T room
+with_last {T} {room} s x = cond (ltb s.count room) (record { places = set s.places s.count x; count = s.count + 1 }) s
 
-unfoldable pub with_message : SentSoFar → ℕ → Option Outgoing → SentSoFar
+unfoldable pub with_message : SoFar Sending 15 → ℕ → Option Outgoing → SoFar Sending 15
 with_message s source None = s
-with_message s source (Some o) = with_sending s (record { source = source; outgoing = o })
+with_message s source (Some o) = with_last s (record { source = source; outgoing = o })
 
 -- with the messages of a call
-unfoldable pub with_messages : SentSoFar → ℕ → Messages → SentSoFar
+unfoldable pub with_messages : SoFar Sending 15 → ℕ → Messages → SoFar Sending 15
 with_messages s source ms = with_message (with_message (with_message s source ms.first) source ms.second) source ms.third
 
-unfoldable pub with_event : EventsSoFar → RunEvent → EventsSoFar
-with_event s e = cond (ltb s.count 5) (record { places = set s.places s.count (record { event = e }); count = s.count + 1 }) s
-
-unfoldable pub with_commit_by : CommitsSoFar → ℕ → Option CommittedSlot → CommitsSoFar
+-- with the commit of a call, if there is one
+unfoldable pub with_commit_by : SoFar CommitBy 5 → ℕ → Option CommittedSlot → SoFar CommitBy 5
 with_commit_by s member None = s
-with_commit_by s member (Some commit) =
-    cond (ltb s.count 5) (record { places = set s.places s.count (record { member = member; slot = commit.slot; v = commit.v }); count = s.count + 1 }) s
+with_commit_by s member (Some commit) = with_last s (record { member = member; slot = commit.slot; v = commit.v })
 
 -- ---- runs
 
@@ -86,7 +82,7 @@ with_answer run member e a =
       members = cond (ltb member 3) (set run.members member a.shard) run.members;
       proposed = run.proposed;
       sent = with_messages run.sent member a.reply.messages;
-      events = with_event run.events e;
+      events = with_last run.events (record { event = e });
       commits = with_commit_by run.commits member a.reply.commit;
     }
 
@@ -94,33 +90,27 @@ abbrev pub with_proposer : OfficeRun → ℕ → OfficeRun
 with_proposer run member =
     record { members = run.members; proposed = insert run.proposed member; sent = run.sent; events = run.events; commits = run.commits }
 
--- ---- the run with an event more
-
-abbrev pub may_not_come : OfficeRun → Trial
-may_not_come run = record { allowed = false; run = run }
-
-abbrev pub may_come : OfficeRun → Trial
-may_come run = record { allowed = true; run = run }
+-- ---- the run with an event more, or none where the event may not come next
 
 -- by the answer to the proposal
-unfoldable pub if_taken : OfficeRun → ℕ → Answer → Trial
+unfoldable pub if_taken : OfficeRun → ℕ → Answer → Option OfficeRun
 if_taken run member a =
-    cond (is_done a.reply.outcome) (may_come (with_proposer (with_answer run member (Proposes member) a) member)) (may_not_come run)
+    cond (is_done a.reply.outcome) (Some (with_proposer (with_answer run member (Proposes member) a) member)) None
 
-unfoldable pub after_proposal : OfficeRun → ℕ → Trial
+unfoldable pub after_proposal : OfficeRun → ℕ → Option OfficeRun
 after_proposal run member =
-    cond (contains run.proposed member) (may_not_come run) (if_taken run member (call_of (office_shard run member) (Propose (value_proposed member))))
+    cond (contains run.proposed member) None (if_taken run member (call_of (office_shard run member) (Propose (value_proposed member))))
 
 unfoldable pub after_message : OfficeRun → ℕ → ℕ → Sending → OfficeRun
 after_message run member place s =
     with_answer run member (Delivers member place) (call_of (office_shard run member) (Receive (heard_by (office_shard run member) s.outgoing.message)))
 
-unfoldable pub after_delivery : OfficeRun → ℕ → ℕ → Trial
+unfoldable pub after_delivery : OfficeRun → ℕ → ℕ → Option OfficeRun
 after_delivery run member place =
     cond (ltb place run.sent.count)
-    (cond (is_sent_to (sending_at run.sent place) member) (may_come (after_message run member place (sending_at run.sent place))) (may_not_come run))
-    (may_not_come run)
+    (cond (is_sent_to (sending_at run.sent place) member) (Some (after_message run member place (sending_at run.sent place))) None)
+    None
 
-unfoldable pub trial_of : OfficeRun → RunEvent → Trial
+unfoldable pub trial_of : OfficeRun → RunEvent → Option OfficeRun
 trial_of run (Proposes member) = after_proposal run member
 trial_of run (Delivers member place) = after_delivery run member place

@@ -6,7 +6,7 @@ ghost use Rattle.sets.specs.Sets.{insert};
 ghost use Rattle.group.specs.Steps.{is_done};
 ghost use Rattle.enabled_runs.specs.Listing.{is_commit_message, is_sent_to};
 ghost use Rattle.enabled_runs.specs.Offices.{office_settings, requester_of_value, message_requester, held_requester, heard_by};
-ghost use Rattle.office_runs.specs.Runs.{office, value_proposed, no_sending, sending_at, with_sending, with_message, with_messages, with_event, with_commit_by, new_run, office_shard, with_answer, after_proposal, after_delivery, trial_of};
+ghost use Rattle.office_runs.specs.Runs.{office, value_proposed, no_sending, sending_at, with_last, with_message, with_messages, with_commit_by, new_run, office_shard, with_answer, after_proposal, after_delivery, trial_of};
 
 use calls::{Call, CommittedSlot};
 use consensus::{Answer, Shard};
@@ -16,41 +16,23 @@ use message::{ConsensusMessage, ConsensusMsg, Outcome, PFMode, RoundV};
 use settings::Settings;
 use steps::{Destination, Messages, Outgoing};
 
-// A call hands back at most three messages and one commit, so that in each of these there is room for five events. The first count places are
-// filled, in time order.
+// What a run has brought, in time order: the first count places are filled. An array with its count, without heap, and no
+// ArrayVec: that is not Copy, and the lister passes one run on to each event that may come next.
 #[derive(Clone, Copy)]
-pub struct SentSoFar {
-    pub places: [Sending; 15],
+pub struct SoFar<T, const N: usize> {
+    pub places: [T; N],
     pub count: u64,
 }
 
-#[derive(Clone, Copy)]
-pub struct EventsSoFar {
-    pub places: [EventPlace; 5],
-    pub count: u64,
-}
-
-#[derive(Clone, Copy)]
-pub struct CommitsSoFar {
-    pub places: [CommitBy; 5],
-    pub count: u64,
-}
-
-// The group of three after a run, the set of those that have proposed, and what the run has brought.
+// The group of three after a run, the set of those that have proposed, and what the run has brought. A call hands back at most three messages and
+// one commit, so that in each of these there is room for five events.
 #[derive(Clone, Copy)]
 pub struct OfficeRun {
     pub members: [Shard; 3],
     pub proposed: u64,
-    pub sent: SentSoFar,
-    pub events: EventsSoFar,
-    pub commits: CommitsSoFar,
-}
-
-// Whether an event may come next, and the run with it; where it may not, the run as it was.
-#[derive(Clone, Copy)]
-pub struct Trial {
-    pub allowed: bool,
-    pub run: OfficeRun,
+    pub sent: SoFar<Sending, 15>,
+    pub events: SoFar<EventPlace, 5>,
+    pub commits: SoFar<CommitBy, 5>,
 }
 
 // ---- the group and its hosts
@@ -59,7 +41,6 @@ pub struct Trial {
 fn office_settings(member: u64) -> Settings
     ensures { result ≡ office_settings member }
 {
-    let committers = [0u64; 64];
     let delegates = [0u64; 64];
     Settings {
         process_count: 3,
@@ -69,8 +50,7 @@ fn office_settings(member: u64) -> Settings
         first_leader: 0,
         mode: PFMode::Paxos,
         quorum: None,
-        has_committers: false,
-        committers,
+        committers: None,
         delegates,
     }
 }
@@ -148,21 +128,20 @@ fn is_commit_message(msg: ConsensusMsg) -> bool
 }
 
 // Whether the message was sent to the member. "A Commit counts as sent to every other member."
+#[tactic(auto, unfolding(enabled_runs::specs::Listing::is_sent_to))]
 fn sent_to(sending: Sending, member: u64) -> bool
     ensures { result ≡ is_sent_to sending member }
 {
     let outgoing = sending.outgoing;
-    let destination = outgoing.destination;
     let message = outgoing.message;
-    let msg = message.msg;
     let source = message.src;
     if sending.source != source {
         return false;
     }
-    if is_commit_message(msg) {
+    if is_commit_message(message.msg) {
         return source != member;
     }
-    match destination {
+    match outgoing.destination {
         Destination::One(p) => p == member,
         Destination::All(_) => source != member,
     }
@@ -193,22 +172,23 @@ fn no_sending() -> Sending
     }
 }
 
-impl SentSoFar {
-    fn with(mut self, sending: Sending) -> SentSoFar
-        ensures { result ≡ with_sending self sending }
+impl<T: Copy, const N: usize> SoFar<T, N> {
+    // With one more at the end. One that comes where all places are filled is not kept.
+    #[tactic(auto, unfolding(crate::specs::Runs::with_last))]
+    fn with(mut self, last: T) -> SoFar<T, N>
+        ensures { result ≡ with_last self last }
     {
-        let count = self.count;
-        if count < 15 {
-            let at = count as usize;
-            self.places[at] = sending;
-            self.count = count + 1;
-            return self;
+        if self.count < N as u64 {
+            self.places[self.count as usize] = last;
+            self.count += 1;
         }
         self
     }
+}
 
+impl SoFar<Sending, 15> {
     #[tactic(auto, unfolding(crate::specs::Runs::with_message))]
-    fn with_message(self, source: u64, message: Option<Outgoing>) -> SentSoFar
+    fn with_message(self, source: u64, message: Option<Outgoing>) -> SoFar<Sending, 15>
         ensures { result ≡ with_message self source message }
     {
         match message {
@@ -219,15 +199,12 @@ impl SentSoFar {
 
     // With the messages of a call, in the order of sending.
     #[tactic(auto, unfolding(crate::specs::Runs::with_messages))]
-    fn with_messages(self, source: u64, messages: Messages) -> SentSoFar
+    fn with_messages(self, source: u64, messages: Messages) -> SoFar<Sending, 15>
         ensures { result ≡ with_messages self source messages }
     {
-        let first = messages.first;
-        let second = messages.second;
-        let third = messages.third;
-        let one = self.with_message(source, first);
-        let two = one.with_message(source, second);
-        two.with_message(source, third)
+        let one = self.with_message(source, messages.first);
+        let two = one.with_message(source, messages.second);
+        two.with_message(source, messages.third)
     }
 
     #[tactic(auto, unfolding(crate::specs::Runs::sending_at))]
@@ -242,39 +219,15 @@ impl SentSoFar {
     }
 }
 
-impl EventsSoFar {
-    fn with(mut self, event: RunEvent) -> EventsSoFar
-        ensures { result ≡ with_event self event }
-    {
-        let count = self.count;
-        let last = EventPlace { event };
-        if count < 5 {
-            let at = count as usize;
-            self.places[at] = last;
-            self.count = count + 1;
-            return self;
-        }
-        self
-    }
-}
-
-impl CommitsSoFar {
-    fn with(mut self, member: u64, commit: Option<CommittedSlot>) -> CommitsSoFar
+impl SoFar<CommitBy, 5> {
+    // With the commit of a call, if there is one.
+    #[tactic(auto, unfolding(crate::specs::Runs::with_commit_by))]
+    fn with_commit(self, member: u64, commit: Option<CommittedSlot>) -> SoFar<CommitBy, 5>
         ensures { result ≡ with_commit_by self member commit }
     {
         match commit {
             None => self,
-            Some(CommittedSlot { slot, v, fast: _ }) => {
-                let count = self.count;
-                let last = CommitBy { member, slot, v };
-                if count < 5 {
-                    let at = count as usize;
-                    self.places[at] = last;
-                    self.count = count + 1;
-                    return self;
-                }
-                self
-            }
+            Some(CommittedSlot { slot, v, fast: _ }) => self.with(CommitBy { member, slot, v }),
         }
     }
 }
@@ -286,37 +239,27 @@ impl OfficeRun {
     pub fn new() -> OfficeRun
         ensures { result ≡ new_run }
     {
-        let first = new_office(0);
-        let second = new_office(1);
-        let third = new_office(2);
-        let mut members = [first; 3];
-        members[1] = second;
-        members[2] = third;
-        let none = no_sending();
-        let sent_places = [none; 15];
         let no_event = EventPlace {
             event: RunEvent::Proposes(0),
         };
-        let event_places = [no_event; 5];
         let no_commit = CommitBy {
             member: 0,
             slot: 0,
             v: 0,
         };
-        let commit_places = [no_commit; 5];
         OfficeRun {
-            members,
+            members: [new_office(0), new_office(1), new_office(2)],
             proposed: 0,
-            sent: SentSoFar {
-                places: sent_places,
+            sent: SoFar {
+                places: [no_sending(); 15],
                 count: 0,
             },
-            events: EventsSoFar {
-                places: event_places,
+            events: SoFar {
+                places: [no_event; 5],
                 count: 0,
             },
-            commits: CommitsSoFar {
-                places: commit_places,
+            commits: SoFar {
+                places: [no_commit; 5],
                 count: 0,
             },
         }
@@ -334,81 +277,60 @@ impl OfficeRun {
     }
 
     // After a call on a member, which was the event.
+    #[tactic(auto, unfolding(crate::specs::Runs::with_answer))]
     fn with_answer(mut self, member: u64, event: RunEvent, answer: Answer) -> OfficeRun
         ensures { result ≡ with_answer self member event answer }
     {
         let reply = answer.reply;
-        let messages = reply.messages;
-        let commit = reply.commit;
-        let sent = self.sent;
-        let events = self.events;
-        let commits = self.commits;
-        self.sent = sent.with_messages(member, messages);
-        self.events = events.with(event);
-        self.commits = commits.with(member, commit);
+        self.sent = self.sent.with_messages(member, reply.messages);
+        self.events = self.events.with(EventPlace { event });
+        self.commits = self.commits.with_commit(member, reply.commit);
         if member < 3 {
-            let at = member as usize;
-            let shard = answer.shard;
-            self.members[at] = shard;
-            return self;
+            self.members[member as usize] = answer.shard;
         }
         self
     }
 
     // "a member's one proposal, where it is not refused"
-    fn after_proposal(self, member: u64) -> Trial
+    #[tactic(auto, unfolding(crate::specs::Runs::after_proposal, crate::specs::Runs::if_taken))]
+    fn after_proposal(self, member: u64) -> Option<OfficeRun>
         ensures { result ≡ after_proposal self member }
     {
         if sets::contains(self.proposed, member) {
-            return Trial {
-                allowed: false,
-                run: self,
-            };
+            return None;
         }
         let shard = self.shard_of(member);
         let answer = shard.call(Call::Propose(value_of(member)));
         let reply = answer.reply;
-        let outcome = reply.outcome;
-        if is_done(outcome) {
-            let mut run = self.with_answer(member, RunEvent::Proposes(member), answer);
-            run.proposed = sets::insert(run.proposed, member);
-            return Trial { allowed: true, run };
+        if !is_done(reply.outcome) {
+            return None;
         }
-        Trial {
-            allowed: false,
-            run: self,
-        }
+        let mut run = self.with_answer(member, RunEvent::Proposes(member), answer);
+        run.proposed = sets::insert(run.proposed, member);
+        Some(run)
     }
 
     // "the delivery of one sent message to one member it was sent to .. a refused delivery is an event"
-    fn after_delivery(self, member: u64, place: u64) -> Trial
+    #[tactic(auto, unfolding(crate::specs::Runs::after_delivery, crate::specs::Runs::after_message))]
+    fn after_delivery(self, member: u64, place: u64) -> Option<OfficeRun>
         ensures { result ≡ after_delivery self member place }
     {
-        let sent = self.sent;
-        if place < sent.count {
-            let sending = sent.at(place);
-            if sent_to(sending, member) {
-                let outgoing = sending.outgoing;
-                let message = outgoing.message;
-                let shard = self.shard_of(member);
-                let heard = heard_by(shard, message);
-                let answer = shard.call(Call::Receive(heard));
-                let run = self.with_answer(member, RunEvent::Delivers { member, place }, answer);
-                return Trial { allowed: true, run };
-            }
-            return Trial {
-                allowed: false,
-                run: self,
-            };
+        if place >= self.sent.count {
+            return None;
         }
-        Trial {
-            allowed: false,
-            run: self,
+        let sending = self.sent.at(place);
+        if !sent_to(sending, member) {
+            return None;
         }
+        let shard = self.shard_of(member);
+        let heard = heard_by(shard, sending.outgoing.message);
+        let answer = shard.call(Call::Receive(heard));
+        Some(self.with_answer(member, RunEvent::Delivers { member, place }, answer))
     }
 
+    // The run with an event more, or none where the event may not come next.
     #[tactic(auto, unfolding(crate::specs::Runs::trial_of))]
-    pub fn trial(self, event: RunEvent) -> Trial
+    pub fn trial(self, event: RunEvent) -> Option<OfficeRun>
         ensures { result ≡ trial_of self event }
     {
         match event {

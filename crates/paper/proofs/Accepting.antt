@@ -2,7 +2,7 @@
 -- informed of a commit.
 -- Assumes nothing.
 use Rattle.calls.specs.Commits.{committed_slot}
-use Rattle.std.specs.Prelude.{Option as Optional, None, Some, Result}
+use Rattle.std.specs.Prelude.{Option as Optional, None, Some, Result, Ok, Err}
 use mathlib.Core.Path.{◌≡◌, refl, sym, ap, subst, ◌∙◌}
 use mathlib.Core.Bool.{Bool, true, false, cond, not, ◌&&◌, ◌||◌}
 use mathlib.Core.List.{List, [], ◌∷◌, ◌++◌, append-nil}
@@ -27,22 +27,22 @@ use Rattle.round_state.specs.Paxos.{receive_accept, accept_fits, after_accept, p
 use Rattle.round_state.specs.declared.PaxosState.{PaxosState}
 use Rattle.accept.specs.Accept.{tells_committer, is_committer, accept_to, committer_hears, answer_accept, tells_commit, commit_messages, try_commit, answered, follower, accepted as accepted_step, after_accepted, accepting}
 use Rattle.paxos_family.specs.Commit.{commit_slot}
-use Rattle.steps.specs.Steps.{no_messages, one_message, two_messages, also, first_served, with_paxos, left_fast_path, stays, continues, refuses, commits as commits_step, on_rounds}
+use Rattle.steps.specs.Steps.{CoreStep, no_messages, one_message, two_messages, also, first_served, with_paxos, left_fast_path, stays, continues, commits as commits_step}
 use Rattle.steps.specs.declared.Asked.{Asked}
 use Rattle.steps.specs.declared.Core.{Core}
-use Rattle.steps.specs.declared.CoreStep.{CoreStep}
 use Rattle.steps.specs.declared.Destination.TheVariants.{All}
 use Rattle.steps.specs.declared.Outgoing.{Outgoing}
 use Rattle.steps.specs.declared.Heard.{Heard}
 use Rattle.steps.specs.declared.Messages.{Messages}
-use Rattle.consensus.specs.Answers.{committed, finish}
+use Rattle.consensus.specs.Answers.{committed}
 use Rattle.consensus.specs.FirstCause.{is_oneself}
 use Rattle.consensus.specs.declared.Shard.{Shard}
+use Rattle.consensus.proofs.Entered.{not_swift}
 use Rattle.consensus.proofs.Handled.{eqb_sym}
 use Rattle.paper.specs.Replica.{Replica, replica_of, accepts_with}
 use Rattle.paper.specs.PaperCall.{Seen, Place, Known, seen, in_places, is_one_of, but, leaves, commits, addressed, learners, is_learner, announced_to, to_each, announces, served_first, informs, learning, counts, in_accept, committers_in}
-use Rattle.paper.proofs.Views.{place_in, known_in, taken_no, push, Agrees, agrees, through, no_refusal, agree_both, agree_unless, exceeded_older, accept_counted}
-use Rattle.paper.proofs.Handlers.{not_swift, off_paxos}
+use Rattle.paper.proofs.Views.{place_in, known_in, seen_after, taken_no, push, Agrees, agrees, through, no_refusal, agree_both, agree_unless, exceeded_older, accept_counted}
+use Rattle.paper.proofs.Handlers.{off_paxos}
 
 or_same : (s t : Bool) → t ≡ s → (s || false) ≡ (s || t)
 or_same true t e = refl
@@ -69,8 +69,11 @@ module _ (shard : Shard) (a : Asked) (h : Heard) (there : Bool) (acceptors : ℕ
   known = known_in a h
 
   -- what is seen of the call that ends with a step
-  abbrev seen_step : CoreStep → Seen
-  seen_step step = seen (finish shard a there (on_rounds shard.state.rounds.fast step))
+  abbrev seen_step : Result CoreStep Refusal → Seen
+  seen_step step = seen_after shard a there step
+
+  abbrev seen_taken : CoreStep → Seen
+  seen_taken step = seen_step (Ok step)
 
   swift : is_swift_paxos a.mode ≡ false
   swift = not_swift a.mode classic
@@ -209,7 +212,7 @@ module _ (shard : Shard) (a : Asked) (h : Heard) (there : Bool) (acceptors : ℕ
         go false true = same ∙ ap in_places (sym (append-nil ms))
         go false false = room told_all
 
-    commit_paper : (ms : List Outgoing) → Agrees (seen_step (commits_step v (left_fast_path off) (in_places ms))) (commits here v ms)
+    commit_paper : (ms : List Outgoing) → Agrees (seen_taken (commits_step v (left_fast_path off) (in_places ms))) (commits here v ms)
     unfolding committed commit_slot
     commit_paper ms =
         agree_unless seen there
@@ -225,14 +228,14 @@ module _ (shard : Shard) (a : Asked) (h : Heard) (there : Bool) (acceptors : ℕ
         (λ e. no_refusal refl)
 
     learns_paper : (x : Messages) (ms : List Outgoing) → Lists x ms
-        → Agrees (seen_step (try_commit a h n v off x)) (counts here known proposal (replica_of after) ms)
+        → Agrees (seen_taken (try_commit a h n v off x)) (counts here known proposal (replica_of after) ms)
     unfolding try_commit learning learns
     learns_paper x ms lists =
         through refl
-        (agree_both seen_step (paxos_can_commit a.member after) (is_majority acceptors (size after.accepted_set)) (quorum (size after.accepted_set))
-        (λ e. through (ap (λ (y : Messages). seen_step (commits_step v (left_fast_path off) y)) (tells_paper x ms lists))
+        (agree_both seen_taken (paxos_can_commit a.member after) (is_majority acceptors (size after.accepted_set)) (quorum (size after.accepted_set))
+        (λ e. through (ap (λ (y : Messages). seen_taken (commits_step v (left_fast_path off) y)) (tells_paper x ms lists))
         (commit_paper (ms ++ informs here known proposal)) refl)
-        (λ e. agrees (ap (λ (y : Messages). seen_step (stays off y)) lists.0)))
+        (λ e. agrees (ap (λ (y : Messages). seen_taken (stays off y)) lists.0)))
         (push (learning here known proposal (replica_of after) ms) (is_majority acceptors (size after.accepted_set)) (some v) none)
 
     abbrev answers : Messages
@@ -245,12 +248,12 @@ module _ (shard : Shard) (a : Asked) (h : Heard) (there : Bool) (acceptors : ℕ
     from_proposer = eqb h.src h.delegate
 
     -- by whether oneself leads, the proposer sent it, and oneself is the committer
-    abbrev step : Bool → Bool → Bool → CoreStep
+    abbrev step : Bool → Bool → Bool → Result CoreStep Refusal
     step l d c =
-        cond l (try_commit a h n v off no_messages)
+        cond l (Ok (try_commit a h n v off no_messages))
         (cond d
-        (cond c (cond (is_swift_paxos a.mode) (continues off answers) (try_commit a h n v off answers)) (stays off answers))
-        (cond c (try_commit a h n v off no_messages) (refuses Panic off)))
+        (Ok (cond c (cond (is_swift_paxos a.mode) (continues off answers) (try_commit a h n v off answers)) (stays off answers)))
+        (cond c (Ok (try_commit a h n v off no_messages)) (Err Panic)))
 
     abbrev announced : Bool → Bool → List Outgoing
     announced l d = cond d (acceptances (cond l [] (but me (learners here known n)))) []
@@ -262,9 +265,9 @@ module _ (shard : Shard) (a : Asked) (h : Heard) (there : Bool) (acceptors : ℕ
     by_roles true true c e = learns_paper no_messages [] (refl, λ m. refl)
     by_roles true false c e = learns_paper no_messages [] (refl, λ m. refl)
     by_roles false true true e =
-        through (taken_no seen_step (is_swift_paxos a.mode) (continues off answers) (try_commit a h n v off answers) swift)
+        through (taken_no seen_taken (is_swift_paxos a.mode) (continues off answers) (try_commit a h n v off answers) swift)
         (learns_paper answers (announced false true) (answer_paper e)) refl
-    by_roles false true false e = agrees (ap (λ (x : Messages). seen_step (stays off x)) (answer_paper e).0)
+    by_roles false true false e = agrees (ap (λ (x : Messages). seen_taken (stays off x)) (answer_paper e).0)
     by_roles false false true e = learns_paper no_messages [] (refl, λ m. refl)
     by_roles false false false e = no_refusal refl
 

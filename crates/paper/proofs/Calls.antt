@@ -28,6 +28,7 @@ use Rattle.message.specs.declared.Refusal.TheVariants.{SettingsOutsideLimits, Nu
 use Rattle.message.specs.declared.RoundV.{RoundV}
 use Rattle.message.specs.declared.RoundV.TheVariants.{FastV, PaxosV}
 use Rattle.fast_state.specs.Adopt.{lowest_best}
+use Rattle.read_tracker.specs.declared.Inserted.{Inserted}
 use Rattle.settings.specs.Settings.{counts_fit, within_limits}
 use Rattle.settings.specs.Questions.{committer_of, quorums_of}
 use Rattle.settings.specs.declared.Settings.{Settings}
@@ -37,12 +38,10 @@ use Rattle.accept.specs.Accept.{accepting}
 use Rattle.propose.specs.Propose.{propose_fast, propose_classic}
 use Rattle.paxos_family.specs.Commit.{commit_slot}
 use Rattle.paxos_family.specs.Process.{in_prepare as in_prepare_step, on_prepare, on_accept, process_classic, process_fast}
-use Rattle.steps.specs.Steps.{no_messages, one_message, and_then, on_rounds}
+use Rattle.steps.specs.Steps.{RoundsStep, CoreStep, no_messages, one_message, and_then, map_step, on_rounds}
 use Rattle.steps.specs.declared.Asked.{Asked}
 use Rattle.steps.specs.declared.Core.{Core}
-use Rattle.steps.specs.declared.CoreStep.{CoreStep}
 use Rattle.steps.specs.declared.Heard.{Heard}
-use Rattle.steps.specs.declared.RoundsStep.{RoundsStep}
 use Rattle.delivery.specs.Admit.{admit}
 use Rattle.delivery.specs.Limits.{is_number, is_slot}
 use Rattle.delivery.specs.declared.Delivery.{Delivery}
@@ -54,7 +53,7 @@ use Rattle.core_calls.specs.CoreCall.{read_answer}
 use Rattle.consensus.specs.Answers.{refused, sent, committed, finish}
 use Rattle.consensus.specs.Call.{new_shard, call_of, proposing, propose, read, admitted, receive, dispatch, unless_spent, if_made, call_with}
 use Rattle.consensus.proofs.ByParts.{by_parts}
-use Rattle.consensus.proofs.Entered.{committer_same, prepare_delegate, accept_delegate}
+use Rattle.consensus.proofs.Entered.{not_swift, committer_same, prepare_delegate, accept_delegate}
 use Rattle.consensus.proofs.FirstCause.{Gives, first_start, first_cause_lem}
 use Rattle.consensus.proofs.Refusals.{refusal_numbered}
 use Rattle.consensus.specs.FirstCause.{number_of, is_live, leader_delegate, promise_delegate, led_from_start}
@@ -64,8 +63,8 @@ use Rattle.consensus.specs.declared.Shard.{Shard}
 use Rattle.paper.specs.Replica.{Replica, responded_of, enters, takes_up}
 use Rattle.paper.specs.PaperCall.{Seen, Place, Known, place_of, proposer_by, committers_in, known_of, seen, commits, in_prepare, receives_prepare, in_accept, receives_accept, proposes_own, received, OfPaxos, InPaxos, LeavesPaxos, beginning, AtBeginning, replica_in, refused_with, by_rules, paper_call}
 use Rattle.paper.specs.Runs.{ClassicMode, Reached, new, called}
-use Rattle.paper.proofs.Views.{place_in, known_in, taken_no, Agrees, agrees, through, no_refusal, agree_both, agree_unless, round_entered, not_exceeded}
-use Rattle.paper.proofs.Handlers.{not_swift, enter_paper, entered_core, prepared_paper}
+use Rattle.paper.proofs.Views.{place_in, known_in, seen_after, taken_no, Agrees, agrees, through, no_refusal, agree_both, agree_unless, round_entered, not_exceeded}
+use Rattle.paper.proofs.Handlers.{enter_paper, entered_core, prepared_paper}
 use Rattle.paper.proofs.Accepting.{accepting_paper}
 use Rattle.paper.proofs.Proposals.{proposal_paper}
 
@@ -172,8 +171,8 @@ module _ (shard : Shard) (classic : has_fast_path shard.settings.mode ≡ false)
     abbrev there : Bool
     there = d.said.value_held
 
-    abbrev seen_step : CoreStep → Seen
-    seen_step step = seen (finish shard a there (on_rounds shard.state.rounds.fast step))
+    abbrev seen_step : Result CoreStep Refusal → Seen
+    seen_step step = seen_after shard a there step
 
     prepare_paper : (slot : ℕ) (n : PaxosRound) (rv : RoundV) → Agrees (seen_step (on_prepare a h slot n rv core)) (receives_prepare here known slot n rv)
     unfolding on_prepare in_prepare_step receives_prepare
@@ -198,9 +197,9 @@ module _ (shard : Shard) (classic : has_fast_path shard.settings.mode ≡ false)
     by_core_lem : (m : ConsensusMsg) → d.message.msg ≡ m → seen (process_message lowest_best shard d) ≡ seen_step (process_classic a h m core)
     unfolding process_message processed
     by_core_lem m e =
-        taken_no (λ (step : RoundsStep). seen (finish shard a there step)) (has_fast_path a.mode)
+        taken_no (λ (step : Result RoundsStep Refusal). seen (finish shard a there step)) (has_fast_path a.mode)
         (process_fast lowest_best a h d.message.msg shard.state.rounds)
-        (on_rounds shard.state.rounds.fast (process_classic a h d.message.msg core)) classic
+        (map_step (on_rounds shard.state.rounds.fast) (process_classic a h d.message.msg core)) classic
         ∙ ap (λ (x : ConsensusMsg). seen_step (process_classic a h x core)) e
 
     handled_paper : (m : ConsensusMsg) → d.message.msg ≡ m → OfPaxos m → Agrees (seen (handle lowest_best shard d m)) (received here known m)
@@ -237,8 +236,8 @@ module _ (shard : Shard) (classic : has_fast_path shard.settings.mode ≡ false)
       agree_unless seen (is_number v)
       (λ e.
       through
-      (taken_no (λ (step : RoundsStep). seen (finish shard a true step)) (has_fast_path a.mode) (propose_fast a v shard.state.rounds)
-      (on_rounds shard.state.rounds.fast (propose_classic a v core)) classic)
+      (taken_no (λ (step : Result RoundsStep Refusal). seen (finish shard a true step)) (has_fast_path a.mode) (propose_fast a v shard.state.rounds)
+      (map_step (on_rounds shard.state.rounds.fast) (propose_classic a v core)) classic)
       (proposal_paper shard acceptors classic v) refl)
       (λ e. no_refusal refl)
 
@@ -285,14 +284,13 @@ other_calls_leave shard c other = made shard.made
     nothing_left : (why : Refusal) → LeavesPaxos shard (refused why shard)
     nothing_left why = (refl, refl, refl, refl, (tt, tt, tt))
 
-    opened : (tag arrival : ℕ) (o : Result ReadId Refusal) → LeavesPaxos shard (after_insert shard (read_inserted shard tag arrival) o)
-    opened tag arrival (Err why) = nothing_left why
-    opened tag arrival (Ok id) = (refl, refl, refl, refl, ((λ x. x), tt, tt))
+    opened : (r : Result Inserted Refusal) → LeavesPaxos shard (after_insert shard r)
+    opened (Err why) = nothing_left why
+    opened (Ok ins) = (refl, refl, refl, refl, ((λ x. x), tt, tt))
 
     new_read_lem : (tag arrival : ℕ) (t : Bool)
-        → LeavesPaxos shard
-        (cond t (after_insert shard (read_inserted shard tag arrival) (read_inserted shard tag arrival).opened) (refused NumberTooLarge shard))
-    new_read_lem tag arrival true = opened tag arrival (read_inserted shard tag arrival).opened
+        → LeavesPaxos shard (cond t (after_insert shard (read_inserted shard tag arrival)) (refused NumberTooLarge shard))
+    new_read_lem tag arrival true = opened (read_inserted shard tag arrival)
     new_read_lem tag arrival false = nothing_left NumberTooLarge
 
     asked : (src : ℕ) (id : ReadId) (t : Bool)

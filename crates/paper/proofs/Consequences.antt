@@ -106,6 +106,21 @@ still_keeps (some p) wish rv = refl
 still_keeps none none rv = refl
 still_keeps none (some w) rv = refl
 
+-- who is counted was so before, is oneself, or has sent one of a list: with one more in front
+pub counted_by : {X A B : Type 0} (src : X → ℕ) (me q : ℕ) (x : X) (xs : List X) → (A → B ⊎ (q ≡ me) ⊎ (q ≡ src x))
+    → A ⊎ (q ≡ me) ⊎ ((y : X) × In y xs × (q ≡ src y)) → B ⊎ (q ≡ me) ⊎ ((y : X) × In y (x ∷ xs) × (q ≡ src y))
+counted_by {X} {A} {B} src me q x xs one = go
+  where
+    first : B ⊎ (q ≡ me) ⊎ (q ≡ src x) → B ⊎ (q ≡ me) ⊎ ((y : X) × In y (x ∷ xs) × (q ≡ src y))
+    first (inl f) = inl f
+    first (inr (inl f)) = inr (inl f)
+    first (inr (inr f)) = inr (inr (x, inl refl, f))
+
+    go : A ⊎ (q ≡ me) ⊎ ((y : X) × In y xs × (q ≡ src y)) → B ⊎ (q ≡ me) ⊎ ((y : X) × In y (x ∷ xs) × (q ≡ src y))
+    go (inl f) = first (one f)
+    go (inr (inl f)) = inr (inl f)
+    go (inr (inr (y, i, f))) = inr (inr (y, inr i, f))
+
 module _ (me : ℕ) where
   heard_value : (r : Replica) (ps : List Response) → keeps_something r ≡ true
       → value_or round_before (own_value (hears_all me r ps).wish) (hears_all me r ps).acceptor.accepted
@@ -158,17 +173,5 @@ module _ (me : ℕ) where
       → (contains r.promised q ≡ true) ⊎ (q ≡ me) ⊎ ((p : Response) × In p ps × (q ≡ p.src))
   unfolding hears
   responders_heard r [] q e = inl e
-  responders_heard r (p ∷ ps) q e = go (responders_heard (hears me p.src p.brought r) ps q e)
-    where
-      Goal : Type 0
-      Goal = (contains r.promised q ≡ true) ⊎ (q ≡ me) ⊎ ((x : Response) × In x (p ∷ ps) × (q ≡ x.src))
-
-      first : (contains r.promised q ≡ true) ⊎ (q ≡ me) ⊎ (q ≡ p.src) → Goal
-      first (inl f) = inl f
-      first (inr (inl f)) = inr (inl f)
-      first (inr (inr f)) = inr (inr (p, inl refl, f))
-
-      go : (contains (also_self me p.src r.promised) q ≡ true) ⊎ (q ≡ me) ⊎ ((x : Response) × In x ps × (q ≡ x.src)) → Goal
-      go (inl f) = first (also_members p.src r.promised q f)
-      go (inr (inl f)) = inr (inl f)
-      go (inr (inr (x, i, f))) = inr (inr (x, inr i, f))
+  responders_heard r (p ∷ ps) q e =
+      counted_by (λ (x : Response). x.src) me q p ps (also_members p.src r.promised q) (responders_heard (hears me p.src p.brought r) ps q e)

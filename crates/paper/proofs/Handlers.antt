@@ -15,8 +15,6 @@ use Rattle.message.specs.Modes.{is_swift_paxos, has_fast_path}
 use Rattle.message.specs.Rounds.{round_before, before, equal}
 use Rattle.message.specs.declared.ConsensusMsg.TheVariants.{Prepare, Accept}
 use Rattle.message.specs.declared.PaxosRound.{PaxosRound}
-use Rattle.message.specs.declared.PFMode.{PFMode}
-use Rattle.message.specs.declared.PFMode.TheVariants.{Paxos, MultiPaxos, MultiPaxos3P, EPaxos, Pando, SwiftPaxos}
 use Rattle.message.specs.declared.Refusal.{Refusal}
 use Rattle.message.specs.declared.Refusal.TheVariants.{Panic}
 use Rattle.message.specs.declared.RoundV.{RoundV}
@@ -24,28 +22,19 @@ use Rattle.round_state.specs.Paxos.{get_v, get_last_accepted_round, goto_round, 
 use Rattle.round_state.specs.declared.PaxosState.{PaxosState}
 use Rattle.enter.specs.Enter.{in_round, is_older, from_live, enter}
 use Rattle.prepare.specs.Prepare.{hold_first, may_answer, answer_prepare, answers_nothing, preparing, after_held, prepared, off_fast_path, broadcast_accept, after_own_accept, accept_phase, with_promise, becomes_prepared, gather}
-use Rattle.steps.specs.Steps.{sends, to_all, held_v, with_paxos, left_fast_path, stays, and_then, on_rounds}
+use Rattle.steps.specs.Steps.{CoreStep, sends, to_all, held_v, with_paxos, left_fast_path, stays, and_then}
 use Rattle.steps.specs.declared.Asked.{Asked}
 use Rattle.steps.specs.declared.Core.{Core}
-use Rattle.steps.specs.declared.CoreStep.{CoreStep}
 use Rattle.steps.specs.declared.Destination.TheVariants.{One}
 use Rattle.steps.specs.declared.Outgoing.{Outgoing}
 use Rattle.steps.specs.declared.Heard.{Heard}
-use Rattle.consensus.specs.Answers.{finish}
+use Rattle.consensus.proofs.Entered.{not_swift}
 use Rattle.consensus.specs.declared.Shard.{Shard}
 use Rattle.paper.specs.Replica.{Replica, accepted_of, replica_of, promises, keeps_something, proposer_in, newly, hears, takes_up, accepts_with}
-use Rattle.paper.specs.PaperCall.{Seen, Place, Known, seen, in_places, leaves, nothing, takes_part, responding, requesting, gathers, in_prepare}
-use Rattle.paper.proofs.Views.{place_in, known_in, taken_no, push, once, Agrees, agrees, through, no_refusal, agree_both, agree_unless, held_kept, held_brings, held_value_lem, held_accepted_in, exceeded_older, promise_heard, accept_counted}
+use Rattle.paper.specs.PaperCall.{Seen, Place, Known, in_places, leaves, nothing, takes_part, responding, requesting, gathers, in_prepare}
+use Rattle.paper.proofs.Views.{place_in, known_in, seen_after, taken_no, push, once, Agrees, agrees, through, no_refusal, agree_both, agree_unless, held_kept, held_brings, held_value_lem, held_accepted_in, exceeded_older, promise_heard, accept_counted}
 
 -- ---- the classic modes
-
-pub not_swift : (m : PFMode) → has_fast_path m ≡ false → is_swift_paxos m ≡ false
-not_swift Paxos e = refl
-not_swift MultiPaxos e = refl
-not_swift MultiPaxos3P e = refl
-not_swift EPaxos e = absurd (not_both refl e)
-not_swift Pando e = refl
-not_swift SwiftPaxos e = absurd (not_both refl e)
 
 pub or_false : (s t : Bool) → t ≡ false → (s || t) ≡ s
 or_false true t e = refl
@@ -90,15 +79,15 @@ module _ (shard : Shard) (a : Asked) (h : Heard) (there : Bool) (acceptors : ℕ
   known = known_in a h
 
   -- what is seen of the call that ends with a step
-  abbrev pub seen_step : CoreStep → Seen
-  seen_step step = seen (finish shard a there (on_rounds shard.state.rounds.fast step))
+  abbrev pub seen_step : Result CoreStep Refusal → Seen
+  seen_step step = seen_after shard a there step
 
   swift : is_swift_paxos a.mode ≡ false
   swift = not_swift a.mode classic
 
   -- ---- entering
 
-  pub enter_paper : (slot : ℕ) (n : PaxosRound) (rest : Core → CoreStep) (rule : Seen)
+  pub enter_paper : (slot : ℕ) (n : PaxosRound) (rest : Core → Result CoreStep Refusal) (rule : Seen)
       → (a.member.replica ≡ true → before (Some n) core.paxos.round ≡ false → Agrees (seen_step (rest (in_round n core))) rule)
       → Agrees (seen_step (and_then (enter a h slot n core) rest))
       (cond (takes_part here slot && not (exceeded round_before old.acceptor.responded n)) rule (nothing here))
@@ -118,7 +107,7 @@ module _ (shard : Shard) (a : Asked) (h : Heard) (there : Bool) (acceptors : ℕ
       (λ r. agrees refl))
       (nested a.member.replica (ltb slot core.slot) (exceeded round_before old.acceptor.responded n) rule (nothing here))
     where
-      f : CoreStep → Seen
+      f : Result CoreStep Refusal → Seen
       f step = seen_step (and_then step rest)
 
   pub entered_core : (n : PaxosRound) → in_round n core ≡ with_paxos (in_round n core).paxos core
@@ -147,7 +136,7 @@ module _ (shard : Shard) (a : Asked) (h : Heard) (there : Bool) (acceptors : ℕ
           through (ap (λ (v : Optional ℕ). g (accept_own a.member n q v)) (held_has_value q.max_rv has))
           (agree_unless g (accept_fits q.max_rv n v)
           (λ fit. agrees
-          (ap (λ (c : Core). seen_step (stays c (in_places request))) (off_paxos (with_paxos (after_accept a.member a.member.my_pid n v q) core))
+          (ap (λ (c : Core). seen_step (Ok (stays c (in_places request)))) (off_paxos (with_paxos (after_accept a.member a.member.my_pid n v q) core))
           ∙ ap (λ (r : Replica). leaves here r request) (accept_counted a replica a.member.my_pid n v q free fit)
           ∙ ap (λ (w : ℕ). leaves here (accepts_with here.self a.member.my_pid (record { number = n; value = w }) (replica_of q))
           (sends a core to_all (Accept core.slot n w) ∷ [])) (held_value_lem q.max_rv)))
@@ -191,7 +180,7 @@ module _ (shard : Shard) (a : Asked) (h : Heard) (there : Bool) (acceptors : ℕ
           heard = promise_heard a replica h.src rv p
 
       -- what is seen once the promise that came is held
-      abbrev seen_then : CoreStep → Seen
+      abbrev seen_then : Result CoreStep Refusal → Seen
       seen_then step = seen_step (and_then step (gather a h n rv))
 
       preparing_paper : (p : PaxosState) → before (Some n) p.round ≡ false

@@ -42,7 +42,7 @@ use Rattle.paper.specs.PaperCall.{replica_in}
 use Rattle.paper.specs.Runs.{Acceptance, accepts_all, Announced, acceptance_of, Counted, none_yet, one_counted}
 use Rattle.paper.proofs.Views.{exceeded_older, accept_higher}
 use Rattle.paper.proofs.Calls.{settings_kept}
-use Rattle.paper.proofs.Consequences.{also_members}
+use Rattle.paper.proofs.Consequences.{counted_by, also_members}
 use Rattle.paper.proofs.Roles.{entered_acceptor, accept_leaves, learner_learns}
 
 -- ---- the cause of 9
@@ -207,21 +207,9 @@ agreed_heard : (me : ℕ) (n : PaxosRound) (r : Replica) (xs : List Acceptance) 
     → (contains r.agreed q ≡ true) ⊎ (q ≡ me) ⊎ ((x : Acceptance) × In x xs × (q ≡ x.src))
 unfolding accepts_with
 agreed_heard me n r [] q e = inl e
-agreed_heard me n r (x ∷ xs) q e = go (agreed_heard me n (accepts_with me x.src (record { number = n; value = x.value }) r) xs q e)
-  where
-    Goal : Type 0
-    Goal = (contains r.agreed q ≡ true) ⊎ (q ≡ me) ⊎ ((y : Acceptance) × In y (x ∷ xs) × (q ≡ y.src))
-
-    first : (contains r.agreed q ≡ true) ⊎ (q ≡ me) ⊎ (q ≡ x.src) → Goal
-    first (inl f) = inl f
-    first (inr (inl f)) = inr (inl f)
-    first (inr (inr f)) = inr (inr (x, inl refl, f))
-
-    go : (contains (accepts_with me x.src (record { number = n; value = x.value }) r).agreed q ≡ true) ⊎ (q ≡ me)
-        ⊎ ((y : Acceptance) × In y xs × (q ≡ y.src)) → Goal
-    go (inl f) = first (also_members me x.src r.agreed q f)
-    go (inr (inl f)) = inr (inl f)
-    go (inr (inr (y, i, f))) = inr (inr (y, inr i, f))
+agreed_heard me n r (x ∷ xs) q e =
+    counted_by (λ (y : Acceptance). y.src) me q x xs (also_members me x.src r.agreed q)
+    (agreed_heard me n (accepts_with me x.src (record { number = n; value = x.value }) r) xs q e)
 
 module _ (n : PaxosRound) (first : Shard) (classic : has_fast_path first.settings.mode ≡ false) (within : within_limits first.settings ≡ true)
     (newer : exceeded round_before (replica_in first).acceptor.responded n ≡ false) where

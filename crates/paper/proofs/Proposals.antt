@@ -1,6 +1,6 @@
 -- What is seen of the engine's proposals in the classic modes is what the paper's rules make of the replica.
 -- Assumes nothing.
-use Rattle.std.specs.Prelude.{Option as Optional, None, Some, is_some}
+use Rattle.std.specs.Prelude.{Option as Optional, None, Some, Result, is_some}
 use mathlib.Core.Path.{◌≡◌, refl, sym, ap, ◌∙◌}
 use mathlib.Core.Logic.{◌⊎◌, inl, inr}
 use mathlib.Core.Bool.{Bool, true, false, cond, not, ◌&&◌, ◌||◌}
@@ -16,6 +16,7 @@ use Rattle.message.specs.declared.ConsensusMsg.TheVariants.{Prepare, Accept}
 use Rattle.message.specs.declared.PaxosRound.{PaxosRound}
 use Rattle.message.specs.declared.PFMode.{PFMode}
 use Rattle.message.specs.declared.PFMode.TheVariants.{Paxos, MultiPaxos, MultiPaxos3P, EPaxos, Pando, SwiftPaxos}
+use Rattle.message.specs.declared.Refusal.{Refusal}
 use Rattle.message.specs.declared.RoundV.{RoundV}
 use Rattle.message.specs.declared.RoundV.TheVariants.{PaxosV}
 use Rattle.round_state.specs.Paxos.{goto_round, held_after_promise, receive_promise, paxos_propose_v, self_accept, accept_own, receive_accept, accept_fits}
@@ -23,18 +24,17 @@ use Rattle.round_state.specs.declared.PaxosState.{PaxosState}
 use Rattle.enter.specs.Enter.{can_propose}
 use Rattle.proposal.specs.Proposal.{proposal_round, electing, may_propose}
 use Rattle.propose.specs.Propose.{proposed, propose_prepare, after_own_promise, propose_accept, propose_classic}
-use Rattle.steps.specs.Steps.{sends, to_all, on_rounds}
+use Rattle.steps.specs.Steps.{CoreStep, sends, to_all}
 use Rattle.steps.specs.declared.Asked.{Asked}
 use Rattle.steps.specs.declared.Core.{Core}
-use Rattle.steps.specs.declared.CoreStep.{CoreStep}
 use Rattle.steps.specs.declared.Outgoing.{Outgoing}
 use Rattle.calls.specs.Asked.{asked_of}
-use Rattle.consensus.specs.Answers.{finish}
+use Rattle.consensus.proofs.Entered.{not_swift}
 use Rattle.consensus.specs.declared.Shard.{Shard}
 use Rattle.paper.specs.Replica.{Replica, accepted_of, wish_of, responded_of, replica_of, brings, is_there, number_or, proposer_in, hears, accepts_with}
-use Rattle.paper.specs.PaperCall.{Seen, Place, seen, leaves, requesting, own_number, begins, proposes_own}
-use Rattle.paper.proofs.Views.{place_in, Agrees, agrees, no_refusal, agree_both, agree_unless, promise_heard, accept_counted}
-use Rattle.paper.proofs.Handlers.{not_swift, or_false}
+use Rattle.paper.specs.PaperCall.{Seen, Place, leaves, requesting, own_number, begins, proposes_own}
+use Rattle.paper.proofs.Views.{place_in, seen_after, Agrees, agrees, no_refusal, agree_both, agree_unless, promise_heard, accept_counted}
+use Rattle.paper.proofs.Handlers.{or_false}
 
 or_default : (o : Optional PaxosRound) → unwrap_or_default o ≡ number_or default_round (responded_of o)
 or_default None = refl
@@ -89,8 +89,8 @@ module _ (shard : Shard) (acceptors : ℕ) (classic : has_fast_path shard.settin
   abbrev n : PaxosRound
   n = own_number here
 
-  abbrev seen_step : CoreStep → Seen
-  seen_step step = seen (finish shard a true (on_rounds shard.state.rounds.fast step))
+  abbrev seen_step : Result CoreStep Refusal → Seen
+  seen_step step = seen_after shard a true step
 
   swift : is_swift_paxos a.mode ≡ false
   swift = not_swift a.mode classic

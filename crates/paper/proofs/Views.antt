@@ -1,6 +1,6 @@
 -- The engine's state in the paper's terms: what each operation of the round state does to the replica that is seen in it.
 -- Assumes nothing.
-use Rattle.std.specs.Prelude.{Option as Optional, None, Some, is_some}
+use Rattle.std.specs.Prelude.{Option as Optional, None, Some, is_some, Result}
 use mathlib.Core.Path.{◌≡◌, refl, sym, ap, subst, ◌∙◌}
 use mathlib.Core.Logic.{◌⊎◌, inl, inr}
 use mathlib.Core.Bool.{Bool, true, false, cond, not, ◌&&◌, ◌||◌}
@@ -18,18 +18,21 @@ use Rattle.paxos.specs.PaxosMadeSimple.{Proposal, Acceptor, greater, exceeded, h
 use Rattle.message.specs.Rounds.{round_before, round_equal, before, equal}
 use Rattle.message.proofs.Order.{rounds_ordered, optional_rounds_ordered, round_equal_lem, equal_round}
 use Rattle.message.specs.declared.PaxosRound.{PaxosRound}
+use Rattle.message.specs.declared.Refusal.{Refusal}
 use Rattle.message.specs.declared.RoundV.{RoundV}
 use Rattle.message.specs.declared.RoundV.TheVariants.{FastV, PaxosV}
 use Rattle.round_state.specs.Paxos.{get_last_accepted_round, held_after_promise, receive_promise, counted, with_sender, with_own, accept_fits, after_accept}
 use Rattle.round_state.specs.declared.PaxosState.{PaxosState}
 use Rattle.round_state.proofs.Holding.{accept_fits_lem}
 use Rattle.enter.specs.Enter.{in_round}
-use Rattle.steps.specs.Steps.{held_rv, held_v}
+use Rattle.steps.specs.Steps.{CoreStep, held_rv, held_v, map_step, on_rounds}
 use Rattle.steps.specs.declared.Asked.{Asked}
 use Rattle.steps.specs.declared.Core.{Core}
 use Rattle.steps.specs.declared.Heard.{Heard}
 use Rattle.paper.specs.Replica.{Replica, report_of, accepted_of, wish_of, responded_of, replica_of, brings, own_value, enters, first_wish, unless_accepted, is_there, newly, also_self, hears, accepts_with}
-use Rattle.paper.specs.PaperCall.{Place, Known, Seen, committers_in}
+use Rattle.consensus.specs.Answers.{finish}
+use Rattle.consensus.specs.declared.Shard.{Shard}
+use Rattle.paper.specs.PaperCall.{Place, Known, Seen, seen, committers_in}
 
 -- ---- places
 
@@ -48,6 +51,10 @@ place_in a acceptors core =
 
 abbrev pub known_in : Asked → Heard → Known
 known_in a h = record { src = h.src; proposer = h.delegate; requester = h.requester; committers = committers_in a.mode h.committer }
+
+-- what is seen of the call that ends with a step of the core
+abbrev pub seen_after : Shard → Asked → Bool → Result CoreStep Refusal → Seen
+seen_after shard a there step = seen (finish shard a there (map_step (on_rounds shard.state.rounds.fast) step))
 
 -- ---- choices
 

@@ -1,7 +1,7 @@
 -- What a commit clears and what a new round keeps (document 01, "Round state": "A new round clears both sets, not the held promise, not the
 -- fast answers. A commit clears everything.").
 -- Assumes nothing.
-use Rattle.std.specs.Prelude.{Some}
+use Rattle.std.specs.Prelude.{Some, Result, Ok, Err}
 use mathlib.Core.Path.{◌≡◌, refl, ap}
 use mathlib.Core.Logic.{◌⊎◌, inl, inr}
 use mathlib.Core.Bool.{Bool, true, false, cond}
@@ -10,15 +10,15 @@ use Rattle.basics.proofs.Tests.{of-both}
 use Rattle.message.specs.Modes.{has_fast_path}
 use Rattle.message.specs.Rounds.{before}
 use Rattle.message.specs.declared.PaxosRound.{PaxosRound}
+use Rattle.message.specs.declared.Refusal.{Refusal}
 use Rattle.fast_state.specs.Fast.{answers_of, unchanged, changed, no_answers, to_v_after, epaxos_scores_after, swift_scores_after}
 use Rattle.fast_state.specs.RoundState.{new_round_state}
 use Rattle.fast_state.specs.declared.FastState.{FastState}
 use Rattle.fast_state.specs.declared.PaxosFamilyRoundState.{PaxosFamilyRoundState}
 use Rattle.enter.specs.Enter.{can_propose, source_taken, in_round, is_older, from_live, enter}
-use Rattle.steps.specs.Steps.{with_change, change_rounds}
+use Rattle.steps.specs.Steps.{CoreStep, no_messages, stays, with_change, change_rounds}
 use Rattle.steps.specs.declared.Asked.{Asked}
 use Rattle.steps.specs.declared.Core.{Core}
-use Rattle.steps.specs.declared.CoreStep.{CoreStep}
 use Rattle.steps.specs.declared.Heard.{Heard}
 use Rattle.steps.specs.declared.Rounds.{Rounds}
 use Rattle.paxos_family.specs.Commit.{commit_slot}
@@ -52,17 +52,24 @@ nothing_changed f = refl
 
 -- So a call that enters a round keeps what is held and the fast answers, up to where the handlers take over.
 module _ (a : Asked) (h : Heard) (slot : ℕ) (round : PaxosRound) (s : Rounds) where
-  abbrev Held : CoreStep → Type 0
-  Held t = t.core.paxos.max_rv ≡ s.core.paxos.max_rv
+  -- where the call is refused, the rounds stay
+  abbrev rounds_left : Result CoreStep Refusal → Rounds
+  rounds_left (Ok step) = (change_rounds s.fast (with_change (unchanged (answers_of s.fast)) step)).state
+  rounds_left (Err why) = s
 
-  enter_held : Held (enter a h slot round s.core)
-  unfolding enter from_live
-  enter_held =
-      of-both Held (can_propose a)
-      (of-both Held (is_older slot round s.core) refl (of-both Held (source_taken a h) (in_round_held round s.core) refl)) refl
+  abbrev Keeps : Result CoreStep Refusal → Type 0
+  Keeps r = ((rounds_left r).core.paxos.max_rv ≡ s.core.paxos.max_rv) × ((rounds_left r).fast ≡ s.fast)
 
   abbrev pub entered : Rounds
-  entered = (change_rounds s.fast (with_change (unchanged (answers_of s.fast)) (enter a h slot round s.core))).rounds
+  entered = rounds_left (enter a h slot round s.core)
 
   pub new_round_keeps : (entered.core.paxos.max_rv ≡ s.core.paxos.max_rv) × (entered.fast ≡ s.fast)
-  new_round_keeps = (enter_held, nothing_changed s.fast)
+  unfolding enter from_live
+  new_round_keeps =
+      of-both Keeps (can_propose a)
+      (of-both Keeps (is_older slot round s.core) same
+      (of-both Keeps (source_taken a h) (in_round_held round s.core, nothing_changed s.fast) (refl, refl)))
+      same
+    where
+      same : Keeps (Ok (stays s.core no_messages))
+      same = (refl, nothing_changed s.fast)

@@ -23,11 +23,11 @@ use Rattle.round_state.specs.declared.Member.{Member}
 use Rattle.round_state.specs.declared.PaxosState.{PaxosState}
 use Rattle.round_state.proofs.Counting.{counted_keeps}
 use Rattle.prepare.specs.Prepare.{broadcast_accept, after_own_accept, accept_phase, with_promise, becomes_prepared, gather}
-use Rattle.steps.specs.Steps.{no_messages, with_paxos, left_fast_path, stays}
+use Rattle.steps.specs.Steps.{CoreStep, no_messages, with_paxos, left_fast_path, stays}
 use Rattle.steps.specs.declared.Asked.{Asked}
 use Rattle.steps.specs.declared.Core.{Core}
-use Rattle.steps.specs.declared.CoreStep.{CoreStep}
 use Rattle.steps.specs.declared.Heard.{Heard}
+use Rattle.steps.specs.declared.Messages.{Messages}
 
 -- a majority that has prepared is one after a further promise, too
 prepared_stays : (me : Member) (src : ℕ) (rv : RoundV) (s : PaxosState) → is_prepared me s ≡ true → is_prepared me (receive_promise me src rv s) ≡ true
@@ -61,7 +61,7 @@ self_prepared me round s = go (is_empty s.accepted_set)
     go true = own_prepared me round s (get_v s.max_rv)
     go false = refl
 
-sent_paxos : (a : Asked) (round : PaxosRound) (core : Core) → (broadcast_accept a round core).core.paxos ≡ core.paxos
+sent_paxos : (a : Asked) (round : PaxosRound) (core : Core) → (broadcast_accept a round core).state.paxos ≡ core.paxos
 unfolding broadcast_accept
 sent_paxos a round core = go (is_swift_paxos a.mode)
   where
@@ -69,14 +69,25 @@ sent_paxos a round core = go (is_swift_paxos a.mode)
     go true = refl
     go false = refl
 
-phase_prepared : (a : Asked) (round : PaxosRound) (core : Core) → (accept_phase a round core).core.paxos.prepared_set ≡ core.paxos.prepared_set
+-- what a handler leaves and sends: a refused call leaves the core and sends nothing
+abbrev pub core_left : Core → Result CoreStep Refusal → Core
+core_left core (Ok step) = step.state
+core_left core (Err why) = core
+
+abbrev pub sent_by : Result CoreStep Refusal → Messages
+sent_by (Ok step) = step.messages
+sent_by (Err why) = no_messages
+
+-- an accept phase that sends something is not refused
+phase_prepared : (a : Asked) (round : PaxosRound) (old core : Core) → (sent_by (accept_phase a round core) ≡ no_messages → ⊥)
+    → (core_left old (accept_phase a round core)).paxos.prepared_set ≡ core.paxos.prepared_set
 unfolding accept_phase
-phase_prepared a round core = go (self_accept a.member round core.paxos) (self_prepared a.member round core.paxos)
+phase_prepared a round old core = go (self_accept a.member round core.paxos) (self_prepared a.member round core.paxos)
   where
     go : (own : Result PaxosState Refusal) → (state_left core.paxos own).prepared_set ≡ core.paxos.prepared_set
-        → (after_own_accept a round core own).core.paxos.prepared_set ≡ core.paxos.prepared_set
-    go (Ok own) same = ap (λ (p : PaxosState). p.prepared_set) (sent_paxos a round (with_paxos own core)) ∙ same
-    go (Err why) same = refl
+        → (sent_by (after_own_accept a round core own) ≡ no_messages → ⊥) → (core_left old (after_own_accept a round core own)).paxos.prepared_set ≡ core.paxos.prepared_set
+    go (Ok own) same sent = ap (λ (p : PaxosState). p.prepared_set) (sent_paxos a round (with_paxos own core)) ∙ same
+    go (Err why) same sent = absurd (sent refl)
 
 -- ---- the promises of a round
 
@@ -89,7 +100,7 @@ module _ (a : Asked) (round : PaxosRound) where
 
   -- any other is counted, and nothing is sent
   pub gather_waits : (h : Heard) (rv : RoundV) (core : Core) → becomes_prepared a core (with_promise a h rv core) ≡ false
-      → gather a h round rv core ≡ stays (with_promise a h rv core) no_messages
+      → gather a h round rv core ≡ Ok (stays (with_promise a h rv core) no_messages)
   unfolding gather
   gather_waits h rv core e = simp e
 
@@ -98,48 +109,49 @@ module _ (a : Asked) (round : PaxosRound) where
   unfolding becomes_prepared
   prepared_before core promised e = simp e
 
-  pub gather_again : (h : Heard) (rv : RoundV) (core : Core) → is_prepared a.member core.paxos ≡ true → gather a h round rv core ≡ stays (with_promise a h rv core) no_messages
+  pub gather_again : (h : Heard) (rv : RoundV) (core : Core) → is_prepared a.member core.paxos ≡ true
+      → gather a h round rv core ≡ Ok (stays (with_promise a h rv core) no_messages)
   gather_again h rv core e = gather_waits h rv core (prepared_before core (with_promise a h rv core) e)
 
   -- so it sends something only with the promise that completes a majority
-  pub gather_completes : (h : Heard) (rv : RoundV) (core : Core) → ((gather a h round rv core).messages ≡ no_messages → ⊥)
+  pub gather_completes : (h : Heard) (rv : RoundV) (core : Core) → (sent_by (gather a h round rv core) ≡ no_messages → ⊥)
       → becomes_prepared a core (with_promise a h rv core) ≡ true
   gather_completes h rv core sent = go (either (becomes_prepared a core (with_promise a h rv core)))
     where
       go : (becomes_prepared a core (with_promise a h rv core) ≡ true) ⊎ (becomes_prepared a core (with_promise a h rv core) ≡ false)
           → becomes_prepared a core (with_promise a h rv core) ≡ true
       go (inl e) = e
-      go (inr e) = absurd (sent (ap (λ (t : CoreStep). t.messages) (gather_waits h rv core e)))
+      go (inr e) = absurd (sent (ap sent_by (gather_waits h rv core e)))
 
   -- with which a majority has prepared
   prepared_after : (core promised : Core) → becomes_prepared a core promised ≡ true → is_prepared a.member promised.paxos ≡ true
   unfolding becomes_prepared
   prepared_after core promised e = and_right (not (is_prepared a.member core.paxos)) (is_prepared a.member promised.paxos) e
 
-  -- the prepared set of the core after a promise
-  gather_prepared : (h : Heard) (rv : RoundV) (core : Core) → (gather a h round rv core).core.paxos.prepared_set ≡ (with_promise a h rv core).paxos.prepared_set
-  unfolding gather
-  gather_prepared h rv core = go (becomes_prepared a core (with_promise a h rv core))
-    where
-      go : (t : Bool) → (cond t (accept_phase a round (with_promise a h rv core)) (stays (with_promise a h rv core) no_messages)).core.paxos.prepared_set ≡ (with_promise a h rv core).paxos.prepared_set
-      go true = phase_prepared a round (with_promise a h rv core)
-      go false = refl
+  -- the prepared set of the core after a promise with which something is sent
+  gather_prepared : (h : Heard) (rv : RoundV) (core : Core) → (sent_by (gather a h round rv core) ≡ no_messages → ⊥)
+      → (core_left core (gather a h round rv core)).paxos.prepared_set ≡ (with_promise a h rv core).paxos.prepared_set
+  gather_prepared h rv core sent =
+      let proposes : gather a h round rv core ≡ accept_phase a round (with_promise a h rv core) = gather_proposes h rv core (gather_completes h rv core sent) in
+      ap (λ (r : Result CoreStep Refusal). (core_left core r).paxos.prepared_set) proposes
+      ∙ phase_prepared a round core (with_promise a h rv core) (λ e. sent (ap sent_by proposes ∙ e))
 
   -- the core after some promises, one after the other
   abbrev pub gathered : Core → List (Heard × RoundV) → Core
   gathered core [] = core
-  gathered core (p ∷ ps) = gathered (gather a p.0 round p.1 core).core ps
+  gathered core (p ∷ ps) = gathered (core_left core (gather a p.0 round p.1 core)) ps
 
   quiet : (core : Core) → is_prepared a.member core.paxos ≡ true → (more : List (Heard × RoundV)) (h : Heard) (rv : RoundV)
-      → (gather a h round rv (gathered core more)).messages ≡ no_messages
-  quiet core e [] h rv = ap (λ (t : CoreStep). t.messages) (gather_again h rv core e)
+      → sent_by (gather a h round rv (gathered core more)) ≡ no_messages
+  quiet core e [] h rv = ap sent_by (gather_again h rv core e)
   quiet core e (p ∷ ps) h rv =
-      quiet (gather a p.0 round p.1 core).core
-      (ap (λ (t : CoreStep). is_prepared a.member t.core.paxos) (gather_again p.0 p.1 core e) ∙ prepared_stays a.member p.0.src p.1 core.paxos e) ps h rv
+      quiet (core_left core (gather a p.0 round p.1 core))
+      (ap (λ (r : Result CoreStep Refusal). is_prepared a.member (core_left core r).paxos) (gather_again p.0 p.1 core e) ∙ prepared_stays a.member p.0.src p.1 core.paxos e) ps h rv
 
   -- The delegate that has sent something with a promise sends nothing with a further one, however many there are.
-  pub proposes_once : (h : Heard) (rv : RoundV) (core : Core) → ((gather a h round rv core).messages ≡ no_messages → ⊥)
-      → (more : List (Heard × RoundV)) (h' : Heard) (rv' : RoundV) → (gather a h' round rv' (gathered (gather a h round rv core).core more)).messages ≡ no_messages
+  pub proposes_once : (h : Heard) (rv : RoundV) (core : Core) → (sent_by (gather a h round rv core) ≡ no_messages → ⊥)
+      → (more : List (Heard × RoundV)) (h' : Heard) (rv' : RoundV)
+      → sent_by (gather a h' round rv' (gathered (core_left core (gather a h round rv core)) more)) ≡ no_messages
   proposes_once h rv core sent =
-      quiet (gather a h round rv core).core
-      (ap (λ (x : ℕ). leb a.member.quorums.majority (size x)) (gather_prepared h rv core) ∙ prepared_after core (with_promise a h rv core) (gather_completes h rv core sent))
+      quiet (core_left core (gather a h round rv core))
+      (ap (λ (x : ℕ). leb a.member.quorums.majority (size x)) (gather_prepared h rv core sent) ∙ prepared_after core (with_promise a h rv core) (gather_completes h rv core sent))

@@ -1,25 +1,49 @@
 // The handlers of the paxos family: the Rust's paxos_family.rs. Prepare and Accept by mode, and the commit of a slot.
 #![tactic(auto)]
 
-ghost use Rattle.std.specs.Prelude.{◌≡◌};
+ghost use Rattle.std.specs.Prelude.{◌≡◌, true, false, Ok};
+ghost use Rattle.steps.specs.Steps.{goes_on};
 ghost use Rattle.paxos_family.specs.Process.{in_prepare, on_prepare, on_accept, process_classic, fast_prepared, fast_promised, leads_round, starts_accept, waits, fast_answered, fast_gather, in_fast_prepare, on_fast_prepare, replica_accept, in_fast_accept, on_fast_accept, process_change, process_fast};
 ghost use Rattle.paxos_family.specs.Commit.{commit_core, commit_slot};
 ghost use Rattle.fast_state.specs.Adopt.{lowest_best};
 
-use fast_state::{FastAnswers, FastState};
-use message::{ConsensusMsg, PaxosRound, RoundV};
+use fast_state::{FastAnswers, FastState, FastTables};
+use message::{ConsensusMsg, PaxosRound, Refusal, RoundV};
 use steps::{Asked, ChangeStep, Core, CoreStep, Heard, Rounds, RoundsStep};
+
+// asked, heard and round are parameters of their own, as in accept and prepare, whose functions are called with them: a struct of the three would be taken
+// apart in each contract (accept tells of a trial). So are answers and tables: the first is changed by value, the others are lent.
+
+// The rest of the handler where it goes on from a step, and else the step. In EPaxos and SwiftPaxos the same stands in the four handlers: by a function
+// and_then_change like this one the proofs of the three whose rest takes the tables did not close, with `|core|` nor with `move |core|` (the goal `returns`).
+#[inline(always)]
+fn and_then<F: FnOnce(Core) -> Result<CoreStep, Refusal>>(
+    step: CoreStep,
+    rest: F,
+) -> Result<CoreStep, Refusal>
+    requires { F.IsAlwaysCallable rest }
+    ensures goes_on { goes_on step.next ≡ true → F.post rest step.state result }
+    ensures ends { goes_on step.next ≡ false → result ≡ Ok step }
+{
+    if step.next.goes_on() {
+        return rest(step.state);
+    }
+    Ok(step)
+}
 
 // A Prepare in the entered round: the delegate goes on and counts the promise.
 #[tactic(auto, unfolding(crate::specs::Process::in_prepare))]
-fn in_prepare(asked: Asked, heard: Heard, round: PaxosRound, rv: RoundV, core: Core) -> CoreStep
+fn in_prepare(
+    asked: Asked,
+    heard: Heard,
+    round: PaxosRound,
+    rv: RoundV,
+    core: Core,
+) -> Result<CoreStep, Refusal>
     ensures { result ≡ in_prepare asked heard round rv core }
 {
-    let step = prepare::prepared(asked, heard, round, rv, core);
-    if step.next.goes_on() {
-        return prepare::gather(asked, heard, round, rv, step.core);
-    }
-    step
+    let step = prepare::prepared(asked, heard, round, rv, core)?;
+    and_then(step, |core| prepare::gather(asked, heard, round, rv, core))
 }
 
 #[tactic(auto, unfolding(crate::specs::Process::on_prepare))]
@@ -30,14 +54,11 @@ fn on_prepare(
     round: PaxosRound,
     rv: RoundV,
     core: Core,
-) -> CoreStep
+) -> Result<CoreStep, Refusal>
     ensures { result ≡ on_prepare asked heard slot round rv core }
 {
-    let step = enter::enter(asked, heard, slot, round, core);
-    if step.next.goes_on() {
-        return in_prepare(asked, heard, round, rv, step.core);
-    }
-    step
+    let step = enter::enter(asked, heard, slot, round, core)?;
+    and_then(step, |core| in_prepare(asked, heard, round, rv, core))
 }
 
 #[tactic(auto, unfolding(crate::specs::Process::on_accept))]
@@ -48,19 +69,21 @@ fn on_accept(
     round: PaxosRound,
     v: u64,
     core: Core,
-) -> CoreStep
+) -> Result<CoreStep, Refusal>
     ensures { result ≡ on_accept asked heard slot round v core }
 {
-    let step = enter::enter(asked, heard, slot, round, core);
-    if step.next.goes_on() {
-        return accept::accepting(asked, heard, round, v, step.core);
-    }
-    step
+    let step = enter::enter(asked, heard, slot, round, core)?;
+    and_then(step, |core| accept::accepting(asked, heard, round, v, core))
 }
 
 // A message in the classic modes, which change the core alone. A ForwardRequest does nothing; Commit and reads are handled before.
 #[tactic(auto, unfolding(crate::specs::Process::process_classic))]
-pub fn process_classic(asked: Asked, heard: Heard, msg: ConsensusMsg, core: Core) -> CoreStep
+pub fn process_classic(
+    asked: Asked,
+    heard: Heard,
+    msg: ConsensusMsg,
+    core: Core,
+) -> Result<CoreStep, Refusal>
     ensures { result ≡ process_classic asked heard msg core }
 {
     match msg {
@@ -71,20 +94,26 @@ pub fn process_classic(asked: Asked, heard: Heard, msg: ConsensusMsg, core: Core
         ConsensusMsg::ForwardRequest { .. }
         | ConsensusMsg::Commit { .. }
         | ConsensusMsg::ReadRequest { .. }
-        | ConsensusMsg::ReadResponse { .. } => core.stays_silent(),
+        | ConsensusMsg::ReadResponse { .. } => Ok(core.stays_silent()),
     }
 }
 
 // Of a Prepare a SwiftPaxos client, which is no replica, holds and answers nothing: the Rust goes to
 // process_answers_at_swift_paxos_client at once.
 #[tactic(auto, unfolding(crate::specs::Process::fast_prepared))]
-fn fast_prepared(asked: Asked, heard: Heard, round: PaxosRound, rv: RoundV, core: Core) -> CoreStep
+fn fast_prepared(
+    asked: Asked,
+    heard: Heard,
+    round: PaxosRound,
+    rv: RoundV,
+    core: Core,
+) -> Result<CoreStep, Refusal>
     ensures { result ≡ fast_prepared asked heard round rv core }
 {
     if asked.member.replica {
         return prepare::prepared(asked, heard, round, rv, core);
     }
-    core.continues(steps::no_messages())
+    Ok(core.continues(steps::no_messages()))
 }
 
 // Nor does a client count a promise.
@@ -136,11 +165,9 @@ fn fast_answered(
     rv: RoundV,
     promised: Core,
     answers: FastAnswers,
-    values: &[u64; 64],
-    epaxos_scores: &[u64; 64],
-    swift_scores: &[u64; 64],
-) -> ChangeStep
-    ensures { result ≡ fast_answered lowest_best asked heard round rv promised answers values.now epaxos_scores.now swift_scores.now }
+    tables: FastTables,
+) -> Result<ChangeStep, Refusal>
+    ensures { result ≡ fast_answered lowest_best asked heard round rv promised answers tables.entry.values.now tables.entry.epaxos_scores.now tables.entry.swift_scores.now }
 {
     if asked.mode.is_swift_paxos() {
         return swift_path::swift_client_prepare(
@@ -150,7 +177,7 @@ fn fast_answered(
             rv,
             promised,
             answers,
-            swift_scores,
+            tables.swift_scores,
         );
     }
     epaxos_path::epaxos_answer(
@@ -160,8 +187,8 @@ fn fast_answered(
         rv,
         promised,
         answers,
-        values,
-        epaxos_scores,
+        tables.values,
+        tables.epaxos_scores,
     )
 }
 
@@ -174,30 +201,18 @@ fn fast_gather(
     rv: RoundV,
     core: Core,
     answers: FastAnswers,
-    values: &[u64; 64],
-    epaxos_scores: &[u64; 64],
-    swift_scores: &[u64; 64],
-) -> ChangeStep
-    ensures { result ≡ fast_gather lowest_best asked heard round rv core answers values.now epaxos_scores.now swift_scores.now }
+    tables: FastTables,
+) -> Result<ChangeStep, Refusal>
+    ensures { result ≡ fast_gather lowest_best asked heard round rv core answers tables.entry.values.now tables.entry.epaxos_scores.now tables.entry.swift_scores.now }
 {
     let promised = fast_promised(asked, heard, rv, core);
     if starts_accept(asked, round, core, promised) {
-        return prepare::accept_phase(asked, round, promised).unchanged(answers);
+        return Ok(prepare::accept_phase(asked, round, promised)?.unchanged(answers));
     }
     if waits(asked, round, promised) {
-        return promised.stays_unchanged(answers);
+        return Ok(promised.stays_unchanged(answers));
     }
-    fast_answered(
-        asked,
-        heard,
-        round,
-        rv,
-        promised,
-        answers,
-        values,
-        epaxos_scores,
-        swift_scores,
-    )
+    fast_answered(asked, heard, round, rv, promised, answers, tables)
 }
 
 #[tactic(auto, unfolding(crate::specs::Process::in_fast_prepare))]
@@ -208,28 +223,15 @@ fn in_fast_prepare(
     rv: RoundV,
     core: Core,
     answers: FastAnswers,
-    values: &[u64; 64],
-    epaxos_scores: &[u64; 64],
-    swift_scores: &[u64; 64],
-) -> ChangeStep
-    ensures { result ≡ in_fast_prepare lowest_best asked heard round rv core answers values.now epaxos_scores.now swift_scores.now }
+    tables: FastTables,
+) -> Result<ChangeStep, Refusal>
+    ensures { result ≡ in_fast_prepare lowest_best asked heard round rv core answers tables.entry.values.now tables.entry.epaxos_scores.now tables.entry.swift_scores.now }
 {
-    let step = fast_prepared(asked, heard, round, rv, core);
+    let step = fast_prepared(asked, heard, round, rv, core)?;
     if step.next.goes_on() {
-        let core = step.core;
-        return fast_gather(
-            asked,
-            heard,
-            round,
-            rv,
-            core,
-            answers,
-            values,
-            epaxos_scores,
-            swift_scores,
-        );
+        return fast_gather(asked, heard, round, rv, step.state, answers, tables);
     }
-    step.unchanged(answers)
+    Ok(step.unchanged(answers))
 }
 
 #[tactic(auto, unfolding(crate::specs::Process::on_fast_prepare))]
@@ -241,28 +243,15 @@ fn on_fast_prepare(
     rv: RoundV,
     core: Core,
     answers: FastAnswers,
-    values: &[u64; 64],
-    epaxos_scores: &[u64; 64],
-    swift_scores: &[u64; 64],
-) -> ChangeStep
-    ensures { result ≡ on_fast_prepare lowest_best asked heard slot round rv core answers values.now epaxos_scores.now swift_scores.now }
+    tables: FastTables,
+) -> Result<ChangeStep, Refusal>
+    ensures { result ≡ on_fast_prepare lowest_best asked heard slot round rv core answers tables.entry.values.now tables.entry.epaxos_scores.now tables.entry.swift_scores.now }
 {
-    let step = enter::enter(asked, heard, slot, round, core);
+    let step = enter::enter(asked, heard, slot, round, core)?;
     if step.next.goes_on() {
-        let core = step.core;
-        return in_fast_prepare(
-            asked,
-            heard,
-            round,
-            rv,
-            core,
-            answers,
-            values,
-            epaxos_scores,
-            swift_scores,
-        );
+        return in_fast_prepare(asked, heard, round, rv, step.state, answers, tables);
     }
-    step.unchanged(answers)
+    Ok(step.unchanged(answers))
 }
 
 #[tactic(auto, unfolding(crate::specs::Process::replica_accept))]
@@ -273,26 +262,24 @@ fn replica_accept(
     v: u64,
     core: Core,
     answers: FastAnswers,
-    swift_scores: &[u64; 64],
-) -> ChangeStep
-    ensures { result ≡ replica_accept asked heard round v core answers swift_scores.now }
+    tables: FastTables,
+) -> Result<ChangeStep, Refusal>
+    ensures { result ≡ replica_accept asked heard round v core answers tables.entry.swift_scores.now }
 {
-    let step = accept::accepting(asked, heard, round, v, core);
+    let step = accept::accepting(asked, heard, round, v, core)?;
     if step.next.goes_on() {
-        let core = step.core;
-        let messages = step.messages;
         return swift_path::swift_answered_accept(
             asked,
             heard,
             round,
             v,
-            core,
-            messages,
+            step.state,
+            step.messages,
             answers,
-            swift_scores,
+            tables.swift_scores,
         );
     }
-    step.unchanged(answers)
+    Ok(step.unchanged(answers))
 }
 
 #[tactic(auto, unfolding(crate::specs::Process::in_fast_accept))]
@@ -303,14 +290,14 @@ fn in_fast_accept(
     v: u64,
     core: Core,
     answers: FastAnswers,
-    swift_scores: &[u64; 64],
-) -> ChangeStep
-    ensures { result ≡ in_fast_accept asked heard round v core answers swift_scores.now }
+    tables: FastTables,
+) -> Result<ChangeStep, Refusal>
+    ensures { result ≡ in_fast_accept asked heard round v core answers tables.entry.swift_scores.now }
 {
     if asked.member.replica {
-        return replica_accept(asked, heard, round, v, core, answers, swift_scores);
+        return replica_accept(asked, heard, round, v, core, answers, tables);
     }
-    swift_path::swift_client_accept(asked, heard, round, v, core, answers, swift_scores)
+    swift_path::swift_client_accept(asked, heard, round, v, core, answers, tables.swift_scores)
 }
 
 #[tactic(auto, unfolding(crate::specs::Process::on_fast_accept))]
@@ -322,16 +309,15 @@ fn on_fast_accept(
     v: u64,
     core: Core,
     answers: FastAnswers,
-    swift_scores: &[u64; 64],
-) -> ChangeStep
-    ensures { result ≡ on_fast_accept asked heard slot round v core answers swift_scores.now }
+    tables: FastTables,
+) -> Result<ChangeStep, Refusal>
+    ensures { result ≡ on_fast_accept asked heard slot round v core answers tables.entry.swift_scores.now }
 {
-    let step = enter::enter(asked, heard, slot, round, core);
+    let step = enter::enter(asked, heard, slot, round, core)?;
     if step.next.goes_on() {
-        let core = step.core;
-        return in_fast_accept(asked, heard, round, v, core, answers, swift_scores);
+        return in_fast_accept(asked, heard, round, v, step.state, answers, tables);
     }
-    step.unchanged(answers)
+    Ok(step.unchanged(answers))
 }
 
 // A message in EPaxos and SwiftPaxos, with the values of the proposers and the scores of each mode.
@@ -342,52 +328,37 @@ pub fn process_change(
     msg: ConsensusMsg,
     core: Core,
     answers: FastAnswers,
-    values: &[u64; 64],
-    epaxos_scores: &[u64; 64],
-    swift_scores: &[u64; 64],
-) -> ChangeStep
-    ensures { result ≡ process_change lowest_best asked heard msg core answers values.now epaxos_scores.now swift_scores.now }
+    tables: FastTables,
+) -> Result<ChangeStep, Refusal>
+    ensures { result ≡ process_change lowest_best asked heard msg core answers tables.entry.values.now tables.entry.epaxos_scores.now tables.entry.swift_scores.now }
 {
     match msg {
         ConsensusMsg::Prepare { slot, round, rv } => on_fast_prepare(
-            asked,
-            heard,
-            slot,
-            round,
-            rv,
-            core,
-            answers,
-            values,
-            epaxos_scores,
-            swift_scores,
+            asked, heard, slot, round, rv, core, answers, tables,
         ),
         ConsensusMsg::Accept { slot, round, v } => {
-            on_fast_accept(asked, heard, slot, round, v, core, answers, swift_scores)
+            on_fast_accept(asked, heard, slot, round, v, core, answers, tables)
         },
         ConsensusMsg::ForwardRequest { .. }
         | ConsensusMsg::Commit { .. }
         | ConsensusMsg::ReadRequest { .. }
-        | ConsensusMsg::ReadResponse { .. } => core.stays_unchanged(answers),
+        | ConsensusMsg::ReadResponse { .. } => Ok(core.stays_unchanged(answers)),
     }
 }
 
 // The same, with the change made.
 #[tactic(auto, unfolding(crate::specs::Process::process_fast))]
-pub fn process_fast(asked: Asked, heard: Heard, msg: ConsensusMsg, s: Rounds) -> RoundsStep
+pub fn process_fast(
+    asked: Asked,
+    heard: Heard,
+    msg: ConsensusMsg,
+    s: Rounds,
+) -> Result<RoundsStep, Refusal>
     ensures { result ≡ process_fast lowest_best asked heard msg s }
 {
     let fast = s.fast;
-    process_change(
-        asked,
-        heard,
-        msg,
-        s.core,
-        fast.answers(),
-        &fast.fast_proposer_to_v,
-        &fast.epaxos_proposer_scores,
-        &fast.swift_proposer_scores,
-    )
-    .change_rounds(fast)
+    let step = process_change(asked, heard, msg, s.core, fast.answers(), fast.tables())?;
+    Ok(step.change_rounds(fast))
 }
 
 // A commit, but for the fast half.

@@ -2,17 +2,18 @@
 -- that is fed.
 -- Assumes nothing.
 use Rattle.std.specs.Prelude.{◌≡◌, ℕ, Option, Result, Ok, Err}
-use Rattle.catch_up.specs.Joining.{join_refusal, join_count, Joins}
+use Rattle.catch_up.specs.Joining.{Joins}
 use Rattle.catch_up.specs.declared.JoinRefusal.{JoinRefusal}
 use Rattle.register.specs.declared.Register.{Register}
 use Rattle.catch_up.specs.Causes.{CommitList, join_number}
 use Rattle.feeding.specs.Feeding.{FedList, refused_slot, refused_number, feeding}
 use Rattle.feeding.specs.declared.FirstRefused.{FirstRefused}
+use Rattle.planning_host.specs.Conversions.{flat_value}
 use Rattle.planning_host.specs.declared.FlatFed.{FlatFed}
 use Rattle.planning_host.specs.declared.FlatValue.{FlatValue}
 
 abbrev pub flat_join : Result ℕ JoinRefusal → FlatValue
-flat_join answer = record { refusal = join_refusal answer; value = join_count answer }
+flat_join answer = flat_value join_number answer
 
 -- the lists a and b are joined into the lent places, and the answer is in numbers
 pub record JoinsFlat (a b places after : CommitList) (answer : FlatValue) : Type 0 where

@@ -8,11 +8,13 @@ ghost use Rattle.stored_register.specs.Stored.{widened};
 ghost use Rattle.stored_arrays.specs.Columns.{stored_in};
 ghost use Rattle.catch_up.specs.Joining.{list_of};
 ghost use Rattle.feeding.specs.Feeding.{fed_list_of};
-ghost use Rattle.planning_host.specs.Conversions.{flat_raster, flat_khz, flat_number};
-ghost use Rattle.planning_host.specs.Lists.{flat_join, JoinsFlat, flat_fed, FeedsFlat};
+ghost use Rattle.planning_host.specs.Conversions.{flat_value, flat_raster, flat_khz, flat_number};
+ghost use Rattle.planning_host.specs.Lists.{JoinsFlat, flat_fed, FeedsFlat};
 
 use catch_up::{JoinRefusal, LentList, LentPlaces};
 use feeding::{EntryList, FirstRefused};
+use raster::NotOnRaster;
+use refusals::{Refused, refusal};
 use register::{CellNumber, entry_number};
 use register_arrays::{Columns, entry_from_numbers};
 use stored_arrays::StoredColumns;
@@ -35,13 +37,20 @@ pub struct FlatFed {
     pub number: u64,
 }
 
+fn flat_value<E: Copy + Refused>(given: Result<u64, E>) -> FlatValue
+    ensures { result ≡ flat_value E.refusal_number given }
+{
+    FlatValue {
+        refusal: refusal(given),
+        value: given.unwrap_or(0),
+    }
+}
+
+#[tactic(auto, using(crate::proofs::Laws::raster_as_result))]
 fn flat_raster(answer: Option<u64>) -> FlatValue
     ensures { result ≡ flat_raster answer }
 {
-    FlatValue {
-        refusal: raster::refusal(answer),
-        value: answer.unwrap_or(0),
-    }
+    flat_value(answer.ok_or(NotOnRaster))
 }
 
 // E5: the frequency of a carrier number, in kHz.
@@ -142,15 +151,6 @@ pub extern "C" fn chanbook_register_widened(
     stored.widen(&mut columns);
 }
 
-fn flat_join(joined: Result<u64, JoinRefusal>) -> FlatValue
-    ensures { result ≡ flat_join joined }
-{
-    FlatValue {
-        refusal: catch_up::refusal(joined),
-        value: joined.unwrap_or(0),
-    }
-}
-
 // E10: joins two lists, each a slice of slots and a slice of values, into the lent places. The value is how many entries stand in the first places.
 #[unsafe(no_mangle)]
 pub extern "C" fn chanbook_join(
@@ -173,25 +173,21 @@ pub extern "C" fn chanbook_join(
         values: b_values,
     };
     let mut places = LentPlaces { slots, values };
-    flat_join(catch_up::join(a, b, &mut places))
+    flat_value(catch_up::join(a, b, &mut places))
 }
 
 fn flat_fed(fed: Result<Option<FirstRefused>, JoinRefusal>) -> FlatFed
     ensures { result ≡ flat_fed fed }
 {
+    let refusal = refusal(fed);
     match fed {
         Ok(Some(first)) => FlatFed {
-            refusal: 0,
+            refusal,
             slot: first.slot,
             number: first.why.number(),
         },
-        Ok(None) => FlatFed {
-            refusal: 0,
-            slot: 0,
-            number: 0,
-        },
-        Err(why) => FlatFed {
-            refusal: u64::from(why),
+        _ => FlatFed {
+            refusal,
             slot: 0,
             number: 0,
         },

@@ -7,11 +7,13 @@ ghost use Rattle.planning_lines.specs.Questions.{register_question, question_of}
 ghost use Rattle.raster.specs.Raster.{raster_refusal, raster_value};
 ghost use Rattle.planning_lines.specs.Answers.{value_text, bad_line_text, after_line, answer_text};
 
+use raster::NotOnRaster;
+use refusals::Refused;
 use register::{Applied, Register};
 use register_lines::RegisterQuestion;
 use texts::Output;
 
-// What a line asks.
+// What a line asks. A bad line is one of the cases, and no None: it has an answer of its own, and no value is missing.
 #[derive(Clone, Copy)]
 pub enum Question {
     FrequencyOf(u64),
@@ -60,7 +62,7 @@ fn put_value(out: &mut Output<'_>, word: &[u8], answer: Option<u64>)
 {
     match answer {
         Some(value) => line_fields::put_line(out, word, value),
-        None => line_fields::put_line(out, b"refused", raster::refusal(None)),
+        None => line_fields::put_line(out, b"refused", NotOnRaster.number()),
     }
 }
 

@@ -2,11 +2,14 @@
 #![tactic(auto)]
 
 ghost use Rattle.std.specs.Prelude.{◌≡◌};
-ghost use Rattle.prepare.specs.Prepare.{hold_first, may_answer, answer_prepare, leaves_leader, answers_nothing, preparing, after_held, prepared, off_fast_path, broadcast_accept, after_own_accept, accept_phase, with_promise, becomes_prepared, gather, has_accepted};
+ghost use Rattle.prepare.specs.Prepare.{hold_first, may_answer, answer_prepare, leaves_leader, answers_nothing, preparing, prepared, off_fast_path, broadcast_accept, after_own_accept, accept_phase, with_promise, becomes_prepared, gather, has_accepted};
 
 use message::{ConsensusMsg, PaxosRound, Refusal, RoundV};
 use round_state::{PaxosState, get_last_accepted_round};
 use steps::{Asked, Core, CoreStep, Destination, Heard};
+
+// asked, heard and round are parameters of their own: 9 of these 15 functions take one or two of the three, and a struct of them is no plainer (accept tells
+// of a trial).
 
 // Whether the answer to a Prepare may go to the delegate: what the Rust asserts once it has sent it.
 fn may_answer(heard: Heard, round: PaxosRound) -> bool
@@ -27,7 +30,12 @@ fn hold_first(asked: Asked, rv: RoundV, p: PaxosState) -> Result<PaxosState, Ref
 }
 
 #[tactic(auto, unfolding(crate::specs::Prepare::answer_prepare))]
-fn answer_prepare(asked: Asked, heard: Heard, round: PaxosRound, core: Core) -> CoreStep
+fn answer_prepare(
+    asked: Asked,
+    heard: Heard,
+    round: PaxosRound,
+    core: Core,
+) -> Result<CoreStep, Refusal>
     ensures { result ≡ answer_prepare asked heard round core }
 {
     if may_answer(heard, round) {
@@ -37,9 +45,9 @@ fn answer_prepare(asked: Asked, heard: Heard, round: PaxosRound, core: Core) -> 
             rv: steps::held_rv(core.paxos.max_rv),
         };
         let message = asked.sends(core, Destination::One(heard.delegate), answer);
-        return core.stays(steps::one_message(message));
+        return Ok(core.stays(steps::one_message(message)));
     }
-    core.refuses(Refusal::Panic)
+    Err(Refusal::Panic)
 }
 
 // In SwiftPaxos the leader is not answered: it accepts at once.
@@ -58,27 +66,31 @@ fn answers_nothing(asked: Asked, heard: Heard, round: PaxosRound, core: Core) ->
 
 // The delegate goes on to count the promise, and any other answers it.
 #[tactic(auto, unfolding(crate::specs::Prepare::preparing))]
-fn preparing(asked: Asked, heard: Heard, round: PaxosRound, core: Core) -> CoreStep
+fn preparing(asked: Asked, heard: Heard, round: PaxosRound, core: Core) -> Result<CoreStep, Refusal>
     ensures { result ≡ preparing asked heard round core }
 {
     if heard.delegate == asked.member.my_pid {
-        return core.continues(steps::no_messages());
+        return Ok(core.continues(steps::no_messages()));
     }
     if answers_nothing(asked, heard, round, core) {
-        return core.stays_silent();
+        return Ok(core.stays_silent());
     }
     answer_prepare(asked, heard, round, core)
 }
 
 // A Prepare, up to the point where the delegate counts the promise.
 #[tactic(auto, unfolding(crate::specs::Prepare::prepared))]
-pub fn prepared(asked: Asked, heard: Heard, round: PaxosRound, rv: RoundV, core: Core) -> CoreStep
+pub fn prepared(
+    asked: Asked,
+    heard: Heard,
+    round: PaxosRound,
+    rv: RoundV,
+    core: Core,
+) -> Result<CoreStep, Refusal>
     ensures { result ≡ prepared asked heard round rv core }
 {
-    match hold_first(asked, rv, core.paxos) {
-        Ok(p) => preparing(asked, heard, round, core.with_paxos(p)),
-        Err(why) => core.refuses(why),
-    }
+    let p = hold_first(asked, rv, core.paxos)?;
+    preparing(asked, heard, round, core.with_paxos(p))
 }
 
 // The accept phase is off the fast path. In SwiftPaxos it says nothing of the path, since the leader accepts in every slot.
@@ -110,18 +122,15 @@ pub fn after_own_accept(
     round: PaxosRound,
     core: Core,
     accepted: Result<PaxosState, Refusal>,
-) -> CoreStep
+) -> Result<CoreStep, Refusal>
     ensures { result ≡ after_own_accept asked round core accepted }
 {
-    match accepted {
-        Ok(p) => broadcast_accept(asked, round, core.with_paxos(p)),
-        Err(why) => core.refuses(why),
-    }
+    Ok(broadcast_accept(asked, round, core.with_paxos(accepted?)))
 }
 
 // The own accept, and then everyone's.
 #[tactic(auto, unfolding(crate::specs::Prepare::accept_phase))]
-pub fn accept_phase(asked: Asked, round: PaxosRound, core: Core) -> CoreStep
+pub fn accept_phase(asked: Asked, round: PaxosRound, core: Core) -> Result<CoreStep, Refusal>
     ensures { result ≡ accept_phase asked round core }
 {
     after_own_accept(
@@ -149,14 +158,20 @@ pub fn becomes_prepared(asked: Asked, core: Core, promised: Core) -> bool
 
 // The delegate counts the promise. The one that completes a majority starts the accept phase, and no later one does.
 #[tactic(auto, unfolding(crate::specs::Prepare::gather))]
-pub fn gather(asked: Asked, heard: Heard, round: PaxosRound, rv: RoundV, core: Core) -> CoreStep
+pub fn gather(
+    asked: Asked,
+    heard: Heard,
+    round: PaxosRound,
+    rv: RoundV,
+    core: Core,
+) -> Result<CoreStep, Refusal>
     ensures { result ≡ gather asked heard round rv core }
 {
     let promised = with_promise(asked, heard, rv, core);
     if becomes_prepared(asked, core, promised) {
         return accept_phase(asked, round, promised);
     }
-    promised.stays_silent()
+    Ok(promised.stays_silent())
 }
 
 // Whether what is held was accepted in some round.

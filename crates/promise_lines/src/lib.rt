@@ -31,7 +31,7 @@ pub fn put_optional_round(out: &mut Output, round: Option<PaxosRound>)
     }
 }
 
-#[tactic(auto, using(texts::proofs::Putting::put_then), unfolding(crate::specs::Promises::promise_text))]
+#[tactic(auto, using(texts::proofs::Putting::put_append), unfolding(crate::specs::Promises::promise_text, texts::specs::Text::put))]
 pub fn put_promise(out: &mut Output, rv: RoundV)
     ensures { out.new ≡ put (promise_text rv) out.old }
 {

@@ -4,16 +4,15 @@ use Rattle.std.specs.Prelude.{Bool, false, cond, not, ◌&&◌, ◌||◌, ℕ, S
 use Rattle.message.specs.Modes.{is_multi_paxos, is_swift_paxos}
 use Rattle.message.specs.Rounds.{equal, next_leader_round, unwrap_or_default}
 use Rattle.message.specs.declared.PaxosRound.{PaxosRound}
+use Rattle.message.specs.declared.Refusal.{Refusal}
 use Rattle.message.specs.declared.Refusal.TheVariants.{ProposalNotAllowed}
 use Rattle.enter.specs.Enter.{can_propose}
-use Rattle.steps.specs.Steps.{refuses}
 use Rattle.steps.specs.declared.Asked.{Asked}
 use Rattle.steps.specs.declared.Core.{Core}
-use Rattle.steps.specs.declared.CoreStep.{CoreStep}
 
 -- what every failed assertion of the Rust's propose is here
-abbrev pub not_allowed : Core → CoreStep
-not_allowed core = refuses ProposalNotAllowed core
+abbrev pub not_allowed : Refusal
+not_allowed = ProposalNotAllowed
 
 -- `electing`: in SwiftPaxos the first leader, and else oneself
 unfoldable pub electing : Asked → ℕ

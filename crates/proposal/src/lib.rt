@@ -5,13 +5,13 @@ ghost use Rattle.std.specs.Prelude.{◌≡◌};
 ghost use Rattle.proposal.specs.Proposal.{not_allowed, electing, proposal_round, round_allowed, may_propose};
 
 use message::{PaxosRound, Refusal};
-use steps::{Asked, Core, CoreStep};
+use steps::{Asked, Core};
 
 // Every assertion that the Rust meets in `propose` is this refusal.
-pub fn not_allowed(core: Core) -> CoreStep
-    ensures { result ≡ not_allowed core }
+pub fn not_allowed() -> Refusal
+    ensures { result ≡ not_allowed }
 {
-    core.refuses(Refusal::ProposalNotAllowed)
+    Refusal::ProposalNotAllowed
 }
 
 // Whose round a proposal opens.

@@ -16,21 +16,26 @@ fn proposed(
     msg: ConsensusMsg,
     core: Core,
     taken: Result<PaxosState, Refusal>,
-) -> CoreStep
+) -> Result<CoreStep, Refusal>
     ensures { result ≡ proposed asked msg core taken }
 {
     match taken {
         Ok(p) => {
             let message = asked.sends(core, steps::to_all(), msg);
-            core.with_paxos(p).stays(steps::one_message(message))
+            Ok(core.with_paxos(p).stays(steps::one_message(message)))
         }
-        Err(_) => not_allowed(core),
+        Err(_) => Err(not_allowed()),
     }
 }
 
 // The own promise of the value, and a Prepare to all.
 #[tactic(auto, unfolding(crate::specs::Propose::propose_prepare))]
-fn propose_prepare(asked: Asked, round: PaxosRound, rv: RoundV, core: Core) -> CoreStep
+fn propose_prepare(
+    asked: Asked,
+    round: PaxosRound,
+    rv: RoundV,
+    core: Core,
+) -> Result<CoreStep, Refusal>
     ensures { result ≡ propose_prepare asked round rv core }
 {
     let entered = core.paxos.goto_round(Some(round));
@@ -45,7 +50,7 @@ fn propose_prepare(asked: Asked, round: PaxosRound, rv: RoundV, core: Core) -> C
 
 // A leader from the start needs no promises but its own: it accepts the value, and proposes it in an Accept.
 #[tactic(auto, unfolding(crate::specs::Propose::propose_accept))]
-fn propose_accept(asked: Asked, round: PaxosRound, v: u64, core: Core) -> CoreStep
+fn propose_accept(asked: Asked, round: PaxosRound, v: u64, core: Core) -> Result<CoreStep, Refusal>
     ensures { result ≡ propose_accept asked round v core }
 {
     let rv = RoundV::PaxosV {
@@ -63,17 +68,17 @@ fn propose_accept(asked: Asked, round: PaxosRound, v: u64, core: Core) -> CoreSt
             };
             proposed(asked, accept, core, accepted)
         }
-        Err(_) => not_allowed(core),
+        Err(_) => Err(not_allowed()),
     }
 }
 
 // A proposal in the classic modes.
 #[tactic(auto, unfolding(crate::specs::Propose::propose_classic))]
-pub fn propose_classic(asked: Asked, v: u64, core: Core) -> CoreStep
+pub fn propose_classic(asked: Asked, v: u64, core: Core) -> Result<CoreStep, Refusal>
     ensures { result ≡ propose_classic asked v core }
 {
     if !may_propose(asked, core) {
-        return not_allowed(core);
+        return Err(not_allowed());
     }
     let round = proposal_round(asked, core);
     if asked.mode.is_multi_paxos() {
@@ -121,15 +126,15 @@ pub fn propose_change(
     answers: FastAnswers,
     epaxos_scores: &[u64; 64],
     swift_scores: &[u64; 64],
-) -> ChangeStep
+) -> Result<ChangeStep, Refusal>
     ensures { result ≡ propose_change asked v core answers epaxos_scores.now swift_scores.now }
 {
     if !may_propose(asked, core) {
-        return not_allowed(core).unchanged(answers);
+        return Err(not_allowed());
     }
     let round = proposal_round(asked, core);
     if leads_from_start(asked) {
-        return propose_accept(asked, round, v, core).unchanged(answers);
+        return Ok(propose_accept(asked, round, v, core)?.unchanged(answers));
     }
     match own_answer(asked, v, answers, epaxos_scores, swift_scores) {
         Ok(change) => {
@@ -137,25 +142,26 @@ pub fn propose_change(
                 proposer: asked.member.my_pid,
                 v,
             };
-            propose_prepare(asked, round, rv, core).with_change(change)
+            Ok(propose_prepare(asked, round, rv, core)?.with_change(change))
         }
-        Err(_) => not_allowed(core).unchanged(answers),
+        Err(_) => Err(not_allowed()),
     }
 }
 
 // The same, with the change made.
 #[tactic(auto, unfolding(crate::specs::Propose::propose_fast))]
-pub fn propose_fast(asked: Asked, v: u64, s: Rounds) -> RoundsStep
+pub fn propose_fast(asked: Asked, v: u64, s: Rounds) -> Result<RoundsStep, Refusal>
     ensures { result ≡ propose_fast asked v s }
 {
     let fast = s.fast;
-    propose_change(
+    let tables = fast.tables();
+    let step = propose_change(
         asked,
         v,
         s.core,
         fast.answers(),
-        &fast.epaxos_proposer_scores,
-        &fast.swift_proposer_scores,
-    )
-    .change_rounds(fast)
+        tables.epaxos_scores,
+        tables.swift_scores,
+    )?;
+    Ok(step.change_rounds(fast))
 }

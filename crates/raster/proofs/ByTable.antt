@@ -9,7 +9,9 @@ use lib.Dec.{eqb}
 use borrow.Author.Tests.{ltb-true, ltb-false, leb-true, leb-false, eqb-true, lt-ltb, le-ltb, le-leb, lt-leb, eq-eqb}
 use Rattle.std.specs.Prelude.{Option, Some, None}
 use Rattle.raster.specs.Table.{OnRaster}
-use Rattle.raster.specs.Raster.{frequency_of, whole_steps, number_of, raster_refusal, raster_value}
+use Rattle.std.specs.Option.{ok_or}
+use Rattle.refusals.specs.Refusals.{refusal}
+use Rattle.raster.specs.Raster.{frequency_of, whole_steps, number_of, not_on_raster, raster_refusal, raster_value}
 
 -- ---- what the conversions give, a row of the table says
 
@@ -150,3 +152,9 @@ off_raster_carrier f off = go (number_of f) refl
     go : (answer : Option ℕ) → number_of f ≡ answer → raster_value answer ≡ 0
     go (Some n) e = absurd (off n (number_on_raster n f e))
     go None e = refl
+
+-- ---- the number as it is computed: of an answer as a result
+
+pub refusal_as_result : (answer : Option ℕ) → refusal not_on_raster (ok_or answer (record {})) ≡ raster_refusal answer
+refusal_as_result (Some x) = refl
+refusal_as_result None = refl

@@ -2,6 +2,7 @@
 -- (Table.antt) is proved: proofs/ByTable.antt.
 -- Assumes nothing.
 use Rattle.std.specs.Prelude.{cond, ℕ, ◌+◌, ◌*◌, ◌-◌, ◌/◌, ◌%◌, ltb, leb, eqb, Option, Some, None, unwrap_or}
+use Rattle.raster.specs.declared.NotOnRaster.{NotOnRaster}
 
 -- "Numbers 0 to 599999 step 5 kHz from 0. Numbers 600000 to 2016666 step 15 kHz from 3,000,000 kHz. Numbers 2016667 to 3279165 step
 -- 60 kHz from 24,250,080 kHz."
@@ -25,7 +26,11 @@ number_of f =
     (cond (leb f 99999960) (whole_steps 2016667 60 (f - 24250080))
     None)))
 
--- "14, no raster number or no raster frequency": document 02's number for an answer, and 0 for one that has a value
+-- "14, no raster number or no raster frequency"
+abbrev pub not_on_raster : NotOnRaster → ℕ
+not_on_raster why = 14
+
+-- document 02's number for an answer, and 0 for one that has a value
 abbrev pub raster_refusal : Option ℕ → ℕ
 raster_refusal (Some x) = 0
 raster_refusal None = 14

@@ -2,15 +2,20 @@
 #![tactic(auto)]
 
 ghost use Rattle.std.specs.Prelude.{◌≡◌, ◌+◌, ◌<◌, ◌≤◌};
-ghost use Rattle.raster.specs.Raster.{frequency_of, whole_steps, number_of, raster_refusal};
+ghost use Rattle.raster.specs.Raster.{frequency_of, whole_steps, number_of, not_on_raster};
 
-// "14, no raster number or no raster frequency", and 0 for an answer that has a value.
-pub fn refusal(answer: Option<u64>) -> u64
-    ensures { result ≡ raster_refusal answer }
-{
-    match answer {
-        Some(_) => 0,
-        None => 14,
+use refusals::Refused;
+
+// Why there is no answer: no raster number, or no raster frequency.
+#[derive(Clone, Copy, PartialEq, Eq, Debug)]
+pub struct NotOnRaster;
+
+impl Refused for NotOnRaster {
+    ghost refusal_number = { not_on_raster };
+
+    // "14, no raster number or no raster frequency"
+    fn number(self) -> u64 {
+        14
     }
 }
 

@@ -1,7 +1,8 @@
 -- The open reads of a shard, a new read, and what one answer adds to a read (document 01, "Read"; the Rust's consensus/read_tracker.rs).
 -- Assumes nothing.
-use Rattle.std.specs.Prelude.{ℕ, ◌+◌, ◌-◌, min, Bool, true, false, cond, List, ltb, leb, take, set, replicate, Ok, Err}
+use Rattle.std.specs.Prelude.{ℕ, ◌+◌, ◌-◌, min, Bool, true, false, cond, List, ltb, leb, take, set, replicate, Result, Ok, Err}
 use Rattle.message.specs.declared.ReadId.{ReadId}
+use Rattle.message.specs.declared.Refusal.{Refusal}
 use Rattle.message.specs.declared.Refusal.TheVariants.{NoRoomForRead}
 use Rattle.message.specs.Rounds.{increment}
 use Rattle.read_tracker.specs.declared.OpenRead.{OpenRead}
@@ -9,6 +10,7 @@ use Rattle.read_tracker.specs.declared.ServedRead.{ServedRead}
 use Rattle.read_tracker.specs.declared.ReadTracker.{ReadTracker}
 use Rattle.read_tracker.specs.declared.ReadTable.{ReadTable}
 use Rattle.read_tracker.specs.declared.Inserted.{Inserted}
+use Rattle.read_tracker.specs.declared.Opening.{Opening}
 
 -- the id of that number
 abbrev pub read_id : ℕ → ReadId
@@ -43,28 +45,36 @@ open_places tracker = min tracker.open_count 128
 abbrev pub open_reads : ReadTracker → ReadTable → List OpenRead
 open_reads tracker table = take (open_places tracker) table.reads
 
--- insert where it is refused, with 12: nothing changes
-abbrev pub refused : ReadTracker → ReadTable → Inserted
-refused tracker table = record { tracker = tracker; table = table; opened = Err NoRoomForRead }
-
--- the new read, under the next id, behind the open ones
-abbrev pub inserted : ReadTracker → ReadTable → ℕ → ℕ → Bool → Inserted
-inserted tracker table tag arrival local =
+-- the new read, under the next id, and the tracker that has counted it
+abbrev pub opening : ReadTracker → ℕ → ℕ → Bool → Opening
+opening tracker tag arrival local =
     record {
+      read = new_read (read_id tracker.next_id) tag arrival local;
       tracker = record { next_id = tracker.next_id + 1; open_count = tracker.open_count + 1 };
-      table =
-          record {
-            reads = set table.reads tracker.open_count (new_read (read_id tracker.next_id) tag arrival local);
-            served = table.served;
-          };
-      opened = Ok (read_id tracker.next_id);
     }
 
--- insert, refused where there is no room: 128 reads open, or ids spent (the last id is 2^63-1)
-unfoldable pub insert : ReadTracker → ReadTable → ℕ → ℕ → Bool → Inserted
-insert tracker table tag arrival local =
-    cond (leb 128 tracker.open_count) (refused tracker table)
-    (cond (ltb 9223372036854775807 tracker.next_id) (refused tracker table) (inserted tracker table tag arrival local))
+-- insert as far as it needs no table: refused, with 12, where there is no room, that is with 128 reads open, or ids spent (the last id is 2^63-1)
+unfoldable pub open_next : ReadTracker → ℕ → ℕ → Bool → Result Opening Refusal
+open_next tracker tag arrival local =
+    cond (leb 128 tracker.open_count) (Err NoRoomForRead)
+    (cond (ltb 9223372036854775807 tracker.next_id) (Err NoRoomForRead) (Ok (opening tracker tag arrival local)))
+
+-- the new read behind the open ones
+abbrev pub inserted : ReadTracker → ReadTable → Opening → Inserted
+inserted tracker table o =
+    record {
+      tracker = o.tracker;
+      table = record { reads = set table.reads tracker.open_count o.read; served = table.served };
+      id = o.read.id;
+    }
+
+abbrev pub insert_opened : ReadTracker → ReadTable → Result Opening Refusal → Result Inserted Refusal
+insert_opened tracker table (Ok o) = Ok (inserted tracker table o)
+insert_opened tracker table (Err why) = Err why
+
+-- insert: where it is refused nothing changes
+unfoldable pub insert : ReadTracker → ReadTable → ℕ → ℕ → Bool → Result Inserted Refusal
+insert tracker table tag arrival local = insert_opened tracker table (open_next tracker tag arrival local)
 
 -- the read with that count and that mark
 abbrev pub with_count : OpenRead → ℕ → Bool → OpenRead

@@ -2,8 +2,8 @@
 // The Rust's map is a table of 128 places, the open reads in front, in the order of their ids.
 #![tactic(auto)]
 
-ghost use Rattle.std.specs.Prelude.{◌≡◌};
-ghost use Rattle.read_tracker.specs.Reads.{new_tracker, new_table, new_read, insert, open_places, after_response, after_commit, has_quorum, serve};
+ghost use Rattle.std.specs.Prelude.{◌≡◌, ◌<◌, OnOk};
+ghost use Rattle.read_tracker.specs.Reads.{new_tracker, new_table, new_read, open_next, insert, open_places, after_response, after_commit, has_quorum, serve};
 
 use message::{ReadId, Refusal, increment};
 
@@ -41,12 +41,19 @@ pub struct ReadTable {
     pub served: [ServedRead; 128],
 }
 
-// The tracker and the table after a new read, and what became of it: it is taken under an id, or refused.
+// A new read, whose place in the table is the old open_count, and the tracker that has counted it.
+#[derive(Clone, Copy)]
+pub struct Opening {
+    pub read: OpenRead,
+    pub tracker: ReadTracker,
+}
+
+// The tracker and the table after a new read, and its id.
 #[derive(Clone, Copy)]
 pub struct Inserted {
     pub tracker: ReadTracker,
     pub table: ReadTable,
-    pub opened: Result<ReadId, Refusal>,
+    pub id: ReadId,
 }
 
 impl ReadTable {
@@ -88,6 +95,30 @@ impl ReadTracker {
         ensures { result ≡ open_places self }
     {
         self.open_count.min(128) as usize
+    }
+
+    // A new read, under the next id, without the table. Refused where 128 reads are open, or where the ids are spent: the last one is 2^63-1. So the place
+    // of a read that is opened, open_count, is below 128.
+    #[tactic(auto, unfolding(crate::specs::Reads::open_next))]
+    pub fn open_next(
+        self,
+        tag: u64,
+        arrival_slot: u64,
+        local_ready: bool,
+    ) -> Result<Opening, Refusal>
+        ensures opened { result ≡ open_next self tag arrival_slot local_ready }
+        ensures place { OnOk result (self.open_count < 128) }
+    {
+        if self.open_count >= 128 || self.next_id > 9223372036854775807 {
+            return Err(Refusal::NoRoomForRead);
+        }
+        Ok(Opening {
+            read: OpenRead::new(ReadId(self.next_id), tag, arrival_slot, local_ready),
+            tracker: ReadTracker {
+                next_id: self.next_id + 1,
+                open_count: self.open_count + 1,
+            },
+        })
     }
 }
 
@@ -147,7 +178,7 @@ impl OpenRead {
     }
 }
 
-// A new read, under the next id. Refused where 128 reads are open, or where the ids are spent: the last one is 2^63-1.
+// A new read in the table, behind the open ones.
 #[tactic(auto, unfolding(crate::specs::Reads::insert))]
 pub fn insert(
     tracker: ReadTracker,
@@ -155,28 +186,17 @@ pub fn insert(
     tag: u64,
     arrival_slot: u64,
     local_ready: bool,
-) -> Inserted
+) -> Result<Inserted, Refusal>
     ensures { result ≡ insert tracker table tag arrival_slot local_ready }
 {
-    if tracker.open_count >= 128 || tracker.next_id > 9223372036854775807 {
-        return Inserted {
-            tracker,
-            table,
-            opened: Err(Refusal::NoRoomForRead),
-        };
-    }
-    let id = ReadId(tracker.next_id);
-    let at = tracker.open_count as usize;
-    let read = OpenRead::new(id, tag, arrival_slot, local_ready);
-    table.reads[at] = read;
-    let next_id = tracker.next_id + 1;
-    let open_count = tracker.open_count + 1;
-    Inserted {
-        tracker: ReadTracker {
-            next_id,
-            open_count,
-        },
+    let Opening {
+        read,
+        tracker: after,
+    } = tracker.open_next(tag, arrival_slot, local_ready)?;
+    table.reads[tracker.open_count as usize] = read;
+    Ok(Inserted {
+        tracker: after,
         table,
-        opened: Ok(id),
-    }
+        id: read.id,
+    })
 }

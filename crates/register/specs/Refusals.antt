@@ -16,9 +16,12 @@ entry_refusal_number NoRoomForCell = 15
 -- release of a cell that is not live
 entry_refusal_number CellNotLive = 16
 
--- document 02's number for what became of an entry. Where it gives none the number is ours: 0, the entry was done; 64, its slot is "not after
--- the last one seen"
+-- document 02's number for what became of an entry, by the numbers of the refusals. Where it gives none the number is ours: 0, the entry was done;
+-- 64, its slot is "not after the last one seen"
+abbrev pub outcome_number : {E : Type 0} → (E → ℕ) → Result Entered E → ℕ
+outcome_number number (Ok Done) = 0
+outcome_number number (Ok Older) = 64
+outcome_number number (Err why) = number why
+
 abbrev pub entry_number : Result Entered EntryRefusal → ℕ
-entry_number (Ok Done) = 0
-entry_number (Ok Older) = 64
-entry_number (Err why) = entry_refusal_number why
+entry_number outcome = outcome_number entry_refusal_number outcome

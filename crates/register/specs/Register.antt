@@ -1,6 +1,6 @@
 -- The register of cells, and what an entry makes of it (document 02, E6).
 -- Assumes nothing.
-use Rattle.std.specs.Prelude.{Bool, cond, ◌&&◌, not, List, ℕ, ◌+◌, min, ltb, leb, eqb, length, take, replicate, Ok, Err}
+use Rattle.std.specs.Prelude.{Bool, cond, ◌&&◌, not, List, ℕ, ◌+◌, min, ltb, leb, eqb, length, take, replicate, Result, Ok, Err}
 use Rattle.message.specs.Rounds.{increment}
 use Rattle.raster.specs.Raster.{frequency_of, raster_refusal}
 use Rattle.places.specs.Places.{at_front}
@@ -14,6 +14,7 @@ use Rattle.register.specs.declared.Figures.{Figures}
 use Rattle.register.specs.declared.Register.{Register}
 use Rattle.register.specs.declared.EntryRefusal.{EntryRefusal}
 use Rattle.register.specs.declared.EntryRefusal.TheVariants.{NumberTooLarge, NotAssignable, NoRoomForCell, CellNotLive}
+use Rattle.register.specs.declared.Entered.{Entered}
 use Rattle.register.specs.declared.Entered.TheVariants.{Done, Older}
 use Rattle.register.specs.declared.Applied.{Applied}
 
@@ -62,11 +63,21 @@ with_released n r =
     holding (cell_removed n (live_cells r))
     (record { made = r.figures.made; superseded = r.figures.superseded; released = increment r.figures.released }) r
 
+-- the same register with other cells, and with other counts
+abbrev pub with_cells : List Cell → Register → Register
+with_cells cells r = record { next_slot = r.next_slot; figures = r.figures; live_count = r.live_count; cells = cells }
+
+abbrev pub with_counts : Figures → ℕ → Register → Register
+with_counts figures live r = record { next_slot = r.next_slot; figures = figures; live_count = live; cells = r.cells }
+
 -- the slot is the last one seen
 abbrev pub slot_seen : ℕ → Register → Register
 slot_seen slot r = record { next_slot = slot + 1; figures = r.figures; live_count = r.live_count; cells = r.cells }
 
 -- ---- what becomes of an entry
+abbrev pub applied : Register → Result Entered EntryRefusal → Applied
+applied r outcome = record { register = r; outcome = outcome }
+
 abbrev pub done : Register → Applied
 done r = record { register = r; outcome = Ok Done }
 

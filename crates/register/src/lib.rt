@@ -1,14 +1,17 @@
 // A register of cells from the commits (document 02, E6).
 #![tactic(auto)]
 
-ghost use Rattle.std.specs.Prelude.{◌≡◌, ◌<◌, ◌≤◌, ℕ, min, length, MatchResult};
+ghost use Rattle.std.specs.Prelude.{◌≡◌, ◌<◌, ◌≤◌, ℕ, List, [], min, length, set, take, MatchResult};
+ghost use Rattle.places.specs.Places.{at_front, without, with_at};
 ghost use Rattle.register.specs.Cells.{found, number_of_cell};
-ghost use Rattle.register.specs.Refusals.{entry_refusal_number, entry_number};
-ghost use Rattle.register.specs.Register.{assignable, new_register, done, refused, assign, release, apply};
+ghost use Rattle.register.specs.Refusals.{entry_refusal_number, outcome_number};
+ghost use Rattle.register.specs.Register.{live_places, live_cells, assignable, new_register, with_cells, with_counts, slot_seen, applied, done, assign, release, apply};
+ghost use Rattle.register.specs.declared.Register.{Register};
 
 use message::increment;
 use places::{insert_at, remove_at};
 use raster::frequency_of;
+use refusals::Refused;
 
 // "Cell numbers grow from 16 to 32 bits in entries and register" (E7)
 pub type CellNumber = u32;
@@ -76,18 +79,18 @@ pub enum Entered {
     Older,
 }
 
-impl EntryRefusal {
+impl Refused for EntryRefusal {
+    ghost refusal_number = { entry_refusal_number };
+
     // Document 02's number.
-    pub fn number(self) -> u64
-        ensures { result ≡ entry_refusal_number self }
-    {
+    fn number(self) -> u64 {
         self as u64
     }
 }
 
 // Document 02's number for what became of an entry, and where it gives none 0, done, or 64, older.
-pub fn entry_number(outcome: Result<Entered, EntryRefusal>) -> u64
-    ensures { result ≡ entry_number outcome }
+pub fn entry_number<E: Refused>(outcome: Result<Entered, E>) -> u64
+    ensures { result ≡ outcome_number E.refusal_number outcome }
 {
     match outcome {
         Ok(Entered::Done) => 0,
@@ -158,7 +161,8 @@ impl Numbered for u64 {
 }
 
 // The place of that number, or the place where it would stand: that of the first number that is not below it. The count of a register may be any
-// number and its cells may stand in any order, and every register is answered: so the search takes one after the other.
+// number and its cells may stand in any order, and every register is answered: so the search takes one after the
+// other. By `position` the number found and the number past it would be asked for twice.
 pub fn find<T: Numbered>(list: &[T], number: u64) -> Result<usize, usize>
     ensures found { result ≡ found T.number_of number list.now }
     ensures within { MatchResult result (λ at. at < length list.now) (λ at. at ≤ length list.now) }
@@ -182,76 +186,178 @@ pub fn done(register: Register) -> Applied
     }
 }
 
-fn refused(register: Register, why: EntryRefusal) -> Applied
-    ensures { result ≡ refused why register }
-{
-    Applied {
-        register,
-        outcome: Err(why),
+// A register, whatever it is made of: one value, or arrays that a host lends.
+pub trait RegisterPlaces {
+    ghost register: { Self → Register };
+
+    // What one that lends its places keeps: the references that it holds.
+    ghost lent: { Self → List ℕ };
+
+    fn next_slot(&self) -> u64
+        ensures { result ≡ (register self.now).next_slot };
+
+    fn figures(&self) -> Figures
+        ensures { result ≡ (register self.now).figures };
+
+    // How many places hold live cells. There are 512 places.
+    fn live(&self) -> usize
+        ensures live { result ≡ live_places (register self.now) }
+        ensures places { length (register self.now).cells ≡ 512 };
+
+    // The place of a live cell, or the place where it would stand.
+    fn find(&self, number: CellNumber) -> Result<usize, usize>
+        ensures found { result ≡ found number_of_cell number (live_cells (register self.now)) }
+        ensures within { MatchResult result (λ at. at < live_places (register self.now)) (λ at. at ≤ live_places (register self.now)) };
+
+    // The slot is the last one seen.
+    fn see(&mut self, slot: u64)
+        requires { slot < 18446744073709551615 }
+        ensures seen { register self.new ≡ slot_seen slot (register self.old) }
+        ensures same_references { lent self.new ≡ lent self.old };
+
+    fn count(&mut self, figures: Figures, live: u64)
+        ensures counted { register self.new ≡ with_counts figures live (register self.old) }
+        ensures same_references { lent self.new ≡ lent self.old };
+
+    // The cell goes to place `at`.
+    fn put(&mut self, at: usize, cell: Cell)
+        requires { at < 512 }
+        ensures cells { register self.new ≡ with_cells (set (register self.old).cells at cell) (register self.old) }
+        ensures same_references { lent self.new ≡ lent self.old };
+
+    // The first `places` cells with a new one at place `at`: the later ones move one place up.
+    fn insert(&mut self, at: usize, places: usize, cell: Cell)
+        requires { (at ≤ places) × (places < 512) }
+        ensures cells { register self.new ≡ with_cells (at_front (with_at at cell (take places (register self.old).cells)) (register self.old).cells) (register self.old) }
+        ensures same_references { lent self.new ≡ lent self.old };
+
+    // The first `places` cells without the one at place `at`: the later ones move one place down.
+    fn remove(&mut self, at: usize, places: usize)
+        requires { (at < places) × (places ≤ 512) }
+        ensures cells { register self.new ≡ with_cells (at_front (without at (take places (register self.old).cells)) (register self.old).cells) (register self.old) }
+        ensures same_references { lent self.new ≡ lent self.old };
+}
+
+impl RegisterPlaces for Register {
+    ghost register = { λ r. r };
+
+    ghost lent = { λ _. [] };
+
+    fn next_slot(&self) -> u64 {
+        self.next_slot
+    }
+
+    fn figures(&self) -> Figures {
+        self.figures
+    }
+
+    fn live(&self) -> usize {
+        live_places(self.live_count)
+    }
+
+    fn find(&self, number: CellNumber) -> Result<usize, usize> {
+        let live = live_places(self.live_count);
+        find(&self.cells[..live], number as u64)
+    }
+
+    fn see(&mut self, slot: u64) {
+        self.next_slot = slot + 1;
+    }
+
+    fn count(&mut self, figures: Figures, live: u64) {
+        self.figures = figures;
+        self.live_count = live;
+    }
+
+    fn put(&mut self, at: usize, cell: Cell) {
+        self.cells[at] = cell;
+    }
+
+    fn insert(&mut self, at: usize, places: usize, cell: Cell) {
+        insert_at(&mut self.cells, at, places, cell);
+    }
+
+    fn remove(&mut self, at: usize, places: usize) {
+        remove_at(&mut self.cells, at, places);
     }
 }
 
 // An assignment: refused with 14 or 15, or done.
-fn assign(mut register: Register, number: CellNumber, assignment: Assignment) -> Applied
-    ensures { result ≡ assign register number assignment }
+#[tactic(auto, using(crate::proofs::Ends::assign_supersedes, crate::proofs::Ends::assign_full, crate::proofs::Ends::assign_makes), unfolding(crate::specs::Register::assign))]
+fn assign<R: RegisterPlaces>(
+    register: &mut R,
+    number: CellNumber,
+    assignment: Assignment,
+) -> Result<Entered, EntryRefusal>
+    ensures same { R.lent register.new ≡ R.lent register.old }
+    ensures applied { applied (R.register register.new) result ≡ assign (R.register register.old) number assignment }
 {
     if !assignment.assignable() {
-        return refused(register, EntryRefusal::NotAssignable);
+        return Err(EntryRefusal::NotAssignable);
     }
-    let places = live_places(register.live_count);
-    match find(&register.cells[..places], number as u64) {
+    let live = register.live();
+    let mut figures = register.figures();
+    figures.made = increment(figures.made);
+    match register.find(number) {
         Ok(at) => {
-            register.figures.made = increment(register.figures.made);
-            register.figures.superseded = increment(register.figures.superseded);
-            register.live_count = places as u64;
-            register.cells[at] = Cell { number, assignment };
-            done(register)
+            figures.superseded = increment(figures.superseded);
+            register.count(figures, live as u64);
+            register.put(at, Cell { number, assignment });
         }
         Err(at) => {
-            if places >= 512 {
-                return refused(register, EntryRefusal::NoRoomForCell);
+            if live >= 512 {
+                return Err(EntryRefusal::NoRoomForCell);
             }
-            register.figures.made = increment(register.figures.made);
-            register.live_count = places as u64 + 1;
-            insert_at(&mut register.cells, at, places, Cell { number, assignment });
-            done(register)
+            register.count(figures, live as u64 + 1);
+            register.insert(at, live, Cell { number, assignment });
         }
     }
+    Ok(Entered::Done)
 }
 
 // A release: refused with 16, or done.
-fn release(mut register: Register, number: CellNumber) -> Applied
-    ensures { result ≡ release register number }
+#[tactic(auto, using(crate::proofs::Ends::release_releases, crate::proofs::Ends::release_unknown))]
+fn release<R: RegisterPlaces>(register: &mut R, number: CellNumber) -> Result<Entered, EntryRefusal>
+    ensures same { R.lent register.new ≡ R.lent register.old }
+    ensures applied { applied (R.register register.new) result ≡ release (R.register register.old) number }
 {
-    let places = live_places(register.live_count);
-    match find(&register.cells[..places], number as u64) {
-        Ok(at) => {
-            register.figures.released = increment(register.figures.released);
-            register.live_count = places as u64 - 1;
-            remove_at(&mut register.cells, at, places);
-            done(register)
-        }
-        Err(_) => refused(register, EntryRefusal::CellNotLive),
-    }
+    let live = register.live();
+    let Ok(at) = register.find(number) else {
+        return Err(EntryRefusal::CellNotLive);
+    };
+    let mut figures = register.figures();
+    figures.released = increment(figures.released);
+    register.count(figures, live as u64 - 1);
+    register.remove(at, live);
+    Ok(Entered::Done)
 }
 
-// The register after an entry. The last slot is 2^63-2; a refused entry's slot is seen, unless it is above that.
+// What becomes of an entry, in a register whose places may be lent. The last slot is 2^63-2; a refused entry's slot is seen, unless it is above that.
 #[tactic(auto, unfolding(crate::specs::Register::apply, crate::specs::Register::apply_change))]
-pub fn apply(mut register: Register, entry: CellEntry) -> Applied
-    ensures { result ≡ apply register entry }
+pub fn apply_in<R: RegisterPlaces>(
+    register: &mut R,
+    entry: CellEntry,
+) -> Result<Entered, EntryRefusal>
+    ensures same { R.lent register.new ≡ R.lent register.old }
+    ensures applied { applied (R.register register.new) result ≡ apply (R.register register.old) entry }
 {
     if entry.slot > 9223372036854775806 {
-        return refused(register, EntryRefusal::NumberTooLarge);
+        return Err(EntryRefusal::NumberTooLarge);
     }
-    if entry.slot < register.next_slot {
-        return Applied {
-            register,
-            outcome: Ok(Entered::Older),
-        };
+    if entry.slot < register.next_slot() {
+        return Ok(Entered::Older);
     }
-    register.next_slot = entry.slot + 1;
+    register.see(entry.slot);
     match entry.change {
         Change::Assign(assignment) => assign(register, entry.cell, assignment),
         Change::Release => release(register, entry.cell),
     }
+}
+
+// The register after an entry.
+pub fn apply(mut register: Register, entry: CellEntry) -> Applied
+    ensures { result ≡ apply register entry }
+{
+    let outcome = apply_in(&mut register, entry);
+    Applied { register, outcome }
 }

@@ -8,6 +8,7 @@ use native.Mathlib.Omega.{arith}
 use lib.Dec.{leb, eqb}
 use lib.ListN.{length, take}
 use Rattle.register.specs.Cells.{has_number, number_place, number_of_cell, is_live_cell, cell_place, found}
+use Rattle.register.specs.Register.{live_places, live_cells}
 use Rattle.std.specs.Prelude.{Result}
 use Rattle.register_arrays.specs.Columns.{HavePlaces, cells_in, register_of}
 use Rattle.register_arrays.proofs.Levels.{Level, below, level, cells_length}
@@ -39,5 +40,6 @@ module _ (ns cs ws figures : List ℕ) (h : HavePlaces ns cs ws) where
   pub register_long : length (register_of ns cs ws figures).cells ≡ 512
   register_long = cells_length ns cs ws (level ns cs ws h) ∙ h.0
 
-  pub found_live : (n k : ℕ) (f : Result ℕ ℕ) → f ≡ found (λ (m : ℕ). m) n (take k ns) → f ≡ found number_of_cell n (take k (register_of ns cs ws figures).cells)
-  found_live n k f is = is ∙ found_in_cells n k ns cs ws (level ns cs ws h)
+  pub found_live : (n k : ℕ) → k ≡ live_places (register_of ns cs ws figures) → (f : Result ℕ ℕ) → f ≡ found (λ (m : ℕ). m) n (take k ns)
+      → f ≡ found number_of_cell n (live_cells (register_of ns cs ws figures))
+  found_live n k live f is = is ∙ found_in_cells n k ns cs ws (level ns cs ws h) ∙ ap (λ (m : ℕ). found number_of_cell n (take m (cells_in ns cs ws))) live

@@ -35,12 +35,13 @@ abbrev pub register_of : List ℕ → List ℕ → List ℕ → List ℕ → Reg
 register_of cells carriers widths figures =
     record { next_slot = get_or figures 0 0; figures = figures_in figures; live_count = get_or figures 4 0; cells = cells_in cells carriers widths }
 
--- the cells, and the register, in the lent arrays
-abbrev pub cells_of : Columns → List Cell
-cells_of c = cells_in c.cells.now c.carriers.now c.widths.now
-
+-- the register in the lent arrays
 abbrev pub register_in : Columns → Register
 register_in c = register_of c.cells.now c.carriers.now c.widths.now c.figures.now
+
+-- the references to them
+abbrev pub lent_arrays : Columns → List ℕ
+lent_arrays c = c.cells.ghost_name ∷ c.carriers.ghost_name ∷ c.widths.ghost_name ∷ c.figures.ghost_name ∷ []
 
 -- they are the arrays that were lent
 abbrev pub SameArrays : Columns → Columns → Type 0

@@ -3,16 +3,14 @@
 // and the number of live cells. The contracts are those of crates/register, on the register that the numbers stand for, whatever they are.
 #![tactic(auto)]
 
-ghost use Rattle.std.specs.Prelude.{◌≡◌, ◌<◌, ◌≤◌, set, take};
-ghost use Rattle.places.specs.Places.{at_front, without, with_at};
-ghost use Rattle.register.specs.Cells.{cell_of};
-ghost use Rattle.register.specs.Register.{new_register, slot_seen, assign, release, apply};
-ghost use Rattle.register_arrays.specs.Columns.{HavePlaces, cells_of, register_in, SameArrays, applied_in, entry_from_numbers, report_in};
+ghost use Rattle.std.specs.Prelude.{◌≡◌};
+ghost use Rattle.register.specs.Register.{new_register, apply};
+ghost use Rattle.register_arrays.specs.Columns.{HavePlaces, figures_in, register_in, lent_arrays, SameArrays, applied_in, entry_from_numbers, report_in};
 
-use message::increment;
 use places::{insert_at, remove_at};
 use register::{
-    Assignment, CellEntry, CellNumber, Change, Entered, EntryRefusal, Figures, find, live_places,
+    Assignment, Cell, CellEntry, CellNumber, Change, Entered, EntryRefusal, Figures,
+    RegisterPlaces, apply_in, find, live_places,
 };
 
 // The lent arrays of a register. Any numbers may stand in them: so there is no invariant.
@@ -24,138 +22,96 @@ pub struct Columns<'a> {
     pub figures: &'a mut [u64; 5],
 }
 
+// The figures of the report.
+fn figures_in(figures: &[u64; 5]) -> Figures
+    ensures { result ≡ figures_in figures.now }
+{
+    Figures {
+        made: figures[1],
+        superseded: figures[2],
+        released: figures[3],
+    }
+}
+
 // A proof knows how many places a lent array has where it is passed on as a slice: this function does nothing but hand that on.
 fn have_places(cells: &[u64], carriers: &[u64], widths: &[u64])
     requires { HavePlaces cells.now carriers.now widths.now }
     ensures { HavePlaces cells.now carriers.now widths.now }
 {}
 
-impl Columns<'_> {
-    // The cell goes to place `at`.
-    fn put_cell(&mut self, at: usize, number: u64, assignment: Assignment)
-        requires { at < 512 }
-        ensures same { SameArrays self.old self.new }
-        ensures figures { self.new.figures.now ≡ self.old.figures.now }
-        ensures cells { cells_of self.new ≡ set (cells_of self.old) at (cell_of number assignment) }
-    {
-        self.cells[at] = number;
-        self.carriers[at] = assignment.carrier;
-        self.widths[at] = assignment.width;
+// The register that the lent arrays hold.
+impl RegisterPlaces for Columns<'_> {
+    ghost register = { register_in };
+
+    ghost lent = { lent_arrays };
+
+    fn next_slot(&self) -> u64 {
+        let figures = *self.figures;
+        figures[0]
     }
 
-    fn insert_cell(&mut self, at: usize, places: usize, number: u64, assignment: Assignment)
-        requires { (at ≤ places) × (places < 512) }
-        ensures same { SameArrays self.old self.new }
-        ensures figures { self.new.figures.now ≡ self.old.figures.now }
-        ensures cells { cells_of self.new ≡ at_front (with_at at (cell_of number assignment) (take places (cells_of self.old))) (cells_of self.old) }
-    {
-        insert_at(self.cells, at, places, number);
-        insert_at(self.carriers, at, places, assignment.carrier);
-        insert_at(self.widths, at, places, assignment.width);
+    fn figures(&self) -> Figures {
+        figures_in(self.figures)
     }
 
-    fn remove_cell(&mut self, at: usize, places: usize)
-        requires { (at < places) × (places ≤ 512) }
-        ensures same { SameArrays self.old self.new }
-        ensures figures { self.new.figures.now ≡ self.old.figures.now }
-        ensures cells { cells_of self.new ≡ at_front (without at (take places (cells_of self.old))) (cells_of self.old) }
-    {
-        remove_at(self.cells, at, places);
-        remove_at(self.carriers, at, places);
-        remove_at(self.widths, at, places);
-    }
-
-    // An assignment: refused with 14 or 15, or done.
-    fn assign(&mut self, number: u64, assignment: Assignment) -> Result<Entered, EntryRefusal>
-        ensures same { SameArrays self.old self.new }
-        ensures applied { applied_in result self.new ≡ assign (register_in self.old) number assignment }
-    {
-        if !assignment.assignable() {
-            return Err(EntryRefusal::NotAssignable);
-        }
+    #[tactic(auto, using(crate::proofs::Searching::register_long))]
+    fn live(&self) -> usize {
         have_places(self.cells, self.carriers, self.widths);
-        let places = live_places(self.figures[4]);
-        match find(&self.cells[..places], number) {
-            Ok(at) => {
-                self.put_cell(at, number, assignment);
-                let made = increment(self.figures[1]);
-                let superseded = increment(self.figures[2]);
-                *self.figures = [
-                    self.figures[0],
-                    made,
-                    superseded,
-                    self.figures[3],
-                    places as u64,
-                ];
-            }
-            Err(at) => {
-                if places >= 512 {
-                    return Err(EntryRefusal::NoRoomForCell);
-                }
-                self.insert_cell(at, places, number, assignment);
-                let made = increment(self.figures[1]);
-                let live = places as u64 + 1;
-                *self.figures = [
-                    self.figures[0],
-                    made,
-                    self.figures[2],
-                    self.figures[3],
-                    live,
-                ];
-            }
-        }
-        Ok(Entered::Done)
+        let figures = *self.figures;
+        live_places(figures[4])
     }
 
-    // A release: refused with 16, or done.
-    fn release(&mut self, number: u64) -> Result<Entered, EntryRefusal>
-        ensures same { SameArrays self.old self.new }
-        ensures applied { applied_in result self.new ≡ release (register_in self.old) number }
-    {
+    #[tactic(auto, using(crate::proofs::Searching::found_live))]
+    fn find(&self, number: CellNumber) -> Result<usize, usize> {
         have_places(self.cells, self.carriers, self.widths);
-        let places = live_places(self.figures[4]);
-        let Ok(at) = find(&self.cells[..places], number) else {
-            return Err(EntryRefusal::CellNotLive);
-        };
-        self.remove_cell(at, places);
-        let released = increment(self.figures[3]);
-        let live = places as u64 - 1;
-        *self.figures = [
-            self.figures[0],
-            self.figures[1],
-            self.figures[2],
-            released,
-            live,
-        ];
-        Ok(Entered::Done)
+        let live = self.live();
+        find(&self.cells[..live], number as u64)
     }
 
-    // The slot is the last one seen.
-    pub fn see(&mut self, slot: u64)
-        requires { slot < 18446744073709551615 }
-        ensures same { SameArrays self.old self.new }
-        ensures seen { register_in self.new ≡ slot_seen slot (register_in self.old) }
-    {
+    fn see(&mut self, slot: u64) {
         let [_, made, superseded, released, live] = *self.figures;
         *self.figures = [slot + 1, made, superseded, released, live];
     }
 
+    fn count(&mut self, figures: Figures, live: u64) {
+        let next_slot = self.figures[0];
+        let Figures {
+            made,
+            superseded,
+            released,
+        } = figures;
+        *self.figures = [next_slot, made, superseded, released, live];
+    }
+
+    #[tactic(auto, using(crate::proofs::Levels::cells_set))]
+    fn put(&mut self, at: usize, cell: Cell) {
+        self.cells[at] = cell.number as u64;
+        self.carriers[at] = cell.assignment.carrier;
+        self.widths[at] = cell.assignment.width;
+    }
+
+    #[tactic(auto, using(crate::proofs::Levels::level, crate::proofs::Levels::cells_inserted))]
+    fn insert(&mut self, at: usize, places: usize, cell: Cell) {
+        insert_at(self.cells, at, places, cell.number as u64);
+        insert_at(self.carriers, at, places, cell.assignment.carrier);
+        insert_at(self.widths, at, places, cell.assignment.width);
+    }
+
+    #[tactic(auto, using(crate::proofs::Levels::level, crate::proofs::Levels::cells_removed))]
+    fn remove(&mut self, at: usize, places: usize) {
+        remove_at(self.cells, at, places);
+        remove_at(self.carriers, at, places);
+        remove_at(self.widths, at, places);
+    }
+}
+
+impl Columns<'_> {
     // The register after an entry, as crates/register has it.
     pub fn apply(&mut self, entry: CellEntry) -> Result<Entered, EntryRefusal>
         ensures same { SameArrays self.old self.new }
         ensures applied { applied_in result self.new ≡ apply (register_in self.old) entry }
     {
-        if entry.slot > 9223372036854775806 {
-            return Err(EntryRefusal::NumberTooLarge);
-        }
-        if entry.slot < self.figures[0] {
-            return Ok(Entered::Older);
-        }
-        self.see(entry.slot);
-        match entry.change {
-            Change::Assign(assignment) => self.assign(entry.cell as u64, assignment),
-            Change::Release => self.release(entry.cell as u64),
-        }
+        apply_in(self, entry)
     }
 
     // A register that has seen no entry.
@@ -196,12 +152,7 @@ pub fn entry_from_numbers(
 pub fn put_page(figures: &[u64; 5], out: &mut [u8; 116]) -> u64
     ensures { (out.new, result) ≡ report_in figures.now }
 {
-    let counted = Figures {
-        made: figures[1],
-        superseded: figures[2],
-        released: figures[3],
-    };
-    let page = report::page_with(counted, live_places(figures[4]) as u64);
+    let page = report::page_with(figures_in(figures), live_places(figures[4]) as u64);
     let bytes = page.bytes;
     *out = bytes;
     page.len as u64

@@ -7,6 +7,7 @@ ghost use Rattle.register_lines.specs.Entries.{assignment_of, assignment_at, rel
 ghost use Rattle.register_lines.specs.Answers.{outcome_text, figures_answer, cell_text, cells_text, after_question, register_answer};
 ghost use Rattle.register_lines.specs.Reports.{take_entry, take_line, page_after};
 
+use refusals::Refused;
 use register::{
     Applied, Assignment, Cell, CellEntry, CellNumber, Change, Entered, EntryRefusal, Register,
     live_places,
@@ -177,7 +178,7 @@ pub fn put_figures_answer(out: &mut Output<'_>, register: &Register)
 }
 
 // A live cell, behind what stands before it.
-#[tactic(auto, using(texts::proofs::Putting::put_then), unfolding(crate::specs::Answers::cell_text))]
+#[tactic(auto, using(texts::proofs::Putting::put_append), unfolding(crate::specs::Answers::cell_text, texts::specs::Text::put))]
 fn put_cell(out: &mut Output<'_>, cell: Cell)
     ensures { out.new ≡ put (cell_text cell) out.old }
 {
@@ -189,6 +190,7 @@ fn put_cell(out: &mut Output<'_>, cell: Cell)
 }
 
 // The number of live cells and each of them, with LF.
+#[tactic(auto, using(texts::proofs::Putting::put_then, texts::proofs::Putting::reached_next, texts::proofs::Putting::reached_all), unfolding(crate::specs::Answers::cells_text))]
 pub fn put_cells(out: &mut Output<'_>, register: &Register)
     ensures { out.new ≡ put (cells_text register.now) out.old }
 {

@@ -1,6 +1,6 @@
 -- What a line without a fault makes of the shard.
 -- Assumes nothing.
-use Rattle.std.specs.Prelude.{cond, List, ℕ, eqb, None}
+use Rattle.std.specs.Prelude.{◌≡◌, ◌⊎◌, Bool, true, cond, List, [], ◌∷◌, ℕ, eqb, None}
 use Rattle.message.specs.Outcomes.{Outcome}
 use Rattle.steps.specs.Steps.{no_messages}
 use Rattle.settings.specs.declared.Settings.{Settings}
@@ -26,3 +26,12 @@ with_state shard state = answered (record { made = shard.made; settings = shard.
 unfoldable pub answer_of : Shard → List ℕ → Answer
 answer_of shard ns =
     cond (eqb (at ns 0) 1) (new_answer (settings_of ns)) (cond (eqb (at ns 0) 2) (with_state shard (state_of ns)) (call_of shard (call_of_numbers ns)))
+
+-- an empty line is skipped, and one that begins with # (35)
+abbrev pub is_skipped : List ℕ → Bool
+is_skipped [] = true
+is_skipped (b ∷ line) = eqb b 35
+
+-- a line that is skipped leaves the shard; any other one leaves it too, where it has a fault, or what its numbers make of it
+abbrev pub Leaves : Shard → List ℕ → Shard → Type 0
+Leaves old line new = (is_skipped line ≡ true → new ≡ old) × ((new ≡ old) ⊎ ((ns : List ℕ) × (new ≡ (answer_of old ns).shard)))

@@ -3,27 +3,27 @@
 #![tactic(auto)]
 
 ghost use Rattle.std.specs.Prelude.{◌≡◌};
-ghost use Rattle.replay.specs.Answer.{answered, new_answer, with_state, answer_of};
+ghost use Rattle.replay.specs.Answer.{answered, new_answer, with_state, answer_of, is_skipped, Leaves};
 
 use call_lines::Fault;
 use calls::Reply;
 use consensus::{Answer, Shard};
+use line_blocks::LineTaker;
 use message::Outcome;
 use settings::Settings;
 use state_calls::State;
-use std::io::Read;
 use texts::Output;
 
-// What stays from one block to the next: the shard, how many bytes of a line that has not ended stand at the start of the input buffer, and
-// whether the rest of a line that is too long is being skipped.
+// The shard that the calls change, and the places for the numbers of a line.
 #[derive(Drop)]
 struct Replay {
     shard: Shard,
-    kept: usize,
-    skipping: bool,
+    places: [u64; 2048],
 }
 
-fn is_skipped(line: &[u8]) -> bool {
+fn is_skipped(line: &[u8]) -> bool
+    ensures { result ≡ is_skipped line.now }
+{
     line.is_empty() || line[0] == b'#'
 }
 
@@ -81,7 +81,9 @@ fn numbers_of<'a>(line: &[u8], places: &'a mut [u64]) -> Result<&'a [u64], Fault
 }
 
 // Answers one line, without its LF.
-fn answer_line(shard: &mut Shard, line: &[u8], places: &mut [u64], out: &mut Output) {
+fn answer_line(shard: &mut Shard, line: &[u8], places: &mut [u64], out: &mut Output)
+    ensures { Leaves shard.old line.now shard.new }
+{
     if is_skipped(line) {
         return;
     }
@@ -95,61 +97,22 @@ fn answer_line(shard: &mut Shard, line: &[u8], places: &mut [u64], out: &mut Out
     }
 }
 
-// Answers the lines that end in the input, from a place on, and hands back how much of the input is used. A `while` and no `for` over lines: each turn goes on
-// by the length of a line, and the place that it comes to is handed back.
-fn answer_block(
-    shard: &mut Shard,
-    from: usize,
-    input: &[u8],
-    places: &mut [u64],
-    out: &mut Output,
-) -> usize {
-    let mut used = from;
-    while used < input.len() {
-        let end = line_blocks::line_end(input, used);
-        if end >= input.len() {
-            break;
+impl LineTaker for Replay {
+    ghost takes = { λ old line new. Leaves old.shard line new.shard };
+
+    fn take(&mut self, line: &[u8], out: &mut Output) {
+        answer_line(&mut self.shard, line, &mut self.places, out);
+    }
+
+    fn take_too_long(&mut self, start: &[u8], out: &mut Output) {
+        if !is_skipped(start) {
+            fault_lines::put_fault(out, Fault::TooLong);
         }
-        line_blocks::with_room(out);
-        answer_line(shard, &input[used..end], places, out);
-        used = end + 1;
     }
-    line_blocks::write_output(out);
-    used
-}
 
-// A line that fills the whole buffer is answered before its end is seen.
-fn answer_too_long(input: &[u8], out: &mut Output) {
-    if !is_skipped(input) {
-        fault_lines::put_fault(out, Fault::TooLong);
-        line_blocks::write_output(out);
+    fn goes_on(&self) -> bool {
+        true
     }
-}
-
-// Reads one block and answers it, and says whether the input may go on. The last line is one that no LF ends.
-fn take_block<R: Read>(
-    replay: &mut Replay,
-    reader: &mut R,
-    input: &mut [u8],
-    places: &mut [u64],
-    out: &mut Output,
-) -> bool {
-    let end = line_blocks::read_behind(reader, input, replay.kept);
-    if end <= replay.kept {
-        answer_line(&mut replay.shard, &input[..end], places, out);
-        line_blocks::write_output(out);
-        return false;
-    }
-    let start = line_blocks::first_line(&input[..end], replay.skipping);
-    let used = answer_block(&mut replay.shard, start.from, &input[..end], places, out);
-    replay.kept = line_blocks::move_to_start(input, used, end);
-    replay.skipping = start.skipping;
-    if replay.kept >= input.len() {
-        answer_too_long(input, out);
-        replay.kept = 0;
-        replay.skipping = true;
-    }
-    true
 }
 
 // The shard before the first settings, which is not made.
@@ -161,16 +124,10 @@ fn main(rt: HostRuntime) {
     let mut stdin = rt.stdin();
     let mut input = io::large_buffer();
     let mut output_bytes = io::large_buffer();
-    let mut places = [0u64; 2048];
     let mut out = Output::new(&mut output_bytes);
     let mut replay = Replay {
         shard: unmade(),
-        kept: 0,
-        skipping: false,
+        places: [0; 2048],
     };
-    for _ in 0..u64::MAX {
-        if !take_block(&mut replay, &mut stdin, &mut input, &mut places, &mut out) {
-            break;
-        }
-    }
+    line_blocks::take_input(&mut stdin, &mut input, &mut replay, &mut out);
 }

@@ -8,6 +8,7 @@ ghost use Rattle.reply_lines.specs.Reply.{outcome_text, commit_text, served_text
 use calls::{CommittedSlot, Reply};
 use message::Outcome;
 use read_tracker::ServedRead;
+use refusals::Refused;
 use texts::Output;
 
 #[tactic(auto, unfolding(crate::specs::Reply::outcome_text))]
@@ -37,9 +38,11 @@ fn put_served_read(out: &mut Output, read: &ServedRead)
     out.put_fields(b" | served", &[read.id.0, read.tag, read.waited_for, mark]);
 }
 
-// Puts the reads in the first served_count places, of which there are 128.
+// Puts the reads in the first served_count places, of which there are 128. The array comes with its count, and no slice in their place: the count is that
+// of the reply, and any count has an answer here.
 // One loop for these and the open reads of `shard_lines` would be a trait that neither crate may implement for them, or a closure with its text as
 // a ghost value: no plainer than the two lines.
+#[tactic(auto, using(texts::proofs::Putting::reached_next, texts::proofs::Putting::reached_all), unfolding(texts::specs::Text::first_places))]
 fn put_served(out: &mut Output, served: &[ServedRead; 128], served_count: u64)
     ensures { out.new ≡ put (first_places served_text served.now served_count) out.old }
 {
@@ -49,7 +52,7 @@ fn put_served(out: &mut Output, served: &[ServedRead; 128], served_count: u64)
     }
 }
 
-#[tactic(auto, using(texts::proofs::Putting::put_then), unfolding(crate::specs::Reply::reply_text))]
+#[tactic(auto, using(texts::proofs::Putting::put_append), unfolding(crate::specs::Reply::reply_text, texts::specs::Text::put))]
 pub fn put_reply(out: &mut Output, reply: Reply, served: &[ServedRead; 128])
     ensures { out.new ≡ put (reply_text reply served.now) out.old }
 {

@@ -36,7 +36,7 @@ pub fn put_figures(out: &mut Output<'_>, figures: Figures, live: u64)
     out.put_number(live);
 }
 
-#[tactic(auto, using(texts::proofs::Putting::put_then), unfolding(crate::specs::Report::report_header, crate::specs::Report::report_text))]
+#[tactic(auto, using(texts::proofs::Putting::put_append), unfolding(crate::specs::Report::report_header, crate::specs::Report::report_text, texts::specs::Text::put))]
 fn put_report(out: &mut Output<'_>, figures: Figures, live: u64)
     ensures { out.new ≡ put (report_text figures live) out.old }
 {

@@ -3,7 +3,7 @@
 #![tactic(auto)]
 
 ghost use Rattle.std.specs.Prelude.{◌≡◌, Some};
-ghost use Rattle.round_state.specs.Paxos.{get_v, get_last_accepted_round, is_prepared, paxos_can_commit, with_sender, with_own, counted, with_held, goto_round, next_round, full_clear, held_after_promise, receive_promise, paxos_propose_v, held_is, accept_fits, receive_accept, accept_own, self_accept, adopt_from_epaxos};
+ghost use Rattle.round_state.specs.Paxos.{get_v, get_last_accepted_round, is_prepared, paxos_can_commit, with_sender, with_own, counted, goto_round, next_round, full_clear, held_after_promise, receive_promise, paxos_propose_v, held_is, accept_fits, receive_accept, accept_own, self_accept, adopt_from_epaxos};
 
 use message::{PaxosRound, Refusal, RoundV};
 use quorum::QuorumRow;

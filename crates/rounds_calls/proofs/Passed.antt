@@ -1,6 +1,6 @@
 -- Where the rounds are enough for a call that the core has passed on, the core's answer plays no part.
 -- Assumes nothing.
-use mathlib.Core.Path.{◌≡◌, refl, sym, ◌∙◌}
+use mathlib.Core.Path.{◌≡◌, refl}
 use mathlib.Core.Bool.{Bool, true, false, cond}
 use Rattle.basics.proofs.Tests.{not_both}
 use Rattle.message.specs.Modes.{has_fast_path}
@@ -11,9 +11,8 @@ use Rattle.delivery.specs.declared.Delivery.{Delivery}
 use Rattle.calls.specs.declared.Call.{Call}
 use Rattle.calls.specs.declared.Call.TheVariants.{Propose, StartRead, Receive}
 use Rattle.calls.specs.declared.Taken.{Taken}
-use Rattle.core_calls.specs.declared.CoreAnswer.{CoreAnswer}
-use Rattle.rounds_calls.specs.RoundsCall.{with_fast, rounds_handle, rounds_taken, rounds_passed}
-use Rattle.rounds_calls.specs.declared.RoundsAnswer.{RoundsAnswer}
+use Rattle.core_calls.specs.CoreCall.{CoreAnswer}
+use Rattle.rounds_calls.specs.RoundsCall.{RoundsAnswer, with_fast, rounds_handle, rounds_taken, rounds_passed}
 
 module _ (rounds : Rounds) (t : Taken) (a b : CoreAnswer) (deep : b.deeper ≡ true) where
   -- an answer that is passed on is not enough

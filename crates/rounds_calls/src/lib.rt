@@ -3,83 +3,28 @@
 #![tactic(auto)]
 
 ghost use Rattle.std.specs.Prelude.{◌≡◌};
-ghost use Rattle.rounds_calls.specs.RoundsCall.{with_fast, rounds_send, rounds_refuse, next_slot, rounds_committed, rounds_finish, rounds_handle, rounds_taken, rounds_passed, rounds_call};
+ghost use Rattle.rounds_calls.specs.RoundsCall.{with_fast, rounds_handle, rounds_taken, rounds_passed, rounds_call};
 
-use calls::{Call, Reply, Taken};
-use core_calls::{CoreAnswer, committed_reply, refused_reply, sent_reply};
+use calls::{Call, Taken};
+use core_calls::{Answered, Commits, CoreAnswer, finish_step, refuses_in};
 use fast_state::FastState;
 use message::{ConsensusMsg, Refusal};
-use steps::{Asked, Heard, Messages, Next, Rounds, RoundsStep, no_messages};
+use steps::{Asked, Heard, Rounds, no_messages};
 
-// What a call makes of the rounds, and its reply. Where `deeper` is set the call goes on with the reads.
-#[derive(Clone, Copy)]
-pub struct RoundsAnswer {
-    pub rounds: Rounds,
-    pub reply: Reply,
-    pub deeper: bool,
-}
+// Where `deeper` is set the call goes on with the reads.
+pub type RoundsAnswer = Answered<Rounds>;
 
 // The core's answer, with the fast half as it was.
 pub fn with_fast(fast: FastState, a: CoreAnswer) -> RoundsAnswer
     ensures { result ≡ with_fast fast a }
 {
     RoundsAnswer {
-        rounds: Rounds { core: a.core, fast },
+        state: Rounds {
+            core: a.state,
+            fast,
+        },
         reply: a.reply,
         deeper: a.deeper,
-    }
-}
-
-fn rounds_send(rounds: Rounds, messages: Messages) -> RoundsAnswer
-    ensures { result ≡ rounds_send rounds messages }
-{
-    RoundsAnswer {
-        rounds,
-        reply: sent_reply(messages),
-        deeper: false,
-    }
-}
-
-fn rounds_refuse(rounds: Rounds, why: Refusal) -> RoundsAnswer
-    ensures { result ≡ rounds_refuse rounds why }
-{
-    RoundsAnswer {
-        rounds,
-        reply: refused_reply(why),
-        deeper: false,
-    }
-}
-
-// The next slot, with the mark of the fast path cleared.
-fn next_slot(a: Asked, v: u64, s: Rounds) -> Rounds
-    ensures { result ≡ next_slot a v s }
-{
-    let mut next = paxos_family::commit_slot(a, v, s);
-    next.core.slot_left_fast_path = false;
-    next
-}
-
-// The commit of a value. Open reads may have become ready by it.
-#[tactic(auto, unfolding(crate::specs::RoundsCall::rounds_committed))]
-fn rounds_committed(a: Asked, v: u64, s: Rounds, messages: Messages) -> RoundsAnswer
-    ensures { result ≡ rounds_committed a v s messages }
-{
-    RoundsAnswer {
-        rounds: next_slot(a, v, s),
-        reply: committed_reply(a, v, s.core, messages),
-        deeper: s.core.tracker.open_count > 0,
-    }
-}
-
-// A step becomes an answer. What is refused leaves the old rounds, and a commit needs its value.
-fn rounds_finish(a: Asked, held: bool, old: Rounds, step: RoundsStep) -> RoundsAnswer
-    ensures { result ≡ rounds_finish a held old step }
-{
-    match step.next {
-        Next::Stays | Next::Continues => rounds_send(step.rounds, step.messages),
-        Next::Commits(v) if held => rounds_committed(a, v, step.rounds, step.messages),
-        Next::Commits(_) => rounds_refuse(old, Refusal::ValueNotHeld),
-        Next::Refuses(why) => rounds_refuse(old, why),
     }
 }
 
@@ -100,9 +45,9 @@ fn rounds_handle(
         | ConsensusMsg::Accept { .. }
         | ConsensusMsg::ForwardRequest { .. } => {
             let step = paxos_family::process_fast(a, heard, msg, rounds);
-            rounds_finish(a, held, rounds, step)
+            finish_step(a, held, rounds, step)
         }
-        ConsensusMsg::Commit { v, .. } => rounds_committed(a, v, rounds, no_messages()),
+        ConsensusMsg::Commit { v, .. } => rounds.committed(a, v, no_messages()),
         ConsensusMsg::ReadRequest { .. } | ConsensusMsg::ReadResponse { .. } => {
             with_fast(rounds.fast, passed)
         }
@@ -120,7 +65,7 @@ fn rounds_taken(
     ensures { result ≡ rounds_taken a heard rounds passed call }
 {
     match call {
-        Call::Propose(v) => rounds_finish(a, true, rounds, propose::propose_fast(a, v, rounds)),
+        Call::Propose(v) => finish_step(a, true, rounds, propose::propose_fast(a, v, rounds)),
         Call::StartRead { .. } => with_fast(rounds.fast, passed),
         Call::Receive(d) => {
             rounds_handle(a, heard, d.said.value_held, rounds, passed, d.message.msg)
@@ -145,7 +90,7 @@ pub fn rounds_call(rounds: Rounds, decision: Result<Taken, Refusal>) -> RoundsAn
     ensures { result ≡ rounds_call rounds decision }
 {
     match decision {
-        Err(why) => rounds_refuse(rounds, why),
+        Err(why) => refuses_in(rounds, why),
         Ok(taken) => rounds_passed(rounds, taken, core_calls::needs_more(rounds.core)),
     }
 }

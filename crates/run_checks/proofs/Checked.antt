@@ -167,21 +167,18 @@ claim_passing es n claim =
 pub passes_exactly : (es : List Event) (n : ℕ) → (passes es n ≡ true) ↔ LogClaim es n
 passes_exactly es n = (passing_claim es n, claim_passing es n)
 
--- ---- event by event, as the code goes: b is whether the event at place i may follow those before it
+-- ---- event by event, as the code goes: the event at place i, and those before it as a list of their own
 
-module _ (es : List Event) (i : ℕ) (h : i < length es) (b : Bool) (e : b ≡ allows (event_at es i) (take i es) (length (take i es))) where
-  answer_at : b ≡ allows (event_at es i) es i
-  answer_at = e ∙ allowed_first (event_at es i) es i (omega (arith, h))
+-- it may follow them: one more has passed
+pub passes_next : (es : List Event) (i : ℕ) → i < length es → passes es (i + 1) ≡ (passes es i && allows (event_at es i) (take i es) (length (take i es)))
+unfolding passes
+passes_next es i h =
+    ap (passes es) (add-one i) ∙ ap (λ (b : Bool). passes es i && b) (sym (allowed_first (event_at es i) es i (omega (arith, h))))
 
-  -- it may: one more has passed
-  pub goes_on : passes es i ≡ true → b ≡ true → passes es (i + 1) ≡ true
-  unfolding passes
-  goes_on p t = ap (passes es) (add-one i) ∙ and_both p (sym answer_at ∙ t)
-
-  -- it may not: the log doesn't pass
-  pub stops : b ≡ false → (xs : List Event) → es ≡ xs → false ≡ passes xs (length xs)
-  stops f xs same = go (passes es (length es)) refl ∙ ap (λ (l : List Event). passes l (length l)) same
-    where
-      go : (t : Bool) → passes es (length es) ≡ t → false ≡ passes es (length es)
-      go true p = absurd (not_both (passes_at es (length es) i p h) (sym answer_at ∙ f))
-      go false p = sym p
+-- it may not: the log doesn't pass
+pub passes_stops : (es : List Event) (i : ℕ) → i < length es → allows (event_at es i) (take i es) (length (take i es)) ≡ false → passes es (length es) ≡ false
+passes_stops es i h f = go (passes es (length es)) refl
+  where
+    go : (t : Bool) → passes es (length es) ≡ t → passes es (length es) ≡ false
+    go true p = absurd (not_both (passes_at es (length es) i p h) (sym (allowed_first (event_at es i) es i (omega (arith, h))) ∙ f))
+    go false p = p

@@ -2,8 +2,9 @@
 #![tactic(auto)]
 
 ghost use Rattle.std.specs.Prelude.{◌≡◌, length};
+ghost use Rattle.std.specs.List.{list_all, list_any};
 ghost use Rattle.run_checks.specs.Random.{next_random};
-ghost use Rattle.run_checks.specs.Log.{proposal_of, commit_of, is_commit, is_commit_of, agrees, proposes, all_agree, one_proposes, slot_of, allows, passes, new_log, logged, slot_in};
+ghost use Rattle.run_checks.specs.Log.{proposal_of, commit_of, is_commit, is_commit_of, agrees, proposes, slot_of, allows, passes, new_log, logged, slot_in};
 
 use arrayvec::ArrayVec;
 
@@ -65,20 +66,20 @@ impl Event {
     }
 
     fn all_agree(&self, earlier: &[Event]) -> bool
-        ensures { result ≡ all_agree self.now earlier.now (length earlier.now) }
+        ensures { result ≡ list_all (agrees self.now) earlier.now }
     {
         earlier.iter().all(|x| self.agrees(x))
     }
 
     fn one_proposes(&self, earlier: &[Event]) -> bool
-        ensures { result ≡ one_proposes self.now earlier.now (length earlier.now) }
+        ensures { result ≡ list_any (proposes self.now) earlier.now }
     {
         earlier.iter().any(|x| self.proposes(x))
     }
 
     // Each proposal may come after the earlier events, and a commit that agrees with them, has a value that was
     // proposed in its slot, and is of its member's slot.
-    #[tactic(auto, unfolding(crate::specs::Log::allows))]
+    #[tactic(auto, using(crate::proofs::Counted::all_listed, crate::proofs::Counted::any_listed), unfolding(crate::specs::Log::allows))]
     fn may_follow(&self, earlier: &[Event]) -> bool
         ensures { result ≡ allows self.now earlier.now (length earlier.now) }
     {
@@ -152,6 +153,7 @@ impl Log {
     }
 
     // Whether each commit agrees with the earlier ones, has a value that was proposed in its slot, and is of its member's slot.
+    #[tactic(auto, using(crate::proofs::Checked::passes_next, crate::proofs::Checked::passes_stops), unfolding(crate::specs::Log::passes))]
     pub fn passes(&self) -> bool
         ensures { result ≡ passes self.now.events.items (length self.now.events.items) }
     {

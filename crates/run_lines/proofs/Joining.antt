@@ -10,7 +10,7 @@ use lib.Dec.{eqb-suc-zero}
 use lib.ListN.{length, take, get_or}
 use Rattle.texts.specs.declared.Output.{Output}
 use Rattle.texts.specs.Text.{put, ascii, each}
-use Rattle.texts.proofs.Putting.{put_nothing, put_then}
+use Rattle.texts.proofs.Putting.{put_then}
 use Rattle.run_lines.specs.Lines.{joined_by_blanks, blank}
 
 module _ {A : Type 0} where
@@ -30,10 +30,6 @@ module _ {A : Type 0} where
       ap (λ (l : List ℕ). text x ++ l) (each_next (λ y. ascii " " ++ text y) xs i d (le_of_suc-le-suc h))
       ∙ sym (append_assoc (text x) (each (λ y. ascii " " ++ text y) (take i xs)) (ascii " " ++ text (get_or xs i d)))
       ∙ ap (λ (t : Bool). (text x ++ each (λ y. ascii " " ++ text y) (take i xs)) ++ (cond t [] (ascii " ") ++ text (get_or xs i d))) (sym (eqb-suc-zero i))
-
-  pub joined_none : (text : A → List ℕ) (xs : List A) (p : Output) → p ≡ put (joined_by_blanks text (take 0 xs)) p
-  unfolding joined_by_blanks
-  joined_none text xs p = sym (put_nothing p)
 
   -- the blank, and the text of the next one
   pub joined_more : (text : A → List ℕ) (xs : List A) (i : ℕ) (d : A) (p : Output) {q r s : Output} → i < length xs → q ≡ put (joined_by_blanks text (take i xs)) p

@@ -9,6 +9,7 @@ use enabled_runs::{CommitBy, EventPlace, RunEvent};
 use texts::Output;
 
 // Two numbers with a full stop between.
+#[tactic(auto, using(texts::proofs::Putting::put_append), unfolding(crate::specs::Lines::pair, texts::specs::Text::put))]
 fn put_pair(out: &mut Output, a: u64, b: u64)
     ensures { out.new ≡ put (pair a b) out.old }
 {
@@ -18,6 +19,7 @@ fn put_pair(out: &mut Output, a: u64, b: u64)
 }
 
 // "`p` and the member, or `d`, the member, a full stop and the message's place"
+#[tactic(auto, using(texts::proofs::Putting::put_append), unfolding(crate::specs::Lines::event_text, texts::specs::Text::put))]
 fn put_event(out: &mut Output, event: RunEvent)
     ensures { out.new ≡ put (event_text event) out.old }
 {
@@ -34,6 +36,7 @@ fn put_event(out: &mut Output, event: RunEvent)
 }
 
 // "member, slot and value with full stops between"
+#[tactic(auto, using(texts::proofs::Putting::put_append), unfolding(crate::specs::Lines::commit_by_text, texts::specs::Text::put))]
 fn put_commit(out: &mut Output, commit: CommitBy)
     ensures { out.new ≡ put (commit_by_text commit) out.old }
 {
@@ -76,7 +79,9 @@ fn put_blank(out: &mut Output, i: usize)
     }
 }
 
-// "Events are joined by blanks", and "commits, in time order and joined by blanks".
+// "Events are joined by blanks", and "commits, in time order and joined by blanks". The array comes with its count, and no slice in their place: any count
+// has an answer here, so that no caller has to show one that fits.
+#[tactic(auto, unfolding(crate::specs::Lines::joined_by_blanks, texts::specs::Text::put))]
 pub fn put_joined<T: Part>(out: &mut Output, parts: &[T; 5], count: u64)
     ensures { out.new ≡ put (joined_by_blanks T.text (first_five parts.now count)) out.old }
 {

@@ -1,6 +1,6 @@
 -- The ids of the open reads rise, and stay below the next id. A response under another id changes nothing.
 -- Assumes nothing.
-use Rattle.std.specs.Prelude.{Ok}
+use Rattle.std.specs.Prelude.{Result, Ok, Err, IfOk}
 use Prim.Native.Nat.{ℕ, suc, ◌+◌, ◌≤◌, ◌<◌, min}
 use mathlib.Core.Bool.{Bool, true, false, cond}
 use mathlib.Core.Logic.{◌⊎◌, inl, inr}
@@ -14,13 +14,15 @@ use lib.Seq.{take_at, take-suc-set}
 use borrow.Author.Tests.{leb-false, eqb-true}
 use Rattle.basics.proofs.Tests.{either}
 use Rattle.message.specs.declared.ReadId.{ReadId}
+use Rattle.message.specs.declared.Refusal.{Refusal}
+use Rattle.message.specs.declared.Refusal.TheVariants.{NoRoomForRead}
 use Rattle.read_tracker.specs.declared.OpenRead.{OpenRead}
 use Rattle.read_tracker.specs.declared.ServedRead.{ServedRead}
 use Rattle.read_tracker.specs.declared.ReadTracker.{ReadTracker}
 use Rattle.read_tracker.specs.declared.ReadTable.{ReadTable}
 use Rattle.serving.specs.declared.Tracked.{Tracked}
 use Rattle.read_tracker.specs.declared.Inserted.{Inserted}
-use Rattle.read_tracker.specs.Reads.{read_id, new_tracker, new_table, new_read, refused, inserted, insert, open_places, open_reads, after_response, after_commit}
+use Rattle.read_tracker.specs.Reads.{read_id, new_tracker, new_table, new_read, opening, open_next, inserted, insert_opened, insert, open_places, open_reads, after_response, after_commit}
 use Rattle.places.specs.Places.{at_front}
 use Rattle.serving.specs.Serving.{served_reads, has_id, place, tracked, receive_ready, commit_slot}
 use Rattle.places.proofs.Lists.{front_length}
@@ -141,17 +143,20 @@ receive_ready_in_order tracker table id quorum slot fast o =
     kept_same r s (inl e) = ap (λ (a : OpenRead). a.id.0) e
     kept_same r s (inr h) = ap (λ (a : OpenRead). a.id.0) h.1 ∙ same r
 
--- insert is refused, with nothing changed, or there is room
+-- insert is refused, or there is room
 module _ (tracker : ReadTracker) (table : ReadTable) (tag arrival : ℕ) (local : Bool) where
-  abbrev Outcome : Inserted → Type 0
-  Outcome r = (r ≡ refused tracker table) ⊎ ((tracker.open_count < 128) × (r ≡ inserted tracker table tag arrival local))
+  abbrev taken : Inserted
+  taken = inserted tracker table (opening tracker tag arrival local)
+
+  abbrev Outcome : Result Inserted Refusal → Type 0
+  Outcome r = (r ≡ Err NoRoomForRead) ⊎ ((tracker.open_count < 128) × (r ≡ Ok taken))
 
   insert_cases : Outcome (insert tracker table tag arrival local)
-  unfolding insert
+  unfolding insert open_next
   insert_cases = go (leb 128 tracker.open_count) refl (ltb 9223372036854775807 tracker.next_id)
     where
       go : (full : Bool) → leb 128 tracker.open_count ≡ full → (spent : Bool)
-          → Outcome (cond full (refused tracker table) (cond spent (refused tracker table) (inserted tracker table tag arrival local)))
+          → Outcome (insert_opened tracker table (cond full (Err NoRoomForRead) (cond spent (Err NoRoomForRead) (Ok (opening tracker tag arrival local)))))
       go true e true = inl refl
       go true e false = inl refl
       go false e true = inl refl
@@ -161,18 +166,18 @@ module _ (tracker : ReadTracker) (table : ReadTable) (tag arrival : ℕ) (local 
   new = new_read (read_id tracker.next_id) tag arrival local
 
   -- the new read stands last
-  inserted_open : tracker.open_count < 128 → length table.reads ≡ 128
-      → open_reads (inserted tracker table tag arrival local).tracker (inserted tracker table tag arrival local).table ≡ open_reads tracker table ++ (new ∷ [])
+  inserted_open : tracker.open_count < 128 → length table.reads ≡ 128 → open_reads taken.tracker taken.table ≡ open_reads tracker table ++ (new ∷ [])
   inserted_open room long =
       let n : min (tracker.open_count + 1) 128 ≡ suc tracker.open_count = omega arith in
       let m : min tracker.open_count 128 ≡ tracker.open_count = omega arith in
       simp (n, m) (take-suc-set table.reads tracker.open_count new (omega arith))
 
-  pub insert_in_order : InOrder tracker table → (let after : Inserted = insert tracker table tag arrival local in InOrder after.tracker after.table)
+  -- a refused insert leaves no other tracker and no other table
+  pub insert_in_order : InOrder tracker table → IfOk (insert tracker table tag arrival local) (λ after. InOrder after.tracker after.table)
   insert_in_order o = go insert_cases
     where
-      go : Outcome (insert tracker table tag arrival local) → InOrder (insert tracker table tag arrival local).tracker (insert tracker table tag arrival local).table
-      go (inl e) = rw e o
+      go : Outcome (insert tracker table tag arrival local) → IfOk (insert tracker table tag arrival local) (λ after. InOrder after.tracker after.table)
+      go (inl e) = rw e tt
       go (inr h) =
           rw h.1
           (record {
@@ -182,14 +187,15 @@ module _ (tracker : ReadTracker) (table : ReadTable) (tag arrival : ℕ) (local 
           })
 
   -- the id that is given is the next one, above those of all open reads
-  pub insert_next_id : InOrder tracker table → (id : ReadId) → (insert tracker table tag arrival local).opened ≡ Ok id
-      → (id ≡ read_id tracker.next_id) × ((m : ℕ) → Memᴰ m (ids (open_reads tracker table)) → m < id.0)
-  insert_next_id o id e = go insert_cases
+  pub insert_next_id : InOrder tracker table → (after : Inserted) → insert tracker table tag arrival local ≡ Ok after
+      → (after.id ≡ read_id tracker.next_id) × ((m : ℕ) → Memᴰ m (ids (open_reads tracker table)) → m < after.id.0)
+  insert_next_id o after e = go insert_cases
     where
-      go : Outcome (insert tracker table tag arrival local) → (id ≡ read_id tracker.next_id) × ((m : ℕ) → Memᴰ m (ids (open_reads tracker table)) → m < id.0)
+      go : Outcome (insert tracker table tag arrival local) → (after.id ≡ read_id tracker.next_id) × ((m : ℕ) → Memᴰ m (ids (open_reads tracker table)) → m < after.id.0)
       go (inl h) = let z : ◌≡◌ {A = ℕ} 0 1 = cc in absurd (omega arith)
       go (inr h) =
-          let same : id ≡ read_id tracker.next_id = cc in
+          let all : after ≡ taken = cc in
+          let same : after.id ≡ read_id tracker.next_id = ap (λ (a : Inserted). a.id) all in
           (same, λ m i. rw same (rising_below 0 (ids (open_reads tracker table)) tracker.next_id o.rising m i))
 
 -- a response under an id that no open read has

@@ -1,5 +1,6 @@
 -- A quorum of one, and nothing held (the starred instance of document 01).
 -- Assumes nothing.
+use Rattle.std.specs.Prelude.{Ok}
 use Prim.Native.Nat.{ℕ}
 use mathlib.Core.Bool.{Bool, true, false}
 use mathlib.Core.Path.{◌≡◌, refl}
@@ -9,21 +10,24 @@ use Rattle.read_tracker.specs.declared.OpenRead.{OpenRead}
 use Rattle.read_tracker.specs.declared.ServedRead.{ServedRead}
 use Rattle.read_tracker.specs.declared.Inserted.{Inserted}
 use Rattle.serving.specs.declared.Tracked.{Tracked}
-use Rattle.read_tracker.specs.Reads.{read_id, new_tracker, new_table, new_read, insert, open_reads, has_quorum, serve, after_response, after_commit}
+use Rattle.read_tracker.specs.Reads.{read_id, new_tracker, new_table, new_read, opening, open_next, inserted, insert, open_reads, has_quorum, serve, after_response, after_commit}
 use Rattle.places.specs.Places.{at_front}
 use Rattle.serving.specs.Serving.{served_reads, kept_by_ready, served_by_ready, kept_by_commit, served_by_commit, receive_ready, commit_slot}
 
 module _ (tag arrival : ℕ) where
   -- the first read of a new shard, with the own answer
   abbrev first : Inserted
-  first = insert new_tracker new_table tag arrival true
+  first = inserted new_tracker new_table (opening new_tracker tag arrival true)
+
+  pub first_taken : insert new_tracker new_table tag arrival true ≡ Ok first
+  unfolding insert open_next
+  first_taken = refl
 
   abbrev new : OpenRead
   new = new_read (read_id 0) tag arrival true
 
   -- it has its quorum already, and is open, with none served
   pub quorum_one_waits : (has_quorum 1 new ≡ true) × (open_reads first.tracker first.table ≡ new ∷ []) × (first.table.served ≡ new_table.served)
-  unfolding insert
   quorum_one_waits = (refl, refl, refl)
 
   -- v is served, and nothing is left open
@@ -32,10 +36,10 @@ module _ (tag arrival : ℕ) where
 
   -- the first response serves it
   pub quorum_one_response : (slot : ℕ) (fast : Bool) → ServedAlone (receive_ready first.tracker first.table (read_id 0) 1 slot fast) (serve slot fast new)
-  unfolding insert receive_ready kept_by_ready served_by_ready after_response increment at_front
+  unfolding receive_ready kept_by_ready served_by_ready after_response increment at_front
   quorum_one_response slot fast = (refl, refl)
 
   -- and so does the first commit
   pub quorum_one_commit : (slot : ℕ) → ServedAlone (commit_slot first.tracker first.table 1 slot) (serve slot false new)
-  unfolding insert commit_slot kept_by_commit served_by_commit after_commit at_front
+  unfolding commit_slot kept_by_commit served_by_commit after_commit at_front
   quorum_one_commit slot = (refl, refl)

@@ -62,7 +62,8 @@ pub trait OpenReads {
         ensures same_reference { lent self.new ≡ lent self.old };
 }
 
-// A row of served reads, whatever it is made of.
+// A row of served reads, whatever it is made of. Not one trait with the row above: of a served row no read is looked at or taken out, so a common one would
+// have the one method that both have, over a type of reads that each function would name again.
 pub trait ServedReads {
     ghost served: { Self → List ServedRead };
 
@@ -103,6 +104,7 @@ impl ServedReads for [ServedRead; 128] {
 }
 
 // The place of the first of the open reads that has this id. By index: a row of reads lends no slice of them.
+#[tactic(auto, using(crate::proofs::Responses::search_more, crate::proofs::Responses::search_none))]
 fn find<O: OpenReads>(open: &O, open_places: usize, id: ReadId) -> Option<usize>
     requires { open_places ≤ length (O.reads «open».now) }
     ensures { result ≡ position (has_id id) (take open_places (O.reads «open».now)) }
@@ -114,6 +116,9 @@ fn find<O: OpenReads>(open: &O, open_places: usize, id: ReadId) -> Option<usize>
     }
     None
 }
+
+// tracker, read_quorum and slot are parameters of their own: the first is a part of the shard, the second of the settings, and the third the shard's or a
+// commit's.
 
 // One response, to reads that stand in rows that are lent. `fast` says whether this one completed the quorum the moment it arrived.
 pub fn receive_ready_in<O: OpenReads, S: ServedReads>(

@@ -2,15 +2,15 @@
 -- Assumes nothing.
 use mathlib.Core.Path.{◌≡◌, refl, sym, ap, ap₂, subst, ◌∙◌}
 use mathlib.Core.Logic.{◌⊎◌, inl, inr}
-use mathlib.Core.Bool.{Bool, true, false, not, ◌||◌, cond}
-use Prim.Native.Nat.{ℕ, zero, suc, ◌+◌, ◌/◌, ◌%◌, ◌^◌, ◌≤◌, ◌<◌, suc-le-suc, max}
+use mathlib.Core.Bool.{Bool, true, false, not, ◌||◌, cond, or-false}
+use Prim.Native.Nat.{ℕ, zero, suc, ◌+◌, ◌*◌, ◌/◌, ◌%◌, ◌^◌, ◌≤◌, ◌<◌, suc-le-suc, max}
 use native.Mathlib.Nat.{le_trans, lt_irrefl, lt_of_lt_of_le, zero-lt-suc, one-mul, mod-lt, div-eq_of_lt, eq-zero-or-pos, le_of_suc-le-suc, not-suc-le-zero, div-one, lt_of_not-le, div-lt_iff_lt-mul, le_of_eq, le_of_lt, add-zero}
 use native.Mathlib.Numerals.{one-add, add-one}
 use native.Mathlib.Decide.{ℕ_discrete, dec_le}
 use native.Mathlib.Omega.{arith}
 use lib.Dec.{lit<, ltb, eqb, eqb-zero-suc, eqb-suc-zero, eqb-suc-suc}
 use lib.Arith.{lt-one, digits_mod, bin_ind}
-use lib.Pow.{pow_pos, pow_mono, pow-lt, shr-shr, shr_lt}
+use lib.Pow.{pow_pos, pow_mono, pow-lt, shl_exact, shr-shr, shr_lt}
 use lib.Bits.{bit_or, or_step, or_shr, or_lt, shifted_half, shifted_even}
 use lib.Count.{ones, ones_step}
 use borrow.Author.Tests.{eq-eqb, ne_eqb, lt-ltb, le-ltb, ltb-true}
@@ -37,6 +37,10 @@ contains_empty (suc p) = contains_suc 0 p ∙ contains_empty p
 pub contains_beyond : (s n p : ℕ) → s < 2 ^ n → n ≤ p → contains s p ≡ false
 unfolding contains
 contains_beyond s n p h l = ap (λ (x : ℕ). eqb (x % 2) 1) (div-eq_of_lt (lt_of_lt_of_le h (pow_mono l)))
+
+-- a number of 64 digits has no member past 63
+pub contains_none : (s p : ℕ) → s < 18446744073709551616 → 64 ≤ p → contains s p ≡ false
+contains_none s p h l = contains_beyond s 64 p h l
 
 -- the members of s / 2 ^ n are those of s from n on
 contains_shift : (s n p : ℕ) → contains (s / 2 ^ n) p ≡ contains s (n + p)
@@ -106,6 +110,10 @@ shift_fits s n = go (eq-zero-or-pos (s / 2 ^ n))
         ne_eqb (s / 2 ^ n) 0 (λ e. lt_irrefl 0 (subst (λ (x : ℕ). 0 < x) e l))
         ∙ sym (le-ltb s (2 ^ n) (le_of_suc-le-suc (lt_of_not-le (λ (k : s < 2 ^ n). lt_irrefl 0 (subst (λ (x : ℕ). 0 < x) (div-eq_of_lt k) l)))))
 
+-- a number of 64 digits has none past 63, so that it fits
+pub fits_all : (s n : ℕ) → s < 18446744073709551616 → 64 ≤ n → fits s n ≡ true
+fits_all s n h l = lt-ltb s (2 ^ n) (lt_of_lt_of_le {m = 2 ^ 64} h (pow_mono l))
+
 one_digit : (s : ℕ) → one (eqb (s % 2) 1) ≡ s % 2
 one_digit s = go (digit s)
   where
@@ -122,6 +130,10 @@ pub insert_or : (s p : ℕ) → p < 64 → insert s p ≡ bit_or s (2 ^ p)
 unfolding insert
 insert_or s p l = ap (λ (t : Bool). cond t (bit_or s (2 ^ p)) s) (lt-ltb p 64 l)
 
+-- 1 shifted by p loses nothing
+pub insert_shifted : (s p : ℕ) → p < 64 → bit_or s (1 * 2 ^ p % 18446744073709551616) ≡ insert s p
+insert_shifted s p l = ap (bit_or s) (shl_exact 1 p 64 (lit< tt) (omega arith) ∙ one-mul (2 ^ p)) ∙ sym (insert_or s p l)
+
 -- a number that is no process leaves the set as it is
 pub insert_none : (s p : ℕ) → 64 ≤ p → insert s p ≡ s
 unfolding insert
@@ -131,10 +143,6 @@ insert_none s p l = ap (λ (t : Bool). cond t (bit_or s (2 ^ p)) s) (le-ltb p 64
 pub contains_insert : (s p q : ℕ) → p < 64 → contains (insert s p) q ≡ (contains s q || eqb p q)
 contains_insert s p q l =
     ap (λ (x : ℕ). contains x q) (insert_or s p l) ∙ contains_or s (2 ^ p) q ∙ ap (λ (b : Bool). contains s q || b) (contains_pow p q)
-
-or_false : (a : Bool) → (a || false) ≡ a
-or_false true = refl
-or_false false = refl
 
 -- p itself is a member
 pub contains_insert_same : (s p : ℕ) → p < 64 → contains (insert s p) p ≡ true
@@ -146,7 +154,7 @@ contains_insert_other s p q h = go (dec_le 64 p)
   where
     go : Dec (64 ≤ p) → contains (insert s p) q ≡ contains s q
     go (yes l) = ap (λ (x : ℕ). contains x q) (insert_none s p l)
-    go (no l) = contains_insert s p q (lt_of_not-le l) ∙ ap (λ (b : Bool). contains s q || b) (ne_eqb p q h) ∙ or_false (contains s q)
+    go (no l) = contains_insert s p q (lt_of_not-le l) ∙ ap (λ (b : Bool). contains s q || b) (ne_eqb p q h) ∙ or-false (contains s q)
 
 -- the result has no more digits than s and p have room in
 insert_lt : (n s p : ℕ) → s < 2 ^ n → p < n → insert s p < 2 ^ n

@@ -5,6 +5,7 @@ ghost use Rattle.std.specs.Prelude.{◌≡◌};
 ghost use Rattle.sets.specs.Sets.{contains, insert, size, fits, is_empty};
 
 // Whether process p is in s. No process number is above 63.
+#[tactic(auto, using(crate::proofs::Laws::contains_none), unfolding(crate::specs::Sets::contains))]
 pub fn contains(s: u64, p: u64) -> bool
     ensures { result ≡ contains s p }
 {
@@ -12,6 +13,7 @@ pub fn contains(s: u64, p: u64) -> bool
 }
 
 // The set s with process p. A number above 63 is no process, and leaves the set as it is.
+#[tactic(auto, using(crate::proofs::Laws::insert_shifted, crate::proofs::Laws::insert_none))]
 pub fn insert(s: u64, p: u64) -> u64
     ensures { result ≡ insert s p }
 {
@@ -19,6 +21,7 @@ pub fn insert(s: u64, p: u64) -> u64
 }
 
 // How many processes are in s, by counting ones.
+#[tactic(auto, using(crate::proofs::Laws::size_ones))]
 pub fn size(s: u64) -> u64
     ensures { result ≡ size s }
 {
@@ -26,6 +29,7 @@ pub fn size(s: u64) -> u64
 }
 
 // Whether every process of s is below n.
+#[tactic(auto, using(crate::proofs::Laws::shift_fits, crate::proofs::Laws::fits_all))]
 pub fn fits(s: u64, n: u64) -> bool
     ensures { result ≡ fits s n }
 {

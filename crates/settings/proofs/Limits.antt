@@ -63,13 +63,13 @@ pub within_counts : (s : Settings) → within_limits s ≡ true → Counts s
 unfolding within_limits
 within_counts s e =
     counts_fit_lem s
-    (and_left (counts_fit s) (members_fit s) (and_left (counts_fit s && members_fit s) (committers_fit s) (and_left (counts_fit s && members_fit s && committers_fit s) (mode_fits s s.mode) e)))
+    (and_left (counts_fit s) (members_fit s) (and_left (counts_fit s && members_fit s) (committers_fit s.committers s.process_count) (and_left (counts_fit s && members_fit s && committers_fit s.committers s.process_count) (mode_fits s s.mode) e)))
 
 pub within_members : (s : Settings) → within_limits s ≡ true → Members s
 unfolding within_limits
 within_members s e =
     members_fit_lem s
-    (and_right (counts_fit s) (members_fit s) (and_left (counts_fit s && members_fit s) (committers_fit s) (and_left (counts_fit s && members_fit s && committers_fit s) (mode_fits s s.mode) e)))
+    (and_right (counts_fit s) (members_fit s) (and_left (counts_fit s && members_fit s) (committers_fit s.committers s.process_count) (and_left (counts_fit s && members_fit s && committers_fit s.committers s.process_count) (mode_fits s s.mode) e)))
 
 -- two majorities of live replicas share a process
 pub live_majorities_meet : (s : Settings) → within_limits s ≡ true → (a b : ℕ) → Within a s.alive_replicas → Within b s.alive_replicas

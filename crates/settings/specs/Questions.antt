@@ -42,11 +42,12 @@ committer_for committers None = None
 committer_for committers (Some p) = Some (look_up committers p)
 
 -- get_committer, with the requester that the host names for the value; the table counts where the settings have committers
-unfoldable pub committer_in : Bool → List ℕ → PFMode → Option ℕ → Option ℕ
-committer_in given committers mode requester = cond given (committer_for committers requester) (cond (is_swift_paxos mode) requester None)
+unfoldable pub committer_in : Option (List ℕ) → PFMode → Option ℕ → Option ℕ
+committer_in None mode requester = cond (is_swift_paxos mode) requester None
+committer_in (Some committers) mode requester = committer_for committers requester
 
 abbrev pub committer_of : Settings → Option ℕ → Option ℕ
-committer_of s requester = committer_in s.has_committers s.committers s.mode requester
+committer_of s requester = committer_in s.committers s.mode requester
 
 abbrev pub starting_round_of : Settings → Option PaxosRound
 starting_round_of s = starting_round s.mode s.first_leader

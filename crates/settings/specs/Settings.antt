@@ -1,6 +1,6 @@
 -- The limits of the settings (document 01, "Group settings" and row 1 of its table of refusals).
 -- Assumes nothing.
-use Rattle.std.specs.Prelude.{Bool, true, cond, ◌&&◌, ℕ, ltb, leb, Option, None, Some}
+use Rattle.std.specs.Prelude.{Bool, true, ◌&&◌, List, ℕ, ltb, leb, Option, None, Some}
 use Rattle.sets.specs.Sets.{size, fits}
 use Rattle.tables.specs.Tables.{all_below}
 use Rattle.message.specs.declared.PFMode.{PFMode}
@@ -20,8 +20,9 @@ members_fit s =
     && leb (size s.alive_replicas) s.replica_count
 
 -- "optional committer per process"
-unfoldable pub committers_fit : Settings → Bool
-committers_fit s = cond s.has_committers (all_below s.committers s.process_count) true
+unfoldable pub committers_fit : Option (List ℕ) → ℕ → Bool
+committers_fit None count = true
+committers_fit (Some table) count = all_below table count
 
 unfoldable pub quorum_fits : Option ℕ → ℕ → Bool
 quorum_fits None count = true
@@ -38,4 +39,4 @@ mode_fits s SwiftPaxos = quorum_fits s.quorum s.process_count
 
 -- the limits; settings outside them are refused with 1
 unfoldable pub within_limits : Settings → Bool
-within_limits s = counts_fit s && members_fit s && committers_fit s && mode_fits s s.mode
+within_limits s = counts_fit s && members_fit s && committers_fit s.committers s.process_count && mode_fits s s.mode

@@ -1,7 +1,7 @@
 // The settings of a group, as its host makes them for one member, their limits, and what the engine asks of them.
 #![tactic(auto)]
 
-ghost use Rattle.std.specs.Prelude.{◌≡◌};
+ghost use Rattle.std.specs.Prelude.{◌≡◌, option_copied};
 ghost use Rattle.settings.specs.Settings.{counts_fit, members_fit, committers_fit, quorum_fits, mode_fits, within_limits};
 ghost use Rattle.settings.specs.Questions.{quorums_of, is_replica, is_live_replica, delegate_in, committer_for, committer_in, starting_round_of};
 
@@ -19,8 +19,7 @@ pub struct Settings {
     pub first_leader: u64,
     pub mode: PFMode,
     pub quorum: Option<u64>,
-    pub has_committers: bool,
-    pub committers: [u64; 64],
+    pub committers: Option<[u64; 64]>,
     pub delegates: [u64; 64],
 }
 
@@ -46,20 +45,24 @@ fn committer_for(committers: &[u64; 64], requester: Option<u64>) -> Option<u64>
 // The process that commits a value by the settings, from the value's requester.
 #[tactic(auto, unfolding(crate::specs::Questions::committer_in))]
 pub fn committer_in(
-    given: bool,
-    committers: &[u64; 64],
+    committers: Option<&[u64; 64]>,
     mode: PFMode,
     requester: Option<u64>,
 ) -> Option<u64>
-    ensures { result ≡ committer_in given committers.now mode requester }
+    ensures { result ≡ committer_in (option_copied committers.entry) mode requester }
 {
-    if given {
-        return committer_for(committers, requester);
+    match committers {
+        Some(table) => committer_for(table, requester),
+        None if mode.is_swift_paxos() => requester,
+        None => None,
     }
-    if mode.is_swift_paxos() {
-        return requester;
-    }
-    None
+}
+
+#[tactic(auto, unfolding(crate::specs::Settings::committers_fit))]
+fn committers_fit(committers: Option<&[u64; 64]>, count: u64) -> bool
+    ensures { result ≡ committers_fit (option_copied committers.entry) count }
+{
+    committers.is_none_or(|table| tables::all_below(table, count))
 }
 
 #[tactic(auto, unfolding(crate::specs::Settings::quorum_fits))]
@@ -92,16 +95,6 @@ impl Settings {
             && sets::size(self.alive_replicas) <= self.replica_count
     }
 
-    #[tactic(auto, unfolding(crate::specs::Settings::committers_fit))]
-    fn committers_fit(self) -> bool
-        ensures { result ≡ committers_fit self }
-    {
-        if self.has_committers {
-            return tables::all_below(&self.committers, self.process_count);
-        }
-        true
-    }
-
     #[tactic(auto, unfolding(crate::specs::Settings::mode_fits))]
     fn mode_fits(self) -> bool
         ensures { result ≡ mode_fits self self.mode }
@@ -118,7 +111,10 @@ impl Settings {
     pub fn within_limits(self) -> bool
         ensures { result ≡ within_limits self }
     {
-        self.counts_fit() && self.members_fit() && self.committers_fit() && self.mode_fits()
+        self.counts_fit()
+            && self.members_fit()
+            && committers_fit(self.committers.as_ref(), self.process_count)
+            && self.mode_fits()
     }
 
     // Whether process p is in the live set: what document 01 calls a live replica.

@@ -11,6 +11,10 @@ use Rattle.texts.specs.Text.{put}
 use Rattle.texts.proofs.Putting.{put_append}
 use Rattle.shard_lines.specs.Shard.{if_proposer, proposers_below}
 
+pub none_below : (s : FastState) → proposers_below s 0 ≡ []
+unfolding proposers_below
+none_below s = refl
+
 pub one_proposer_more : (s : FastState) (k : ℕ) (p : Output) → put (proposers_below s (k + 1)) p ≡ put (if_proposer s k) (put (proposers_below s k) p)
 unfolding proposers_below
 one_proposer_more s k p = rw (add-one, put_append)

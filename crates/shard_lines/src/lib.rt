@@ -12,7 +12,7 @@ use steps::{Core, Rounds};
 use texts::Output;
 
 // `shard slot LAST left_fast_path ROUND HELD`.
-#[tactic(auto, using(texts::proofs::Putting::put_then), unfolding(crate::specs::Shard::core_text))]
+#[tactic(auto, using(texts::proofs::Putting::put_append), unfolding(crate::specs::Shard::core_text, texts::specs::Text::put))]
 fn put_core(out: &mut Output, core: &Core)
     ensures { out.new ≡ put (core_text core.now) out.old }
 {
@@ -24,7 +24,7 @@ fn put_core(out: &mut Output, core: &Core)
 }
 
 // `prepared_set accepted_set fast_answer_set fast_preaccepted fast_proposers SWIFT next_id`.
-#[tactic(auto, using(texts::proofs::Putting::put_then), unfolding(crate::specs::Shard::sets_text))]
+#[tactic(auto, using(texts::proofs::Putting::put_append), unfolding(crate::specs::Shard::sets_text, texts::specs::Text::put))]
 fn put_sets(out: &mut Output, rounds: &Rounds)
     ensures { out.new ≡ put (sets_text rounds.now) out.old }
 {
@@ -50,6 +50,7 @@ fn put_if_proposer(out: &mut Output, fast: &FastState, p: u64)
     }
 }
 
+#[tactic(auto, using(crate::proofs::Proposers::one_proposer_more, crate::proofs::Proposers::no_proposers, crate::proofs::Proposers::none_below, texts::proofs::Putting::put_nothing))]
 fn put_proposers(out: &mut Output, fast: &FastState)
     ensures { out.new ≡ put (proposers_below fast.now 64) out.old }
 {
@@ -78,7 +79,9 @@ fn put_open_read(out: &mut Output, read: &OpenRead)
     );
 }
 
-// Puts the reads in the first open_count places, of which there are 128. Why it is a loop of its own: `put_served` of `reply_lines`.
+// Puts the reads in the first open_count places, of which there are 128. Why it is a loop of its own, and why the array comes with its count:
+// `put_served` of `reply_lines`.
+#[tactic(auto, using(texts::proofs::Putting::reached_next, texts::proofs::Putting::reached_all), unfolding(texts::specs::Text::first_places))]
 fn put_open(out: &mut Output, reads: &[OpenRead; 128], open_count: u64)
     ensures { out.new ≡ put (first_places open_text reads.now open_count) out.old }
 {
@@ -89,7 +92,7 @@ fn put_open(out: &mut Output, reads: &[OpenRead; 128], open_count: u64)
 }
 
 // The shard's numbers, its proposers and its open reads.
-#[tactic(auto, using(texts::proofs::Putting::put_then), unfolding(crate::specs::Shard::shard_text, crate::specs::Shard::made_text))]
+#[tactic(auto, using(texts::proofs::Putting::put_append), unfolding(crate::specs::Shard::shard_text, crate::specs::Shard::made_text))]
 pub fn put_shard(out: &mut Output, rounds: &Rounds, reads: &[OpenRead; 128], made: Outcome)
     ensures { out.new ≡ put (shard_text rounds.now reads.now made) out.old }
 {

@@ -24,48 +24,41 @@ use Rattle.enabled_runs.specs.declared.RunEvent.{RunEvent}
 use Rattle.enabled_runs.specs.declared.Sending.{Sending}
 use Rattle.enabled_runs.specs.Enabled.{sendings}
 use Rattle.enabled_runs.specs.Offices.{member_commits}
-use Rattle.office_runs.specs.Runs.{office, with_sending, with_message, with_messages, with_event, with_commit_by, with_answer, with_proposer}
-use Rattle.office_runs.specs.declared.CommitsSoFar.{CommitsSoFar}
-use Rattle.office_runs.specs.declared.EventsSoFar.{EventsSoFar}
+use Rattle.office_runs.specs.Runs.{office, with_last, with_message, with_messages, with_commit_by, with_answer, with_proposer}
 use Rattle.office_runs.specs.declared.OfficeRun.{OfficeRun}
-use Rattle.office_runs.specs.declared.SentSoFar.{SentSoFar}
+use Rattle.office_runs.specs.declared.SoFar.{SoFar}
 use Rattle.short_runs.proofs.Piles.{Pile, pushed}
 
-abbrev SentAre : SentSoFar → List Sending → Type 0
-SentAre s sent = Pile s.places s.count 15 sent
-
-abbrev EventsAre : EventsSoFar → List EventPlace → Type 0
-EventsAre s events = Pile s.places s.count 5 events
-
-abbrev CommitsAre : CommitsSoFar → List CommitBy → Type 0
-CommitsAre s commits = Pile s.places s.count 5 commits
+-- what a run has brought, as a list
+abbrev Brought : {A : Type 0} {room : ℕ} → SoFar A room → List A → Type 0
+Brought {A} {room} s kept = Pile s.places s.count room kept
 
 pub record KeptAs (run : OfficeRun) (shards : ℕ → Shard) (asked : ℕ → Bool) (sent : List Sending) (events : List EventPlace) (commits : List CommitBy) : Type 0 where
   pub members_long : length run.members ≡ 3
   pub member : (i : ℕ) → i < 3 → get_or run.members i (office 0) ≡ shards i
   pub proposer : (i : ℕ) → contains run.proposed i ≡ asked i
-  pub sent_kept : SentAre run.sent sent
-  pub events_kept : EventsAre run.events events
-  pub commits_kept : CommitsAre run.commits commits
+  pub sent_kept : Brought run.sent sent
+  pub events_kept : Brought run.events events
+  pub commits_kept : Brought run.commits commits
 
 -- where a test passes, what holds of the first choice holds of the choice
 where_passed : {A : Type 0} (P : A → Type 0) (t : Bool) (x y : A) → t ≡ true → P x → P (cond t x y)
 where_passed {A} P t x y e p = subst (λ (b : Bool). P (cond b x y)) (sym e) p
 
--- ---- sent messages
-
-with_sending_lem : {s : SentSoFar} {sent : List Sending} (x : Sending) → length sent < 15 → SentAre s sent → SentAre (with_sending s x) (sent ++ (x ∷ []))
-unfolding with_sending
-with_sending_lem {s} {sent} x room h =
-    let below : s.count < 15 = omega (arith, h.counted) in
-    where_passed (λ (r : SentSoFar). SentAre r (sent ++ (x ∷ []))) (ltb s.count 15) (record { places = set s.places s.count x; count = s.count + 1 }) s
+with_last_lem : {A : Type 0} {room : ℕ} {s : SoFar A room} {kept : List A} (x : A) → length kept < room → Brought s kept → Brought (with_last s x) (kept ++ (x ∷ []))
+unfolding with_last
+with_last_lem {A} {room} {s} {kept} x few h =
+    let below : s.count < room = omega (arith, h.counted) in
+    where_passed (λ (r : SoFar A room). Brought r (kept ++ (x ∷ []))) (ltb s.count room) (record { places = set s.places s.count x; count = s.count + 1 }) s
     (lt-ltb _ _ below) (pushed x h below)
 
-with_message_lem : {s : SentSoFar} {sent : List Sending} (source : ℕ) (o : Option Outgoing) → length sent < 15 → SentAre s sent
-    → SentAre (with_message s source o) (sent ++ sendings source (listed o []))
+-- ---- sent messages
+
+with_message_lem : {s : SoFar Sending 15} {sent : List Sending} (source : ℕ) (o : Option Outgoing) → length sent < 15 → Brought s sent
+    → Brought (with_message s source o) (sent ++ sendings source (listed o []))
 unfolding with_message
-with_message_lem {s} {sent} source None room h = subst (SentAre s) (sym (append-nil sent)) h
-with_message_lem source (Some o) room h = with_sending_lem (record { source = source; outgoing = o }) room h
+with_message_lem {s} {sent} source None room h = subst (Brought s) (sym (append-nil sent)) h
+with_message_lem source (Some o) room h = with_last_lem (record { source = source; outgoing = o }) room h
 
 one_at_most : (source : ℕ) (o : Option Outgoing) → length (sendings source (listed o [])) ≤ 1
 one_at_most source None = omega arith
@@ -91,8 +84,8 @@ three_at_most source ms =
       one_at_most source ms.third,
     )
 
-with_messages_lem : {s : SentSoFar} {sent : List Sending} (source : ℕ) (ms : Messages) → length sent ≤ 12 → SentAre s sent
-    → SentAre (with_messages s source ms) (sent ++ sendings source (messages_of ms))
+with_messages_lem : {s : SoFar Sending 15} {sent : List Sending} (source : ℕ) (ms : Messages) → length sent ≤ 12 → Brought s sent
+    → Brought (with_messages s source ms) (sent ++ sendings source (messages_of ms))
 unfolding with_messages
 with_messages_lem {s} {sent} source ms room h =
     let one : List Sending = sendings source (listed ms.first []) in
@@ -101,32 +94,20 @@ with_messages_lem {s} {sent} source ms room h =
     let a = with_message_lem source ms.first (omega (arith, room)) h in
     let b = with_message_lem source ms.second (omega (arith, room, length-append sent one, one_at_most source ms.first)) a in
     let c = with_message_lem source ms.third (omega (arith, room, length-append sent one, one_at_most source ms.first, length-append (sent ++ one) two, one_at_most source ms.second)) b in
-    subst (SentAre (with_messages s source ms))
+    subst (Brought (with_messages s source ms))
     (append_assoc (sent ++ one) two three ∙ append_assoc sent one (two ++ three)
     ∙ ap (λ (l : List Sending). sent ++ l)
     (ap (λ (l : List Sending). one ++ l) (listed_first source ms.second (listed ms.third []))
     ∙ listed_first source ms.first (listed ms.second (listed ms.third []))))
     c
 
--- ---- events and commits
+-- ---- commits
 
-with_event_lem : {s : EventsSoFar} {events : List EventPlace} (e : RunEvent) → length events < 5 → EventsAre s events
-    → EventsAre (with_event s e) (events ++ (record { event = e } ∷ []))
-unfolding with_event
-with_event_lem {s} {events} e room h =
-    let below : s.count < 5 = omega (arith, h.counted) in
-    where_passed (λ (r : EventsSoFar). EventsAre r (events ++ (record { event = e } ∷ []))) (ltb s.count 5)
-    (record { places = set s.places s.count (record { event = e }); count = s.count + 1 }) s (lt-ltb _ _ below) (pushed (record { event = e }) h below)
-
-with_commit_by_lem : {s : CommitsSoFar} {commits : List CommitBy} (member : ℕ) (o : Option CommittedSlot) → length commits < 5 → CommitsAre s commits
-    → CommitsAre (with_commit_by s member o) (commits ++ member_commits member o)
+with_commit_by_lem : {s : SoFar CommitBy 5} {commits : List CommitBy} (member : ℕ) (o : Option CommittedSlot) → length commits < 5 → Brought s commits
+    → Brought (with_commit_by s member o) (commits ++ member_commits member o)
 unfolding with_commit_by
-with_commit_by_lem {s} {commits} member None room h = subst (CommitsAre s) (sym (append-nil commits)) h
-with_commit_by_lem {s} {commits} member (Some commit) room h =
-    let below : s.count < 5 = omega (arith, h.counted) in
-    let last : CommitBy = record { member = member; slot = commit.slot; v = commit.v } in
-    where_passed (λ (r : CommitsSoFar). CommitsAre r (commits ++ (last ∷ []))) (ltb s.count 5)
-    (record { places = set s.places s.count last; count = s.count + 1 }) s (lt-ltb _ _ below) (pushed last h below)
+with_commit_by_lem {s} {commits} member None room h = subst (Brought s) (sym (append-nil commits)) h
+with_commit_by_lem member (Some commit) room h = with_last_lem (record { member = member; slot = commit.slot; v = commit.v }) room h
 
 pub commit_at_most : (member : ℕ) (o : Option CommittedSlot) → length (member_commits member o) ≤ 1
 commit_at_most member None = omega arith
@@ -151,7 +132,7 @@ module _ {run : OfficeRun} {shards : ℕ → Shard} {asked : ℕ → Bool} {sent
             ∙ ap (λ (x : Shard). cond (eqb i member) a.shard x) (h.member i k);
         proposer = h.proposer;
         sent_kept = with_messages_lem member a.reply.messages few h.sent_kept;
-        events_kept = with_event_lem e short h.events_kept;
+        events_kept = with_last_lem (record { event = e }) short h.events_kept;
         commits_kept = with_commit_by_lem member a.reply.commit new h.commits_kept;
       }
 

@@ -1,7 +1,8 @@
 -- What the lister writes is the sheet: the header and a line for each listed run, in the listing's order.
 -- Assumes nothing.
+use Rattle.std.specs.Prelude as std
+use Rattle.std.specs.Prelude.{None, Some}
 use mathlib.Core.Path.{◌≡◌, refl, sym, ap, subst, ◌∙◌}
-use mathlib.Core.Bool.{Bool, cond}
 use mathlib.Core.List.{List, [], ◌∷◌, ◌++◌, append_assoc}
 use mathlib.Core.Option.{Option, none, some, get_or}
 use Prim.Native.Nat.{ℕ, zero, suc, ◌+◌, ◌≤◌, ◌<◌, min}
@@ -20,7 +21,6 @@ use Rattle.enabled_runs.specs.Listing.{each_below, in_front, block, listing, all
 use Rattle.enabled_runs.specs.Offices.{engine_call, heard_by, before_events, commits_in}
 use Rattle.office_runs.specs.Runs.{new_run, trial_of}
 use Rattle.office_runs.specs.declared.OfficeRun.{OfficeRun}
-use Rattle.office_runs.specs.declared.Trial.{Trial}
 use Rattle.run_lines.specs.Lines.{event_text, commit_by_text, joined_by_blanks, event_place_text, first_five}
 use Rattle.short_runs.specs.Lister.{kept_line, event_lines, lines_after}
 use Rattle.short_runs.specs.Sheet.{run_line_with, sheet}
@@ -111,18 +111,19 @@ unfolding after_run
 with_next w e v found more = ap (λ (o : Option (RunSoFar Shard)). after (get_or o w) more) found
 
 -- an event's lines: its run, followed at once by those that extend it, or nothing
-lines_of_event : (left : ℕ) → Written left → (w : RunSoFar Shard) (es : List RunEvent) (e : RunEvent) (t : Trial) (o : Option (RunSoFar Shard)) → suc left + length es ≤ 5
+lines_of_event : (left : ℕ) → Written left → (w : RunSoFar Shard) (es : List RunEvent) (e : RunEvent) (t : std.Option OfficeRun) (o : Option (RunSoFar Shard)) → suc left + length es ≤ 5
     → extended_by engine_call heard_by w e ≡ o → TrialAgrees t o (es ++ (e ∷ []))
     → event_lines (lines_after left) t ≡ each (line_after w es) (block_of left e o)
 unfolding event_lines block each after_run
-lines_of_event left written w es e t none short found a = ap (λ (b : Bool). cond b (kept_line t.run ++ lines_after left t.run) []) a
-lines_of_event left written w es e t (some v) short found (a, s) =
+lines_of_event left written w es e None none short found a = refl
+lines_of_event left written w es e None (some v) short found a = absurd a
+lines_of_event left written w es e (Some run) none short found a = absurd a
+lines_of_event left written w es e (Some run) (some v) short found s =
     let one_more : length (es ++ (e ∷ [])) ≡ length es + 1 = length-append es (e ∷ []) in
-    ap (λ (b : Bool). cond b (kept_line t.run ++ lines_after left t.run) []) a
-    ∙ ap (λ (l : List ℕ). l ++ lines_after left t.run)
+    ap (λ (l : List ℕ). l ++ lines_after left run)
     (line_kept (omega (arith, one_more, short)) s ∙ sym (ap (λ (x : RunSoFar Shard). run_line_with (es ++ (e ∷ [])) (commits_in x.past)) (next [])))
     ∙ ap (λ (l : List ℕ). line_after w es (e ∷ []) ++ l)
-    (written t.run v (es ++ (e ∷ [])) (omega (arith, one_more, short)) s
+    (written run v (es ++ (e ∷ [])) (omega (arith, one_more, short)) s
     ∙ each_same (line_after v (es ++ (e ∷ []))) (λ x. line_after w es (e ∷ x)) same (runs_from engine_call heard_by left v)
     ∙ sym (each_in_front (line_after w es) e (runs_from engine_call heard_by left v)))
   where

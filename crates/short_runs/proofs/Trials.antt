@@ -1,6 +1,7 @@
 -- One event tried on the kept run is one event more of the run so far: the arrays hold what it holds, before and after.
 -- Assumes nothing.
-use Rattle.std.specs.Prelude.{Ok, Err}
+use Rattle.std.specs.Prelude as std
+use Rattle.std.specs.Prelude.{None, Some, Ok, Err}
 use Rattle.message.specs.Outcomes.{Outcome}
 use mathlib.Core.Path.{◌≡◌, refl, sym, ap, subst, ◌∙◌}
 use mathlib.Core.Bool.{Bool, true, false, cond, ◌&&◌, ◌||◌}
@@ -27,9 +28,8 @@ use Rattle.enabled_runs.specs.declared.Sending.{Sending}
 use Rattle.enabled_runs.specs.Enabled.{RunSoFar, sendings, sent_in, value_of_member, with_call, office_delivery}
 use Rattle.enabled_runs.specs.Listing.{at_place, is_sent_to, has_proposed, if_done, extended_by, with_delivery}
 use Rattle.enabled_runs.specs.Offices.{engine_call, heard_by, before_events, member_commits, commits_in}
-use Rattle.office_runs.specs.Runs.{office, no_sending, new_run, value_proposed, office_shard, sending_at, with_answer, with_proposer, may_not_come, may_come, if_taken, after_proposal, after_message, after_delivery, trial_of}
+use Rattle.office_runs.specs.Runs.{office, no_sending, new_run, value_proposed, office_shard, sending_at, with_answer, with_proposer, if_taken, after_proposal, after_message, after_delivery, trial_of}
 use Rattle.office_runs.specs.declared.OfficeRun.{OfficeRun}
-use Rattle.office_runs.specs.declared.Trial.{Trial}
 use Rattle.short_runs.proofs.Piles.{at_place_lem}
 use Rattle.short_runs.proofs.Kept.{KeptAs, asked_as, with_proposer_lem, with_answer_lem, three_at_most, commit_at_most}
 
@@ -107,10 +107,12 @@ module _ {run : OfficeRun} {w : RunSoFar Shard} {es : List RunEvent} (member : �
 
 -- ---- the event tried
 
--- the trial allows the event exactly where it may come next, and its run is then the run with it
-abbrev pub TrialAgrees : Trial → Option (RunSoFar Shard) → List RunEvent → Type 0
-TrialAgrees t none es = t.allowed ≡ false
-TrialAgrees t (some w) es = (t.allowed ≡ true) × KeepsRun t.run w es
+-- the trial gives a run exactly where the event may come next, and it is then the run with it
+abbrev pub TrialAgrees : std.Option OfficeRun → Option (RunSoFar Shard) → List RunEvent → Type 0
+TrialAgrees None none es = Unit {0}
+TrialAgrees None (some w) es = ⊥
+TrialAgrees (Some run) none es = ⊥
+TrialAgrees (Some run) (some w) es = KeepsRun run w es
 
 shard_kept : {run : OfficeRun} {w : RunSoFar Shard} {es : List RunEvent} (member : ℕ) → member < 3 → KeepsRun run w es → office_shard run member ≡ w.shards member
 unfolding office_shard
@@ -150,11 +152,11 @@ unfolding has_proposed
 asked_delivery w member s i = delivery_counts_not (eqb member i) (has_proposed w.past i)
 
 -- the trial of a proposal, by whether the member has proposed and by the outcome
-by_outcome : (run after : OfficeRun) (w : RunSoFar Shard) (es : List RunEvent) (asked : Bool) (o : Outcome) → KeepsRun after w es
-    → TrialAgrees (cond asked (may_not_come run) (cond (is_done o) (may_come after) (may_not_come run))) (cond asked none (if_done o w)) es
-by_outcome run after w es true o s = refl
-by_outcome run after w es false (Ok tt) s = (refl, s)
-by_outcome run after w es false (Err why) s = refl
+by_outcome : (after : OfficeRun) (w : RunSoFar Shard) (es : List RunEvent) (asked : Bool) (o : Outcome) → KeepsRun after w es
+    → TrialAgrees (cond asked None (cond (is_done o) (Some after) None)) (cond asked none (if_done o w)) es
+by_outcome after w es true o s = tt
+by_outcome after w es false (Ok tt) s = s
+by_outcome after w es false (Err why) s = tt
 
 pub proposal_agrees : {run : OfficeRun} {w : RunSoFar Shard} {es : List RunEvent} (member : ℕ) → member < 3 → length es < 5 → KeepsRun run w es
     → TrialAgrees (trial_of run (Proposes member)) (extended_by engine_call heard_by w (Proposes member)) (es ++ (Proposes member ∷ []))
@@ -166,20 +168,20 @@ proposal_agrees {run} {w} {es} member below short s =
     let same : call_of (office_shard run member) (Propose (value_proposed member)) ≡ a =
     ap (λ (x : Shard). call_of x (Propose (value_proposed member))) (shard_kept member below s) ∙ ap (λ (v : ℕ). call_of (w.shards member) (Propose v)) (value_kept member below) in
     subst
-    (λ (t : Trial). TrialAgrees t (extended_by engine_call heard_by w (Proposes member)) (es ++ (Proposes member ∷ [])))
+    (λ (t : std.Option OfficeRun). TrialAgrees t (extended_by engine_call heard_by w (Proposes member)) (es ++ (Proposes member ∷ [])))
     (sym
-    (ap (λ (p : Bool). cond p (may_not_come run) (if_taken run member (call_of (office_shard run member) (Propose (value_proposed member))))) (s.kept.proposer member)
-    ∙ ap (λ (x : Answer). cond (has_proposed w.past member) (may_not_come run) (if_taken run member x)) same))
-    (by_outcome run after (with_call engine_call heard_by w member c) (es ++ (Proposes member ∷ [])) (has_proposed w.past member) a.reply.outcome
+    (ap (λ (p : Bool). cond p None (if_taken run member (call_of (office_shard run member) (Propose (value_proposed member))))) (s.kept.proposer member)
+    ∙ ap (λ (x : Answer). cond (has_proposed w.past member) None (if_taken run member x)) same))
+    (by_outcome after (with_call engine_call heard_by w member c) (es ++ (Proposes member ∷ [])) (has_proposed w.past member) a.reply.outcome
     (keeps_next member (Proposes member) c short s after
     (asked_as (has_proposed (with_call engine_call heard_by w member c).past) (asked_proposal w member)
     (with_proposer_lem member below (answer_kept member (Proposes member) c short s below)))))
 
 -- the trial of a delivery, by whether the message was sent to the member
-by_destination : (run after : OfficeRun) (w : RunSoFar Shard) (es : List RunEvent) (sent : Bool) → KeepsRun after w es
-    → TrialAgrees (cond sent (may_come after) (may_not_come run)) (cond sent (some w) none) es
-by_destination run after w es true s = (refl, s)
-by_destination run after w es false s = refl
+by_destination : (after : OfficeRun) (w : RunSoFar Shard) (es : List RunEvent) (sent : Bool) → KeepsRun after w es
+    → TrialAgrees (cond sent (Some after) None) (cond sent (some w) none) es
+by_destination after w es true s = s
+by_destination after w es false s = tt
 
 pub delivery_agrees : {run : OfficeRun} {w : RunSoFar Shard} {es : List RunEvent} (member place : ℕ) → member < 3 → length es < 5 → place < run.sent.count
     → KeepsRun run w es
@@ -194,11 +196,11 @@ delivery_agrees {run} {w} {es} member place below short stands s =
     (λ (o : Option (RunSoFar Shard)). TrialAgrees (trial_of run (Delivers member place)) o (es ++ (Delivers member place ∷ [])))
     (sym (ap (with_delivery engine_call heard_by w member) (place_kept place few stands s)))
     (subst
-    (λ (t : Trial). TrialAgrees t (with_delivery engine_call heard_by w member (some x)) (es ++ (Delivers member place ∷ [])))
+    (λ (t : std.Option OfficeRun). TrialAgrees t (with_delivery engine_call heard_by w member (some x)) (es ++ (Delivers member place ∷ [])))
     (sym
-    (ap (λ (b : Bool). cond b (cond (is_sent_to x member) (may_come (after_message run member place x)) (may_not_come run)) (may_not_come run)) (lt-ltb place run.sent.count stands)
-    ∙ ap (λ (shard : Shard). cond (is_sent_to x member) (may_come (with_answer run member (Delivers member place) (call_of shard (Receive (heard_by shard x.outgoing.message))))) (may_not_come run))
+    (ap (λ (b : Bool). cond b (cond (is_sent_to x member) (Some (after_message run member place x)) None) None) (lt-ltb place run.sent.count stands)
+    ∙ ap (λ (shard : Shard). cond (is_sent_to x member) (Some (with_answer run member (Delivers member place) (call_of shard (Receive (heard_by shard x.outgoing.message))))) None)
     (shard_kept member below s)))
-    (by_destination run after (with_call engine_call heard_by w member c) (es ++ (Delivers member place ∷ [])) (is_sent_to x member)
+    (by_destination after (with_call engine_call heard_by w member c) (es ++ (Delivers member place ∷ [])) (is_sent_to x member)
     (keeps_next member (Delivers member place) c short s after
     (asked_as (has_proposed (with_call engine_call heard_by w member c).past) (asked_delivery w member x) (answer_kept member (Delivers member place) c short s below)))))

@@ -1,11 +1,11 @@
 -- The turns of the lister: what is put after each.
 -- Assumes nothing.
 use mathlib.Core.Path.{◌≡◌, refl, sym, ap, ◌∙◌}
-use mathlib.Core.Bool.{Bool, true, false, cond}
 use mathlib.Core.List.{List, [], ◌++◌, append_assoc}
 use Prim.Native.Nat.{ℕ, zero, suc, ◌+◌, ◌-◌, ◌≤◌}
 use native.Mathlib.Numerals.{add-one}
 use native.Mathlib.Omega.{arith}
+use Rattle.std.specs.Prelude.{Option, None, Some}
 use Rattle.texts.specs.declared.Output.{Output}
 use Rattle.texts.specs.Text.{put}
 use Rattle.texts.proofs.Putting.{put_nothing, put_then}
@@ -13,7 +13,6 @@ use Rattle.enabled_runs.specs.declared.RunEvent.TheVariants.{Proposes, Delivers}
 use Rattle.enabled_runs.specs.Listing.{each_below}
 use Rattle.office_runs.specs.Runs.{trial_of}
 use Rattle.office_runs.specs.declared.OfficeRun.{OfficeRun}
-use Rattle.office_runs.specs.declared.Trial.{Trial}
 use Rattle.short_runs.specs.Lister.{kept_line, event_lines, lines_after}
 
 -- the lines that begin with a proposal, and those that begin with a delivery to a member
@@ -58,16 +57,11 @@ whole (suc n) run p some e =
 
 -- ---- an event
 
-pub skipped : (rest : OfficeRun → List ℕ) (n t : Trial) (p : Output) → t ≡ n → t.allowed ≡ false → p ≡ put (event_lines rest n) p
+pub skipped : (rest : OfficeRun → List ℕ) (n t : Option OfficeRun) (p : Output) → t ≡ n → t ≡ None → p ≡ put (event_lines rest n) p
 unfolding event_lines
-skipped rest n t p e k =
-    sym (put_nothing p)
-    ∙ ap (λ (b : Bool). put (cond b (kept_line n.run ++ rest n.run) []) p) (sym k ∙ ap (λ (x : Trial). x.allowed) e)
+skipped rest n t p e k = sym (put_nothing p) ∙ ap (λ (x : Option OfficeRun). put (event_lines rest x) p) (sym k ∙ e)
 
-pub entered : (rest : OfficeRun → List ℕ) (n t : Trial) (p : Output) {q r : Output} → t ≡ n → t.allowed ≡ true → q ≡ put (kept_line t.run) p
-    → r ≡ put (rest t.run) q → r ≡ put (event_lines rest n) p
+pub entered : (rest : OfficeRun → List ℕ) (n t : Option OfficeRun) (run : OfficeRun) (p : Output) {q r : Output} → t ≡ n → t ≡ Some run → q ≡ put (kept_line run) p
+    → r ≡ put (rest run) q → r ≡ put (event_lines rest n) p
 unfolding event_lines
-entered rest n t p e k a b =
-    put_then (kept_line t.run) (rest t.run) p a b
-    ∙ ap (λ (x : OfficeRun). put (kept_line x ++ rest x) p) (ap (λ (x : Trial). x.run) e)
-    ∙ ap (λ (b : Bool). put (cond b (kept_line n.run ++ rest n.run) []) p) (sym k ∙ ap (λ (x : Trial). x.allowed) e)
+entered rest n t run p e k a b = put_then (kept_line run) (rest run) p a b ∙ ap (λ (x : Option OfficeRun). put (event_lines rest x) p) (sym k ∙ e)

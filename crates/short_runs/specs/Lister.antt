@@ -1,12 +1,11 @@
 -- What the lister writes for a run that it keeps (crate office_runs).
 -- Assumes nothing.
-use Rattle.std.specs.Prelude.{cond, List, [], ◌++◌, ℕ, zero, suc}
+use Rattle.std.specs.Prelude.{List, [], ◌++◌, ℕ, zero, suc, Option, None, Some}
 use Rattle.texts.specs.Text.{ascii}
 use Rattle.enabled_runs.specs.declared.RunEvent.TheVariants.{Proposes, Delivers}
 use Rattle.enabled_runs.specs.Listing.{each_below}
 use Rattle.office_runs.specs.Runs.{trial_of}
 use Rattle.office_runs.specs.declared.OfficeRun.{OfficeRun}
-use Rattle.office_runs.specs.declared.Trial.{Trial}
 use Rattle.run_lines.specs.Lines.{commit_by_text, joined_by_blanks, event_place_text, first_five}
 
 unfoldable pub kept_line : OfficeRun → List ℕ
@@ -16,8 +15,10 @@ kept_line run =
 
 -- ---- the listing
 
-unfoldable pub event_lines : (OfficeRun → List ℕ) → Trial → List ℕ
-event_lines rest t = cond t.allowed (kept_line t.run ++ rest t.run) []
+-- of the run with an event more, if the event may come next
+unfoldable pub event_lines : (OfficeRun → List ℕ) → Option OfficeRun → List ℕ
+event_lines rest None = []
+event_lines rest (Some run) = kept_line run ++ rest run
 
 unfoldable pub lines_after : ℕ → OfficeRun → List ℕ
 lines_after zero run = []

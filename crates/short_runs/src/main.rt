@@ -30,11 +30,9 @@ fn put_line(out: &mut Output, run: OfficeRun)
 fn list_event(out: &mut Output, left: u64, run: OfficeRun, event: RunEvent)
     ensures { out.new ≡ put (event_lines (lines_after left) (trial_of run event)) out.old }
 {
-    let next = run.trial(event);
-    let extended = next.run;
-    if next.allowed {
-        put_line(out, extended);
-        list(out, left, extended);
+    if let Some(next) = run.trial(event) {
+        put_line(out, next);
+        list(out, left, next);
     }
 }
 
@@ -67,6 +65,7 @@ fn list(out: &mut Output, left: u64, run: OfficeRun)
 }
 
 // "header `events,commits` and a line per run", for the runs of at most five events.
+#[tactic(auto, using(crate::proofs::SheetIsListing::sheet_put))]
 fn put_sheet(out: &mut Output)
     ensures { out.new ≡ put sheet out.old }
 {
@@ -78,6 +77,7 @@ fn put_sheet(out: &mut Output)
 // ---- the program
 
 // Puts the whole sheet at the start of a buffer that has room for it.
+#[tactic(auto, using(crate::proofs::Room::bytes_are_sheet))]
 fn whole_sheet(out: &mut Output)
     requires start { out.old.at ≡ 0 }
     requires room { 45802 ≤ length out.old.bytes.now }

@@ -19,11 +19,9 @@ use Rattle.steps.specs.declared.Core.{Core}
 use Rattle.steps.specs.declared.Rounds.{Rounds}
 use Rattle.calls.specs.declared.Call.{Call}
 use Rattle.calls.specs.declared.Call.TheVariants.{Propose, StartRead, Receive}
-use Rattle.core_calls.specs.CoreCall.{core_call}
+use Rattle.core_calls.specs.CoreCall.{CoreAnswer, core_call}
 use Rattle.core_calls.specs.Replies.{refused_reply, sent_reply}
-use Rattle.core_calls.specs.declared.CoreAnswer.{CoreAnswer}
-use Rattle.rounds_calls.specs.RoundsCall.{with_fast, rounds_passed}
-use Rattle.rounds_calls.specs.declared.RoundsAnswer.{RoundsAnswer}
+use Rattle.rounds_calls.specs.RoundsCall.{RoundsAnswer, with_fast, rounds_passed}
 use Rattle.state_calls.specs.declared.State.{State}
 use Rattle.state_calls.specs.declared.StateAnswer.{StateAnswer}
 
@@ -34,7 +32,7 @@ with_tracker tracker core =
 
 -- the answer on the rounds, with the reads as they were
 abbrev pub with_table : ReadTable → RoundsAnswer → StateAnswer
-with_table table a = record { state = record { rounds = a.rounds; table = table }; reply = a.reply }
+with_table table a = record { state = record { rounds = a.state; table = table }; reply = a.reply }
 
 -- ---- reads that are served: commit_commands and receive_ready
 
@@ -42,34 +40,33 @@ abbrev pub served : RoundsAnswer → Tracked → StateAnswer
 served a reads =
     record {
       state =
-          record { rounds = record { core = with_tracker reads.tracker a.rounds.core; fast = a.rounds.fast }; table = reads.table };
+          record { rounds = record { core = with_tracker reads.tracker a.state.core; fast = a.state.fast }; table = reads.table };
       reply =
           record { outcome = a.reply.outcome; messages = a.reply.messages; commit = a.reply.commit; served_count = reads.served_count };
     }
 
 abbrev pub serve_ready : ℕ → ReadTable → RoundsAnswer → StateAnswer
-serve_ready majority table a = served a (commit_slot a.rounds.core.tracker table majority a.rounds.core.slot)
+serve_ready majority table a = served a (commit_slot a.state.core.tracker table majority a.state.core.slot)
 
 abbrev pub count_response : ℕ → ReadTable → RoundsAnswer → ReadId → Bool → StateAnswer
-count_response majority table a id fast = served a (receive_ready a.rounds.core.tracker table id majority a.rounds.core.slot fast)
+count_response majority table a id fast = served a (receive_ready a.state.core.tracker table id majority a.state.core.slot fast)
 
 -- ---- a new read: start_read, with refusal 12
 
-abbrev pub after_insert : Asked → Rounds → ReadTable → Inserted → Result ReadId Refusal → StateAnswer
-after_insert asked rounds old ins (Err why) = record { state = record { rounds = rounds; table = old }; reply = refused_reply why }
-after_insert asked rounds old ins (Ok id) =
+abbrev pub after_insert : Asked → Rounds → ReadTable → Result Inserted Refusal → StateAnswer
+after_insert asked rounds old (Err why) = record { state = record { rounds = rounds; table = old }; reply = refused_reply why }
+after_insert asked rounds old (Ok ins) =
     record {
       state =
           record { rounds = record { core = with_tracker ins.tracker rounds.core; fast = rounds.fast }; table = ins.table };
-      reply = sent_reply (one_message (sends asked rounds.core to_all (ReadRequest id)));
+      reply = sent_reply (one_message (sends asked rounds.core to_all (ReadRequest ins.id)));
     }
 
-abbrev pub inserted : ReadTable → Rounds → ℕ → ℕ → Inserted
+abbrev pub inserted : ReadTable → Rounds → ℕ → ℕ → Result Inserted Refusal
 inserted table rounds tag arrival = insert rounds.core.tracker table tag arrival (not (is_some rounds.core.paxos.max_rv))
 
 unfoldable pub open_read : Asked → ReadTable → Rounds → ℕ → ℕ → StateAnswer
-open_read asked table rounds tag arrival =
-    after_insert asked rounds table (inserted table rounds tag arrival) (inserted table rounds tag arrival).opened
+open_read asked table rounds tag arrival = after_insert asked rounds table (inserted table rounds tag arrival)
 
 -- ---- what is left to do with the reads
 
@@ -84,7 +81,7 @@ reads_handle majority table a fast (ReadResponse id next) = count_response major
 
 unfoldable pub reads_taken : Asked → ReadTable → RoundsAnswer → Call → StateAnswer
 reads_taken asked table a (Propose v) = serve_ready asked.member.quorums.majority table a
-reads_taken asked table a (StartRead tag arrival) = open_read asked table a.rounds tag arrival
+reads_taken asked table a (StartRead tag arrival) = open_read asked table a.state tag arrival
 reads_taken asked table a (Receive d) = reads_handle asked.member.quorums.majority table a d.said.fast d.message.msg
 
 unfoldable pub with_reads : Asked → ReadTable → Call → RoundsAnswer → StateAnswer

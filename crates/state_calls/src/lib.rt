@@ -20,6 +20,7 @@ pub struct State {
     pub table: ReadTable,
 }
 
+// No `Answered<State>`: a call ends here, and goes no deeper.
 #[derive(Clone, Copy)]
 pub struct StateAnswer {
     pub state: State,
@@ -37,7 +38,7 @@ fn with_tracker(mut core: Core, tracker: ReadTracker) -> Core
 fn with_table(table: ReadTable, a: RoundsAnswer) -> StateAnswer
     ensures { result ≡ with_table table a }
 {
-    let rounds = a.rounds;
+    let rounds = a.state;
     let reply = a.reply;
     StateAnswer {
         state: State { rounds, table },
@@ -49,7 +50,7 @@ fn with_table(table: ReadTable, a: RoundsAnswer) -> StateAnswer
 fn served(a: RoundsAnswer, reads: Tracked) -> StateAnswer
     ensures { result ≡ served a reads }
 {
-    let rounds = a.rounds;
+    let rounds = a.state;
     let old = rounds.core;
     let fast = rounds.fast;
     let tracker = reads.tracker;
@@ -70,7 +71,7 @@ fn served(a: RoundsAnswer, reads: Tracked) -> StateAnswer
 fn serve_ready(majority: u64, table: ReadTable, a: RoundsAnswer) -> StateAnswer
     ensures { result ≡ serve_ready majority table a }
 {
-    let rounds = a.rounds;
+    let rounds = a.state;
     let core = rounds.core;
     let tracker = core.tracker;
     served(a, serving::commit_slot(tracker, table, majority, core.slot))
@@ -86,7 +87,7 @@ fn count_response(
 ) -> StateAnswer
     ensures { result ≡ count_response majority table a id fast }
 {
-    let rounds = a.rounds;
+    let rounds = a.state;
     let core = rounds.core;
     let tracker = core.tracker;
     let reads = serving::receive_ready(tracker, table, id, majority, core.slot, fast);
@@ -97,19 +98,19 @@ fn after_insert(
     asked: Asked,
     rounds: Rounds,
     old: ReadTable,
-    ins: Inserted,
-    opened: Result<ReadId, Refusal>,
+    inserted: Result<Inserted, Refusal>,
 ) -> StateAnswer
-    ensures { result ≡ after_insert asked rounds old ins opened }
+    ensures { result ≡ after_insert asked rounds old inserted }
 {
-    match opened {
+    match inserted {
         Err(why) => StateAnswer {
             state: State { rounds, table: old },
             reply: core_calls::refused_reply(why),
         },
-        Ok(id) => {
+        Ok(ins) => {
             let core = rounds.core;
-            let message = asked.sends(core, steps::to_all(), ConsensusMsg::ReadRequest { id });
+            let request = ConsensusMsg::ReadRequest { id: ins.id };
+            let message = asked.sends(core, steps::to_all(), request);
             StateAnswer {
                 state: State {
                     rounds: Rounds {
@@ -137,8 +138,8 @@ fn open_read(
 {
     let core = rounds.core;
     let local_ready = core.paxos.max_rv.is_none();
-    let ins = read_tracker::insert(core.tracker, table, tag, arrival_slot, local_ready);
-    after_insert(asked, rounds, table, ins, ins.opened)
+    let inserted = read_tracker::insert(core.tracker, table, tag, arrival_slot, local_ready);
+    after_insert(asked, rounds, table, inserted)
 }
 
 // A message comes this far as a response, or because it has committed.
@@ -166,7 +167,7 @@ fn reads_taken(asked: Asked, table: ReadTable, a: RoundsAnswer, call: Call) -> S
     match call {
         Call::Propose(_) => serve_ready(majority, table, a),
         Call::StartRead { tag, arrival_slot } => {
-            open_read(asked, table, a.rounds, tag, arrival_slot)
+            open_read(asked, table, a.state, tag, arrival_slot)
         }
         Call::Receive(d) => reads_handle(majority, table, a, d.said.fast, d.message.msg),
     }

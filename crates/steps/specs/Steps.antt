@@ -1,6 +1,6 @@
 -- Steps of a call, and the messages that they send (document 01, "Message and answer").
 -- Assumes nothing.
-use Rattle.std.specs.Prelude.{Bool, true, false, cond, ℕ, eqb, Option, None, Some}
+use Rattle.std.specs.Prelude.{Bool, true, false, cond, ℕ, eqb, Option, None, Some, Result, Ok, Err}
 use Rattle.message.specs.Promises.{value_of}
 use Rattle.message.specs.declared.ConsensusMsg.{ConsensusMsg}
 use Rattle.message.specs.declared.Refusal.{Refusal}
@@ -14,14 +14,14 @@ use Rattle.fast_state.specs.declared.FastState.{FastState}
 use Rattle.steps.specs.declared.Asked.{Asked}
 use Rattle.steps.specs.declared.ChangeStep.{ChangeStep}
 use Rattle.steps.specs.declared.Core.{Core}
-use Rattle.steps.specs.declared.CoreStep.{CoreStep}
 use Rattle.steps.specs.declared.Destination.{Destination}
 use Rattle.steps.specs.declared.Destination.TheVariants.{All}
 use Rattle.steps.specs.declared.Messages.{Messages}
 use Rattle.steps.specs.declared.Next.{Next}
-use Rattle.steps.specs.declared.Next.TheVariants.{Stays, Continues, Commits, Refuses}
+use Rattle.steps.specs.declared.Next.TheVariants.{Stays, Continues, Commits}
 use Rattle.steps.specs.declared.Outgoing.{Outgoing}
-use Rattle.steps.specs.declared.RoundsStep.{RoundsStep}
+use Rattle.steps.specs.declared.Rounds.{Rounds}
+use Rattle.steps.specs.declared.Step.{Step}
 
 -- ---- messages
 
@@ -80,42 +80,53 @@ left_fast_path core =
 
 -- ---- steps
 
+abbrev pub CoreStep : Type 0
+CoreStep = Step Core
+
+abbrev pub RoundsStep : Type 0
+RoundsStep = Step Rounds
+
 abbrev pub stays : Core → Messages → CoreStep
-stays core messages = record { core = core; messages = messages; next = Stays }
+stays core messages = record { state = core; messages = messages; next = Stays }
 
 abbrev pub continues : Core → Messages → CoreStep
-continues core messages = record { core = core; messages = messages; next = Continues }
+continues core messages = record { state = core; messages = messages; next = Continues }
 
 abbrev pub commits : ℕ → Core → Messages → CoreStep
-commits v core messages = record { core = core; messages = messages; next = Commits v }
-
-abbrev pub refuses : Refusal → Core → CoreStep
-refuses why core = record { core = core; messages = no_messages; next = Refuses why }
+commits v core messages = record { state = core; messages = messages; next = Commits v }
 
 -- whether the handler goes on with the step's core
 abbrev pub goes_on : Next → Bool
 goes_on Stays = false
 goes_on Continues = true
 goes_on (Commits v) = false
-goes_on (Refuses why) = false
 
--- the rest of the handler where it goes on from a step, and else the step
-abbrev pub and_then : CoreStep → (Core → CoreStep) → CoreStep
-and_then step rest = cond (goes_on step.next) (rest step.core) step
+-- the rest of the handler where it goes on from a step, and else what is made of the step; a refused step is all that is left of the handler
+abbrev pub then_in : {X : Type 0} → (CoreStep → X) → Result CoreStep Refusal → (Core → Result X Refusal) → Result X Refusal
+then_in make (Ok step) rest = cond (goes_on step.next) (rest step.state) (Ok (make step))
+then_in make (Err why) rest = Err why
+
+abbrev pub and_then : Result CoreStep Refusal → (Core → Result CoreStep Refusal) → Result CoreStep Refusal
+and_then = then_in (λ step. step)
+
+-- another step made of a step, where that is not refused
+abbrev pub map_step : {A B : Type 0} → (A → B) → Result A Refusal → Result B Refusal
+map_step make (Ok step) = Ok (make step)
+map_step make (Err why) = Err why
 
 -- a step of the core, and what changes in the fast half
 abbrev pub with_change : FastChange → CoreStep → ChangeStep
-with_change change step = record { core = step.core; messages = step.messages; next = step.next; change = change }
+with_change change step = record { core = step.state; messages = step.messages; next = step.next; change = change }
 
 -- the same in EPaxos and SwiftPaxos: where the handler ends with a step of the core, the fast half is as it was
-abbrev pub and_then_change : FastAnswers → CoreStep → (Core → ChangeStep) → ChangeStep
-and_then_change answers step rest = cond (goes_on step.next) (rest step.core) (with_change (unchanged answers) step)
+abbrev pub and_then_change : FastAnswers → Result CoreStep Refusal → (Core → Result ChangeStep Refusal) → Result ChangeStep Refusal
+and_then_change answers = then_in (with_change (unchanged answers))
 
 -- a step of the core, with the fast half as it is
 abbrev pub on_rounds : FastState → CoreStep → RoundsStep
-on_rounds fast step = record { rounds = record { core = step.core; fast = fast }; messages = step.messages; next = step.next }
+on_rounds fast step = record { state = record { core = step.state; fast = fast }; messages = step.messages; next = step.next }
 
 -- a step with its change made to the fast half
 abbrev pub change_rounds : FastState → ChangeStep → RoundsStep
 change_rounds fast step =
-    record { rounds = record { core = step.core; fast = changed step.change fast }; messages = step.messages; next = step.next }
+    record { state = record { core = step.core; fast = changed step.change fast }; messages = step.messages; next = step.next }

@@ -1,14 +1,14 @@
 // What the handlers work on: the part of a shard that they change, what they ask of the settings and of a message, and the steps that they
-// are chains of. A step hands back the next state, the messages to send, and how the call goes on; a refused step is dropped whole by the
-// shard that made the call, so that nothing has to be undone.
+// are chains of. A step hands back the next state, the messages to send, and how the call goes on. A handler that is refused hands back the refusal alone,
+// and the shard that made the call stays as it was, so that nothing has to be undone.
 #![tactic(auto)]
 
 ghost use Rattle.std.specs.Prelude.{◌≡◌};
 ghost use Rattle.fast_state.specs.Fast.{unchanged};
-ghost use Rattle.steps.specs.Steps.{no_messages, one_message, two_messages, also, sends, to_all, first_served, held_rv, held_v, with_paxos, left_fast_path, stays, continues, commits, refuses, with_change, change_rounds, goes_on};
+ghost use Rattle.steps.specs.Steps.{no_messages, one_message, two_messages, also, sends, to_all, first_served, held_rv, held_v, with_paxos, left_fast_path, stays, continues, commits, with_change, change_rounds, goes_on};
 
 use fast_state::{FastAnswers, FastChange, FastState};
-use message::{ConsensusMessage, ConsensusMsg, PFMode, PaxosRound, Refusal, RoundV};
+use message::{ConsensusMessage, ConsensusMsg, PFMode, PaxosRound, RoundV};
 use read_tracker::ReadTracker;
 use round_state::{Member, PaxosState};
 
@@ -74,13 +74,12 @@ pub struct Messages {
     pub third: Option<Outgoing>,
 }
 
-// How a call goes on after a step: not at all, with the next step, with the commit of a value, or it is refused.
+// How a call goes on after a step: not at all, with the next step, or with the commit of a value.
 #[derive(Clone, Copy, PartialEq, Eq, Debug)]
 pub enum Next {
     Stays,
     Continues,
     Commits(u64),
-    Refuses(Refusal),
 }
 
 impl Next {
@@ -92,27 +91,26 @@ impl Next {
     }
 }
 
+// A step: the state after it, the messages that it sends, and how the call goes on.
 #[derive(Clone, Copy)]
-pub struct CoreStep {
-    pub core: Core,
+pub struct Step<S> {
+    pub state: S,
     pub messages: Messages,
     pub next: Next,
 }
 
-// A step in EPaxos and SwiftPaxos, which says besides what changes in the fast half.
+pub type CoreStep = Step<Core>;
+
+pub type RoundsStep = Step<Rounds>;
+
+// A step in EPaxos and SwiftPaxos, which says besides what changes in the fast half. No `Step` of core and change together: nothing that is said of a `Step`
+// is said of this one, and each reader of its core would name the two.
 #[derive(Clone, Copy)]
 pub struct ChangeStep {
     pub core: Core,
     pub messages: Messages,
     pub next: Next,
     pub change: FastChange,
-}
-
-#[derive(Clone, Copy)]
-pub struct RoundsStep {
-    pub rounds: Rounds,
-    pub messages: Messages,
-    pub next: Next,
 }
 
 pub fn no_messages() -> Messages
@@ -203,7 +201,7 @@ impl Core {
         ensures { result ≡ stays self messages }
     {
         CoreStep {
-            core: self,
+            state: self,
             messages,
             next: Next::Stays,
         }
@@ -213,7 +211,7 @@ impl Core {
         ensures { result ≡ continues self messages }
     {
         CoreStep {
-            core: self,
+            state: self,
             messages,
             next: Next::Continues,
         }
@@ -223,19 +221,9 @@ impl Core {
         ensures { result ≡ commits v self messages }
     {
         CoreStep {
-            core: self,
+            state: self,
             messages,
             next: Next::Commits(v),
-        }
-    }
-
-    pub fn refuses(self, why: Refusal) -> CoreStep
-        ensures { result ≡ refuses why self }
-    {
-        CoreStep {
-            core: self,
-            messages: no_messages(),
-            next: Next::Refuses(why),
         }
     }
 
@@ -257,20 +245,14 @@ impl Core {
     {
         self.stays_silent().unchanged(answers)
     }
-
-    pub fn refuses_unchanged(self, why: Refusal, answers: FastAnswers) -> ChangeStep
-        ensures { result ≡ with_change (unchanged answers) (refuses why self) }
-    {
-        self.refuses(why).unchanged(answers)
-    }
 }
 
-impl CoreStep {
+impl Step<Core> {
     pub fn with_change(self, change: FastChange) -> ChangeStep
         ensures { result ≡ with_change change self }
     {
         ChangeStep {
-            core: self.core,
+            core: self.state,
             messages: self.messages,
             next: self.next,
             change,
@@ -291,7 +273,7 @@ impl ChangeStep {
         ensures { result ≡ change_rounds fast self }
     {
         RoundsStep {
-            rounds: Rounds {
+            state: Rounds {
                 core: self.core,
                 fast: fast.changed(self.change),
             },

@@ -17,7 +17,8 @@ pub struct StoredColumns<'a> {
     pub figures: &'a [u64; 5],
 }
 
-// The stored numbers, each with 64 bits.
+// The stored numbers, each with 64 bits. By `zip` of `iter_mut` and `iter`, which was tried, the loop stays open without an invariant of the pairs of
+// borrows that are given; by the index it is one of the two lists.
 fn widen_numbers(stored: &[u16], numbers: &mut [u64])
     requires { length stored.now ≡ length numbers.old }
     ensures { numbers.new ≡ stored.now }
@@ -29,6 +30,7 @@ fn widen_numbers(stored: &[u16], numbers: &mut [u64])
 
 impl StoredColumns<'_> {
     // The register that the stored one becomes, in the arrays of a register.
+    #[tactic(auto, using(crate::proofs::Laws::same_numbers))]
     pub fn widen(self, columns: &mut Columns<'_>)
         ensures same { SameArrays columns.old columns.new }
         ensures widened { register_in columns.new ≡ widened (stored_of_columns self.entry) }

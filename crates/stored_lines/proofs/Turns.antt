@@ -10,7 +10,7 @@ use native.Mathlib.Numerals.{add-one}
 use lib.Dec.{ltb}
 use lib.ListN.{length, get_or, set, length-append}
 use borrow.Author.Tests.{ltb-true, ltb-false, leb-true}
-use Rattle.basics.proofs.Tests.{either, not_both, fails, and_left, and_right}
+use Rattle.basics.proofs.Tests.{either, and_left, and_right}
 use Rattle.call_lines.specs.Reading.{scan_of}
 use Rattle.call_lines.specs.declared.Scan.{Scan}
 use Rattle.places.specs.Places.{at_front}
@@ -23,10 +23,6 @@ use Rattle.stored_register.specs.declared.StoredRegister.{StoredRegister}
 use Rattle.stored_lines.specs.Lines.{is_cell_at, are_cells, stored_cell_at, stored_cells, empty_cells, stored_of_numbers, is_stored, stored_numbers, stored_line}
 
 module _ (ns : List ℕ) where
-  pub cells_more : (i : ℕ) → are_cells ns i ≡ true → is_cell_at ns i ≡ true → are_cells ns (i + 1) ≡ true
-  unfolding are_cells
-  cells_more i h k = rw add-one (simp (h, k))
-
   -- where the first n are cells, each of them is one
   pub each_cell : (n i : ℕ) → are_cells ns n ≡ true → i < n → is_cell_at ns i ≡ true
   unfolding are_cells
@@ -38,9 +34,6 @@ module _ (ns : List ℕ) where
       go (inr t) rest =
           let last : n ≡ i = omega (arith, ltb-false i n t) in
           ap (is_cell_at ns) (sym last) ∙ and_right (are_cells ns n) (is_cell_at ns n) h
-
-  pub cells_broken : (n i : ℕ) → i < n → is_cell_at ns i ≡ false → are_cells ns n ≡ false
-  cells_broken n i h k = fails (λ t. not_both (each_cell n i t h) k)
 
   pub stored_count : (n : ℕ) → length (stored_cells ns n) ≡ n
   unfolding stored_cells

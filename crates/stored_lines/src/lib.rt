@@ -2,11 +2,11 @@
 // assignments made, superseded and released, the number of cells, and of each cell its number, carrier and width.
 #![tactic(auto)]
 
-ghost use Rattle.std.specs.Prelude.{◌≡◌, ◌<◌, ◌≤◌, length, get_or};
+ghost use Rattle.std.specs.Prelude.{◌≡◌, ◌<◌, ◌≤◌, get_or};
 ghost use Rattle.places.specs.Places.{at_front};
 ghost use Rattle.texts.specs.Text.{put};
 ghost use Rattle.stored_lines.specs.Answers.{after_stored, stored_text, register_after_line, line_answer};
-ghost use Rattle.stored_lines.specs.Lines.{is_read, rises_at, is_cell_at, are_cells, stored_cell_at, stored_cells, empty_cells, stored_of_numbers, is_stored, stored_line};
+ghost use Rattle.stored_lines.specs.Lines.{is_read, is_cell_at, are_cells, stored_cell_at, stored_cells, empty_cells, stored_of_numbers, is_stored, stored_line};
 
 use call_lines::Scan;
 use register::{Assignment, Figures, Register};
@@ -21,49 +21,30 @@ fn is_read(scan: Scan) -> bool
     !scan.malformed && !scan.above_limit && scan.has_digit
 }
 
-// Whether the number of cell i is above that of the cell before it.
-fn rises_at(numbers: &[u64], i: usize) -> bool
-    requires { (length numbers.now ≡ 1541) × (i < 512) }
-    ensures { result ≡ rises_at numbers.now i }
-{
-    if i == 0 {
-        return true;
-    }
-    numbers[3 * i + 2] < numbers[3 * i + 5]
-}
-
 // Whether the number of cell i has 16 bits and is above that of the cell before it, and the assignment is within its limits.
-fn is_cell_at(numbers: &[u64], i: usize) -> bool
-    requires { (length numbers.now ≡ 1541) × (i < 512) }
+#[tactic(auto, unfolding(crate::specs::Lines::is_cell_at, crate::specs::Lines::rises_at))]
+fn is_cell_at(numbers: &[u64; 1541], i: usize) -> bool
+    requires { i < 512 }
     ensures { result ≡ is_cell_at numbers.now i }
 {
-    if numbers[3 * i + 5] > 65535 {
-        return false;
-    }
-    if rises_at(numbers, i) {
-        let assignment = Assignment {
-            carrier: numbers[3 * i + 6],
-            width: numbers[3 * i + 7],
-        };
-        return assignment.assignable();
-    }
-    false
+    let number = numbers[3 * i + 5];
+    let assignment = Assignment {
+        carrier: numbers[3 * i + 6],
+        width: numbers[3 * i + 7],
+    };
+    number <= 65535 && (i == 0 || numbers[3 * i + 2] < number) && assignment.assignable()
 }
 
-fn are_cells(numbers: &[u64], count: usize) -> bool
-    requires { (length numbers.now ≡ 1541) × (count ≤ 512) }
+#[tactic(auto, unfolding(crate::specs::Lines::are_cells))]
+fn are_cells(numbers: &[u64; 1541], count: usize) -> bool
+    requires { count ≤ 512 }
     ensures { result ≡ are_cells numbers.now count }
 {
-    for i in 0..count {
-        if !is_cell_at(numbers, i) {
-            return false;
-        }
-    }
-    true
+    (0..count).all(|i| is_cell_at(numbers, i))
 }
 
-fn stored_cell_at(numbers: &[u64], i: usize) -> StoredCell
-    requires { (length numbers.now ≡ 1541) × (i < 512) }
+fn stored_cell_at(numbers: &[u64; 1541], i: usize) -> StoredCell
+    requires { i < 512 }
     ensures { result ≡ stored_cell_at numbers.now i }
 {
     let number = numbers[3 * i + 5] % 65536;
@@ -76,8 +57,11 @@ fn stored_cell_at(numbers: &[u64], i: usize) -> StoredCell
     }
 }
 
-fn stored_cells(numbers: &[u64], count: usize) -> [StoredCell; 512]
-    requires { (length numbers.now ≡ 1541) × (count ≤ 512) }
+// The first cells of the line. A `for` over places: the index says a place of the table and one of the line, where `iter_mut().enumerate()` would need
+// `take(count)` besides, and the index all the same.
+#[tactic(auto, using(crate::proofs::Turns::stored_more), unfolding(places::specs::Places::at_front, crate::specs::Lines::stored_cells))]
+fn stored_cells(numbers: &[u64; 1541], count: usize) -> [StoredCell; 512]
+    requires { count ≤ 512 }
     ensures { result ≡ at_front (stored_cells numbers.now count) empty_cells }
 {
     let nothing = StoredCell {
@@ -94,25 +78,16 @@ fn stored_cells(numbers: &[u64], count: usize) -> [StoredCell; 512]
     cells
 }
 
-fn is_stored(scan: Scan, numbers: &[u64]) -> bool
-    requires { length numbers.now ≡ 1541 }
+#[tactic(auto, unfolding(crate::specs::Lines::is_stored))]
+fn is_stored(scan: Scan, numbers: &[u64; 1541]) -> bool
     ensures { result ≡ is_stored scan numbers.now }
 {
-    if numbers[4] > 512 {
-        return false;
-    }
     let count = numbers[4] as usize;
-    if scan.before == 3 * count + 4 {
-        if is_read(scan) {
-            return are_cells(numbers, count);
-        }
-        return false;
-    }
-    false
+    count <= 512 && scan.before == 3 * count + 4 && is_read(scan) && are_cells(numbers, count)
 }
 
-fn stored_of_numbers(numbers: &[u64]) -> StoredRegister
-    requires { (length numbers.now ≡ 1541) × (get_or numbers.now 4 0 ≤ 512) }
+fn stored_of_numbers(numbers: &[u64; 1541]) -> StoredRegister
+    requires { get_or numbers.now 4 0 ≤ 512 }
     ensures { result ≡ stored_of_numbers numbers.now }
 {
     let count = numbers[4] as usize;
@@ -129,14 +104,14 @@ fn stored_of_numbers(numbers: &[u64]) -> StoredRegister
 }
 
 // The register that the bytes of a line behind `stored` and a blank begin, where they are such numbers.
+#[tactic(auto, using(crate::proofs::Turns::few_cells, crate::proofs::Turns::line_taken, crate::proofs::Turns::line_left))]
 pub fn stored_line(bytes: &[u8]) -> Option<Register>
     ensures { result ≡ stored_line bytes.now }
 {
-    let mut places = [0u64; 1541];
-    let numbers: &mut [u64] = &mut places;
-    let scan = call_lines::read_numbers(bytes, numbers);
-    if is_stored(scan, numbers) {
-        let stored = stored_of_numbers(numbers);
+    let mut numbers = [0u64; 1541];
+    let scan = call_lines::read_numbers(bytes, &mut numbers);
+    if is_stored(scan, &numbers) {
+        let stored = stored_of_numbers(&numbers);
         return Some(Register::from(stored));
     }
     None
@@ -161,6 +136,7 @@ fn answer_stored(register: Register, bytes: &[u8], out: &mut Output<'_>) -> Regi
 }
 
 // The answer to a line of `planning`, and the register that the line leaves.
+#[tactic(auto, using(crate::proofs::Answered::begins_long, crate::proofs::Answered::behind_word), unfolding(crate::specs::Answers::register_after_line, crate::specs::Answers::line_answer))]
 pub fn answer_line(register: Register, line: &[u8], out: &mut Output<'_>) -> Register
     ensures register { result ≡ register_after_line register line.now }
     ensures put { out.new ≡ put (line_answer register line.now) out.old }

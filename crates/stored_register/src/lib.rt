@@ -6,7 +6,8 @@ ghost use Rattle.stored_register.specs.Stored.{widened_cell, widened};
 
 use register::{Assignment, Cell, CellNumber, Figures, Register};
 
-// A cell of E6: its number has 16 bits.
+// A cell of E6: its number has 16 bits. A type of its own and no Cell over a type of numbers: the C interface has both forms, and no function takes either;
+// a stored register is only widened.
 #[derive(Clone, Copy)]
 pub struct StoredCell {
     pub number: u16,

@@ -8,6 +8,9 @@ use fast_state::{FastAnswers, FastChange};
 use message::{PaxosRound, Refusal, RoundV};
 use steps::{Asked, ChangeStep, Core, CoreStep, Heard, Messages};
 
+// asked, heard and round are parameters of their own, as in accept and prepare, whose functions are called with them: a struct of the three would be taken
+// apart in each contract (accept tells of a trial).
+
 fn swift_commits(asked: Asked, answers: FastAnswers) -> bool
     ensures { result ≡ swift_commits asked answers }
 {
@@ -33,36 +36,32 @@ fn swift_answer(
     core: Core,
     answers: FastAnswers,
     scores: &[u64; 64],
-) -> ChangeStep
+) -> Result<ChangeStep, Refusal>
     ensures { result ≡ swift_answer asked heard round rv core answers scores.now }
 {
     match rv {
         RoundV::FastV { proposer, v } => {
             if heard.src == round.leader {
-                return core.refuses_unchanged(Refusal::Panic, answers);
+                return Err(Refusal::Panic);
             }
-            let me = asked.member;
-            match swift_state::swift_answered(
+            let change = swift_state::swift_answered(
                 answers,
                 scores,
-                me,
+                asked.member,
                 heard.src,
                 proposer,
                 v,
                 asked.quorum,
                 false,
-            ) {
-                Ok(change) => {
-                    after_swift_answer(asked, v, core, change.answers).with_change(change)
-                }
-                Err(why) => core.refuses_unchanged(why, answers),
-            }
+            )?;
+            Ok(after_swift_answer(asked, v, core, change.answers).with_change(change))
         }
-        RoundV::PaxosV { .. } => core.refuses_unchanged(Refusal::Panic, answers),
+        RoundV::PaxosV { .. } => Err(Refusal::Panic),
     }
 }
 
-// A Prepare at a client. One that is not the committer of the value drops it.
+// A Prepare at a client. One that is not the committer of the value drops it. A function for this and for an Accept alike would take what follows as a closure,
+// and its contract would be a relation in place of the definition; the Rust tells the two apart too.
 #[tactic(auto, using(message::proofs::Comparisons::process_equal), unfolding(crate::specs::Swift::swift_client_prepare))]
 pub fn swift_client_prepare(
     asked: Asked,
@@ -72,30 +71,32 @@ pub fn swift_client_prepare(
     core: Core,
     answers: FastAnswers,
     scores: &[u64; 64],
-) -> ChangeStep
+) -> Result<ChangeStep, Refusal>
     ensures { result ≡ swift_client_prepare asked heard round rv core answers scores.now }
 {
     if heard.committer == Some(asked.member.my_pid) {
         return swift_answer(asked, heard, round, rv, core, answers, scores);
     }
-    core.stays_unchanged(answers)
+    Ok(core.stays_unchanged(answers))
 }
 
 #[tactic(auto, unfolding(crate::specs::Swift::client_accept))]
-fn client_accept(asked: Asked, heard: Heard, round: PaxosRound, v: u64, core: Core) -> CoreStep
+fn client_accept(
+    asked: Asked,
+    heard: Heard,
+    round: PaxosRound,
+    v: u64,
+    core: Core,
+) -> Result<CoreStep, Refusal>
     ensures { result ≡ client_accept asked heard round v core }
 {
     let me = asked.member;
-    match core.paxos.receive_accept(me, heard.src, round, v) {
-        Ok(p) => {
-            let taken = core.with_paxos(p);
-            if p.paxos_can_commit(me) {
-                return taken.commits_silent(v);
-            }
-            taken.stays_silent()
-        }
-        Err(why) => core.refuses(why),
+    let p = core.paxos.receive_accept(me, heard.src, round, v)?;
+    let taken = core.with_paxos(p);
+    if p.paxos_can_commit(me) {
+        return Ok(taken.commits_silent(v));
     }
+    Ok(taken.stays_silent())
 }
 
 fn from_leader(heard: Heard, round: PaxosRound) -> bool
@@ -154,11 +155,11 @@ fn after_accept_answer(
     v: u64,
     core: Core,
     answers: FastAnswers,
-) -> CoreStep
+) -> Result<CoreStep, Refusal>
     ensures { result ≡ after_accept_answer asked heard round v core answers }
 {
     if from_leader(heard, round) && swift_commits(asked, answers) {
-        return core.commits_silent(v);
+        return Ok(core.commits_silent(v));
     }
     client_accept(asked, heard, round, v, core)
 }
@@ -172,15 +173,12 @@ fn swift_accept(
     core: Core,
     answers: FastAnswers,
     scores: &[u64; 64],
-) -> ChangeStep
+) -> Result<ChangeStep, Refusal>
     ensures { result ≡ swift_accept asked heard round v core answers scores.now }
 {
-    match accept_answered(asked, heard, round, v, answers, scores) {
-        Ok(change) => {
-            after_accept_answer(asked, heard, round, v, core, change.answers).with_change(change)
-        }
-        Err(why) => core.refuses_unchanged(why, answers),
-    }
+    let change = accept_answered(asked, heard, round, v, answers, scores)?;
+    let step = after_accept_answer(asked, heard, round, v, core, change.answers)?;
+    Ok(step.with_change(change))
 }
 
 // An Accept at a client. One that is not the committer of the value drops it.
@@ -193,13 +191,13 @@ pub fn swift_client_accept(
     core: Core,
     answers: FastAnswers,
     scores: &[u64; 64],
-) -> ChangeStep
+) -> Result<ChangeStep, Refusal>
     ensures { result ≡ swift_client_accept asked heard round v core answers scores.now }
 {
     if heard.committer == Some(asked.member.my_pid) {
         return swift_accept(asked, heard, round, v, core, answers, scores);
     }
-    core.stays_unchanged(answers)
+    Ok(core.stays_unchanged(answers))
 }
 
 fn after_replica_answer(
@@ -230,21 +228,10 @@ pub fn swift_answered_accept(
     messages: Messages,
     answers: FastAnswers,
     scores: &[u64; 64],
-) -> ChangeStep
+) -> Result<ChangeStep, Refusal>
     ensures { result ≡ swift_answered_accept asked heard round v core messages answers scores.now }
 {
-    match leader_answered(asked, heard, v, answers, scores) {
-        Ok(change) => {
-            after_replica_answer(
-                asked,
-                heard,
-                round,
-                v,
-                core,
-                messages,
-                change.answers,
-            ).with_change(change)
-        }
-        Err(why) => core.refuses_unchanged(why, answers),
-    }
+    let change = leader_answered(asked, heard, v, answers, scores)?;
+    let step = after_replica_answer(asked, heard, round, v, core, messages, change.answers);
+    Ok(step.with_change(change))
 }

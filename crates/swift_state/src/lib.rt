@@ -35,6 +35,8 @@ fn leader_answer_after(leader: bool, v: u64, old: Option<u64>) -> Option<u64>
     old
 }
 
+// Answers, scores and member are parameters of their own: a caller has them from three places, the state, its table and the settings, so a struct of them
+// would be made for one call and taken apart in each contract. So are source, proposer and value, which come from the message and from what it promises.
 fn swift_counted(
     answers: FastAnswers,
     scores: &[u64; 64],

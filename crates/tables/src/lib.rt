@@ -30,6 +30,7 @@ fn are_below(entries: &[u64], bound: u64) -> bool
 }
 
 // Whether the entry of each process below the bound is below it too.
+#[tactic(auto, using(crate::proofs::Every::every_is_all))]
 pub fn all_below(table: &[u64; 64], bound: u64) -> bool
     ensures { result ≡ all_below table.now bound }
 {

@@ -6,7 +6,7 @@
 ghost use Rattle.std.specs.Prelude.{◌≡◌, [], ◌∷◌, take};
 ghost use Rattle.texts.specs.Text.{put, decimal, field, fields, flag_number};
 
-// A buffer, and the place in it where the next byte goes.
+// A buffer, and the place in it where the next byte goes. No String or Vec: those run out of memory, and what puts text here cannot fail.
 #[derive(Drop)]
 pub struct Output<'a> {
     pub bytes: &'a mut [u8],
@@ -28,6 +28,7 @@ impl<'a> Output<'a> {
         &self.bytes[..self.at.min(self.bytes.len())]
     }
 
+    #[tactic(auto, unfolding(crate::specs::Text::put))]
     pub fn put_byte(&mut self, b: u8)
         ensures { self.new ≡ put (b ∷ []) self.old }
     {
@@ -37,6 +38,7 @@ impl<'a> Output<'a> {
         }
     }
 
+    #[tactic(auto, using(crate::proofs::Lengths::put_part))]
     pub fn put_bytes(&mut self, source: &[u8])
         ensures { self.new ≡ put source.now self.old }
     {
@@ -46,6 +48,7 @@ impl<'a> Output<'a> {
         self.at += count;
     }
 
+    #[tactic(auto, using(crate::proofs::Decimal::decimal_digits))]
     pub fn put_number(&mut self, n: u64)
         ensures { self.new ≡ put (decimal n) self.old }
     {
@@ -55,6 +58,7 @@ impl<'a> Output<'a> {
     }
 
     // A space and the number.
+    #[tactic(auto, unfolding(crate::specs::Text::field, crate::specs::Text::put))]
     pub fn put_field(&mut self, n: u64)
         ensures { self.new ≡ put (field n) self.old }
     {
@@ -63,6 +67,7 @@ impl<'a> Output<'a> {
     }
 
     // A word, and each number behind a space.
+    #[tactic(auto, using(crate::proofs::Putting::put_then, crate::proofs::Putting::reached_next, crate::proofs::Putting::reached_all), unfolding(crate::specs::Text::fields))]
     pub fn put_fields(&mut self, word: &[u8], numbers: &[u64])
         ensures { self.new ≡ put (fields word.now numbers.now) self.old }
     {

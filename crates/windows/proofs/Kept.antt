@@ -1,7 +1,7 @@
 -- The minutes that are kept answer as the dates do.
 -- Assumes nothing.
 use Rattle.std.specs.Prelude.{Result, Ok, Err}
-use mathlib.Core.Path.{◌≡◌, refl, sym, ap, subst, ◌∙◌}
+use mathlib.Core.Path.{◌≡◌, refl, sym, ap, ◌∙◌}
 use mathlib.Core.List.{List, [], ◌∷◌, ◌++◌, map, map-append}
 use Prim.Native.Nat.{ℕ, ◌+◌, ◌≤◌, ◌<◌}
 use native.Mathlib.Numerals.{add-one}
@@ -21,33 +21,39 @@ use Rattle.windows.proofs.Turns.{made}
 
 -- ---- the minutes of the first places, one more
 
--- items are the windows as they are read
-module _ (minute_in : Window → ℕ) (ws items : List Window) (same : items ≡ ws) where
-  pub kept_none : replicate 128 0 ≡ minute_places (map minute_in (take 0 ws))
-  unfolding at_front
-  kept_none = refl
-
+module _ (minute_in : Window → ℕ) (ws : List Window) where
   map_more : (i : ℕ) (d : Window) → i < length ws → map minute_in (take (i + 1) ws) ≡ map minute_in (take i ws) ++ (minute_in (get_or ws i d) ∷ [])
   map_more i d more = rw add-one (ap (map minute_in) (take-suc ws i d more) ∙ map-append minute_in (take i ws) (get_or ws i d ∷ []))
 
-  pub kept_more : (i : ℕ) (out : List ℕ) (d : Window) (m : ℕ) → i < length items → length ws ≤ 128 → out ≡ minute_places (map minute_in (take i ws))
-      → m ≡ minute_in (get_or items i d) → set out i m ≡ minute_places (map minute_in (take (i + 1) ws))
-  kept_more i out d m more few so_far e =
-      let inside : i < length ws = subst (λ (l : List Window). i < length l) same more in
-      let read : m ≡ minute_in (get_or ws i d) = subst (λ (l : List Window). m ≡ minute_in (get_or l i d)) same e in
+  kept_more : (i : ℕ) (d : Window) → i < length ws → length ws ≤ 128
+      → set (minute_places (map minute_in (take i ws))) i (minute_in (get_or ws i d)) ≡ minute_places (map minute_in (take (i + 1) ws))
+  kept_more i d more few =
       let enough : length (map minute_in (take i ws)) ≡ i = length-map (take i ws) minute_in ∙ (length-take i ws ∙ omega arith) in
       let room : i < length {A = ℕ} (replicate 128 0) = rw length-replicate (omega arith) in
-      ap (λ (l : List ℕ). set l i m) so_far ∙ front_push (map minute_in (take i ws)) (replicate 128 0) i m enough room
-      ∙ ap (λ (x : ℕ). minute_places (map minute_in (take i ws) ++ (x ∷ []))) read ∙ ap minute_places (sym (map_more i d inside))
+      front_push (map minute_in (take i ws)) (replicate 128 0) i (minute_in (get_or ws i d)) enough room ∙ ap minute_places (sym (map_more i d more))
 
-  pub kept_all : (i : ℕ) (out : List ℕ) → length items ≤ i → out ≡ minute_places (map minute_in (take i ws)) → out ≡ minute_places (map minute_in ws)
-  kept_all i out over e =
-      e ∙ ap (λ (l : List Window). minute_places (map minute_in l)) (take_all i ws (subst (λ (l : List Window). length l ≤ i) same over))
+  kept_all : (i : ℕ) → length ws ≤ i → minute_places (map minute_in (take i ws)) ≡ minute_places (map minute_in ws)
+  kept_all i over = ap (λ (l : List Window). minute_places (map minute_in l)) (take_all i ws over)
 
--- both, and how many
-pub made_is : (ws : List Window) (starts ends : List ℕ) (n : ℕ) → starts ≡ minute_places (map start_of ws) → ends ≡ minute_places (map end_of ws) → n ≡ length ws
-    → record { starts = starts; ends = ends; count = n } ≡ made_of ws
-made_is ws starts ends n s e h = cc
+pub count_few : (ws : Windows) → check_windows ws ≡ Ok tt → ws.count ≤ 128
+count_few ws e = (made ws e).few
+
+pub agreed_length : (ws : Windows) → length ws.places ≡ 128 → check_windows ws ≡ Ok tt → length (take ws.count ws.places) ≡ ws.count
+agreed_length ws long e = let m = made ws e in length-take ws.count ws.places ∙ omega (arith, m.few)
+
+pub starts_next : (ws : List Window) (i : ℕ) (d : Window) → i < length ws → length ws ≤ 128
+    → set (minute_places (map start_of (take i ws))) i (start_of (get_or ws i d)) ≡ minute_places (map start_of (take (i + 1) ws))
+starts_next ws i d h few = kept_more start_of ws i d h few
+
+pub ends_next : (ws : List Window) (i : ℕ) (d : Window) → i < length ws → length ws ≤ 128
+    → set (minute_places (map end_of (take i ws))) i (end_of (get_or ws i d)) ≡ minute_places (map end_of (take (i + 1) ws))
+ends_next ws i d h few = kept_more end_of ws i d h few
+
+pub starts_all : (ws : List Window) (i : ℕ) → length ws ≤ i → minute_places (map start_of (take i ws)) ≡ minute_places (map start_of ws)
+starts_all ws i h = kept_all start_of ws i h
+
+pub ends_all : (ws : List Window) (i : ℕ) → length ws ≤ i → minute_places (map end_of (take i ws)) ≡ minute_places (map end_of ws)
+ends_all ws i h = kept_all end_of ws i h
 
 -- ---- what is kept of windows that are made
 

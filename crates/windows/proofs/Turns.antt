@@ -1,7 +1,7 @@
 -- What windows that are made have, and the nearest start as the code finds it.
 -- Assumes nothing.
 use Rattle.std.specs.Prelude.{Result, Ok, Err}
-use mathlib.Core.Path.{◌≡◌, refl}
+use mathlib.Core.Path.{◌≡◌, refl, sym}
 use mathlib.Core.Bool.{Bool, true, false, ◌&&◌}
 use mathlib.Core.List.{List, [], ◌∷◌}
 use mathlib.Core.Logic.{◌⊎◌, inl, inr}
@@ -81,7 +81,7 @@ module _ (minute : ℕ) where
       go (inl a) (inr b) (inr c) rest = simp (a, b, c) (rest n h)
       go (inr a) b c rest = simp a (rest n h)
 
-  pub nearest_found : (starts : List ℕ) → reduce min (filter (λ start. ltb minute start && ltb start 4223371680) starts) ≡ found (nearest_start minute starts 4223371680)
+  nearest_found : (starts : List ℕ) → reduce min (filter (λ start. ltb minute start && ltb start 4223371680) starts) ≡ found (nearest_start minute starts 4223371680)
   unfolding nearest_start nearer
   nearest_found [] = refl
   nearest_found (s ∷ starts) = go (either (ltb minute s)) (either (ltb s 4223371680)) (nearest_found starts)
@@ -92,3 +92,7 @@ module _ (minute : ℕ) where
       go (inl a) (inl b) rest = simp (a, b) (nearest_kept starts s (ltb-true s 4223371680 b))
       go (inl a) (inr b) rest = simp (a, b) rest
       go (inr a) b rest = simp a rest
+
+  -- the nearest one, if it is in the calendar, is the least of those that are later
+  pub nearest_least : (starts : List ℕ) → found (nearest_start minute starts 4223371680) ≡ reduce min (filter (λ start. ltb minute start && ltb start 4223371680) starts)
+  nearest_least starts = sym (nearest_found starts)

@@ -4,6 +4,7 @@ use Rattle.std.specs.Prelude.{◌≡◌, Result, Ok, Err, Bool, true, cond, ◌&
 use Rattle.std.specs.List.{list_all, list_any, zip, fold}
 use Rattle.basics.specs.Lists.{In}
 use Rattle.places.specs.Places.{at_front}
+use Rattle.refusals.specs.Refusals.{refusal}
 use Rattle.calendar.specs.Calendar.{is_date, minute_of}
 use Rattle.windows.specs.declared.Window.{Window}
 use Rattle.windows.specs.declared.Windows.{Windows}
@@ -82,8 +83,7 @@ window_refusal_number NotInCalendar = 17
 
 -- the number of what the check or a question gives, and 0 where it gives none
 abbrev pub refusal_number : {T : Type 0} → Result T WindowRefusal → ℕ
-refusal_number (Ok given) = 0
-refusal_number (Err why) = window_refusal_number why
+refusal_number given = refusal window_refusal_number given
 
 -- ---- what is kept for questions
 

@@ -2,10 +2,12 @@
 // not, when the next begins. A question looks at the kept minutes alone, and at no date.
 #![tactic(auto)]
 
-ghost use Rattle.std.specs.Prelude.{◌≡◌, ◌≤◌, cond, ltb};
-ghost use Rattle.windows.specs.Windows.{start_of, end_of, is_window, all_fit, agreed, check_windows, holds_minute, some_holds, nearest_start, ask_minutes, window_refusal_number, refusal_number, minute_places, made_of, kept_of, kept_arrays, kept_in, ask_kept};
+ghost use Rattle.std.specs.Prelude.{◌≡◌, ◌≤◌, ◌&&◌, cond, ltb, min};
+ghost use Rattle.std.specs.List.{filter, reduce};
+ghost use Rattle.windows.specs.Windows.{is_window, all_fit, agreed, check_windows, holds_minute, some_holds, nearest_start, ask_minutes, window_refusal_number, made_of, kept_of, kept_arrays, kept_in, ask_kept};
 
 use calendar::Date;
+use refusals::Refused;
 
 // The first minute belongs to the window and the last does not.
 #[repr(C)]
@@ -53,22 +55,12 @@ pub enum WindowAnswer {
 // The first minute past the year 9999.
 const PAST_LAST_YEAR: u64 = 4223371680;
 
-impl From<WindowRefusal> for u64 {
-    ghost from_gives = { λ why number. number ≡ window_refusal_number why };
+impl Refused for WindowRefusal {
+    ghost refusal_number = { window_refusal_number };
 
     // Document 02's number.
-    fn from(why: WindowRefusal) -> u64 {
-        why as u64
-    }
-}
-
-// Document 02's number of what the check or a question gives, and 0 where it is no refusal.
-pub fn refusal_number<T: Drop>(given: Result<T, WindowRefusal>) -> u64
-    ensures { result ≡ refusal_number given }
-{
-    match given {
-        Ok(_) => 0,
-        Err(why) => u64::from(why),
+    fn number(self) -> u64 {
+        self as u64
     }
 }
 
@@ -113,8 +105,9 @@ impl Windows {
         }
     }
 
-    // The minutes in which each window starts and ends.
-    #[tactic(auto, using(crate::proofs::Turns::made, crate::proofs::Turns::fits_at, crate::proofs::Turns::start_fits, crate::proofs::Turns::end_fits))]
+    // The minutes in which each window starts and ends. Both arrays are written by the index, of which `iter_mut` of two and a third would be zipped: no
+    // plainer.
+    #[tactic(auto, using(crate::proofs::Turns::made, crate::proofs::Turns::fits_at, crate::proofs::Turns::start_fits, crate::proofs::Turns::end_fits, crate::proofs::Kept::count_few, crate::proofs::Kept::agreed_length, crate::proofs::Kept::starts_next, crate::proofs::Kept::ends_next, crate::proofs::Kept::starts_all, crate::proofs::Kept::ends_all), unfolding(places::specs::Places::at_front))]
     fn minutes(&self) -> KeptWindows
         requires { check_windows self.now ≡ Ok tt }
         ensures { result ≡ made_of (agreed self.now) }
@@ -159,15 +152,23 @@ fn some_holds(minute: u64, starts: &[u64], ends: &[u64]) -> bool
         .any(|(start, end)| holds(minute, *start, *end))
 }
 
-// The nearest start after the minute, or none where no window begins after it up to the year 9999.
-fn nearest_start(minute: u64, starts: &[u64]) -> Option<u64>
-    ensures { let nearest = nearest_start minute starts.now 4223371680 in result ≡ cond (ltb nearest 4223371680) (Some nearest) None }
+// The least of the starts that are later and in the calendar.
+fn least_later(minute: u64, starts: &[u64]) -> Option<u64>
+    ensures { result ≡ reduce min (filter (λ start. ltb minute start && ltb start 4223371680) starts.now) }
 {
     starts
         .iter()
         .copied()
         .filter(|start| minute < *start && *start < PAST_LAST_YEAR)
         .min()
+}
+
+// The nearest start after the minute, or none where no window begins after it up to the year 9999.
+#[tactic(auto, using(crate::proofs::Turns::nearest_least))]
+fn nearest_start(minute: u64, starts: &[u64]) -> Option<u64>
+    ensures { let nearest = nearest_start minute starts.now 4223371680 in result ≡ cond (ltb nearest 4223371680) (Some nearest) None }
+{
+    least_later(minute, starts)
 }
 
 #[tactic(auto, unfolding(crate::specs::Windows::ask_minutes, crate::specs::Windows::next_after))]
@@ -238,7 +239,7 @@ pub fn keep(
         Err(why) => {
             *starts = [0; 128];
             *ends = [0; 128];
-            *figures = [u64::from(why), 0];
+            *figures = [why.number(), 0];
         }
     }
 }

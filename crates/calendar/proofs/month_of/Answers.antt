@@ -1,4 +1,6 @@
 -- `calendar::month_of` meets its contract: what is found is the first month whose successor begins after the day.
+-- Tried without, with `first_past`, `no_months` and `months_rise` named on the function and `month_of` unfolded: `returns` stays open.
+-- The check does not make the fact on every number before, which `first_past` takes, from what it knows of `find`.
 -- Assumes nothing.
 use Rattle.std.proofs.Common.{◌≤◌, ◌<◌, ◌+◌, ◌∙◌, rules, arith}
 use Rattle.std.proofs.lemmas.Iterator.{first_from_Range}

@@ -1,4 +1,6 @@
 -- `calendar::year_of` meets its contract: what is found is the first year whose successor begins after the day.
+-- Tried without, with `first_past` and `years_rise` named on the function and `year_of` unfolded: `returns` stays open.
+-- The check does not make the fact on every number before, which `first_past` takes, from what it knows of `find`.
 -- Assumes nothing.
 use Rattle.std.proofs.Common.{◌≤◌, ◌<◌, ◌+◌, ◌∙◌, rules}
 use Rattle.std.proofs.lemmas.Iterator.{first_from_Range}

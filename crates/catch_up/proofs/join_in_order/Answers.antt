@@ -1,4 +1,5 @@
 -- `catch_up::join_in_order` meets its contract.
+-- Tried without: with `using` of the six lemmas none of the three is found.
 -- Assumes nothing.
 use Rattle.std.proofs.Common.{true, false, refl}
 use Rattle.catch_up.specs.Joining.{lent_list}

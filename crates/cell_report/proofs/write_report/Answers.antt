@@ -1,4 +1,5 @@
 -- `cell_report::write_report` is safe: the length of the text lies within the page.
+-- Tried without: with `using(page_fits)` on the function the search stops at its limits.
 -- Assumes nothing.
 use Rattle.cell_report.proofs.PageFits.{page_fits}
 use Rattle.cell_report.proofs.write_report.Goals as goal

@@ -1,4 +1,5 @@
 -- `direct::of_older_round` meets its contract.
+-- Tried without: with `using(rounds_before)` on the function the goal stays open.
 -- Assumes nothing.
 use Rattle.message.proofs.Comparisons.{rounds_before}
 use Rattle.direct.specs.Direct.{of_older_round}

@@ -1,4 +1,5 @@
 -- `enter::is_older` meets its contract.
+-- Tried without, as `||` and as `if`: the search gives up where the slot is not older; it needs `le-ltb`, which no `using` names.
 -- Assumes nothing.
 use borrow.Author.Tests.{le-ltb}
 use Rattle.message.proofs.Comparisons.{rounds_before}

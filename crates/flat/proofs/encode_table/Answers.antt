@@ -1,4 +1,5 @@
 -- `flat::encode_table` meets its contract.
+-- Tried without: with `using(map_at)` on the function the goal stays open, since what `put_each` says of each place has to be made of both tables.
 -- Assumes nothing.
 use Rattle.std.proofs.Common.{◌≡◌, map, rules, arith}
 use Rattle.flat.specs.Encode.{encoded_open, encoded_served}

@@ -1,4 +1,5 @@
 -- `proposal::round_allowed` meets its contract.
+-- Tried without, as `||` and as `if`: the goal of the other modes stays open, which needs the equation of `proposal_round` turned round.
 -- Assumes nothing.
 use Rattle.message.proofs.Comparisons.{rounds_equal}
 use Rattle.proposal.proofs.round_allowed.Goals as goal

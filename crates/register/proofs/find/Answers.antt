@@ -1,4 +1,5 @@
 -- `register::find` meets its contract.
+-- Tried without, with the four lemmas named on the function: `returns-else-here-number-2-clause-found` (above the number) and `loop-i-preserved` stay open.
 -- Assumes nothing.
 use native.Mathlib.Omega.{arith}
 use Rattle.register.proofs.Places.{search_found, search_above, search_more, search_none}

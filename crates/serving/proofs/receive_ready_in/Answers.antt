@@ -1,4 +1,5 @@
 -- `serving::receive_ready_in` meets its contract.
+-- Tried without, with the five lemmas named on the function: the two returns behind `after_response` stay open.
 -- Assumes nothing.
 use mathlib.Core.Path.{refl, ap, sym, ◌∙◌}
 use Rattle.read_tracker.specs.Reads.{after_response}

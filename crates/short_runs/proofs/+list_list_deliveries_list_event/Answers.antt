@@ -77,8 +77,8 @@ list_deliveries-returns t c =
 pub list_event-list-requires : goal.list_event-list-requires
 list_event-list-requires t c = (list_below_event c.args.left t c.decreases, tt)
 
-pub list_event-returns-then-next : goal.list_event-returns-then-next
-list_event-returns-then-next t c = entered _ _ _ _ c.trial-next.ensures c.if-next.true c.put_line.ensures c.list.ensures
+pub list_event-returns-in-Some : goal.list_event-returns-in-Some
+list_event-returns-in-Some t c = entered _ _ _ _ _ c.trial.ensures c.in-Some.is c.put_line.ensures c.list.ensures
 
-pub list_event-returns-else-next : goal.list_event-returns-else-next
-list_event-returns-else-next t c = skipped _ _ _ _ c.trial-next.ensures c.if-next.false
+pub list_event-returns-in_default : goal.list_event-returns-in_default
+list_event-returns-in_default t c = skipped _ _ _ _ c.trial.ensures c.in_default.is

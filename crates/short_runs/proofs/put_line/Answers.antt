@@ -1,4 +1,5 @@
 -- `short_runs::put_line` meets its contract.
+-- Tried without: with `using(put_then)`, unfolding `kept_line`, the goal stays open.
 -- Assumes nothing.
 use Rattle.texts.proofs.Putting.{put_then}
 use Rattle.short_runs.specs.Lister.{kept_line}

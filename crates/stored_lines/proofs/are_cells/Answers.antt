@@ -1,23 +1,15 @@
--- `stored_lines::are_cells` meets its contract: the first i are cells.
+-- `stored_lines::are_cells` meets its contract.
+-- Tried without: with `using(range_passes)` on the function the search gives up at one of its limits.
 -- Assumes nothing.
-use mathlib.Core.Path.{◌≡◌, refl, sym, ap, ◌∙◌}
-use native.Mathlib.Omega.{arith}
-use Rattle.stored_lines.specs.Lines.{are_cells}
-use Rattle.stored_lines.proofs.Turns.{cells_more, cells_broken}
+use Rattle.std.proofs.Common.{◌≡◌, refl, true, false, arith, rules, tests}
+use Rattle.std.proofs.lemmas.Iterator.{cases_from_all, YieldsList-from_range}
+use Rattle.call_lines.proofs.Ranges.{range_passes}
+use Rattle.stored_lines.specs.Lines.{is_cell_at, are_cells}
 use Rattle.stored_lines.proofs.are_cells.Goals as goal
 
-pub loop-i-init : goal.loop-i-init
-unfolding are_cells
-loop-i-init c = refl
-
-pub loop-i-preserved : goal.loop-i-preserved
-loop-i-preserved c = cells_more _ c.loop-i.i c.loop-i.invariant (sym c.is_cell_at.ensures ∙ c.if-not-is_cell_at.false)
-
-pub returns-then-not-is_cell_at : goal.returns-then-not-is_cell_at
-returns-then-not-is_cell_at c =
-    sym (cells_broken _ _ c.loop-i.i c.loop-i-test.true (sym c.is_cell_at.ensures ∙ c.if-not-is_cell_at.true))
-
 pub returns : goal.returns
+unfolding are_cells
 returns c =
-    let all : c.loop-i.i ≡ c.args.count = omega arith in
-    sym c.loop-i.invariant ∙ ap (are_cells _) all
+    range_passes (are_cells c.args.numbers.now) (is_cell_at c.args.numbers.now) refl (λ i. refl) c.args.count c.all.result
+    (cases_from_all _ _ _ (λ i. is_cell_at c.args.numbers.now i ≡ true) (λ i. is_cell_at c.args.numbers.now i ≡ false) c.all.ensures.ran
+    (YieldsList-from_range 0 c.args.count c.args.count refl (omega arith)) (λ i q k. search (rules, tests)) (λ i q k. search (rules, tests)))

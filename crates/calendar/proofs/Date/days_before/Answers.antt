@@ -1,4 +1,5 @@
 -- `calendar::Date::days_before` meets its contract: the days of years and months make up the days before the date.
+-- Tried without: with `using(numbers, added_fit, added_days)` seven of the nine goals stay open; `numbers` gives a record, into which the search does not look.
 -- Assumes nothing.
 use native.Mathlib.Omega.{arith}
 use Rattle.calendar.proofs.Dates.{numbers, added_days, added_fit}

@@ -1,4 +1,5 @@
 -- `Register::from` of a stored register meets its contract: each call of `map` widens its cell.
+-- Tried without: with `using(same_lists)` on the function the goal stays open.
 -- Assumes nothing.
 use mathlib.Core.Path.{◌≡◌, ◌∙◌, sym}
 use mathlib.Core.List.{map}
