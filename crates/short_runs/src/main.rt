@@ -26,6 +26,7 @@ fn put_line(out: &mut Output, run: OfficeRun)
 // ---- the listing
 
 // The run with the event, if it may come next, "followed at once by those that extend it".
+#[tactic(auto, using(crate::proofs::Turns::skipped))]
 #[cycle(list_list_deliveries_list_event)]
 fn list_event(out: &mut Output, left: u64, run: OfficeRun, event: RunEvent)
     ensures { out.new ≡ put (event_lines (lines_after left) (trial_of run event)) out.old }
@@ -37,6 +38,7 @@ fn list_event(out: &mut Output, left: u64, run: OfficeRun, event: RunEvent)
 }
 
 // The runs whose next event is a delivery to the member, "by the sent message's place in time".
+#[tactic(auto, using(crate::proofs::Turns::begins, crate::proofs::Turns::one_more, crate::proofs::Turns::all_of))]
 #[cycle(list_list_deliveries_list_event)]
 fn list_deliveries(out: &mut Output, left: u64, run: OfficeRun, member: u64)
     ensures { out.new ≡ put (each_below run.sent.count (λ place. event_lines (lines_after left) (trial_of run (RunEvent.Delivers member place)))) out.old }
@@ -48,6 +50,7 @@ fn list_deliveries(out: &mut Output, left: u64, run: OfficeRun, member: u64)
 }
 
 // Every run that extends this one by at most `left` events: "proposals before deliveries, by member".
+#[tactic(auto, using(crate::proofs::Turns::no_events_left, crate::proofs::Turns::begins, crate::proofs::Turns::one_more))]
 #[cycle(list_list_deliveries_list_event)]
 fn list(out: &mut Output, left: u64, run: OfficeRun)
     ensures { out.new ≡ put (lines_after left run) out.old }
