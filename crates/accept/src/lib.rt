@@ -8,7 +8,7 @@ use message::{ConsensusMsg, PFMode, PaxosRound, Refusal};
 use steps::{Asked, Core, CoreStep, Destination, Heard, Messages, Outgoing};
 
 // asked, heard and round are parameters of their own: a struct of them was tried here, and the page was as long, since the contracts name the settings' part
-// and the message's part apart, and 6 of these 14 functions take one or two of the three.
+// and the message's part apart, and 5 of these 14 functions take one or two of the three.
 
 // Whether a committer hears the accepts of the mode.
 fn tells_committer(mode: PFMode) -> bool

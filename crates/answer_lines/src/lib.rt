@@ -1,5 +1,5 @@
 // The answer to a call line as bytes: docs/ORACLE.md, "Answer lines". The line of an answer has at most 27,257 bytes, and where so many are lent
-// nothing of it is left out (`answer_length`, `answer_fits`, proofs/Lengths.antt). Whoever calls lends 32,768.
+// nothing of it is left out (`answer_length`, `answer_fits`, proofs/Lengths.antt). Whoever calls lends 32,768. No `Display`, as `texts` says.
 #![tactic(auto)]
 
 ghost use Rattle.std.specs.Prelude.{◌≡◌};

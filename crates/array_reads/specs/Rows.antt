@@ -35,7 +35,7 @@ table_of opened served = record { reads = open_rows opened; served = served_rows
 abbrev pub reads_in : ReadArrays → ReadTable
 reads_in a = table_of a.reads.now a.served.now
 
--- they are the arrays that were lent
+-- they are the arrays that were lent: a clause, since it compares what stood before with what stands after, where a type speaks of one of them
 abbrev pub SameReads : ReadArrays → ReadArrays → Type 0
 SameReads a b = (b.reads.ghost_name ≡ a.reads.ghost_name) × (b.served.ghost_name ≡ a.served.ghost_name)
 

@@ -67,6 +67,8 @@ fn have_served(numbers: &[u64; 512])
     ensures { length (served_rows numbers.now) ≡ 128 }
 {}
 
+// A read out of its numbers and into them, by functions with names and no From: the numbers stand at a place of an array that is lent.
+
 // The open read at place i.
 #[tactic(auto, using(crate::proofs::Rows::open_at))]
 fn open_at(open: &[u64; 640], i: usize) -> OpenRead
@@ -120,7 +122,8 @@ fn remove(open: &mut [u64; 640], at: usize, open_places: usize)
     open.copy_within(5 * (at + 1)..5 * open_places, 5 * at);
 }
 
-// Puts an open read at place `at`. Where there is no such place, nothing changes.
+// Puts an open read at place `at`. Where there is no such place, nothing changes. For a caller that has the open reads alone; the method below is this one
+// where both arrays are lent together.
 pub fn insert(open: &mut [u64; 640], at: u64, read: OpenRead)
     ensures { open_rows «open».new ≡ set (open_rows «open».old) at read }
 {

@@ -1,5 +1,6 @@
 // The arrays of numbers that a host lends, and the flat forms that they are: each function reads a flat form out of an array, or writes one into it. The arrays
-// are the memory of the flat forms, so that a host keeps structs.
+// are the memory of the flat forms, so that a host keeps structs. Functions with names and no From: an array of numbers says by its length alone what it is, and
+// what is written goes into an array that is lent.
 #![tactic(auto)]
 
 ghost use Rattle.std.specs.Prelude.{◌≡◌, Some};
@@ -10,8 +11,8 @@ use calls::CommittedSlot;
 use flat::{FlatCall, FlatCore, FlatHeld, FlatMessage, FlatOption, FlatPromise, FlatRound};
 use steps::Outgoing;
 
-// The settings without their tables, and whether the shard is made. Flags and the mode are numbers, as the C interface has them: any may stand in a host's array,
-// and each is answered.
+// The settings without their tables, and whether the shard is made. Flags and the mode are numbers, as the C interface has them: any may stand in a host's
+// array, and each is answered.
 #[derive(Clone, Copy)]
 pub struct Setup {
     pub made: u64,

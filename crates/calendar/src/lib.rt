@@ -131,11 +131,7 @@ impl Date {
     pub fn to_minute(self) -> Option<u64>
         ensures { result ≡ to_minute self }
     {
-        if self.is_date() {
-            Some(self.minutes())
-        } else {
-            None
-        }
+        self.is_date().then(|| self.minutes())
     }
 }
 
@@ -193,9 +189,5 @@ fn date_of(minute: u64) -> Date
 pub fn to_date(minute: u64) -> Option<Date>
     ensures { result ≡ to_date minute }
 {
-    if minute < 4223371680 {
-        Some(date_of(minute))
-    } else {
-        None
-    }
+    (minute < 4223371680).then(|| date_of(minute))
 }

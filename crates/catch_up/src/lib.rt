@@ -17,33 +17,28 @@ pub struct LentList<'a> {
     pub values: &'a [u64],
 }
 
-// The places that a host lends for a result: for its slots, and for its values.
+// The places that a host lends for a result: for its slots, and for its values. Two slices, as in LentList.
 #[derive(Drop)]
 pub struct LentPlaces<'a> {
     pub slots: &'a mut [u64],
     pub values: &'a mut [u64],
 }
 
-// Document 02's numbers 2, 18, 19 and 20, in the order in which they are looked for.
+// Why lists are not joined, with document 02's numbers, in the order in which they are looked for.
 #[derive(Clone, Copy, PartialEq, Eq, Debug)]
 pub enum JoinRefusal {
-    NumberTooLarge,
-    OutsideLimits,
-    Gap,
-    TwoValues,
+    NumberTooLarge = 2,
+    OutsideLimits = 18,
+    Gap = 19,
+    TwoValues = 20,
 }
 
 impl Refused for JoinRefusal {
     ghost refusal_number = { join_number };
 
-    // The number of document 02.
+    // Document 02's number.
     fn number(self) -> u64 {
-        match self {
-            JoinRefusal::NumberTooLarge => 2,
-            JoinRefusal::OutsideLimits => 18,
-            JoinRefusal::Gap => 19,
-            JoinRefusal::TwoValues => 20,
-        }
+        self as u64
     }
 }
 

@@ -2,7 +2,7 @@
 // entry line settles the answer, `refused,1`; so does one of more than 1,048,576 bytes, and a read that fails, since entries may then be missing.
 #![tactic(auto)]
 
-ghost use Rattle.std.specs.Prelude.{◌≡◌};
+ghost use Rattle.std.specs.Prelude.{◌≡◌, is_some, None};
 ghost use Rattle.register_lines.specs.Reports.{take_line};
 
 use line_blocks::LineTaker;
@@ -19,6 +19,10 @@ struct Entries {
 impl LineTaker for Entries {
     ghost takes = { λ old line new. new.taken ≡ take_line old.taken line };
 
+    ghost takes_too_long = { λ _ _ new. new.taken ≡ None };
+
+    ghost asks = { λ entries. is_some entries.taken };
+
     fn take(&mut self, line: &[u8], _out: &mut Output<'_>) {
         self.taken = register_lines::take_line(self.taken, line);
     }
@@ -32,7 +36,7 @@ impl LineTaker for Entries {
     }
 }
 
-// A reader that notes whether a read failed.
+// A reader that notes whether a read failed. A flag and no Option of a reader: the reader stays there, and is read on by whoever asks.
 #[derive(Drop)]
 struct Watched<R> {
     reader: R,

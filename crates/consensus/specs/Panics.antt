@@ -1,8 +1,8 @@
 -- The panics of the Rust while it handles a Prepare or an Accept that is not ignored, path by path in the order in which it meets them
 -- (docs/DIFFERENCES.md, "Panics of the Rust while it handles a message"), and last the 6 of a commit. What is said here is said of what is held and
 -- who is in which set when the message comes. Cited from below: sets (`contains`, `insert`, `size`, `is_empty`), the order of rounds (`before`, `equal`,
--- `round_before`, `round_equal`), one more (`increment`, which leaves the largest number), the parts of a promise (`value_of`, `accept_round_of`), `is_some` (a value
--- is given), and the choice among the best proposers of EPaxos (`Choice`).
+-- `round_before`, `round_equal`), one more (`increment`, which leaves the largest number), the parts of a promise (`value_of`, `accept_round_of`),
+-- `is_some` (a value is given), and the choice among the best proposers of EPaxos (`Choice`).
 -- Assumes nothing.
 use Rattle.std.specs.Prelude.{Bool, true, false, cond, not, ◌&&◌, ◌||◌, List, [], ◌∷◌, ℕ, ◌-◌, eqb, leb, Option, None, Some, is_some}
 use Rattle.sets.specs.Sets.{contains, insert, size, is_empty}
@@ -163,8 +163,8 @@ abbrev pub is_one : Option ℕ → Bool
 is_one None = false
 is_one (Some p) = true
 
--- "`epaxos_try_adopt` needs a majority of answers and two proposers; best score wins": one of them is chosen. The engine chooses one exactly where some proposer
--- that is present has a score above 0 (`one_scored` and `none_scored`, proofs/Reading.antt).
+-- "`epaxos_try_adopt` needs a majority of answers and two proposers; best score wins": one of them is chosen. The engine chooses one exactly where some
+-- proposer that is present has a score above 0 (`one_scored` and `none_scored`, proofs/Reading.antt).
 abbrev pub adopts : Choice → Facts → ℕ → Bool
 adopts choose f proposer =
     majority f (epaxos_answers_then f proposer).fast_answer_set && leb 2 (size (epaxos_answers_then f proposer).fast_proposers)

@@ -195,7 +195,8 @@ numbered d = direct (call_number d.told) d.core d.table d.reply
 unfoldable pub direct_call : Setup → List ℕ → List ℕ → List ℕ → ReadTable → FlatCall → Written → Direct ℕ
 direct_call s committers delegates core table f w = numbered (call_made s committers delegates core table f w)
 
--- what is not taken leaves the arrays of the reads as they were, number for number; the equation says that of the others
+-- what is not taken leaves the arrays of the reads as they were, number for number; the equation says that of the others. A clause, since it compares before and
+-- after, as no type does.
 abbrev pub SameNumbers : ReadArrays → ReadArrays → Type 0
 SameNumbers a b = (b.reads.now ≡ a.reads.now) × (b.served.now ≡ a.served.now)
 

@@ -50,7 +50,7 @@ reply_left first second third rest = written (left first) (left second) (left th
 abbrev pub reply_in : ReplyArrays → Written
 reply_in a = written a.first.now a.second.now a.third.now a.rest.now
 
--- they are the arrays that were lent
+-- they are the arrays that were lent: a clause, since it compares what stood before with what stands after, where a type speaks of one of them
 abbrev pub SameReply : ReplyArrays → ReplyArrays → Type 0
 SameReply a b =
     (b.first.ghost_name ≡ a.first.ghost_name)

@@ -20,7 +20,8 @@ use message::{Outcome, ReadId, Refusal};
 use refusals::Refused;
 use steps::{Asked, CoreStep, Messages, Next, Outgoing};
 
-// The kinds of a call and of a message are numbers of the C interface, here, in counting and in flat_calls: any may stand in a host's array, and each is answered.
+// The kinds of a call and of a message are numbers of the C interface, here, in counting and in flat_calls: any may stand in a host's array, and each is
+// answered.
 
 // The kinds of a call. Any other number is a message.
 pub const PROPOSAL: u64 = 0;
@@ -63,7 +64,7 @@ impl Refused for NotTaken {
     }
 }
 
-// What a host is told of a call: 0 where it is taken.
+// What a host is told of a call: 0 where it is taken. `refusal` of refusals at this type, under the name by which direct and direct_fast cite its definition.
 pub fn call_number(outcome: Result<(), NotTaken>) -> u64
     ensures { result ≡ call_number outcome }
 {
@@ -148,7 +149,7 @@ pub fn put_taken(core: &mut [u64; 18], reply: &mut ReplyArrays<'_>, a: CoreAnswe
 // memory for every call, and a new read and a call that is refused took a quarter longer.
 #[inline(always)]
 #[tactic(auto, unfolding(crate::specs::Handled::put_outcome))]
-fn put_answer(
+pub fn put_answer(
     core: &mut [u64; 18],
     reply: &mut ReplyArrays<'_>,
     a: CoreAnswer,

@@ -11,12 +11,6 @@ pub enum RunEvent {
     Delivers { member: u64, place: u64 },
 }
 
-// An event of a run, as an array holds it.
-#[derive(Clone, Copy)]
-pub struct EventPlace {
-    pub event: RunEvent,
-}
-
 // A sent message: the member whose call handed it back, and what it handed back.
 #[derive(Clone, Copy)]
 pub struct Sending {

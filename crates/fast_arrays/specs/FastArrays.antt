@@ -25,7 +25,7 @@ fast_arrays answers values epaxos swift = record { answers = answers; values = v
 abbrev pub half_in : FastHalf → FastArrays
 half_in h = fast_arrays h.answers.now h.values.now h.epaxos.now h.swift.now
 
--- they are the arrays that were lent
+-- they are the arrays that were lent: a clause, since it compares what stood before with what stands after, where a type speaks of one of them
 abbrev pub SameHalf : FastHalf → FastHalf → Type 0
 SameHalf h k =
     (k.answers.ghost_name ≡ h.answers.ghost_name)

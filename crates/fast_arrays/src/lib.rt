@@ -8,7 +8,7 @@ use fast_calls::After;
 use fast_state::{FastAnswers, FastChange};
 use flat::FlatOption;
 
-// The arrays of a fast half, which are lent. Any numbers may stand in them.
+// The arrays of a fast half, which are lent. Any numbers may stand in them. Three tables of numbers, as a host lends them (C interface), and none of structs.
 #[derive(Drop)]
 pub struct FastHalf<'a> {
     pub answers: &'a mut [u64; 5],
@@ -17,6 +17,7 @@ pub struct FastHalf<'a> {
     pub swift: &'a mut [u64; 64],
 }
 
+// Functions with names and no From, as those of arrays: the numbers stand in an array that is lent.
 pub fn answers_in(a: &[u64; 5]) -> FastAnswers
     ensures { result ≡ answers_in a.now }
 {

@@ -10,7 +10,8 @@ ghost use Rattle.fast_state.specs.RoundState.{new_round_state};
 use message::{PaxosRound, Refusal};
 use round_state::{Member, PaxosState};
 
-// EPaxos and SwiftPaxos state. The Rust's map from proposers to values is an array by process, with the set of those present.
+// EPaxos and SwiftPaxos state. The Rust's map from proposers to values is an array by process, with the set of those present. Three tables of numbers, here and
+// in FastTables, and none of structs: a host lends them as arrays of numbers (C interface), and each mode reads its own.
 #[derive(Clone, Copy)]
 pub struct FastState {
     pub fast_answer_set: u64,

@@ -1,4 +1,4 @@
-// The line for a line that is no call, as bytes: docs/ORACLE.md, "Answer lines", the reasons.
+// The line for a line that is no call, as bytes: docs/ORACLE.md, "Answer lines", the reasons. No `Display`, as `texts` says.
 #![tactic(auto)]
 
 ghost use Rattle.std.specs.Prelude.{◌≡◌};

@@ -82,6 +82,7 @@ pub struct FlatCore {
     pub open_count: u64,
 }
 
+// Three tables of numbers, as a host lends them in arrays (C interface), and none of structs.
 #[repr(C)]
 #[derive(Clone, Copy)]
 pub struct FlatFast {
@@ -120,6 +121,7 @@ pub struct FlatServedRead {
     pub fast: u64,
 }
 
+// The count of the open reads is the core's, as with ReadTable and its tracker: a call that opens and serves no read copies the core and no table (C interface).
 #[repr(C)]
 #[derive(Clone, Copy)]
 pub struct FlatTable {
@@ -345,13 +347,14 @@ fn decode_served(f: FlatServedRead) -> ServedRead
     }
 }
 
+// What texts has in `flag_number` for lines: neither crate stands on the other, and what both do is `as`.
 pub fn encode_bool(b: bool) -> u64
     ensures { result ≡ encoded_bool b }
 {
     b as u64
 }
 
-// Done is 0, and a refusal its number.
+// Done is 0, and a refusal its number. `refusal` of refusals at this type, under the name by which hosts read the flat forms.
 #[tactic(auto, unfolding(crate::specs::Encode::encoded_outcome))]
 pub fn encode_outcome(outcome: Outcome) -> u64
     ensures { result ≡ encoded_outcome outcome }
@@ -593,7 +596,8 @@ pub fn decode_msg(f: FlatMessage) -> ConsensusMsg
     }
 }
 
-fn is_known(kind: u64) -> bool
+// Whether there is a message of this kind.
+pub fn is_known(kind: u64) -> bool
     ensures { result ≡ is_known kind }
 {
     1 <= kind && kind <= 6

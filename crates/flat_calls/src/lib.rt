@@ -51,7 +51,7 @@ fn is_below(n: u64, f: FlatCall) -> bool
 fn is_plain(n: u64, f: FlatCall) -> bool
     ensures { result ≡ is_plain n f }
 {
-    1 <= f.message.kind && f.message.kind <= 6 && is_small(f) && is_below(n, f)
+    flat::is_known(f.message.kind) && is_small(f) && is_below(n, f)
 }
 
 // Each question reads the call for itself, so that what it does not ask is not read.
@@ -75,7 +75,8 @@ fn processes_fit_in(process_count: u64, own: u64, call: &[u64; 25]) -> bool
     flat::decode_delivery(process_count, own, arrays::call_in(call)).processes_fit(process_count)
 }
 
-// Refusals 2 and 3.
+// Refusals 2 and 3. Not delivery's `admit`, which is a Delivery's, by value, and asks all: here one test of all numbers comes first, which has no like there,
+// and each question reads the call out of the array for itself.
 fn unfit(process_count: u64, own: u64, call: &[u64; 25]) -> Outcome
     ensures { result ≡ unfit (numbers_fit (decoded_delivery process_count own (call_of call.now))) (processes_fit process_count (decoded_delivery process_count own (call_of call.now))) }
 {
@@ -92,7 +93,8 @@ fn unfit(process_count: u64, own: u64, call: &[u64; 25]) -> Outcome
 }
 
 // Refusals 5, and 4 before 6. Of another slot than the own one neither 4 nor 6 is asked. The process count is there for the contract alone. Not `ready` of a
-// Delivery, which takes the whole message with the host's words: of another slot nothing but the slot is read here.
+// Delivery, which is made of the whole message with the host's words: of another slot nothing but the slot is read here. What both ask is one (`is_ahead`,
+// `is_own_slot`, `is_other_last`, `needs_value`).
 #[tactic(auto, unfolding(delivery::specs::Admit::ready, delivery::specs::Admit::other_last_value, delivery::specs::Admit::value_awaited))]
 fn ready(process_count: u64, own: u64, core: FlatCore, f: FlatCall) -> Outcome
     ensures { result ≡ ready own (decoded_core core) (decoded_delivery process_count own f) }
@@ -152,7 +154,8 @@ fn call_refusal(process_count: u64, own: u64, core: &[u64; 18], call: &[u64; 25]
     Err(Refusal::NumberTooLarge)
 }
 
-// Why a call is refused before it is handled: 1 of a shard that is not made, 2 of one whose slots are spent, and then what refuses the call.
+// Why a call is refused before it is handled: 1 of a shard that is not made, 2 of one whose slots are spent, and then what refuses the call. Not by calls'
+// `if_made` and `unless_spent`, which go on to a Call by value: they hand a made shard's call to `admit`, and this one to the questions above.
 #[tactic(auto, unfolding(calls::specs::Decision::unless_spent))]
 pub fn refusal(setup: &[u64; 10], core: &[u64; 18], call: &[u64; 25]) -> Outcome
     ensures { result ≡ refusal_of (setup_of setup.now) (core_of core.now) (call_of call.now) }

@@ -471,7 +471,7 @@ module _ (choose : Choice) (shard : Shard) (k : Lasts shard) where
     slot_stays : (r : Result RoundsStep Refusal) → IfOk r (λ step. Fits step.state) → IfOk r (λ step. step.state.core.slot ≡ shard.state.rounds.core.slot)
     slot_stays r = IfOk-weaker r (λ step. Fits step.state) _ (λ step f. f.core_fits.same_slot)
 
-    proposed_fits : (v : ℕ) → IfOk (proposing asked v shard.state.rounds) (λ step. Fits step.state)
+    pub proposed_fits : (v : ℕ) → IfOk (proposing asked v shard.state.rounds) (λ step. Fits step.state)
     proposed_fits v =
         proposing_fits (CountedIn s) (LeadsIn shard.made) asked own_counts own_small shard.state.rounds.core
         (λ core t. (let g = proposal_group s core t in omega arith, λ e. proposal_leader s limits core)) v shard.state.rounds k.fast_fits as_it_is
@@ -514,7 +514,7 @@ module _ (choose : Choice) (shard : Shard) (k : Lasts shard) where
           live (inl h) e = h
           live (inr h) e = absurd (not_both h e)
 
-      message_processed_fits : IfOk (processed choose asked (heard_of s d) d.message.msg shard.state.rounds) (λ step. Fits step.state)
+      pub message_processed_fits : IfOk (processed choose asked (heard_of s d) d.message.msg shard.state.rounds) (λ step. Fits step.state)
       message_processed_fits =
           let few = few_processes s limits in let l = source in
           processed_fits (CountedIn s) (LeadsIn shard.made) asked own_counts own_small shard.state.rounds.core choose (heard_of s d) (omega arith) source_counts d.message.msg

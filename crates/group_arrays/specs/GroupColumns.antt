@@ -1,15 +1,12 @@
 -- The register of group settings that stands in arrays of numbers (document 02, E13): the arrays of E6, and two numbers of the settings.
 -- Assumes nothing.
-use Rattle.std.specs.Prelude.{cond, List, ℕ, get_or, Result}
+use Rattle.std.specs.Prelude.{cond, List, ℕ, get_or}
 use Rattle.register.specs.declared.CellEntry.{CellEntry}
-use Rattle.register.specs.declared.Entered.{Entered}
 use Rattle.register_arrays.specs.Columns.{register_of, register_in, report_in}
 use Rattle.register_arrays.specs.declared.Columns.{Columns}
 use Rattle.report.specs.Report.{refusal_text, page_holding}
 use Rattle.group_register.specs.Settings.{is_made}
-use Rattle.group_register.specs.GroupRegister.{group_register, group_applied, group_outcome_number, apply_in_group}
-use Rattle.group_register.specs.declared.GroupApplied.{GroupApplied}
-use Rattle.group_register.specs.declared.GroupRefusal.{GroupRefusal}
+use Rattle.group_register.specs.GroupRegister.{group_register, group_outcome_number, apply_in_group}
 use Rattle.group_register.specs.declared.GroupRegister.{GroupRegister}
 use Rattle.group_register.specs.declared.RegisterSettings.{RegisterSettings}
 
@@ -23,10 +20,6 @@ group_in settings cells carriers widths figures = group_register (settings_in se
 -- the register in the lent arrays
 abbrev pub group_of : List ℕ → Columns → GroupRegister
 group_of settings c = group_register (settings_in settings) (register_in c)
-
--- what a call leaves: the outcome that it hands back, with the arrays
-abbrev pub group_applied_in : List ℕ → Result Entered GroupRefusal → Columns → GroupApplied
-group_applied_in settings outcome c = group_applied (settings_in settings) (register_in c) outcome
 
 -- the register after an entry, and the number of what became of it
 abbrev pub after_group_entry : GroupRegister → CellEntry → GroupRegister × ℕ

@@ -5,15 +5,16 @@
 ghost use Rattle.std.specs.Prelude.{◌≡◌};
 ghost use Rattle.stored_register.specs.Stored.{widened};
 ghost use Rattle.stored_arrays.specs.Columns.{stored_of_columns};
-ghost use Rattle.register_arrays.specs.Columns.{SameArrays};
-ghost use Rattle.group_register.specs.GroupRegister.{group_register, new_group_register, apply_in_group};
-ghost use Rattle.group_arrays.specs.GroupColumns.{settings_in, group_of, group_applied_in, group_report_in};
+ghost use Rattle.register_arrays.specs.Columns.{SameArrays, entry_from_numbers};
+ghost use Rattle.group_register.specs.GroupRegister.{group_register, new_group_register};
+ghost use Rattle.group_arrays.specs.GroupColumns.{settings_in, group_of, after_group_entry, group_report_in};
 
-use group_register::{GroupRefusal, RegisterSettings};
-use register::{CellEntry, Entered};
-use register_arrays::Columns;
+use group_register::RegisterSettings;
+use register::{CellNumber, entry_number};
+use register_arrays::{Columns, entry_from_numbers};
 use stored_arrays::StoredColumns;
 
+// A function and no `From`: neither RegisterSettings nor an array of numbers is a type of this crate.
 pub fn settings_in(settings: &[u64; 2]) -> RegisterSettings
     ensures { result ≡ settings_in settings.now }
 {
@@ -37,16 +38,23 @@ pub fn new_group_register(
     columns.clear();
 }
 
-// The register after an entry: one that is not made stays; 23, with the slot seen; or as in E6.
+// An entry, as numbers, and the number of what became of it: of a register that is not made, its own; 23, with the slot seen; or as in E6. Numbers and no
+// CellEntry and Result: those are `group_register::apply_in`, and a host has numbers (C interface).
 pub fn apply_group_entry(
     settings: &[u64; 2],
     columns: &mut Columns<'_>,
-    entry: CellEntry,
-) -> Result<Entered, GroupRefusal>
+    slot: u64,
+    kind: u64,
+    cell: CellNumber,
+    carrier: u64,
+    width: u64,
+) -> u64
     ensures same { SameArrays columns.old columns.new }
-    ensures applied { group_applied_in settings.now result columns.new ≡ apply_in_group (group_of settings.now columns.old) entry }
+    ensures entered { (group_of settings.now columns.new, result)
+        ≡ after_group_entry (group_of settings.now columns.old) (entry_from_numbers slot kind cell carrier width) }
 {
-    group_register::apply_in(settings_in(settings), columns, entry)
+    let entry = entry_from_numbers(slot, kind, cell, carrier, width);
+    entry_number(group_register::apply_in(settings_in(settings), columns, entry))
 }
 
 // The report at the start of out, or the line `refused,1` of a register that is not made, zeros after it; and its length.

@@ -61,16 +61,19 @@ leb_ltb a b = go (ltb b a) refl
     go false h = le-leb a b (ltb-false b a h)
 
 -- what gives 23 has a slot within the limit
-pub odd_slot : (from next : ℕ) (e : CellEntry) (odd : Bool) → odd ≡ gives_odd_width from next e → odd ≡ true → e.slot < 18446744073709551615
+pub odd_slot : (from next : ℕ) (e : CellEntry) → gives_odd_width from next e ≡ true → e.slot ≤ 9223372036854775806
 unfolding gives_odd_width
-odd_slot from next e odd given h =
-    let within = leb-true e.slot 9223372036854775806 (go (is_odd from e) (leb e.slot 9223372036854775806) (leb next e.slot) (change_assignable e.change) (sym given ∙ h)) in
-    omega arith
+odd_slot from next e h =
+    leb-true e.slot 9223372036854775806 (go (is_odd from e) (leb e.slot 9223372036854775806) (leb next e.slot) (change_assignable e.change) h)
   where
     go : (o a b t : Bool) → (o && a && b && t) ≡ true → a ≡ true
     go true true b t k = refl
     go true false b t k = k
     go false a b t k = absurd (not_both k refl)
+
+-- so that there is a slot after it
+pub odd_slot_seen : (from next : ℕ) (e : CellEntry) (odd : Bool) → odd ≡ gives_odd_width from next e → odd ≡ true → e.slot < 18446744073709551615
+odd_slot_seen from next e odd given h = let within = odd_slot from next e (sym given ∙ h) in omega arith
 
 -- the slot's 2, an older slot, and then what is left
 abbrev slot_first : RegisterSettings → Register → ℕ → GroupApplied → GroupApplied

@@ -69,7 +69,7 @@ impl RegisterSettings {
 impl Refused for GroupRefusal {
     ghost refusal_number = { group_refusal_number };
 
-    // Document 02's number.
+    // Document 02's number. By `match` and no discriminants: a cause of E6 is itself one of several, each with its number.
     fn number(self) -> u64 {
         match self {
             GroupRefusal::Unmade => 1,
@@ -127,7 +127,7 @@ pub fn gives_odd_width(whole_mhz_from: u64, next_slot: u64, entry: CellEntry) ->
 }
 
 // What becomes of an entry, in a register whose places may be lent: one that is not made stays; 23, with the slot seen; or as in E6.
-#[tactic(auto, using(crate::proofs::GroupLaws::odd_slot), unfolding(crate::specs::GroupRegister::apply_in_group, crate::specs::GroupRegister::apply_made))]
+#[tactic(auto, using(crate::proofs::GroupLaws::odd_slot_seen), unfolding(crate::specs::GroupRegister::apply_in_group, crate::specs::GroupRegister::apply_made))]
 pub fn apply_in<R: RegisterPlaces>(
     settings: RegisterSettings,
     register: &mut R,

@@ -56,6 +56,7 @@ struct Habits {
 // heard in its slot, the messages under way, the log and the counts.
 #[derive(Drop)]
 struct World {
+    settings: Settings,
     habits: Habits,
     random: u64,
     last_called: u64,
@@ -260,8 +261,9 @@ fn heard_in(settings: &Settings, heard: u64, slot: u64, call: Call) -> u64 {
 }
 
 impl World {
-    fn new(seed: u64, counts: Counts) -> World {
+    fn new(settings: Settings, seed: u64, counts: Counts) -> World {
         World {
+            settings,
             habits: random_habits(seed / 65536),
             random: seed,
             last_called: 0,
@@ -275,27 +277,27 @@ impl World {
     }
 
     // Who proposes: the first leader, any member, or the one that was called last, which may be at a slot that is new to it.
-    fn proposer(&self, settings: &Settings, x: u64) -> u64 {
+    fn proposer(&self, x: u64) -> u64 {
         match x % 4 {
-            0 => settings.first_leader,
+            0 => self.settings.first_leader,
             1 => self.last_called,
-            _ => remainder(x / 4, settings.process_count),
+            _ => remainder(x / 4, self.settings.process_count),
         }
     }
 
-    fn proposal(&self, settings: &Settings, x: u64) -> Option<NextCall> {
-        let member = self.proposer(settings, x % 1024);
+    fn proposal(&self, x: u64) -> Option<NextCall> {
+        let member = self.proposer(x % 1024);
         let v = random_value(x / 1024);
-        self.unless_stopped(settings, member, Call::Propose(v))
+        self.unless_stopped(member, Call::Propose(v))
     }
 
-    fn read(&self, settings: &Settings, x: u64) -> Option<NextCall> {
-        let member = remainder(x % 64, settings.process_count);
+    fn read(&self, x: u64) -> Option<NextCall> {
+        let member = remainder(x % 64, self.settings.process_count);
         let call = Call::StartRead {
             tag: x / 64 % 1024,
             arrival_slot: random_value(x / 65536) % 8,
         };
-        self.unless_stopped(settings, member, call)
+        self.unless_stopped(member, call)
     }
 
     fn requester(&self, x: u64, n: u64) -> Option<u64> {
@@ -306,8 +308,8 @@ impl World {
     }
 
     // A delivery of a message, with what the host says.
-    fn delivery(&self, settings: &Settings, parcel: Parcel, x: u64) -> Option<NextCall> {
-        let n = settings.process_count;
+    fn delivery(&self, parcel: Parcel, x: u64) -> Option<NextCall> {
+        let n = self.settings.process_count;
         let delivery = Delivery {
             message: parcel.message,
             said: Said {
@@ -317,11 +319,11 @@ impl World {
             },
             held_requester: self.requester(x / 4194304, n),
         };
-        self.unless_stopped(settings, parcel.member, Call::Receive(delivery))
+        self.unless_stopped(parcel.member, Call::Receive(delivery))
     }
 
-    fn unless_stopped(&self, settings: &Settings, member: u64, call: Call) -> Option<NextCall> {
-        if member < settings.process_count && !sets::contains(self.stopped, member) {
+    fn unless_stopped(&self, member: u64, call: Call) -> Option<NextCall> {
+        if member < self.settings.process_count && !sets::contains(self.stopped, member) {
             Some((member, call))
         } else {
             None
@@ -348,8 +350,8 @@ impl World {
         }
     }
 
-    fn stop(&mut self, settings: &Settings, x: u64) {
-        self.stopped = sets::insert(self.stopped, remainder(x, settings.process_count));
+    fn stop(&mut self, x: u64) {
+        self.stopped = sets::insert(self.stopped, remainder(x, self.settings.process_count));
     }
 
     // Whether the message goes from one side of the group to the other.
@@ -358,13 +360,7 @@ impl World {
     }
 
     // A turn in which a message under way is lost or delivered, or, where it goes to the other side of the group, mostly waits.
-    fn message_turn(
-        &mut self,
-        settings: &Settings,
-        lost: bool,
-        x: u64,
-        said: u64,
-    ) -> Option<NextCall> {
+    fn message_turn(&mut self, lost: bool, x: u64, said: u64) -> Option<NextCall> {
         let place = self.next_place(x);
         let parcel = self.network.at(place);
         if lost {
@@ -375,21 +371,21 @@ impl World {
             return None;
         }
         self.delivered(place, x / 4096);
-        self.delivery(settings, parcel, said)
+        self.delivery(parcel, said)
     }
 
     // One turn: a proposal, a member that stops, other sides, a new read, or a message.
-    fn turn(&mut self, settings: &Settings, number: u64) -> Option<NextCall> {
+    fn turn(&mut self, number: u64) -> Option<NextCall> {
         let a = next_random(self.random);
         let b = next_random(a);
         self.random = b;
         let kind = a / 8 % 256;
         if number < self.habits.first_proposals || kind < self.habits.proposals {
-            return self.proposal(settings, b / 8);
+            return self.proposal(b / 8);
         }
         match kind {
             255 => {
-                self.stop(settings, b / 8);
+                self.stop(b / 8);
                 None
             }
             243..=254 => {
@@ -397,28 +393,22 @@ impl World {
                 self.side = b / 8;
                 None
             }
-            239..=242 => self.read(settings, b / 8),
+            239..=242 => self.read(b / 8),
             _ if self.network.count == 0 => None,
-            _ => self.message_turn(settings, kind > self.habits.delivered, a / 2048, b / 8),
+            _ => self.message_turn(kind > self.habits.delivered, a / 2048, b / 8),
         }
     }
 
     // A call of the leader: a commit is counted by the answers that it has heard, and a new slot begins without any.
-    fn led(
-        &mut self,
-        settings: &Settings,
-        call: Call,
-        outcome: Outcome,
-        commit: Option<CommittedSlot>,
-    ) {
+    fn led(&mut self, call: Call, outcome: Outcome, commit: Option<CommittedSlot>) {
         if outcome.is_err() {
             return;
         }
-        let slot = self.log.slot_of(settings.first_leader);
-        self.heard = heard_in(settings, self.heard, slot, call);
+        let slot = self.log.slot_of(self.settings.first_leader);
+        self.heard = heard_in(&self.settings, self.heard, slot, call);
         if commit.is_some() {
             self.counts
-                .add_leader_commit(settings.quorums().majority, sets::size(self.heard));
+                .add_leader_commit(self.settings.quorums().majority, sets::size(self.heard));
             self.heard = 0;
         }
     }
@@ -438,23 +428,23 @@ impl World {
         self.last_called = member;
     }
 
-    fn answered(&mut self, settings: &Settings, member: u64, call: Call, reply: Reply) {
-        if member == settings.first_leader && has_terms(settings) {
-            self.led(settings, call, reply.outcome, reply.commit);
+    fn answered(&mut self, member: u64, call: Call, reply: Reply) {
+        if member == self.settings.first_leader && has_terms(&self.settings) {
+            self.led(call, reply.outcome, reply.commit);
         }
-        self.logged(settings.process_count, member, call, reply);
+        self.logged(self.settings.process_count, member, call, reply);
     }
 }
 
 // One run.
 fn run(settings: Settings, seed: u64, counts: Counts) -> Counts {
     let mut group = Group::new(settings);
-    let mut world = World::new(seed, counts);
+    let mut world = World::new(settings, seed, counts);
     for i in 0..TURNS {
-        if let Some((member, call)) = world.turn(&settings, i) {
+        if let Some((member, call)) = world.turn(i) {
             let answer = group.call(member, call);
             group = answer.group;
-            world.answered(&settings, member, call, answer.reply);
+            world.answered(member, call, answer.reply);
         }
     }
     let passes = world.log.passes();

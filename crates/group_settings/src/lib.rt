@@ -48,6 +48,7 @@ impl GroupSettings {
     }
 }
 
+// A function with a name and no From, as those of flat: hosts read their definitions by these names.
 pub fn decode_group_settings(f: FlatGroupSettings) -> GroupSettings
     ensures { result ≡ decoded_group_settings f }
 {
@@ -58,7 +59,7 @@ pub fn decode_group_settings(f: FlatGroupSettings) -> GroupSettings
     }
 }
 
-// The number of settings in numbers. A mode that there is not is outside the limits too.
+// The number of settings in numbers, which a host gets as a number (C interface). A mode that there is not is outside the limits too.
 #[tactic(auto, unfolding(crate::specs::GroupSettings::flat_settings_number))]
 pub fn flat_number(f: FlatGroupSettings) -> u64
     ensures { result ≡ flat_settings_number f }

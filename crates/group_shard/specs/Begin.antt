@@ -19,7 +19,8 @@ begin_shard g = record { made = settings_outcome g; settings = g.settings; state
 abbrev pub group_causes : GroupSettings → List Row
 group_causes g = then (settings_causes g.settings) (gives 1 (ltb 9223372036854775806 g.whole_mhz_from) ∷ [])
 
--- A shard begun from these settings, at any later time: it is made, and no cause holds in them; or it is as it began, and all its calls give the number of the first cause.
+-- A shard begun from these settings, at any later time: it is made, and no cause holds in them; or it is as it began, and all its calls give the number of
+-- the first cause.
 abbrev pub OfGroupSettings : GroupSettings → Shard → Type 0
 OfGroupSettings g shard =
     (NoneHolds (group_causes g) × (shard.made ≡ Ok tt))

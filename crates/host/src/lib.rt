@@ -34,6 +34,7 @@ pub struct FlatAnswer {
     pub reply: FlatReply,
 }
 
+// Functions with names and no From, as those of flat, out of which they are made.
 fn decode_state(f: FlatState) -> State
     ensures { result ≡ decoded_state f }
 {

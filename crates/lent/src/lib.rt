@@ -11,7 +11,6 @@ use calls::{Call, Reply, Taken};
 use consensus::Shard;
 use message::{PaxosRound, Refusal};
 use read_tracker::ReadTable;
-use steps::Core;
 
 // By a copy of the state: what touches the table of the reads.
 fn state_in_place(s: &mut Shard, d: Result<Taken, Refusal>) -> Reply
@@ -70,59 +69,30 @@ pub fn call_in_place(s: &mut Shard, call: Call) -> Reply
     core_in_place(s, d)
 }
 
-fn slot_of(core: Core) -> u64
-    ensures { result ≡ core.slot }
-{
-    core.slot
-}
-
-fn round_of(core: Core) -> Option<PaxosRound>
-    ensures { result ≡ core.paxos.round }
-{
-    let paxos = core.paxos;
-    paxos.round
-}
-
-fn open_count_of(core: Core) -> u64
-    ensures { result ≡ core.tracker.open_count }
-{
-    core.tracker.open_count
-}
-
-fn table_of(table: ReadTable) -> ReadTable
-    ensures { result ≡ table }
-{
-    table
-}
-
 // The slot of a shard that is lent to be read.
 pub fn slot(s: &Shard) -> u64
     ensures { result ≡ s.now.state.rounds.core.slot }
 {
-    let c = s.state.rounds.core;
-    slot_of(c)
+    s.state.rounds.core.slot
 }
 
 // Its round.
 pub fn round(s: &Shard) -> Option<PaxosRound>
     ensures { result ≡ s.now.state.rounds.core.paxos.round }
 {
-    let c = s.state.rounds.core;
-    round_of(c)
+    s.state.rounds.core.paxos.round
 }
 
 // The number of its open reads.
 pub fn open_reads(s: &Shard) -> u64
     ensures { result ≡ s.now.state.rounds.core.tracker.open_count }
 {
-    let c = s.state.rounds.core;
-    open_count_of(c)
+    s.state.rounds.core.tracker.open_count
 }
 
 // Its open reads, and those that the last call served.
 pub fn reads(s: &Shard) -> ReadTable
     ensures { result ≡ s.now.state.table }
 {
-    let c = s.state.table;
-    table_of(c)
+    s.state.table
 }

@@ -1,6 +1,8 @@
 -- Where a line ends, and what is kept of a block of input.
 -- Assumes nothing.
-use Rattle.std.specs.Prelude.{◌≡◌, Bool, true, false, cond, List, [], ◌∷◌, ◌++◌, ℕ, suc, ◌≤◌, ◌<◌, eqb, ltb, length, get_or, take, drop}
+use Rattle.std.specs.Prelude.{◌≡◌, ◌⊎◌, Bool, true, false, cond, ◌&&◌, List, [], ◌∷◌, ◌++◌, ℕ, suc, ◌+◌, ◌≤◌, ◌<◌, eqb, ltb, length, get_or, take, drop}
+use Rattle.std.specs.List.{FoldsTo}
+use Rattle.line_blocks.specs.declared.Between.{Between}
 use Rattle.line_blocks.specs.declared.Start.{Start}
 
 -- the place of the first LF (10) from a place on, or the length where there is none
@@ -50,3 +52,34 @@ open_line bytes = open_behind [] bytes
 abbrev pub last_line : List ℕ → List (List ℕ)
 last_line [] = []
 last_line (b ∷ bytes) = (b ∷ bytes) ∷ []
+
+-- whether each line is shorter than n bytes, where `begun` stands before these
+unfoldable pub lines_fit : ℕ → List ℕ → List ℕ → Bool
+lines_fit n begun [] = true
+lines_fit n begun (b ∷ bytes) = cond (eqb b 10) (lines_fit n [] bytes) (ltb (length begun + 1) n && lines_fit n (begun ++ (b ∷ [])) bytes)
+
+-- all lines of an input; or those that an LF ends, where no more is asked for, or more blocks were read than a loop counts
+abbrev pub LinesTaken : {L : Type 0} → (L → List ℕ → L → Type 0) → (L → Bool) → L → List ℕ → L → Type 0
+LinesTaken takes asks first bytes last =
+    FoldsTo takes first (ended_lines bytes ++ last_line (open_line bytes)) last
+    ⊎ (FoldsTo takes first (ended_lines bytes) last × ((asks last ≡ false) ⊎ (18446744073709551615 ≤ length bytes)))
+
+-- between two blocks, behind these bytes: the lines that an LF ends are taken, and the one that has not ended stands at the start of the input buffer
+pub record TakenSoFar {L : Type 0} (takes : L → List ℕ → L → Type 0) (first : L) (bytes input : List ℕ) (between : Between) (taker : L) : Type 0 where
+  pub kept : between.kept ≡ length (open_line bytes)
+  pub stands : take between.kept input ≡ open_line bytes
+  pub none_skipped : between.skipping ≡ false
+  pub taken : FoldsTo takes first (ended_lines bytes) taker
+
+-- a block is read behind other bytes, and the lines of all fit the input buffer
+pub record BlockFits {L : Type 0} (takes : L → List ℕ → L → Type 0) (got input : List ℕ) (before : Between) (taker first : L) (bytes : List ℕ) : Type 0 where
+  pub so_far : TakenSoFar takes first bytes input before taker
+  pub fits : lines_fit (length input) [] (bytes ++ got) ≡ true
+
+-- the input ends with the block, and its lines are taken; or it goes on behind it
+pub record BlockTaken {L : Type 0} (takes : L → List ℕ → L → Type 0) (asks : L → Bool) (got input : List ℕ) (before : Between) (taker : L)
+    (input' : List ℕ) (after : Between) (taker' : L) (more : Bool) : Type 0 where
+  pub ends : more ≡ false → (first : L) (bytes : List ℕ) → BlockFits takes got input before taker first bytes → LinesTaken takes asks first (bytes ++ got) taker'
+  pub goes_on : more ≡ true → (first : L) (bytes : List ℕ) → BlockFits takes got input before taker first bytes
+      → TakenSoFar takes first (bytes ++ got) input' after taker'
+  pub reads_some : more ≡ true → 0 < length got

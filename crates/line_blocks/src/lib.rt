@@ -2,11 +2,12 @@
 // the next block is waited for. A line that fills the whole input buffer and has not ended there is too long; the rest of it is skipped.
 #![tactic(auto)]
 
-ghost use Rattle.std.specs.Prelude.{◌≡◌, false, List, [], ◌∷◌, ℕ, ◌-◌, ◌≤◌, ◌<◌, ◌==◌, min, length, take, IfSome, MatchOption};
+ghost use Rattle.std.specs.Prelude.{◌≡◌, Bool, true, false, List, [], ◌∷◌, ℕ, ◌-◌, ◌≤◌, ◌<◌, ◌==◌, min, length, take, drop, IfSome, MatchOption};
 ghost use Rattle.std.specs.List.{FoldsTo, position};
+ghost use Rattle.std.specs.Io.KnownBytes.{Consumes};
 ghost use Rattle.io.specs.Counts.{IsPrefixLen};
 ghost use Rattle.texts.specs.Text.{with_bytes};
-ghost use Rattle.line_blocks.specs.Lines.{FirstEnd, FirstLine, moved_to_start, with_room, ended_lines, open_line, last_line};
+ghost use Rattle.line_blocks.specs.Lines.{FirstEnd, FirstLine, moved_to_start, with_room, ended_lines, open_line, last_line, lines_fit, LinesTaken, BlockTaken};
 
 use std::io::Read;
 use texts::Output;
@@ -79,6 +80,7 @@ fn cut_line(bytes: &[u8]) -> Option<(&[u8], &[u8])>
 pub fn read_behind<R: Read>(reader: &mut R, input: &mut [u8], kept: usize) -> usize
     ensures kept { IsPrefixLen result input.new × (min kept (length input.old) ≤ result) × (take kept input.new ≡ take kept input.old) }
     ensures at_end { R.remaining reader.old ≡ Some [] → kept ≤ length input.old → result ≡ kept }
+    ensures read { Consumes (R.remaining reader.old) (R.remaining reader.new) (drop kept (take result input.new)) }
 {
     if kept < input.len() {
         let got = match reader.read(&mut input[kept..]) {
@@ -124,18 +126,24 @@ pub fn with_room(out: &mut Output)
 
 // What a program does with the lines of its input.
 pub trait LineTaker {
-    // What a line leaves of it.
+    // What a line leaves of it, and what the start of one that is too long does.
     ghost takes: { Self → List ℕ → Self → Type 0 };
+
+    ghost takes_too_long: { Self → List ℕ → Self → Type 0 };
+
+    // Whether the lines behind those so far are asked for.
+    ghost asks: { Self → Bool };
 
     // Takes a line, without its LF, and puts the answer to it.
     fn take(&mut self, line: &[u8], out: &mut Output)
         ensures { takes self.old line.now self.new };
 
     // Takes a line that fills the whole input buffer and has not ended there. The rest of it is skipped.
-    fn take_too_long(&mut self, start: &[u8], out: &mut Output);
+    fn take_too_long(&mut self, start: &[u8], out: &mut Output)
+        ensures { takes_too_long self.old start.now self.new };
 
-    // Whether the lines behind those so far are asked for.
-    fn goes_on(&self) -> bool;
+    fn goes_on(&self) -> bool
+        ensures { result ≡ asks self.now };
 }
 
 // Takes the lines that end in the bytes, in order, writes the answers, and hands back how many bytes of a line that has not ended stand behind them.
@@ -156,7 +164,7 @@ pub fn take_lines<L: LineTaker>(taker: &mut L, bytes: &[u8], out: &mut Output) -
 }
 
 // Between two blocks: how many bytes of a line that has not ended stand at the start of the input buffer, and whether the rest of a line that is
-// too long is being skipped.
+// too long is being skipped. Both are always there, as in `Start`.
 #[derive(Clone, Copy)]
 struct Between {
     kept: usize,
@@ -182,6 +190,8 @@ fn take_block<R: Read, L: LineTaker>(
     out: &mut Output,
 ) -> bool
     ensures at_end { R.remaining reader.old ≡ Some [] → between.old.kept ≡ 0 → (result ≡ false) × (taker.new ≡ taker.old) }
+    ensures block { (got : List ℕ) × Consumes (R.remaining reader.old) (R.remaining reader.new) got
+        × BlockTaken L.takes L.asks got input.old between.old taker.old input.new between.new taker.new result }
 {
     let end = read_behind(reader, input, between.kept);
     if end <= between.kept {
@@ -201,16 +211,18 @@ fn take_block<R: Read, L: LineTaker>(
     taker.goes_on()
 }
 
-// Takes the lines of an input, to its end or as long as the taker asks for more. An input with no byte has no line; of one with bytes the promise is that of
-// `take_lines`, block by block: the lines that end there are taken, each once and in order. A `for` with a bound and no `loop`: a
-// program must be proved to end, and nothing bounds an input; more blocks than a `u64` counts are never read.
+// Takes the lines of an input, each once and in order, to its end or as long as the taker asks for more. The promise is of the bytes that were read, where
+// each of their lines is shorter than the input buffer; an input with no byte has no line. A `for` with a bound and no `loop`: a program must be
+// proved to end, and nothing bounds an input; more blocks than a `u64` counts are never read.
 pub fn take_input<R: Read, L: LineTaker>(
     reader: &mut R,
     input: &mut [u8],
     taker: &mut L,
     out: &mut Output,
 )
-    ensures { R.remaining reader.old ≡ Some [] → taker.new ≡ taker.old }
+    ensures at_end { R.remaining reader.old ≡ Some [] → taker.new ≡ taker.old }
+    ensures lines { (bytes : List ℕ) × Consumes (R.remaining reader.old) (R.remaining reader.new) bytes
+        × (lines_fit (length input.old) [] bytes ≡ true → LinesTaken L.takes L.asks taker.old bytes taker.new) }
 {
     let mut between = Between {
         kept: 0,

@@ -20,7 +20,7 @@ pub fn number_at(numbers: &[u64], i: usize) -> u64
 pub fn optional<T: Drop>(flag: u64, value: T) -> Option<T>
     ensures { result ≡ cond (flag == 1) (Some value) None }
 {
-    if flag == 1 { Some(value) } else { None }
+    (flag == 1).then_some(value)
 }
 
 #[tactic(auto, unfolding(crate::specs::Calls::promise_of, crate::specs::Calls::optional_round))]

@@ -1,5 +1,6 @@
 // The fields of a line, which single blanks separate, and lines that have a word and a number (docs/PLANNING.md). Numbers are read by `call_lines` and
-// written by `texts`.
+// written by `texts`. A line and a place in it are two parameters, and no slice from the place on: the place may be past the line, where every field is
+// empty, and whether the last field ends the line is asked by its place.
 #![tactic(auto)]
 
 ghost use Rattle.std.specs.Prelude.{◌≡◌, drop};

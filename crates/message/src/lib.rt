@@ -120,21 +120,21 @@ pub struct ConsensusMessage {
     pub last_v: Option<u64>,
 }
 
-// Why a call is refused, in the order of document 01's table. The definition refusal_number has the numbers.
+// Why a call is refused, with document 01's numbers.
 #[derive(Clone, Copy, PartialEq, Eq, Debug)]
 pub enum Refusal {
-    SettingsOutsideLimits,
-    NumberTooLarge,
-    NoSuchProcess,
-    OtherLastValue,
-    SlotAhead,
-    ValueNotHeld,
-    SourceNotLive,
-    Panic,
-    AcceptUnlikeHeld,
-    SecondFastAnswer,
-    ProposalNotAllowed,
-    NoRoomForRead,
+    SettingsOutsideLimits = 1,
+    NumberTooLarge = 2,
+    NoSuchProcess = 3,
+    OtherLastValue = 4,
+    SlotAhead = 5,
+    ValueNotHeld = 6,
+    SourceNotLive = 7,
+    Panic = 8,
+    AcceptUnlikeHeld = 9,
+    SecondFastAnswer = 10,
+    ProposalNotAllowed = 11,
+    NoRoomForRead = 12,
 }
 
 // What became of a call, or of a step of it.
@@ -145,20 +145,7 @@ impl Refused for Refusal {
 
     // The number by which document 01 names the refusal.
     fn number(self) -> u64 {
-        match self {
-            Refusal::SettingsOutsideLimits => 1,
-            Refusal::NumberTooLarge => 2,
-            Refusal::NoSuchProcess => 3,
-            Refusal::OtherLastValue => 4,
-            Refusal::SlotAhead => 5,
-            Refusal::ValueNotHeld => 6,
-            Refusal::SourceNotLive => 7,
-            Refusal::Panic => 8,
-            Refusal::AcceptUnlikeHeld => 9,
-            Refusal::SecondFastAnswer => 10,
-            Refusal::ProposalNotAllowed => 11,
-            Refusal::NoRoomForRead => 12,
-        }
+        self as u64
     }
 }
 

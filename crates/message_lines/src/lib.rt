@@ -1,4 +1,4 @@
-// The messages of a reply as bytes: docs/ORACLE.md, "Answer lines", 2.
+// The messages of a reply as bytes: docs/ORACLE.md, "Answer lines", 2. No `Display`, as `texts` says.
 #![tactic(auto)]
 
 ghost use Rattle.std.specs.Prelude.{◌≡◌};

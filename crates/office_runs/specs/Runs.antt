@@ -68,7 +68,7 @@ new_run =
       members = set (set (replicate 3 (office 0)) 1 (office 1)) 2 (office 2);
       proposed = 0;
       sent = record { places = replicate 15 no_sending; count = 0 };
-      events = record { places = replicate 5 (record { event = Proposes 0 }); count = 0 };
+      events = record { places = replicate 5 (Proposes 0); count = 0 };
       commits = record { places = replicate 5 (record { member = 0; slot = 0; v = 0 }); count = 0 };
     }
 
@@ -82,7 +82,7 @@ with_answer run member e a =
       members = cond (ltb member 3) (set run.members member a.shard) run.members;
       proposed = run.proposed;
       sent = with_messages run.sent member a.reply.messages;
-      events = with_last run.events (record { event = e });
+      events = with_last run.events e;
       commits = with_commit_by run.commits member a.reply.commit;
     }
 

@@ -254,6 +254,7 @@ fn on_fast_prepare(
     Ok(step.unchanged(answers))
 }
 
+// It goes on by hand too: what follows takes the messages of the step beside its core, which no other rest does, so and_then_change would not do for it.
 #[tactic(auto, unfolding(crate::specs::Process::replica_accept))]
 fn replica_accept(
     asked: Asked,

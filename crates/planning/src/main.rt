@@ -2,7 +2,7 @@
 // more than 1,048,576 bytes, without its LF, is too long and so a bad line.
 #![tactic(auto)]
 
-ghost use Rattle.std.specs.Prelude.{◌≡◌};
+ghost use Rattle.std.specs.Prelude.{◌≡◌, true};
 ghost use Rattle.stored_lines.specs.Answers.{register_after_line};
 
 use line_blocks::LineTaker;
@@ -18,6 +18,10 @@ struct Planner {
 
 impl LineTaker for Planner {
     ghost takes = { λ old line new. new.register ≡ register_after_line old.register line };
+
+    ghost takes_too_long = { λ old _ new. new ≡ old };
+
+    ghost asks = { λ _. true };
 
     fn take(&mut self, line: &[u8], out: &mut Output<'_>) {
         self.register = stored_lines::answer_line(self.register, line, out);

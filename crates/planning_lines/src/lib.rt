@@ -1,4 +1,4 @@
-// A line of `planning`, from its bytes to what it asks, and the answer as bytes (docs/PLANNING.md).
+// A line of `planning`, from its bytes to what it asks, and the answer as bytes (docs/PLANNING.md). No `Display`, as `texts` says.
 #![tactic(auto)]
 
 ghost use Rattle.std.specs.Prelude.{◌≡◌};

@@ -8,7 +8,7 @@ use message::{ConsensusMsg, PaxosRound, Refusal, RoundV};
 use round_state::{PaxosState, get_last_accepted_round};
 use steps::{Asked, Core, CoreStep, Destination, Heard};
 
-// asked, heard and round are parameters of their own: 9 of these 15 functions take one or two of the three, and a struct of them is no plainer (accept tells
+// asked, heard and round are parameters of their own: 8 of these 15 functions take one or two of the three, and a struct of them is no plainer (accept tells
 // of a trial).
 
 // Whether the answer to a Prepare may go to the delegate: what the Rust asserts once it has sent it.

@@ -1,4 +1,4 @@
-// Values, rounds and promises as bytes, as they stand in a message and in a shard: docs/ORACLE.md, "Answer lines", 2 and 5.
+// Values, rounds and promises as bytes, as they stand in a message and in a shard: docs/ORACLE.md, "Answer lines", 2 and 5. No `Display`, as `texts` says.
 #![tactic(auto)]
 
 ghost use Rattle.std.specs.Prelude.{◌≡◌};

@@ -1,7 +1,7 @@
 -- What holds of the quorums of every number of replicas: their order, and which of them must share a process.
 -- Assumes nothing.
 use mathlib.Core.Path.{◌≡◌, refl, ap}
-use Prim.Native.Nat.{ℕ, ◌+◌, ◌*◌, ◌≤◌, ◌<◌, min}
+use Prim.Native.Nat.{ℕ, zero, suc, ◌+◌, ◌*◌, ◌≤◌, ◌<◌, max, min}
 use native.Mathlib.Omega.{arith}
 use Rattle.quorum.specs.Quorum.{majority_of, epaxos_of, fast_of, rule_of, row_of}
 
@@ -42,3 +42,8 @@ row_above n h = let e : min n 64 ≡ 64 = omega arith in ap rule_of e
 -- a count of 0 takes the row of 1
 pub row_zero : row_of 0 ≡ row_of 1
 row_zero = refl
+
+-- the rule takes 0 as it takes 1
+pub same_rule : (m k : ℕ) → k ≡ max 1 m → rule_of k ≡ rule_of m
+same_rule zero k e = ap rule_of e
+same_rule (suc m) k e = let h : k ≡ suc m = omega arith in ap rule_of h

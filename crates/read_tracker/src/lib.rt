@@ -97,6 +97,9 @@ impl ReadTracker {
         self.open_count.min(128) as usize
     }
 
+    // tag and arrival_slot, here and in the calls that bring them, are two numbers of the host's and parameters of their own: a struct of the two would be made
+    // for one read and taken apart into it.
+
     // A new read, under the next id, without the table. Refused where 128 reads are open, or where the ids are spent: the last one is 2^63-1. So the place
     // of a read that is opened, open_count, is below 128.
     #[tactic(auto, unfolding(crate::specs::Reads::open_next))]

@@ -215,6 +215,7 @@ pub trait RegisterPlaces {
         ensures seen { register self.new ≡ slot_seen slot (register self.old) }
         ensures same_references { lent self.new ≡ lent self.old };
 
+    // The figures, and the count of live cells, which stands beside the cells and is no field of Figures (report).
     fn count(&mut self, figures: Figures, live: u64)
         ensures counted { register self.new ≡ with_counts figures live (register self.old) }
         ensures same_references { lent self.new ≡ lent self.old };

@@ -43,7 +43,7 @@ register_in c = register_of c.cells.now c.carriers.now c.widths.now c.figures.no
 abbrev pub lent_arrays : Columns → List ℕ
 lent_arrays c = c.cells.ghost_name ∷ c.carriers.ghost_name ∷ c.widths.ghost_name ∷ c.figures.ghost_name ∷ []
 
--- they are the arrays that were lent
+-- they are the arrays that were lent: a clause, since it compares what stood before with what stands after, where a type speaks of one of them
 abbrev pub SameArrays : Columns → Columns → Type 0
 SameArrays c d =
     (d.cells.ghost_name ≡ c.cells.ghost_name)

@@ -13,7 +13,8 @@ use register::{
     RegisterPlaces, apply_in, find, live_places,
 };
 
-// The lent arrays of a register. Any numbers may stand in them: so there is no invariant.
+// The lent arrays of a register. Any numbers may stand in them: so there is no invariant. Three columns and no array of cells, and figures without names:
+// the C interface has them so.
 #[derive(Drop)]
 pub struct Columns<'a> {
     pub cells: &'a mut [u64; 512],
@@ -22,7 +23,7 @@ pub struct Columns<'a> {
     pub figures: &'a mut [u64; 5],
 }
 
-// The figures of the report.
+// The figures of the report. A function and no `From`: neither Figures nor an array of numbers is a type of this crate.
 fn figures_in(figures: &[u64; 5]) -> Figures
     ensures { result ≡ figures_in figures.now }
 {
@@ -126,7 +127,8 @@ impl Columns<'_> {
     }
 }
 
-// Kind 1 is an assignment and kind 2 a release. Any other kind stands for an assignment without a width, so that it is refused with 14.
+// Kind 1 is an assignment and kind 2 a release. Any other kind stands for an assignment without a width, so that it is refused with 14. The kind is a number
+// and no enum: a host gives it (C interface), any one may be given, and this is the one place that asks for it.
 #[tactic(auto, unfolding(crate::specs::Columns::change_of))]
 pub fn entry_from_numbers(
     slot: u64,

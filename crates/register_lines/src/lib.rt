@@ -1,4 +1,5 @@
-// Lines about a register of cells (docs/PLANNING.md): an entry line, from its bytes to the entry, and what is written of a register.
+// Lines about a register of cells (docs/PLANNING.md): an entry line, from its bytes to the entry, and what is written of a register. A line and a place in
+// it are two parameters, as in `line_fields`. No `Display`, as `texts` says.
 #![tactic(auto)]
 
 ghost use Rattle.std.specs.Prelude.{◌≡◌};

@@ -2,7 +2,7 @@
 // "Answer lines"). A line that does not fit a block of 65,536 bytes is too long.
 #![tactic(auto)]
 
-ghost use Rattle.std.specs.Prelude.{◌≡◌};
+ghost use Rattle.std.specs.Prelude.{◌≡◌, true};
 ghost use Rattle.replay.specs.Answer.{answered, new_answer, with_state, answer_of, is_skipped, Leaves};
 
 use call_lines::Fault;
@@ -99,6 +99,10 @@ fn answer_line(shard: &mut Shard, line: &[u8], places: &mut [u64], out: &mut Out
 
 impl LineTaker for Replay {
     ghost takes = { λ old line new. Leaves old.shard line new.shard };
+
+    ghost takes_too_long = { λ old _ new. new.shard ≡ old.shard };
+
+    ghost asks = { λ _. true };
 
     fn take(&mut self, line: &[u8], out: &mut Output) {
         answer_line(&mut self.shard, line, &mut self.places, out);

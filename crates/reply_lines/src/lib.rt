@@ -1,4 +1,4 @@
-// A reply as bytes: its outcome, messages, commit and served reads (docs/ORACLE.md, "Answer lines", 1 to 4).
+// A reply as bytes: its outcome, messages, commit and served reads (docs/ORACLE.md, "Answer lines", 1 to 4). No `Display`, as `texts` says.
 #![tactic(auto)]
 
 ghost use Rattle.std.specs.Prelude.{◌≡◌};

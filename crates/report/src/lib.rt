@@ -25,7 +25,8 @@ fn put_figure(out: &mut Output<'_>, n: u64, end: u8)
     out.put_byte(end);
 }
 
-// The four figures, with commas between them.
+// The four figures, with commas between them. The live cells are a parameter and no field of Figures: a register has a count of them, which may be any
+// number, and how many live is computed of it (`live_places`), so that a field would say what the count says.
 #[tactic(auto, using(texts::proofs::Putting::put_then), unfolding(crate::specs::Report::figures_text))]
 pub fn put_figures(out: &mut Output<'_>, figures: Figures, live: u64)
     ensures { out.new ≡ put (figures_text figures live) out.old }

@@ -186,10 +186,7 @@ impl PaxosState {
     ) -> Result<PaxosState, Refusal>
         ensures { result ≡ accept_own me round self held }
     {
-        match held {
-            None => Err(Refusal::Panic),
-            Some(v) => self.receive_accept(me, me.my_pid, round, v),
-        }
+        self.receive_accept(me, me.my_pid, round, held.ok_or(Refusal::Panic)?)
     }
 
     // One's own accept of the held value, where nothing is accepted yet.

@@ -37,10 +37,7 @@ impl Event {
     fn is_commit(&self) -> bool
         ensures { result ≡ is_commit self.now }
     {
-        match self.kind {
-            Kind::Proposal => false,
-            Kind::Commit => true,
-        }
+        self.kind == Kind::Commit
     }
 
     fn is_commit_of(&self, member: u64) -> bool

@@ -5,7 +5,6 @@ use Rattle.texts.specs.Text.{ascii, decimal, each}
 use Rattle.enabled_runs.specs.declared.RunEvent.{RunEvent}
 use Rattle.enabled_runs.specs.declared.RunEvent.TheVariants.{Proposes, Delivers}
 use Rattle.enabled_runs.specs.declared.CommitBy.{CommitBy}
-use Rattle.enabled_runs.specs.declared.EventPlace.{EventPlace}
 
 -- two numbers with a full stop between
 unfoldable pub pair : ℕ → ℕ → List ℕ
@@ -28,9 +27,6 @@ joined_by_blanks text (x ∷ xs) = text x ++ each (λ y. ascii " " ++ text y) xs
 -- the blank before all but the first
 unfoldable pub blank : ℕ → List ℕ
 blank i = cond (eqb i 0) [] (ascii " ")
-
-abbrev pub event_place_text : EventPlace → List ℕ
-event_place_text s = event_text s.event
 
 abbrev pub first_five : {A : Type 0} → List A → ℕ → List A
 first_five xs n = take (min n 5) xs

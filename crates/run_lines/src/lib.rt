@@ -3,9 +3,9 @@
 
 ghost use Rattle.std.specs.Prelude.{◌≡◌, List, ℕ};
 ghost use Rattle.texts.specs.Text.{put};
-ghost use Rattle.run_lines.specs.Lines.{pair, event_text, commit_by_text, joined_by_blanks, blank, event_place_text, first_five};
+ghost use Rattle.run_lines.specs.Lines.{pair, event_text, commit_by_text, joined_by_blanks, blank, first_five};
 
-use enabled_runs::{CommitBy, EventPlace, RunEvent};
+use enabled_runs::{CommitBy, RunEvent};
 use texts::Output;
 
 // Two numbers with a full stop between.
@@ -53,11 +53,11 @@ pub trait Part {
         ensures { out.new ≡ put (text self.now) out.old };
 }
 
-impl Part for EventPlace {
-    ghost text = { event_place_text };
+impl Part for RunEvent {
+    ghost text = { event_text };
 
     fn put(&self, out: &mut Output) {
-        put_event(out, self.event);
+        put_event(out, *self);
     }
 }
 

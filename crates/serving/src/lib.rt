@@ -43,7 +43,8 @@ impl Counted {
 pub trait OpenReads {
     ghost reads: { Self → List OpenRead };
 
-    // What a row that lends its places keeps: the reference that it holds.
+    // What a row that lends its places keeps: the reference that it holds. That it stays the same is a clause of each method, here and in the two functions
+    // over rows: it compares what stood before with what stands after, and a type speaks of one of them.
     ghost lent: { Self → ℕ };
 
     fn get(&self, at: usize) -> OpenRead
@@ -103,7 +104,8 @@ impl ServedReads for [ServedRead; 128] {
     }
 }
 
-// The place of the first of the open reads that has this id. By index: a row of reads lends no slice of them.
+// The place of the first of the open reads that has this id. By index: a row of reads lends no slice of them. The ids are compared by their numbers: by `==` of
+// the ids the check did not find the proof (the goal `returns-then-eq`).
 #[tactic(auto, using(crate::proofs::Responses::search_more, crate::proofs::Responses::search_none))]
 fn find<O: OpenReads>(open: &O, open_places: usize, id: ReadId) -> Option<usize>
     requires { open_places ≤ length (O.reads «open».now) }
@@ -197,6 +199,7 @@ pub fn commit_slot_in<O: OpenReads, S: ServedReads>(
     ensures same_served { S.lent served.new ≡ S.lent served.old }
     ensures answer { with_table result (O.reads «open».new) (S.served served.new) ≡ commit_slot tracker (record { reads = O.reads «open».old; served = S.served served.old }) read_quorum slot }
 {
+    // counted by hand, and by the index: each read goes to the next place of one row or of the other, and a row lends no slice to go through
     let mut kept_count: usize = 0;
     let mut served_count: usize = 0;
     let open_places = tracker.open_places();

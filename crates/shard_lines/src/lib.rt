@@ -1,4 +1,4 @@
-// A shard as bytes: its numbers, its proposers and its open reads (docs/ORACLE.md, "Answer lines", 5 to 7).
+// A shard as bytes: its numbers, its proposers and its open reads (docs/ORACLE.md, "Answer lines", 5 to 7). No `Display`, as `texts` says.
 #![tactic(auto)]
 
 ghost use Rattle.std.specs.Prelude.{◌≡◌};

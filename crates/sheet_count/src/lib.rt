@@ -5,7 +5,8 @@ ghost use Rattle.std.specs.Prelude.{◌≡◌, ◌==◌};
 ghost use Rattle.std.specs.List.{position};
 ghost use Rattle.sheet_count.specs.Count.{first_line, count_of_line, count_asked};
 
-// Where the first LF stands, if there is one.
+// Where the first LF stands, if there is one. line_blocks has the same, and neither crate stands on the other. Without a function of its own, by `position` in
+// `first_line`, the proof did not close.
 fn line_end(input: &[u8]) -> Option<usize>
     ensures { result ≡ position (λ b. b == 10) input.now }
 {

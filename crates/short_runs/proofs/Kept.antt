@@ -19,7 +19,6 @@ use Rattle.consensus.specs.declared.Answer.{Answer}
 use Rattle.consensus.specs.declared.Shard.{Shard}
 use Rattle.group.specs.Claim.{listed, messages_of}
 use Rattle.enabled_runs.specs.declared.CommitBy.{CommitBy}
-use Rattle.enabled_runs.specs.declared.EventPlace.{EventPlace}
 use Rattle.enabled_runs.specs.declared.RunEvent.{RunEvent}
 use Rattle.enabled_runs.specs.declared.Sending.{Sending}
 use Rattle.enabled_runs.specs.Enabled.{sendings}
@@ -33,7 +32,7 @@ use Rattle.short_runs.proofs.Piles.{Pile, pushed}
 abbrev Brought : {A : Type 0} {room : ℕ} → SoFar A room → List A → Type 0
 Brought {A} {room} s kept = Pile s.places s.count room kept
 
-pub record KeptAs (run : OfficeRun) (shards : ℕ → Shard) (asked : ℕ → Bool) (sent : List Sending) (events : List EventPlace) (commits : List CommitBy) : Type 0 where
+pub record KeptAs (run : OfficeRun) (shards : ℕ → Shard) (asked : ℕ → Bool) (sent : List Sending) (events : List RunEvent) (commits : List CommitBy) : Type 0 where
   pub members_long : length run.members ≡ 3
   pub member : (i : ℕ) → i < 3 → get_or run.members i (office 0) ≡ shards i
   pub proposer : (i : ℕ) → contains run.proposed i ≡ asked i
@@ -115,12 +114,12 @@ commit_at_most member (Some commit) = omega arith
 
 -- ---- the run
 
-module _ {run : OfficeRun} {shards : ℕ → Shard} {asked : ℕ → Bool} {sent : List Sending} {events : List EventPlace} {commits : List CommitBy} where
+module _ {run : OfficeRun} {shards : ℕ → Shard} {asked : ℕ → Bool} {sent : List Sending} {events : List RunEvent} {commits : List CommitBy} where
   -- after a call on a member, which was the event
   pub with_answer_lem : (member : ℕ) (e : RunEvent) (a : Answer) → member < 3 → length sent ≤ 12 → length events < 5 → length commits < 5
       → KeptAs run shards asked sent events commits
       → KeptAs (with_answer run member e a) (λ j. cond (eqb j member) a.shard (shards j)) asked (sent ++ sendings member (messages_of a.reply.messages))
-      (events ++ (record { event = e } ∷ [])) (commits ++ member_commits member a.reply.commit)
+      (events ++ (e ∷ [])) (commits ++ member_commits member a.reply.commit)
   unfolding with_answer
   with_answer_lem member e a below few short new h =
       let after : Bool → List Shard = λ t. cond t (set run.members member a.shard) run.members in
@@ -132,7 +131,7 @@ module _ {run : OfficeRun} {shards : ℕ → Shard} {asked : ℕ → Bool} {sent
             ∙ ap (λ (x : Shard). cond (eqb i member) a.shard x) (h.member i k);
         proposer = h.proposer;
         sent_kept = with_messages_lem member a.reply.messages few h.sent_kept;
-        events_kept = with_last_lem (record { event = e }) short h.events_kept;
+        events_kept = with_last_lem e short h.events_kept;
         commits_kept = with_commit_by_lem member a.reply.commit new h.commits_kept;
       }
 

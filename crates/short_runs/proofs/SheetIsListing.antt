@@ -15,18 +15,17 @@ use Rattle.consensus.specs.declared.Shard.{Shard}
 use Rattle.enabled_runs.specs.declared.RunEvent.{RunEvent}
 use Rattle.enabled_runs.specs.declared.RunEvent.TheVariants.{Proposes, Delivers}
 use Rattle.enabled_runs.specs.declared.CommitBy.{CommitBy}
-use Rattle.enabled_runs.specs.declared.EventPlace.{EventPlace}
 use Rattle.enabled_runs.specs.Enabled.{RunSoFar}
 use Rattle.enabled_runs.specs.Listing.{each_below, in_front, block, listing, all_sent, extended_by, after_run, runs_from}
 use Rattle.enabled_runs.specs.Offices.{engine_call, heard_by, before_events, commits_in}
 use Rattle.office_runs.specs.Runs.{new_run, trial_of}
 use Rattle.office_runs.specs.declared.OfficeRun.{OfficeRun}
-use Rattle.run_lines.specs.Lines.{event_text, commit_by_text, joined_by_blanks, event_place_text, first_five}
+use Rattle.run_lines.specs.Lines.{event_text, commit_by_text, joined_by_blanks, first_five}
 use Rattle.short_runs.specs.Lister.{kept_line, event_lines, lines_after}
 use Rattle.short_runs.specs.Sheet.{run_line_with, sheet}
 use Rattle.short_runs.proofs.Turns.{proposal_lines, delivery_lines}
 use Rattle.short_runs.proofs.Piles.{Pile}
-use Rattle.short_runs.proofs.Trials.{KeepsRun, TrialAgrees, event_places, event_places_length, keeps_new, proposal_agrees, delivery_agrees}
+use Rattle.short_runs.proofs.Trials.{KeepsRun, TrialAgrees, keeps_new, proposal_agrees, delivery_agrees}
 
 -- ---- texts of lists
 
@@ -57,16 +56,6 @@ unfolding each
 each_in_front f e [] = refl
 each_in_front f e (x ∷ runs) = ap (λ (l : List ℕ). f (e ∷ x) ++ l) (each_in_front f e runs)
 
-each_event_place : (es : List RunEvent) → each (λ s. ascii " " ++ event_place_text s) (event_places es) ≡ each (λ e. ascii " " ++ event_text e) es
-unfolding each
-each_event_place [] = refl
-each_event_place (e ∷ es) = ap (λ (l : List ℕ). (ascii " " ++ event_text e) ++ l) (each_event_place es)
-
-joined_event_places : (es : List RunEvent) → joined_by_blanks event_place_text (event_places es) ≡ joined_by_blanks event_text es
-unfolding joined_by_blanks
-joined_event_places [] = refl
-joined_event_places (e ∷ es) = ap (λ (l : List ℕ). event_text e ++ l) (each_event_place es)
-
 -- ---- the line of a run
 
 first_five_lem : {A : Type 0} {xs : List A} {count room : ℕ} {kept : List A} → length kept ≤ 5 → Pile xs count room kept → first_five xs count ≡ kept
@@ -79,9 +68,8 @@ line_kept : {run : OfficeRun} {w : RunSoFar Shard} {es : List RunEvent} → leng
 unfolding kept_line run_line_with
 line_kept {run} {w} {es} short s =
     ap
-    (λ (l : List EventPlace). joined_by_blanks event_place_text l ++ (ascii "," ++ (joined_by_blanks commit_by_text (first_five run.commits.places run.commits.count) ++ ascii "\r\n")))
-    (first_five_lem (subst (λ (n : ℕ). n ≤ 5) (sym (event_places_length es)) short) s.kept.events_kept)
-    ∙ ap (λ (l : List ℕ). l ++ (ascii "," ++ (joined_by_blanks commit_by_text (first_five run.commits.places run.commits.count) ++ ascii "\r\n"))) (joined_event_places es)
+    (λ (l : List RunEvent). joined_by_blanks event_text l ++ (ascii "," ++ (joined_by_blanks commit_by_text (first_five run.commits.places run.commits.count) ++ ascii "\r\n")))
+    (first_five_lem short s.kept.events_kept)
     ∙ ap (λ (l : List CommitBy). joined_by_blanks event_text es ++ (ascii "," ++ (joined_by_blanks commit_by_text l ++ ascii "\r\n")))
     (first_five_lem (omega (arith, short, s.few_commits)) s.kept.commits_kept)
 

@@ -21,7 +21,6 @@ use Rattle.consensus.specs.declared.Answer.{Answer}
 use Rattle.consensus.specs.declared.Shard.{Shard}
 use Rattle.group.specs.Claim.{messages_of}
 use Rattle.group.specs.Steps.{is_done}
-use Rattle.enabled_runs.specs.declared.EventPlace.{EventPlace}
 use Rattle.enabled_runs.specs.declared.RunEvent.{RunEvent}
 use Rattle.enabled_runs.specs.declared.RunEvent.TheVariants.{Proposes, Delivers}
 use Rattle.enabled_runs.specs.declared.Sending.{Sending}
@@ -33,24 +32,11 @@ use Rattle.office_runs.specs.declared.OfficeRun.{OfficeRun}
 use Rattle.short_runs.proofs.Piles.{at_place_lem}
 use Rattle.short_runs.proofs.Kept.{KeptAs, asked_as, with_proposer_lem, with_answer_lem, three_at_most, commit_at_most}
 
--- the events as the array holds them
-abbrev pub event_places : List RunEvent → List EventPlace
-event_places [] = []
-event_places (e ∷ es) = record { event = e } ∷ event_places es
-
 -- the run that holds the events is the run so far: its shards, who has proposed, what was sent and the commits, in time order
 pub record KeepsRun (run : OfficeRun) (w : RunSoFar Shard) (es : List RunEvent) : Type 0 where
-  pub kept : KeptAs run w.shards (has_proposed w.past) (sent_in w.past) (event_places es) (commits_in w.past)
+  pub kept : KeptAs run w.shards (has_proposed w.past) (sent_in w.past) es (commits_in w.past)
   pub few_sent : length (sent_in w.past) ≤ 3 * length es
   pub few_commits : length (commits_in w.past) ≤ length es
-
-pub event_places_length : (es : List RunEvent) → length (event_places es) ≡ length es
-event_places_length [] = refl
-event_places_length (e ∷ es) = ap suc (event_places_length es)
-
-event_places_append : (es fs : List RunEvent) → event_places es ++ event_places fs ≡ event_places (es ++ fs)
-event_places_append [] fs = refl
-event_places_append (e ∷ es) fs = ap (λ (l : List EventPlace). record { event = e } ∷ l) (event_places_append es fs)
 
 -- ---- the run without events
 
@@ -85,16 +71,14 @@ module _ {run : OfficeRun} {w : RunSoFar Shard} {es : List RunEvent} (member : �
 
   -- what the run holds after a call on a member, but for who has proposed
   answer_kept : member < 3
-      → KeptAs (with_answer run member e (call_of (w.shards member) c)) next.shards (has_proposed w.past) (sent_in next.past) (event_places (es ++ (e ∷ [])))
+      → KeptAs (with_answer run member e (call_of (w.shards member) c)) next.shards (has_proposed w.past) (sent_in next.past) (es ++ (e ∷ []))
       (commits_in next.past)
   answer_kept below =
       let a : Answer = call_of (w.shards member) c in
-      subst (λ (l : List EventPlace). KeptAs (with_answer run member e a) next.shards (has_proposed w.past) (sent_in next.past) l (commits_in next.past))
-      (event_places_append es (e ∷ []))
-      (with_answer_lem member e a below (omega (arith, s.few_sent)) (omega (arith, event_places_length es)) (omega (arith, s.few_commits)) s.kept)
+      with_answer_lem member e a below (omega (arith, s.few_sent)) short (omega (arith, s.few_commits)) s.kept
 
   -- with who has proposed then, it keeps the run with the call
-  keeps_next : (after : OfficeRun) → KeptAs after next.shards (has_proposed next.past) (sent_in next.past) (event_places (es ++ (e ∷ []))) (commits_in next.past)
+  keeps_next : (after : OfficeRun) → KeptAs after next.shards (has_proposed next.past) (sent_in next.past) (es ++ (e ∷ [])) (commits_in next.past)
       → KeepsRun after next (es ++ (e ∷ []))
   keeps_next after kept =
       let a : Answer = call_of (w.shards member) c in

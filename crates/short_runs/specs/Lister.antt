@@ -6,11 +6,11 @@ use Rattle.enabled_runs.specs.declared.RunEvent.TheVariants.{Proposes, Delivers}
 use Rattle.enabled_runs.specs.Listing.{each_below}
 use Rattle.office_runs.specs.Runs.{trial_of}
 use Rattle.office_runs.specs.declared.OfficeRun.{OfficeRun}
-use Rattle.run_lines.specs.Lines.{commit_by_text, joined_by_blanks, event_place_text, first_five}
+use Rattle.run_lines.specs.Lines.{commit_by_text, joined_by_blanks, event_text, first_five}
 
 unfoldable pub kept_line : OfficeRun → List ℕ
 kept_line run =
-    joined_by_blanks event_place_text (first_five run.events.places run.events.count)
+    joined_by_blanks event_text (first_five run.events.places run.events.count)
     ++ (ascii "," ++ (joined_by_blanks commit_by_text (first_five run.commits.places run.commits.count) ++ ascii "\r\n"))
 
 -- ---- the listing

@@ -25,6 +25,9 @@ fn put_line(out: &mut Output, run: OfficeRun)
 
 // ---- the listing
 
+// out, left and run are parameters of their own, in the three functions: the buffer is one for the whole sheet, and left and run are other ones at each step
+// down, so that a struct would be made anew for each call.
+
 // The run with the event, if it may come next, "followed at once by those that extend it".
 #[tactic(auto, using(crate::proofs::Turns::skipped))]
 #[cycle(list_list_deliveries_list_event)]

@@ -27,6 +27,8 @@ pub struct StateAnswer {
     pub reply: Reply,
 }
 
+// table and a, here and below, are parameters of their own: the table is the state's, as it was before the call, and a is what the call on the rounds answered.
+
 fn with_tracker(mut core: Core, tracker: ReadTracker) -> Core
     ensures { result ≡ with_tracker tracker core }
 {

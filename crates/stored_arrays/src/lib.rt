@@ -8,7 +8,7 @@ ghost use Rattle.stored_arrays.specs.Columns.{stored_of_columns};
 
 use register_arrays::Columns;
 
-// The lent arrays of a stored register.
+// The lent arrays of a stored register. Columns and no array of stored cells: the C interface has them so.
 #[derive(Clone, Copy)]
 pub struct StoredColumns<'a> {
     pub cells: &'a [u16; 512],

@@ -1,5 +1,5 @@
 // The line of `planning` that begins the register which a stored one of 16-bit cells becomes (docs/PLANNING.md; document 02, E7): the next slot,
-// assignments made, superseded and released, the number of cells, and of each cell its number, carrier and width.
+// assignments made, superseded and released, the number of cells, and of each cell its number, carrier and width. No `Display`, as `texts` says.
 #![tactic(auto)]
 
 ghost use Rattle.std.specs.Prelude.{◌≡◌, ◌<◌, ◌≤◌, get_or};

@@ -14,7 +14,7 @@ pub struct StoredCell {
     pub assignment: Assignment,
 }
 
-// A register of E6, field by field.
+// A register of E6, field by field. An array with its count, as in Register: fixed memory without heap, and any count is answered.
 #[derive(Clone, Copy)]
 pub struct StoredRegister {
     pub next_slot: u64,

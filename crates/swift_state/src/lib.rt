@@ -25,6 +25,7 @@ fn in_quorum(quorum: Option<u64>, src: u64) -> bool
     quorum.is_none_or(|set| sets::contains(set, src))
 }
 
+// `leader`, here and below, is no flag of a missing v: the value is answered in either case, and it says whether the round's leader is who answers.
 #[tactic(auto, unfolding(fast_state::specs::Fast::leader_answer_after))]
 fn leader_answer_after(leader: bool, v: u64, old: Option<u64>) -> Option<u64>
     ensures { result ≡ leader_answer_after leader v old }

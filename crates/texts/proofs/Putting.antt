@@ -36,8 +36,3 @@ module _ {A : Type 0} {f : A → List ℕ} {xs : List A} where
   pub reached_all : {i : ℕ} {p q : Output} → Reached f xs i p q → length xs ≤ i → p ≡ put (each f xs) q
   unfolding each
   reached_all {i} {p} h l = sym (rw (drop_of_length-le xs l, put_nothing)) ∙ h.rest
-
-pub each_byte : (bytes : List ℕ) → each (λ b. b ∷ []) bytes ≡ bytes
-unfolding each
-each_byte [] = refl
-each_byte (b ∷ bytes) = ap (λ (l : List ℕ). b ∷ l) (each_byte bytes)

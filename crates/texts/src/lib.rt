@@ -6,7 +6,8 @@
 ghost use Rattle.std.specs.Prelude.{◌≡◌, [], ◌∷◌, take};
 ghost use Rattle.texts.specs.Text.{put, decimal, field, fields, flag_number};
 
-// A buffer, and the place in it where the next byte goes. No String or Vec: those run out of memory, and what puts text here cannot fail.
+// A buffer, and the place in it where the next byte goes. No String or Vec: those run out of memory, and what puts text here cannot fail. Nor `Display`,
+// here and in the crates of lines: `write!` hands back a Result, and a contract of `put` says which text is put.
 #[derive(Drop)]
 pub struct Output<'a> {
     pub bytes: &'a mut [u8],

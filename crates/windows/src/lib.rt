@@ -142,6 +142,8 @@ fn holds(minute: u64, start: u64, end: u64) -> bool
     start <= minute && minute < end
 }
 
+// Starts and ends are two parameters, here and below: they are cut out of the arrays that a host lends, and the nearest start is looked for in the starts
+// alone. A struct of the two would be made for `ask_minutes` and taken apart there.
 #[tactic(auto, unfolding(crate::specs::Windows::some_holds))]
 fn some_holds(minute: u64, starts: &[u64], ends: &[u64]) -> bool
     ensures { result ≡ some_holds minute starts.now ends.now }
