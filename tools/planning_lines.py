@@ -5,8 +5,8 @@
     tools/planning_lines.py numbers    # every carrier number with its frequency in kHz, a line each, on standard output
     tools/planning_lines.py long       # lines about as long as a line may be, on standard output, and
     tools/planning_lines.py answers    # the answers to the lines on standard input, on standard output
-    tools/planning_lines.py joins      # lines of E10, which the program does not take, on standard output, and
-    tools/planning_lines.py joined     # the answers to such lines on standard input, on standard output
+    tools/planning_lines.py joins      # lines `join` of E10, also long ones, on standard output
+    tools/planning_lines.py feeds      # lines `feed` of E10, also long ones, with others between them, on standard output
     tools/planning_lines.py reports F  # inputs for the program `cell_report` and its outputs, as files N.in and N.out of the folder F
 
 What is answered follows document 02 alone. The format of a line is this project's own (docs/PLANNING.md). It shares nothing with the programs. A request
@@ -195,9 +195,12 @@ PLACES = 512
 
 
 class Register:
-    """The entries of the slots so far, as document 02 has them: live cells with carrier and width, and what the report counts."""
+    """The entries of the slots so far, as document 02 has them: live cells with carrier and width, and what the report counts. E13: a slot above 2^63-2
+    gives 1, and the register is not made."""
 
-    def __init__(self):
+    def __init__(self, whole_mhz_from=LARGEST_SLOT):
+        self.whole_mhz_from = whole_mhz_from
+        self.is_made = whole_mhz_from <= LARGEST_SLOT
         self.last_seen = None
         self.live = {}
         self.made = 0
@@ -207,6 +210,8 @@ class Register:
 
     def sees(self, slot):
         """Nothing where the slot is new, and seen from now on; else the answer. "unless the slot itself gives 2, which comes first"."""
+        if not self.is_made:
+            return "refused 1"
         if slot > LARGEST_SLOT:
             return "refused 2"
         if self.last_seen is not None and slot <= self.last_seen:
@@ -214,10 +219,13 @@ class Register:
         self.last_seen = slot
         return None
 
-    def assigned(self, cell, carrier, width):
-        """"14 comes before both, and a width outside its limits gives 14 too"."""
+    def assigned(self, slot, cell, carrier, width):
+        """"14 comes before both, and a width outside its limits gives 14 too"; "23, a width not in whole MHz at or after that slot, checked after 14 and
+        before 15"."""
         if carrier >= len(FREQUENCIES) or not 1 <= width <= WIDEST:
             return "refused 14"
+        if slot >= self.whole_mhz_from and width % 1000 != 0:
+            return "refused 23"
         if cell not in self.live and len(self.live) == PLACES:
             return "refused 15"
         self.superseded += cell in self.live
@@ -233,13 +241,17 @@ class Register:
         return "done"
 
 
-def begin_register(planner):
-    planner.register = Register()
-    return "made"
+def begin_register(planner, whole_mhz_from=LARGEST_SLOT):
+    planner.register = Register(whole_mhz_from)
+    return begun(planner)
+
+
+def begun(planner):
+    return "made" if planner.register.is_made else "refused 1"
 
 
 def assign(planner, slot, cell, carrier, width):
-    return planner.register.sees(slot) or planner.register.assigned(cell, carrier, width)
+    return planner.register.sees(slot) or planner.register.assigned(slot, cell, carrier, width)
 
 
 def release(planner, slot, cell):
@@ -247,8 +259,10 @@ def release(planner, slot, cell):
 
 
 def report_of(planner):
-    """The four figures; "made equals the other three together"."""
+    """The four figures; "made equals the other three together"; "the one line `refused,1`" of a register that is not made."""
     register = planner.register
+    if not register.is_made:
+        return "refused,1"
     others = [register.superseded, register.released, len(register.live)]
     assert register.made - register.unaccounted == sum(others)
     return ",".join(map(str, [register.made] + others))
@@ -256,6 +270,8 @@ def report_of(planner):
 
 def cells_of(planner):
     """How many are live, and each of them by number; it has no position."""
+    if not planner.register.is_made:
+        return "refused 1"
     live = planner.register.live
     return "; ".join([f"{len(live)}"] + [f"{cell} {carrier} {width} - -" for cell, (carrier, width) in sorted(live.items())])
 
@@ -584,14 +600,10 @@ NOT_ENTRIES = [
 
 # each belongs to a request that is not there yet, and is a bad line until then
 LATER = [
-    b"register 0",
-    b"register 9223372036854775806",
     b"entry 90 p 1 2 3",
     b"entry 90 p 1 -2 -3",
     b"conflicts 5 1 0 0 0",
     b"free 0 5 1 0 0 0",
-    b"join 8192 |",
-    b"feed 90 5 r 1",
     b"minute 1970 1 1 0 0",
     b"date 0",
     b"windows 0",
@@ -627,13 +639,14 @@ def begin_stored(planner, following, made, superseded, released, count, *rest):
         return "bad line"
     if any(carrier >= len(FREQUENCIES) or not 1 <= width <= WIDEST for _, carrier, width in cells):
         return "bad line"
-    register = Register()
+    # "takes the slot .. from the settings that it is read with": those of the latest line that named some
+    register = Register(planner.register.whole_mhz_from)
     register.last_seen = following - 1 if following > 0 else None
     register.live = {cell: (carrier, width) for cell, carrier, width in cells}
     register.made, register.superseded, register.released = made, superseded, released
     register.unaccounted = made - superseded - released - count
     planner.register = register
-    return "made"
+    return begun(planner)
 
 
 def stored_line(following, made, superseded, released, cells, count=None):
@@ -759,6 +772,116 @@ def stored_lines():
     return longer_cells() + longer_runs() + gone_on_with() + stored_places() + not_stored()
 
 
+# ---- E13: from a slot on, widths in whole MHz
+
+ODD_WIDTHS = [1, 999, 1001, 1500, 399999, 20001]
+WHOLE_WIDTHS = [1000, 2000, 20000, 400000]
+
+
+def begins_at(slot):
+    return f"register {slot}".encode("ascii")
+
+
+def about_the_slot():
+    """Each width at the slot, one before it and one after it, for a new cell and for a live one, which keeps its odd width; then it is released."""
+    lines = []
+    for named in [0, 1, 2, 7, 2**32, LARGEST_SLOT - 1, LARGEST_SLOT]:
+        slots = [slot for slot in (named - 1, named, named + 1) if 0 <= slot <= LARGEST_SLOT + 1]
+        for width in ODD_WIDTHS + WHOLE_WIDTHS + [0, 400001, 401000, 2**64 - 616]:
+            for slot in slots:
+                lines += [begins_at(named), assignment(slot, 5, 10, width), b"cells"]
+            lines += [begins_at(named)] + [assignment(slot, 5, 10, width) for slot in slots] + LOOK
+        if named > 2:
+            lines += [begins_at(named), assignment(named - 2, 5, 10, 1500), assignment(named - 1, 6, 11, 999), assignment(named, 5, 12, 1500)] + LOOK
+            lines += [assignment(named, 5, 12, 2000), removal(named, 6), removal(named + 1, 6), assignment(named + 1, 6, 1, 1000)] + LOOK
+    return lines
+
+
+def causes_with_23():
+    """23 beside 2, an older slot, 14 and 15, for a live cell and a new one with 512 live; the refused slot is seen, and a release has no width."""
+    lines = [begins_at(600)] + filling(range(512), 0) + LOOK
+    slot = 600
+    for cell, carrier, width in itertools.product([3, 1000], [5, 3279166], [1000, 1500, 400001]):
+        for given in [2**63 - 1, 0, slot, slot, slot + 1]:
+            lines.append(assignment(given, cell, carrier, width))
+        lines.append(b"report")
+        slot += 2
+    lines += [removal(slot, 1000), removal(slot + 1, 3), assignment(slot + 2, 1000, 5, 1500)]
+    lines += [assignment(slot + 3, 1000, 5, 3000), assignment(slot + 4, 1001, 5, 1500)]
+    return lines + LOOK
+
+
+def not_made():
+    """Slots that may not be named: every line about the register gives 1, and nothing changes."""
+    lines = []
+    for named in [LARGEST_SLOT + 1, 2**63, LARGEST]:
+        lines += [begins_at(named)] + LOOK + [assignment(0, 1), assignment(2**63 - 1, 1), removal(0, 1), assignment(0, 1, 3279166, 0)]
+        lines += [b"number 5", b"khz 5"] + LOOK
+        # a stored register is read with the same settings, and a line that is none leaves them
+        lines += [stored_line(5, 1, 0, 0, [(7, 10, 1500)])] + LOOK + [assignment(9, 7), b"register x", b"stored 1"] + LOOK
+        lines += [begins_at(LARGEST_SLOT), stored_line(5, 1, 0, 0, [(7, 10, 1500)])] + LOOK
+    return lines
+
+
+def stored_with_a_slot():
+    """A stored register takes the slot of the latest line that named one: its odd widths stay, whatever is refused behind the slot."""
+    stored = stored_line(9, 3, 0, 1, [(7, 10, 1500), (8, 11, 999)])
+    lines = []
+    for named in [0, 8, 9, 10, 12, LARGEST_SLOT]:
+        lines += [begins_at(named), stored] + LOOK + [assignment(slot, 7 + slot % 3, 12, 1500 + slot) for slot in range(8, 13)] + LOOK
+        lines += [assignment(13, 7, 12, 2000), removal(14, 8), removal(15, 9)] + LOOK
+        lines += [stored, assignment(9, 1, 2, 3), b"register", stored, assignment(9, 1, 2, 3)] + LOOK
+    return lines
+
+
+def odd_runs():
+    """Entries of many kinds with a slot in their midst."""
+    chosen = random.Random(13)
+    lines = []
+    for turn in range(6):
+        run = random_run(chosen, 300, range(30), 3)[1:]
+        lines += [begins_at(chosen.choice([0, 100, 300, 500]))]
+        for line in run:
+            fields = line.split(b" ")
+            if len(fields) == 6 and chosen.random() < 0.5:
+                fields[5] = str(1000 * chosen.randint(1, 400)).encode("ascii")
+            lines.append(b" ".join(fields))
+        lines += LOOK
+    return lines
+
+
+ZEROS_IN_SLOTS = [
+    b"register 0000",
+    b"report",
+    b"register 0009223372036854775806",
+    b"report",
+    b"register 0009223372036854775807",
+    b"report",
+    b"register 00018446744073709551615",
+]
+
+NOT_SLOTS = [
+    b"register -1",
+    b"register 5 ",
+    b"register 5 6",
+    b"register  5",
+    b" register 5",
+    b"register 5\r",
+    b"register 5x",
+    b"register x5",
+    b"register 18446744073709551616",
+    b"register5",
+    b"Register 5",
+    b"registers 5",
+]
+
+
+def whole_mhz_lines():
+    # what is no line leaves the register that is not made
+    no_lines = ZEROS_IN_SLOTS + LOOK + [b"register 5"] + NOT_SLOTS + LOOK + [b"register"]
+    return about_the_slot() + causes_with_23() + not_made() + stored_with_a_slot() + odd_runs() + no_lines
+
+
 # ---- E6: inputs of the program `cell_report`
 
 
@@ -771,8 +894,8 @@ def entries_of(lines):
 
 
 def report_input():
-    """The gate's input: places run out, entries are refused and older ones go by; no LF ends the last line."""
-    return ended(entries_of(random_run(random.Random(16), 3000, range(40000, 41000), 2))) + assignment(2**63 - 2, 7)
+    """The gate's input: places run out, entries are refused and older ones go by, from a slot on for odd widths too; no LF ends the last line."""
+    return ended([begins_at(3500)] + entries_of(random_run(random.Random(16), 3000, range(40000, 41000), 2))) + assignment(2**63 - 2, 7)
 
 
 def report_inputs():
@@ -781,7 +904,13 @@ def report_inputs():
     inputs = [b"", ended(some), ended(some)[:-1], ended(some[:1]), some[0], ended(entries_of(limit_lines()))]
     inputs += [ended(entries_of(full_lines()))] + [ended(entries_of(run)) for run in (random_runs(), two_offices(), ZEROS_IN_ENTRIES)]
     inputs += [ended(entries_of(run)) for run in (longer_cells(), longer_runs())]
-    others = NOT_ENTRIES + LATER + NOT_LINES + [b"register", b"report", b"cells", b"number 5", b"khz 5", b"stored 0 0 0 0 0", assignment(7, 1) + b" " * LONGEST]
+    # E13: a first line that begins the register
+    for named in [0, 4, 6, 7, LARGEST_SLOT, LARGEST_SLOT + 1, LARGEST]:
+        odd = [assignment(slot, slot, 5, 1500) for slot in (3, 4, 5, 6, 7)]
+        first = begins_at(named)
+        inputs += [ended([first] + some), ended([first] + odd), first, ended(odd + [first]), ended([first] * 2)]
+    others = NOT_SLOTS + NOT_ENTRIES + LATER + NOT_LINES
+    others += [b"register", b"report", b"cells", b"number 5", b"khz 5", b"stored 0 0 0 0 0", assignment(7, 1) + b" " * LONGEST]
     for other in others:
         inputs += [ended(some + [other]), ended([other] + some), ended(some[:3] + [other] + some[3:])] + ([ended(some) + other] if other else [])
     # a line as long as one may be, and one that is a byte longer
@@ -792,7 +921,7 @@ def report_inputs():
     return inputs
 
 
-# ---- E10: two lists of commits joined into one
+# ---- E10: two lists of commits joined into one, and a list fed to the register
 
 LARGEST_VALUE = 2**63 - 1
 LONGEST_LIST = 4096
@@ -820,13 +949,12 @@ def joined(places, first, second):
     return sorted(set(both))
 
 
-def join_answer(line):
-    """The answer to a line `join PLACES s v .. | s v ..`."""
-    fields = line.split(b" ")
-    if len(line) > LONGEST or fields[0] != b"join" or fields.count(b"|") != 1:
+def join_answer(_, fields):
+    """The answer to a line `join PLACES s v .. | s v ..`, given the fields behind its word."""
+    if fields.count(b"|") != 1:
         return "bad line"
     bar = fields.index(b"|")
-    sides = [[number_in(field) for field in side] for side in (fields[1:bar], fields[bar + 1 :])]
+    sides = [[number_in(field) for field in side] for side in (fields[:bar], fields[bar + 1 :])]
     if any(None in side for side in sides) or len(sides[0]) % 2 != 1 or len(sides[1]) % 2 != 0:
         return "bad line"
     places, *first = sides[0]
@@ -838,6 +966,49 @@ def join_answer(line):
 
 def pairs_of(numbers):
     return list(zip(numbers[::2], numbers[1::2]))
+
+
+# the letter of an entry, how many numbers stand behind it, and what takes them
+CHANGES = {b"a": (3, assign), b"r": (1, release)}
+
+
+def fed_entries(fields):
+    """The entries `s v ENTRY` of a list that is fed, or None: slot, value, and what is done with the numbers behind the letter."""
+    entries = []
+    at = 0
+    while at < len(fields):
+        count, taken = CHANGES.get(fields[at + 2], (0, None)) if at + 2 < len(fields) else (0, None)
+        numbers = [number_in(field) for field in fields[at : at + 2] + fields[at + 3 : at + 3 + count]]
+        if taken is None or len(numbers) != 2 + count or None in numbers or numbers[2] > LARGEST_CELL:
+            return None
+        entries.append((numbers[0], numbers[1], taken, numbers[2:]))
+        at += 3 + count
+    return entries
+
+
+def feed_answer(planner, fields):
+    """The answer to a line `feed s v ENTRY s v ENTRY ..`, given the fields behind its word: 1 of a register that is not made (E13), 2, 18 or
+    19, in that order, and nothing is fed; else "from the slot after the last one seen", and "it hands back the first refused slot, if any, with its
+    number"."""
+    entries = fed_entries(fields)
+    if entries is None:
+        return "bad line"
+    if not planner.register.is_made:
+        return "refused 1"
+    last_seen = planner.register.last_seen
+    following = 0 if last_seen is None else last_seen + 1
+    if any(slot > LARGEST_SLOT or value > LARGEST_VALUE for slot, value, _, _ in entries):
+        return "refused 2"
+    if len(entries) > LONGEST_JOIN or not is_consecutive([entry[0] for entry in entries]):
+        return "refused 18"
+    if entries and entries[0][0] > following:
+        return "refused 19"
+    refused = []
+    for slot, _, taken, numbers in entries:
+        if slot >= following:
+            outcome = taken(planner, slot, *numbers)
+            refused += [f"fed, slot {slot} {outcome}"] if outcome != "done" else []
+    return (refused + ["fed"])[0]
 
 
 def join_line(first, second, places=LONGEST_JOIN):
@@ -1008,7 +1179,42 @@ ZEROS_IN_JOINS = [
 
 
 def join_lines():
-    return meeting_lines() + slot_end_lines() + cause_lines() + long_list_lines() + random_lists() + ZEROS_IN_JOINS + longest_joins() + NOT_JOINS
+    """What the program is run on beside the gate; the recorded lines have the shorter ones and some of the long ones."""
+    return short_joins() + long_list_lines() + widest_join() + longest_joins()
+
+
+def short_joins():
+    return meeting_lines() + slot_end_lines() + cause_lines() + random_lists() + ZEROS_IN_JOINS + NOT_JOINS
+
+
+def joins_between_entries():
+    """Joining takes no register: it is looked at before and behind lines that join, good, refused and bad, in registers with entries, stored, with a slot of
+    whole MHz and not made, and goes on from the same slot."""
+    joins = [join_line(agreed(0, 3), agreed(2, 3)), b"join 8192 |", join_line(agreed(0, 3), agreed(4, 2)), b"join 8191 |", b"join 8192"]
+    with_entries = [assignment(0, 7), assignment(2, 70000, 5, 1001), removal(3, 7)]
+    stored = [stored_line(4, 1, 0, 0, [(7, 5, 1001)])]
+    begun = [[b"register"] + with_entries, [begins_at(9)] + with_entries, [b"register"] + stored, [begins_at(9)] + stored, [begins_at(LARGEST_SLOT + 1)]]
+    lines = []
+    for before in begun:
+        behind = [LOOK + [line] + LOOK for line in joins]
+        lines += before + list(itertools.chain(*behind)) + joins + [assignment(9, 8, 5, 1001), removal(2, 70000), assignment(10, 8)] + LOOK
+    return lines
+
+
+def some_long_joins():
+    """Results of 8,192 entries in both orders, and one place too few; 8,191 with one slot in both; contradictions at both ends; a list of 4,097, and 2 past
+    the 4,096th."""
+    low, high, longer = agreed(0, LONGEST_LIST), agreed(LONGEST_LIST, LONGEST_LIST), agreed(0, LONGEST_LIST + 1)
+    lines = in_both_orders(low, high) + [join_line(high, low, LONGEST_JOIN - 1), join_line(agreed(LONGEST_LIST - 1, LONGEST_LIST), low)]
+    lines += [join_line(low, other_value(low, place)) for place in (0, LONGEST_LIST - 1)]
+    return lines + [join_line(longer, []), join_line([], longer[:-1] + [(LONGEST_LIST, 2**63)])]
+
+
+def widest_join():
+    """The longest answer: 8,192 entries of the largest numbers."""
+    first = LARGEST_SLOT - LONGEST_JOIN + 1
+    entries = [(slot, LARGEST_VALUE) for slot in range(first, first + LONGEST_JOIN)]
+    return in_both_orders(entries[:LONGEST_LIST], entries[LONGEST_LIST:])
 
 
 def longest_joins():
@@ -1019,7 +1225,215 @@ def longest_joins():
     return lines + [lines[1] + b" 0 0" * 20]
 
 
+def feed_line(entries):
+    """The line that feeds entries, each a slot, a value and what stands in an entry line from the letter on."""
+    return " ".join(["feed"] + [f"{slot} {value} {change}" for slot, value, change in entries]).encode("ascii")
+
+
+def changes_from(slot, changes):
+    """Entries of consecutive slots."""
+    return [(slot + place, 3 * place, change) for place, change in enumerate(changes)]
+
+
+SOME_CHANGES = ["a 7 632628 20000", "a 8 5 1", "r 7", "r 7", "a 8 3279166 1", "a 9 0 400000", "a 9 0 400001", "r 8"]
+
+
+def fed_lines():
+    """Lists that begin before, at and past the next slot, of a new register and of one with entries, also where every slot is seen; empty lists."""
+    lines = []
+    for before in ([], [assignment(0, 7)], [assignment(4, 7), removal(5, 8)], [assignment(LARGEST_SLOT, 1)]):
+        for begin, count in itertools.product([0, 1, 4, 5, 6, 7, LARGEST_SLOT - 7], [1, 2, 8]):
+            lines += [b"register"] + before + [feed_line(changes_from(begin, SOME_CHANGES[:count]))] + LOOK + [b"feed", removal(begin + count, 9)]
+    # the same list twice, and lists one behind the other
+    whole = changes_from(0, SOME_CHANGES * 3)
+    lines += [b"register", feed_line(whole)] + LOOK + [feed_line(whole)] + LOOK
+    for cut in range(1, len(whole), 5):
+        lines += [b"register", feed_line(whole[:cut]), feed_line(whole[cut - 1 :])] + LOOK
+    return lines
+
+
+def refused_lines():
+    """A refused entry first, in the middle and last, alone and with another; 15 with 512 live; what follows it is fed."""
+    refused = ["a 1 3279166 1", "a 1 5 0", "r 2"]
+    lines = []
+    for one, other in itertools.product(refused, refused):
+        for places in itertools.combinations(range(5), 2):
+            changes = ["a 1 5 6", "a 3 7 8", "r 1", "a 1 9 10", "r 3"]
+            changes[places[0]], changes[places[1]] = one, other
+            lines += [b"register", feed_line(changes_from(0, changes)), b"cells"]
+    full = [f"a {cell} 5 6" for cell in range(PLACES)]
+    lines += [b"register", feed_line(changes_from(0, full + ["a 600 1 2", "a 5 1 2", "r 5", "a 600 1 2", "a 5 7 8"])), b"report"]
+    lines += [feed_line(changes_from(515, ["a 5 1 2"]))]
+    return lines + LOOK
+
+
+def feed_cause_lines():
+    """Each number, and each pair of causes: what is refused feeds nothing."""
+    too_large = [(LARGEST_SLOT + 1, 1, "r 1"), (LARGEST, 1, "r 1"), (3, LARGEST_VALUE + 1, "r 1")]
+    apart = [[(3, 1, "r 1"), (3, 1, "r 1")], [(3, 1, "r 1"), (5, 1, "r 1")], [(4, 1, "r 1"), (3, 1, "r 1")], [(9, 1, "r 1"), (8, 1, "r 1")]]
+    lists = [[entry] for entry in too_large] + apart + [[(9, 1, "r 1")], [(4, LARGEST_VALUE, "a 2 5 6")], [(LARGEST_SLOT, 1, "r 1")]]
+    lists += [rows + [entry] for rows in apart for entry in too_large]
+    lines = []
+    for entries in lists:
+        lines += [b"register", assignment(3, 1), feed_line(entries)] + LOOK
+    return lines
+
+
+def long_feeds():
+    """8,192 entries, and 8,193: alone, with a number too large, past the next slot."""
+    whole = [(place, 5, f"a {place % 5} 7 1" if place % 3 == 1 else f"r {place % 5}") for place in range(LONGEST_JOIN + 1)]
+    return [b"register", feed_line(whole[:-1])] + LOOK + [feed_line(whole)] + LOOK
+
+
+def longest_feeds():
+    """Lines about as long as a line may be, the last of them with a number that is too large behind all others."""
+    short = changes_from(0, ["r 0"] * (LONGEST_JOIN + 1))
+    fill = b" 0 0 r 0" * ((LONGEST - 50) // 8)
+    lines = [b"feed" + fill, b"feed" + fill + b" 0 9223372036854775808 r 0", b"feed" + fill + b" 0 0 r", b"feed" + fill + b" 0 0 r 0" * 8]
+    assert len(lines[1]) <= LONGEST < len(lines[3])
+    last = short[:-1] + [(LONGEST_JOIN, LARGEST_VALUE + 1, "r 0")]
+    return [line for fed in [feed_line(short), feed_line(last), feed_line(changes_from(1, ["r 0"] * 8193))] + lines for line in (b"register", fed, b"report")]
+
+
+def random_feeds():
+    """An office that was away: entries of many kinds, fed in pieces that overlap, against the same entries one by one."""
+    chosen = random.Random(1010)
+    lines = []
+    for _ in range(40):
+        changes = []
+        for _ in range(chosen.randint(1, 40)):
+            cell = chosen.choice([1, 2, 3, 65535, 65536, LARGEST_CELL])
+            width = chosen.choice([0, 1, 20000, 400000, 400001])
+            changes.append(f"r {cell}" if chosen.random() < 0.4 else f"a {cell} {chosen.randint(0, 3279166)} {width}")
+        whole = changes_from(0, changes)
+        lines += [b"register"] + [f"entry {slot} {change}".encode("ascii") for slot, _, change in whole] + LOOK + [b"register"]
+        begin = 0
+        while begin < len(whole):
+            end = chosen.randint(begin + 1, len(whole))
+            lines.append(feed_line(whole[max(0, begin - chosen.randint(0, 3)) : end]))
+            begin = end
+        lines += LOOK
+    return lines
+
+
+NOT_FEEDS = [
+    b"feed ",
+    b"feed  ",
+    b" feed",
+    b"feed 3",
+    b"feed 3 5",
+    b"feed 3 5 ",
+    b"feed 3 5 r",
+    b"feed 3 5 r ",
+    b"feed 3 5 r 1 ",
+    b"feed 3 5 r 1 2",
+    b"feed 3 5 r 1 4",
+    b"feed 3 5 r 1 4 6 r",
+    b"feed 3 5 r 1  4 6 r 1",
+    b"feed  3 5 r 1",
+    b"feed 3  5 r 1",
+    b"feed 3 5  r 1",
+    b"feed 3 5 r  1",
+    b"feed 3 r 1",
+    b"feed r 1",
+    b"feed 3 5 a 1",
+    b"feed 3 5 a 1 2",
+    b"feed 3 5 a 1 2 3 ",
+    b"feed 3 5 a 1 2 3 4",
+    b"feed 3 5 a 1 2 r 1",
+    b"feed 3 5 x 1",
+    b"feed 3 5 R 1",
+    b"feed 3 5 rr 1",
+    b"feed 3 5 r1",
+    b"feed 3 5 1",
+    b"feed 3 5 r -1",
+    b"feed 3 -5 r 1",
+    b"feed -3 5 r 1",
+    b"feed 3 5 r 1\r",
+    b"feed 3 5 r 1\x00",
+    b"feed 3 5 r 1 | 4 6 r 1",
+    b"feed 3 5 r 4294967296",
+    b"feed 3 5 a 4294967296 1 1",
+    b"feed 3 5 r 18446744073709551616",
+    b"feed 18446744073709551616 5 r 1",
+    b"feed 3 18446744073709551616 r 1",
+    b"feed 3 5 a 1 18446744073709551616 1",
+    b"feed 3 5 a 1 1 18446744073709551616",
+    b"feed 3 5 a 1 1 1 4 6 r 4294967296",
+    b"feed 3 5 r 1 4 6 p 1 2 3",
+    b"feed 9223372036854775807 5 r 1 4",
+    b"feed 3 entry 3 r 1",
+    b"feed entry 3 r 1",
+    b"Feed 3 5 r 1",
+    b"feeds 3 5 r 1",
+    b"fee 3 5 r 1",
+    b"feed\t3 5 r 1",
+    b"feed3 5 r 1",
+]
+
+ZEROS_IN_FEEDS = [b"register", b"feed 00 000 r 01 01 07 a 0000000007 05 0006", b"feed 0002 " + b"0" * 3000 + b"7 r 7"]
+
+
+def not_feeds():
+    """Bad lines feed nothing: slot 3 is not seen."""
+    return [b"register", assignment(2, 1)] + [line for bad in NOT_FEEDS + NOT_JOINS for line in (bad, b"report")] + [assignment(3, 1)] + LOOK
+
+
+def short_feeds():
+    return fed_lines() + refused_lines() + feed_cause_lines() + random_feeds() + ZEROS_IN_FEEDS + LOOK + not_feeds()
+
+
+WIDTHS_FED = ["a 1 5 1000", "a 2 5 1001", "a 1 5 0", "a 3 5 999", "r 1", "r 1", "a 2 3279166 1", "a 4 5 400001", "a 5 5 400000", "a 6 5 20001"]
+
+
+def fed_about_the_slot():
+    """Lists that begin before, at and past the slot of whole MHz, with widths of both kinds: 23 is the first refused, or stands behind another; an odd width
+    from before the slot stays."""
+    lines = []
+    for slot, begin in itertools.product([0, 1, 4, 5, 6, 20, LARGEST_SLOT], [0, 3]):
+        for changes in (WIDTHS_FED, WIDTHS_FED[::-1], WIDTHS_FED[1:], ["a 2 5 1001"] * 8):
+            entries = [removal(place, 9) for place in range(begin)]
+            lines += [begins_at(slot)] + entries + [feed_line(changes_from(begin, changes))] + LOOK + [assignment(begin + len(changes), 7, width=1500)] + LOOK
+    # at the last slot of all
+    lines += [begins_at(LARGEST_SLOT), assignment(LARGEST_SLOT - 2, 1, width=1), feed_line(changes_from(LARGEST_SLOT - 1, ["a 1 5 7", "a 1 5 7"]))] + LOOK
+    return lines
+
+
+def full_with_a_slot():
+    """23 before 15, and 15 of a width in whole MHz, with 512 live."""
+    changes = ["a 1000 5 1001", "a 1000 5 1000", "a 1 5 1001", "a 1 5 2000"]
+    lines = []
+    for order in (changes, changes[1:], changes[::-1]):
+        lines += [begins_at(PLACES)] + filling(range(PLACES), 0) + [feed_line(changes_from(PLACES, order)), b"report"]
+    return lines
+
+
+def fed_unmade():
+    """A register that is not made gives 1 before 2, 18 and 19, also to an empty list; a line that is none is a bad line, and joining takes no register."""
+    lists = [[(0, 1, "a 1 5 6")], [(9, 1, "r 1")], [(3, 1, "r 1"), (5, 1, "r 1")], [(LARGEST_SLOT + 1, 1, "r 1")], [(0, LARGEST_VALUE + 1, "r 1")]]
+    lines = []
+    for slot in (LARGEST_SLOT + 1, LARGEST):
+        for entries in lists:
+            lines += [begins_at(slot), feed_line(entries)] + LOOK + [b"feed", b"feed ", b"feed 0 0", b"feed 0 0 r", join_line(agreed(0, 3), agreed(2, 3))]
+        lines += [stored_line(4, 1, 0, 0, [(7, 5, 6)]), feed_line(lists[0]), b"feed"] + LOOK + [b"register 5", b"feed", feed_line(lists[0])] + LOOK
+    # a stored register is fed from its next slot on, with the slot that the latest `register` line named
+    for slot in (4, 5, 6):
+        lines += [begins_at(slot), stored_line(4, 1, 0, 0, [(7, 5, 1001)]), feed_line(changes_from(3, ["a 7 5 7"] * 4))] + LOOK
+    return lines
+
+
+def whole_mhz_feeds():
+    return fed_about_the_slot() + full_with_a_slot() + fed_unmade()
+
+
+def feed_lines():
+    return joins_between_entries() + short_feeds() + long_feeds() + longest_feeds() + whole_mhz_feeds()
+
+
 # ---- lines and answers
+
+# a line that has a list: what answers it, given what the earlier lines left and the fields behind its word
+LISTS = {b"join": join_answer, b"feed": feed_answer}
 
 # the fields of a line: a word, or a number up to the one that stands here, and numbers of 64 bits to the end of the line where dots stand; and what
 # answers it, given what the earlier lines left
@@ -1027,6 +1441,7 @@ FORMS = [
     ((b"number", LARGEST), khz_of),
     ((b"khz", LARGEST), number_of),
     ((b"register",), begin_register),
+    ((b"register", LARGEST), begin_register),
     ((b"entry", LARGEST, b"a", LARGEST_CELL, LARGEST, LARGEST), assign),
     ((b"entry", LARGEST, b"r", LARGEST_CELL), release),
     ((b"stored", LARGEST, LARGEST, LARGEST, LARGEST, LARGEST, ...), begin_stored),
@@ -1064,6 +1479,13 @@ LINES = [
     lambda: NOT_LINES,
     register_lines,
     stored_lines,
+    short_joins,
+    some_long_joins,
+    joins_between_entries,
+    short_feeds,
+    long_feeds,
+    whole_mhz_lines,
+    whole_mhz_feeds,
     left_for_later,
     buffer_lines,
     lambda: [b"report", b"cells"],
@@ -1109,6 +1531,8 @@ def numbers_in(form, fields):
 def answer(planner, line):
     fields = line.split(b" ")
     if len(line) <= LONGEST:
+        if fields[0] in LISTS:
+            return LISTS[fields[0]](planner, fields[1:])
         for form, answered in FORMS:
             numbers = numbers_in(form, fields)
             if numbers is not None:
@@ -1128,11 +1552,14 @@ def answers_of(data):
 
 
 def printed_report(data):
-    """What the program `cell_report` prints for an input: every line is an entry line, or the input is refused."""
+    """What the program `cell_report` prints for an input: every line is an entry line, but the first may be `register SLOT`; or the input is refused."""
     planner = Planner()
-    for line in lines_of(data):
-        if line.split(b" ")[0] != b"entry" or answer(planner, line) == "bad line":
+    for place, line in enumerate(lines_of(data)):
+        begins = place == 0 and line.startswith(b"register ")
+        if not (begins or line.startswith(b"entry ")) or answer(planner, line) == "bad line":
             return b"refused,1\r\n"
+    if not planner.register.is_made:
+        return b"refused,1\r\n"
     return f"made,superseded,released,live\r\n{report_of(planner)}\r\n".encode("ascii")
 
 
@@ -1156,8 +1583,8 @@ def main():
         out.write(long_lines())
     elif sys.argv[1:] == ["joins"]:
         out.write(b"".join(line + b"\n" for line in join_lines()))
-    elif sys.argv[1:] == ["joined"]:
-        out.write("".join(join_answer(line) + "\n" for line in lines_of(sys.stdin.buffer.read())).encode("ascii"))
+    elif sys.argv[1:] == ["feeds"]:
+        out.write(b"".join(line + b"\n" for line in feed_lines()))
     elif sys.argv[1:] == ["answers"]:
         out.write(answers_of(sys.stdin.buffer.read()))
     elif sys.argv[1:2] == ["reports"] and len(sys.argv) == 3:

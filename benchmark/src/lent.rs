@@ -1,10 +1,15 @@
 //! This engine's side: through the C boundary, and through the Rust crate above it.
 use crate::cases::requester;
 use chanbook_shard::sys::{self, FlatCall, FlatMessage, FlatOption, FlatReply, FlatShard, FlatState};
-use chanbook_shard::{Call, ConsensusMessage, Delivery, Reply, Said, Settings, Shard};
+use chanbook_shard::{Call, ConsensusMessage, Delivery, GroupSettings, LAST_SLOT, Reply, Said, Settings, Shard};
 use std::collections::VecDeque;
 use std::hint::black_box;
 use std::time::Instant;
+
+/// A shard of a group without a slot of whole MHz.
+pub fn begun(settings: &Settings) -> Shard {
+    Shard::new(&GroupSettings::new(settings.clone(), LAST_SLOT))
+}
 
 /// Shards in one state, each of which gets the same call between two readings of the clock, and is then put back.
 pub struct Prepared {
@@ -18,7 +23,7 @@ pub struct Prepared {
 
 impl Prepared {
     pub fn new(settings: &Settings, before: &[Call], call: &Call, count: usize) -> Prepared {
-        let mut shard = Shard::new(settings);
+        let mut shard = begun(settings);
         for call in before {
             assert_eq!(shard.call(*call).outcome, Ok(()));
         }
@@ -103,7 +108,7 @@ impl Cycle {
     }
 
     fn members(&self) -> Vec<Shard> {
-        (0..self.settings.process_count).map(|my_pid| Shard::new(&Settings { my_pid, ..self.settings.clone() })).collect()
+        (0..self.settings.process_count).map(|my_pid| begun(&Settings { my_pid, ..self.settings.clone() })).collect()
     }
 
     fn collect(&mut self, reply: &FlatReply) {

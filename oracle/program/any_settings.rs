@@ -1,5 +1,5 @@
 //! Random settings within the limits.
-use crate::calls::{Mode, PLACES, Settings};
+use crate::calls::{LAST_SLOT, Mode, PLACES, Settings};
 use crate::random::Random;
 
 /// How many processes the groups have.
@@ -81,5 +81,6 @@ pub fn settings(random: &mut Random, mode: Mode, sizes: Sizes) -> Settings {
         has_committers,
         committers: if has_committers || random.chance(5) { table(random, process_count) } else { vec![] },
         delegates: if mode == Mode::Pando || random.chance(5) { table(random, process_count) } else { vec![] },
+        whole_mhz_from: [0, 7, LAST_SLOT][process_count % 3],
     }
 }

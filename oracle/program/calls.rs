@@ -2,6 +2,8 @@
 
 /// "slot above 2^63−2, or other number above 2^63−1": the largest number that is not refused with 2.
 pub const LARGEST_NUMBER: usize = (1 << 63) - 1;
+/// The last slot that may be named. A host that wants no slot of whole MHz names it (document 02, E13).
+pub const LAST_SLOT: usize = LARGEST_NUMBER - 1;
 pub const OPEN_READ_LIMIT: usize = 128;
 /// Places of a table by process.
 pub const PLACES: usize = 64;
@@ -41,12 +43,17 @@ pub struct Settings {
     pub has_committers: bool,
     pub committers: Vec<usize>,
     pub delegates: Vec<usize>,
+    /// Of the group (E13); the Rust has no part in it.
+    pub whole_mhz_from: usize,
 }
 
 impl Settings {
-    /// Row 1 of document 01's table. What a mode does not have is not tested.
+    /// Row 1 of document 01's table, and E13's slot ("one above 2^63−2 gives 1"). What a mode does not have is not tested.
     pub fn within_limits(&self) -> bool {
         let count = self.process_count;
+        if self.whole_mhz_from > LAST_SLOT {
+            return false;
+        }
         if count < 1 || count > PLACES || self.replica_count < 1 || self.replica_count > count {
             return false;
         }

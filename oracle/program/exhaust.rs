@@ -85,6 +85,7 @@ fn all_settings(mode: Mode, processes: usize) -> Vec<Settings> {
                             has_committers: committer.is_some(),
                             committers: vec![committer.unwrap_or(0); processes],
                             delegates: vec![delegate; processes],
+                            whole_mhz_from: 0,
                         }));
                     }
                 }

@@ -141,6 +141,7 @@ impl Explorer {
             has_committers: false,
             committers: vec![],
             delegates: vec![],
+            whole_mhz_from: 0,
         };
         let engines = (0..options.processes).map(|my_pid| Engine::new(&settings(my_pid))).collect();
         Explorer { engines, proposers: options.proposers, met: Met::default() }

@@ -17,6 +17,7 @@ pub fn settings(mode: Mode) -> Settings {
         has_committers: false,
         committers: vec![],
         delegates: (0..5).collect(),
+        whole_mhz_from: 0,
     }
 }
 

@@ -52,6 +52,7 @@ fn push_settings_line(out: &mut Vec<u8>, settings: &Settings) {
     push_numbers(out, &settings.committers);
     push_numbers(out, &[settings.delegates.len()]);
     push_numbers(out, &settings.delegates);
+    push_numbers(out, &[settings.whole_mhz_from]);
 }
 
 fn push_state_line(out: &mut Vec<u8>, state: &State) {

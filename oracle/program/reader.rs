@@ -161,6 +161,7 @@ impl Fields<'_> {
             has_committers: self.flag(),
             committers: self.table(),
             delegates: self.table(),
+            whole_mhz_from: self.number(),
         }
     }
 
@@ -246,7 +247,8 @@ fn right_count(numbers: &[usize]) -> Option<usize> {
     // kind, source and last value
     const FRAME: usize = 4;
     match numbers[0] {
-        1 => count_with_tables(numbers, 10, 1, 1),
+        // and the slot of whole MHz behind the tables
+        1 => count_with_tables(numbers, 10, 1, 1)?.checked_add(1),
         2 => count_with_tables(numbers, 20, 4, 5),
         3 => Some(2),
         4 => Some(3),

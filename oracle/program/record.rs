@@ -1,7 +1,9 @@
 //! `oracle record`: the sample of calls that the gate replays. Every section begins with a comment line.
 use crate::any_call;
 use crate::any_settings::{self, Sizes};
-use crate::calls::{Call, Frame, LARGEST_NUMBER, Line, MODES, Message, Mode, OPEN_READ_LIMIT, PLACES, Promise, Round, Settings, Words};
+use crate::calls::{
+    Call, Frame, LARGEST_NUMBER, LAST_SLOT, Line, MODES, Message, Mode, OPEN_READ_LIMIT, PLACES, Promise, Round, Settings, Words,
+};
 use crate::counts::Counts;
 use crate::damage;
 use crate::generate;
@@ -46,30 +48,30 @@ const INSTANCES: [(&str, &str); 6] = [
     ),
     (
         "replica 0 hears accept (0,2) value 9 twice from 1, then value 8 (MultiPaxos3P, leader 2, committer 0)",
-        "1 5 5 0 31 2 2 0 0 1 5 0 0 0 0 0 0\n6 1 0 0 0 0 2 9 1 1 0 0 0 0\n6 1 0 0 0 0 2 9 1 1 0 0 0 0\n6 1 0 0 0 0 2 8 1 1 0 0 0 0",
+        "1 5 5 0 31 2 2 0 0 1 5 0 0 0 0 0 0 0\n6 1 0 0 0 0 2 9 1 1 0 0 0 0\n6 1 0 0 0 0 2 9 1 1 0 0 0 0\n6 1 0 0 0 0 2 8 1 1 0 0 0 0",
     ),
     (
         "EPaxos, five: adopt 10 with scores 3 and 2; then the tie",
-        "1 5 5 4 31 0 3 0 0 0 0 0\n3 40\n5 1 0 0 0 0 4 0 0 0 10 1 0 0 0 0 0\n5 2 0 0 0 0 4 0 4 0 40 1 0 0 0 0 0\n\
-         1 5 5 4 31 0 3 0 0 0 0 0\n3 40\n5 1 0 0 0 0 4 0 0 0 10 1 0 0 0 0 0\n5 3 0 0 0 0 4 0 2 0 20 1 0 0 0 0 0",
+        "1 5 5 4 31 0 3 0 0 0 0 0 0\n3 40\n5 1 0 0 0 0 4 0 0 0 10 1 0 0 0 0 0\n5 2 0 0 0 0 4 0 4 0 40 1 0 0 0 0 0\n\
+         1 5 5 4 31 0 3 0 0 0 0 0 0\n3 40\n5 1 0 0 0 0 4 0 0 0 10 1 0 0 0 0 0\n5 3 0 0 0 0 4 0 2 0 20 1 0 0 0 0 0",
     ),
     (
         "a group of one: the proposal sends Prepare; a read with quorum 1 waits for a response",
-        "1 1 1 0 1 0 0 0 0 0 0 0\n3 5\n1 1 1 0 1 0 0 0 0 0 0 0\n4 7 0\n10 0 0 0 0 0 1 0 0 1 0 0",
+        "1 1 1 0 1 0 0 0 0 0 0 0 0\n3 5\n1 1 1 0 1 0 0 0 0 0 0 0 0\n4 7 0\n10 0 0 0 0 0 1 0 0 1 0 0",
     ),
     (
         "own slot 4: Prepare of 3 does nothing, 4 is handled, 5 is refused",
-        "1 3 3 0 7 0 0 0 0 0 0 0\n2 4 0 0 0 0 0 0 3 0 0 0 0 0 0 0 0 0 0 0 0 0\n5 1 0 0 3 0 1 1 0 0 5 1 0 0 0 0 0\n\
+        "1 3 3 0 7 0 0 0 0 0 0 0 0\n2 4 0 0 0 0 0 0 3 0 0 0 0 0 0 0 0 0 0 0 0 0\n5 1 0 0 3 0 1 1 0 0 5 1 0 0 0 0 0\n\
          5 1 0 0 4 0 1 1 0 0 5 1 0 0 0 0 0\n5 1 0 0 5 0 1 1 0 0 5 1 0 0 0 0 0",
     ),
     (
         "64 processes are taken, 65 and 0 replicas refused",
-        "1 64 64 63 18446744073709551615 63 0 0 0 0 0 0\n1 65 65 0 1 0 0 0 0 0 0 0\n1 5 0 0 0 0 0 0 0 0 0 0\n3 1",
+        "1 64 64 63 18446744073709551615 63 0 0 0 0 0 0 0\n1 65 65 0 1 0 0 0 0 0 0 0 0\n1 5 0 0 0 0 0 0 0 0 0 0 0\n3 1",
     ),
 ];
 
 /// Each reason of a bad line, also two in one line.
-const BAD_LINES: &str = "1 3 3 0 7 0 0 0 0 0 0 0
+const BAD_LINES: &str = "1 3 3 0 7 0 0 0 0 0 0 0 0
  3 1
 3 1\u{20}
 3  1
@@ -97,10 +99,12 @@ x
 5 1 0 0 0 0 1 1 0 0 5 1 0 0 0 2 0
 5 1 0 0 0 0 1 3 0 0 5 1 0 0 0 0 0
 5 1 0 0 0 0 1 4 0 0 5 1 0 0 0 0 7
-1 3 3 0 7 0 6 0 0 0 0 0
-1 3 3 0 7 0 6 2 0 0 0 0
-1 3 3 0 7 0 0 0 0 2 0 0
+1 3 3 0 7 0 6 0 0 0 0 0 0
+1 3 3 0 7 0 6 2 0 0 0 0 0
+1 3 3 0 7 0 0 0 0 2 0 0 0
 1 3 3 0 7 0 0 0 0 0
+1 3 3 0 7 0 0 0 0 0 0 0
+1 3 3 0 7 0 0 0 0 0 0 0 0 0
 1 3 3 0 7 0 0 0 0 0 1 0
 1 3 3 0 7 0 0 0 0 0 18446744073709551615 0
 2 0 0 0 0 0 0 0 4 0 0 0 0 0 0 0 0 0 0 0 0 0
@@ -132,7 +136,7 @@ fn bad_lines(sample: &mut Sample) {
     sample.text.extend_from_slice(b"\n#\n");
     let long = [too_long(2048, "3"), too_long(2049, "3"), too_long(2049, "11"), state_with_proposers(65), state_with_reads(129)];
     sample.add_text(&long.join("\n"));
-    let tables = [65, 64].map(|length| format!("1 3 3 0 7 0 0 0 0 1 {length}{} {length}{}", " 0".repeat(length), " 0".repeat(length)));
+    let tables = [65, 64].map(|length| format!("1 3 3 0 7 0 0 0 0 1 {length}{} {length}{} 0", " 0".repeat(length), " 0".repeat(length)));
     sample.add_text(&tables.join("\n"));
 }
 
@@ -140,11 +144,11 @@ fn reads_at_their_limit(sample: &mut Sample) {
     sample.title("128 open reads; ids at their end; a commit and responses that serve");
     let full = state_with_reads(127);
     sample.add_text(&format!(
-        "1 3 3 0 7 0 0 0 0 0 0 0\n{full}\n4 5 0\n4 6 0\n10 1 0 0 3 0 1 0 0 1 0 0\n8 1 0 0 0 9 1 0 0 0 0 0\n10 2 0 0 4 1 1 0 0 0 0 0"
+        "1 3 3 0 7 0 0 0 0 0 0 0 0\n{full}\n4 5 0\n4 6 0\n10 1 0 0 3 0 1 0 0 1 0 0\n8 1 0 0 0 9 1 0 0 0 0 0\n10 2 0 0 4 1 1 0 0 0 0 0"
     ));
     for next_id in [LARGEST_NUMBER, LARGEST_NUMBER + 1, usize::MAX] {
         let state = format!("2 2 1 9 0 0 0 0 1 0 0 4 0 0 0 0 0 0 0 {next_id} 0 0");
-        sample.add_text(&format!("1 3 3 0 7 0 0 0 0 0 0 0\n{state}\n4 5 0\n4 6 9\n10 1 0 0 {LARGEST_NUMBER} 0 1 0 0 1 0 0"));
+        sample.add_text(&format!("1 3 3 0 7 0 0 0 0 0 0 0 0\n{state}\n4 5 0\n4 6 9\n10 1 0 0 {LARGEST_NUMBER} 0 1 0 0 1 0 0"));
     }
 }
 
@@ -159,7 +163,7 @@ fn widest_answers(sample: &mut Sample) {
     let start = format!("2 {slot} 1 {largest} 1 1 {largest} {largest} 2 {largest} {largest} {largest} {sets} 1 {largest} {largest}");
     let state = format!("{start} {PLACES}{} {OPEN_READ_LIMIT}{}", proposers.concat(), reads.concat());
     let commit = format!("8 63 0 0 {slot} {LARGEST_NUMBER} 1 0 0 0 0 0");
-    sample.add_text(&format!("1 64 64 63 {largest} 63 3 0 0 0 0 0\n{state}\n{commit}"));
+    sample.add_text(&format!("1 64 64 63 {largest} 63 3 0 0 0 0 0 0\n{state}\n{commit}"));
 }
 
 fn slots_at_their_limit(sample: &mut Sample) {
@@ -168,7 +172,10 @@ fn slots_at_their_limit(sample: &mut Sample) {
         let state = format!("2 {slot} 0 0 0 0 0 0 3 0 0 0 0 0 0 0 0 0 0 0 0 0");
         let commit = format!("8 1 0 0 {slot} 9 1 0 0 0 0 0");
         let response = format!("10 1 0 0 0 {slot} 1 0 0 0 0 0");
-        sample.add_text(&format!("1 3 3 0 7 0 0 0 0 0 0 0\n{state}\n9 1 0 0 3 1 0 0 0 0 0\n3 5\n9 1 0 0 3 1 0 0 0 0 0\n{response}\n{commit}\n3 5\n4 1 1\n{commit}"));
+        let request = "9 1 0 0 3 1 0 0 0 0 0";
+        sample.add_text(&format!(
+            "1 3 3 0 7 0 0 0 0 0 0 0 0\n{state}\n{request}\n3 5\n{request}\n{response}\n{commit}\n3 5\n4 1 1\n{commit}"
+        ));
     }
 }
 
@@ -234,6 +241,7 @@ fn plain_settings(mode: Mode, process_count: usize) -> Settings {
         has_committers: true,
         committers: vec![1; process_count],
         delegates: vec![1; process_count],
+        whole_mhz_from: 0,
     }
 }
 
@@ -248,6 +256,25 @@ fn limits_of_fields(sample: &mut Sample) {
         let settings = plain_settings(mode, 3);
         every_field(sample, &settings, &Line::Settings(settings.clone()));
     }
+}
+
+/// Document 02, E13: "one above 2^63−2 gives 1". The shard is then unmade, and every state and every call gives 1.
+fn slots_of_whole_mhz(sample: &mut Sample) -> io::Result<()> {
+    sample.title("E13: the slot of whole MHz at its limits, and every kind of call behind it");
+    for whole_mhz_from in [0, LAST_SLOT, LAST_SLOT + 1, LAST_SLOT + 2, usize::MAX] {
+        let settings = Settings { whole_mhz_from, ..plain_settings(Mode::Paxos, 3) };
+        let mut recorder = Recorder::default();
+        let made = recorder.line(&Line::Settings(settings)).is_ok();
+        let answers = base_calls().map(|call| recorder.call(&call));
+        let all_one = answers.iter().all(|answer| *answer == Err(1));
+        if made != (whole_mhz_from <= LAST_SLOT) || made == all_one {
+            return Err(io::Error::other(format!("slot of whole MHz {whole_mhz_from}: made {made}")));
+        }
+        recorder.text(b"2 4 0 0 0 0 0 0 3 0 0 0 0 0 0 0 0 0 0 0 0 0");
+        recorder.text(b"3 5");
+        sample.add(recorder.recording);
+    }
+    Ok(())
 }
 
 /// The last places of the tables: a committer, or in Pando a delegate, that is not below the count of 64 is outside the limits.
@@ -340,6 +367,7 @@ pub fn run() -> io::Result<bool> {
     slots_at_their_limit(&mut sample);
     limits_of_fields(&mut sample);
     last_places(&mut sample)?;
+    slots_of_whole_mhz(&mut sample)?;
     two_causes(&mut sample)?;
     let mut random = Random::new(1);
     for mode in MODES {

@@ -3,7 +3,7 @@
 #[path = "../cases.rs"]
 mod cases;
 
-use chanbook_shard::Shard;
+use chanbook_shard::{GroupSettings, LAST_SLOT, Shard};
 use chanbook_shard::sys::{self, FlatCall, FlatReply};
 use std::ffi::{c_int, c_void};
 use std::sync::atomic::{AtomicBool, AtomicUsize, Ordering};
@@ -49,7 +49,7 @@ fn main() {
     println!("|---|---|---|");
     let mut reply = FlatReply::default();
     for case in cases::all() {
-        let mut shard = Shard::new(&case.settings);
+        let mut shard = Shard::new(&GroupSettings::new(case.settings.clone(), LAST_SLOT));
         for call in &case.before {
             shard.call(*call);
         }

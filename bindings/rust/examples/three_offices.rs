@@ -1,10 +1,12 @@
 //! Three planning offices assign carriers to sites, all at the same time and over a network that loses and repeats messages. Each office keeps
-//! a log of what was committed, slot by slot, and a register of cells from it. In the end the three logs and the three registers are equal.
+//! a log of what was committed, slot by slot, and a register of cells from it. In the end the three logs and the three registers are equal. An
+//! office that was away from slot 3 on then catches up from its neighbours' lists, and holds the same register.
 //!
 //!     cargo run --offline --manifest-path bindings/rust/Cargo.toml --example three_offices
+use chanbook_shard::catch_up::CommitList;
 use chanbook_shard::raster::Arfcn;
 use chanbook_shard::register::{Assignment, CellEntry, CellNumber, Change, Register};
-use chanbook_shard::{ConsensusMessage, Delivery, PFModeSetting, Refusal, Reply, Settings, Shard};
+use chanbook_shard::{ConsensusMessage, Delivery, GroupSettings, PFModeSetting, Refusal, Reply, Settings, Shard};
 
 /// What an office wants of a site's cell: a carrier of band n78, by its NR-ARFCN, with a width in kHz, or that it is released.
 struct Wish {
@@ -145,17 +147,44 @@ fn print_log(name: &str, log: &[u64]) {
 
 fn print_register(register: &Register) {
     println!("\nRegister of each office, and its report:");
-    for cell in register.cells() {
+    for cell in register.cells().expect("made of its settings") {
         println!("  cell {}: {:<18} {}", cell.number, SITES[cell.number as usize], in_words(Change::Assign(cell.assignment)));
     }
     print!("\n{}", register.report());
 }
 
+/// What a log has of some slots, as a neighbour sends it.
+fn list_of(log: &[u64], slots: std::ops::Range<usize>) -> CommitList {
+    slots.map(|slot| (slot as u64, log[slot])).collect()
+}
+
+/// The register of an office that saw slots 0 to 2 and was then away: it joins two neighbours' lists, which overlap, and feeds its register. The joined
+/// list begins before the slot that comes next there; what was seen already is not fed again.
+fn catch_up(group: &GroupSettings, porto: &[u64], coimbra: &[u64]) -> Register {
+    let says = |wish: u64| (WANTED[wish as usize].cell, WANTED[wish as usize].change);
+    let mut register = Register::new(group);
+    register.feed(&list_of(porto, 0..3), says).expect("a list from slot 0 on");
+    let early = list_of(porto, 2..8);
+    let late = list_of(coimbra, 6..coimbra.len());
+    assert!(register.clone().feed(&late, says).is_err(), "a list that begins past the next slot leaves a gap");
+    let both = early.join(&late).expect("lists of one group run that meet");
+    let refused = register.feed(&both, says).expect("a list that begins no later than the next slot");
+    assert!(refused.is_none(), "an entry within the limits");
+    println!(
+        "\nAn office that was away joins slots 2 to 7 of Porto and 6 to {} of Coimbra, {} entries, and feeds its register.",
+        coimbra.len() - 1,
+        both.len()
+    );
+    register
+}
+
 fn main() {
+    // widths are in whole MHz from the first slot on
+    let group = |me| GroupSettings::new(Settings::all_live(3, me as u64, PFModeSetting::Paxos), 0);
     let mut offices = [0, 1, 2].map(|me| Office {
-        shard: Shard::new(&Settings::all_live(3, me as u64, PFModeSetting::Paxos)),
+        shard: Shard::new(&group(me)),
         log: vec![],
-        register: Register::new(),
+        register: Register::new(&group(me)),
         wishes: (0..WANTED.len() as u64).filter(|wish| WANTED[*wish as usize].office == me).collect(),
     });
     let mut network = Network { under_way: vec![], dice: 78, lost: 0, repeated: 0 };
@@ -175,8 +204,9 @@ fn main() {
     assert!(offices.iter().all(|office| office.register == offices[0].register));
     assert!(offices.iter().all(|office| office.register.report() == "made,superseded,released,live\r\n10,1,1,8\r\n"));
     print_register(&offices[0].register);
+    assert!(catch_up(&group(2), &offices[0].log, &offices[1].log) == offices[0].register);
     println!(
-        "\nThe three logs are equal, and so are the registers. {} messages were lost and {} repeated.",
+        "\nThe three logs are equal, and so are the registers, that of the office that was away too. {} messages were lost and {} repeated.",
         network.lost, network.repeated
     );
 }

@@ -12,10 +12,12 @@ pub const JOIN_PLACES: usize = 8192;
 /// Why two lists are not joined, or a list is not fed. The first of these that holds is given.
 #[derive(Clone, Copy, Debug, PartialEq, Eq, PartialOrd, Ord, Hash)]
 pub enum ListRefusal {
+    /// The settings that the register was begun from are outside their limits. No join gives it.
+    Unmade,
     /// A slot is above 2^63−2, or a value above 2^63−1.
     NumberTooLarge,
-    /// A list has more than 4,096 entries (8,192 where it is fed), its slots are not consecutive, it has another number of values than of slots, or fewer than 8,192 places are
-    /// lent.
+    /// A list has more than 4,096 entries (8,192 where it is fed), its slots are not consecutive, it has another number of values than of slots, or fewer
+    /// than 8,192 places are lent.
     OutsideLimits,
     /// There is a gap between the lists, or between the register and the list.
     Gap,
@@ -27,6 +29,7 @@ impl ListRefusal {
     /// Document 02's number.
     pub fn number(self) -> u64 {
         match self {
+            ListRefusal::Unmade => 1,
             ListRefusal::NumberTooLarge => 2,
             ListRefusal::OutsideLimits => 18,
             ListRefusal::Gap => 19,
@@ -36,6 +39,7 @@ impl ListRefusal {
 
     fn of(number: u64) -> ListRefusal {
         match number {
+            1 => ListRefusal::Unmade,
             2 => ListRefusal::NumberTooLarge,
             18 => ListRefusal::OutsideLimits,
             19 => ListRefusal::Gap,
@@ -48,6 +52,7 @@ impl ListRefusal {
 impl fmt::Display for ListRefusal {
     fn fmt(&self, f: &mut fmt::Formatter) -> fmt::Result {
         let why = match self {
+            ListRefusal::Unmade => "the settings of the group are outside their limits",
             ListRefusal::NumberTooLarge => "a number is too large",
             ListRefusal::OutsideLimits => "a list is outside its limits, or too few places are lent",
             ListRefusal::Gap => "a gap before a list",
@@ -151,25 +156,28 @@ pub type FirstRefused = Option<(u64, EntryRefusal)>;
 
 impl Register {
     /// Feeds a list, with the cell and the change that the host makes of each value: each entry from [`next_slot`](Register::next_slot) on is taken as
-    /// [`apply`](Register::apply) takes it, also those behind a refused one. A list that is refused is not fed at all.
+    /// [`apply`](Register::apply) takes it, also those behind a refused one, and what lies before that slot is not. Gives the first entry that was refused, if
+    /// any. A list that is refused is not fed at all. `says` is asked for every value of the list, once and in order, also where nothing is fed of it.
     ///
     /// ```
     /// use chanbook_shard::catch_up::{CommitList, ListRefusal};
     /// use chanbook_shard::register::{Assignment, CellEntry, Change, EntryRefusal, Register};
+    /// use chanbook_shard::{GroupSettings, LAST_SLOT, PFModeSetting, Settings};
+    /// let group = GroupSettings::new(Settings::all_live(3, 0, PFModeSetting::Paxos), LAST_SLOT);
     /// // Value v stands for an assignment of cell v, and the values from 100 on for releases.
     /// let says = |value: u64| match value as u32 {
     ///     cell @ 0..100 => (cell, Change::Assign(Assignment { carrier: 632_628, width: 20_000 })),
     ///     cell => (cell - 100, Change::Release),
     /// };
     /// let entry = |slot, value| CellEntry { slot, cell: says(value).0, change: says(value).1 };
-    /// let mut present = Register::new();
+    /// let mut present = Register::new(&group);
     /// let log = [(0, 7), (1, 8), (2, 107), (3, 109), (4, 9)];
     /// for (slot, value) in log {
     ///     let _ = present.apply(&entry(slot, value));
     /// }
     ///
     /// // An office that was away after slot 0 joins two neighbours' lists and feeds the join.
-    /// let mut away = Register::new();
+    /// let mut away = Register::new(&group);
     /// away.apply(&entry(0, 7)).unwrap();
     /// let (early, late): (CommitList, CommitList) = (log[..3].iter().copied().collect(), log[2..].iter().copied().collect());
     /// assert_eq!(away.feed(&late, says), Err(ListRefusal::Gap));
@@ -186,10 +194,11 @@ impl Register {
             entry_carriers.push(assignment.carrier);
             entry_widths.push(assignment.width);
         }
-        let FlatRegister { cells, carriers, widths, figures } = self.flat_mut();
+        let FlatRegister { settings, cells, carriers, widths, figures } = self.flat_mut();
         // SAFETY: each pointer stands with the number of elements that may be read behind it; the vectors live through the call.
         let answer = unsafe {
             chanbook_feed(
+                settings,
                 cells,
                 carriers,
                 widths,

@@ -1,7 +1,7 @@
 //! Chanbook's shard engine for a host in Rust. The engine is written in Rattle and proved; this crate links it and turns its numbers into Rust's
 //! enums. Nothing is decided here but which of two proved functions takes a call ([`sys::chanbook_call`]).
 //!
-//! A host makes a [`Shard`] from [`Settings`], hands it calls ([`Call`]) and acts on each [`Reply`]: it sends the messages, applies the
+//! A host makes a [`Shard`] from [`GroupSettings`], hands it calls ([`Call`]) and acts on each [`Reply`]: it sends the messages, applies the
 //! commit and answers the reads. Sockets, command bytes, forwarding and the numbers that stand for values are the host's.
 //!
 //! # Terms of use
@@ -29,9 +29,9 @@
 //! # Example
 //!
 //! ```
-//! use chanbook_shard::{Delivery, PFModeSetting, Refusal, Settings, Shard};
-//! let mut group: Vec<Shard> =
-//!     (0..3).map(|me| Shard::new(&Settings::all_live(3, me, PFModeSetting::Paxos))).collect();
+//! use chanbook_shard::{Delivery, GroupSettings, LAST_SLOT, PFModeSetting, Refusal, Settings, Shard};
+//! let settings = |me| GroupSettings::new(Settings::all_live(3, me, PFModeSetting::Paxos), LAST_SLOT);
+//! let mut group: Vec<Shard> = (0..3).map(|me| Shard::new(&settings(me))).collect();
 //!
 //! // Office 2 proposes value 7. Every message is handed in where it was sent, until none is left.
 //! let mut log = [None; 3];
@@ -56,6 +56,7 @@ pub mod catch_up;
 mod message;
 pub mod planning_sys;
 pub mod raster;
+pub mod reach;
 pub mod register;
 mod reply;
 mod settings;
@@ -65,5 +66,5 @@ pub mod sys;
 pub use call::{Call, Delivery, Said};
 pub use message::{ConsensusMessage, ConsensusMsg, PaxosRound, ReadId, RoundV};
 pub use reply::{Commit, Destination, OpenRead, Outgoing, Refusal, Reply, ServedRead};
-pub use settings::{PFModeSetting, Settings};
+pub use settings::{GroupSettings, LAST_SLOT, PFModeSetting, Settings};
 pub use shard::Shard;

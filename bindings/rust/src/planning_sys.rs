@@ -1,8 +1,9 @@
 //! The flat forms and functions of crates/planning_host, which stand beside the engine's ([`sys`](crate::sys)). Numbers go in and numbers come out, and
 //! every function is total on every number.
 //!
-//! [`raster`](crate::raster), [`register`](crate::register) and [`catch_up`](crate::catch_up) are the interface for a host.
+//! [`raster`](crate::raster), [`register`](crate::register), [`reach`](crate::reach) and [`catch_up`](crate::catch_up) are the interface for a host.
 #![allow(missing_docs)]
+use crate::sys::FlatGroupSettings;
 
 /// The number of document 02 that refuses, with 0 as the value; or 0 and the value.
 #[repr(C)]
@@ -15,7 +16,8 @@ pub struct FlatValue {
 /// A cell's number in an entry.
 pub type CellNumber = u32;
 
-/// The four arrays of a register, which its functions are lent one by one. Place i of the first three is live cell i, by cell number.
+/// The five arrays of a register, which its functions are lent one by one: three columns, whose place i is live cell i, by cell number, the figures, and what
+/// it keeps of the settings of its group. These stand last: the four arrays of a register that was stored before E13 are the beginning of this block.
 #[repr(C)]
 #[derive(Clone, Copy, Debug, PartialEq, Eq)]
 pub struct FlatRegister {
@@ -23,6 +25,7 @@ pub struct FlatRegister {
     pub carriers: [u64; 512],
     pub widths: [u64; 512],
     pub figures: [u64; 5],
+    pub settings: [u64; 2],
 }
 
 /// The numbers of a register that was stored while cell numbers had 16 bits.
@@ -44,6 +47,15 @@ pub struct FlatFed {
     pub number: u64,
 }
 
+/// The position of a cell: none where `given` is 0, and else x and y, in metres.
+#[repr(C)]
+#[derive(Clone, Copy, Debug, PartialEq, Eq, Default)]
+pub struct FlatPosition {
+    pub given: u64,
+    pub x: i64,
+    pub y: i64,
+}
+
 /// The places of a register's figures.
 pub const NEXT_SLOT: usize = 0;
 pub const MADE: usize = 1;
@@ -51,9 +63,14 @@ pub const SUPERSEDED: usize = 2;
 pub const RELEASED: usize = 3;
 pub const LIVE: usize = 4;
 
+/// The places of a register's settings.
+pub const SETTINGS_NUMBER: usize = 0;
+pub const WHOLE_MHZ_FROM: usize = 1;
+
 /// The kinds of entry.
 pub const ASSIGNMENT: u64 = 1;
 pub const RELEASE: u64 = 2;
+pub const POSITION: u64 = 3;
 
 /// What became of an entry that is not refused: these numbers are not document 02's.
 pub const DONE: u64 = 0;
@@ -66,11 +83,19 @@ unsafe extern "C" {
     /// The carrier number of a frequency in kHz.
     pub safe fn chanbook_raster_number(khz: u64) -> FlatValue;
 
-    /// A register that has seen no entry.
-    pub safe fn chanbook_register_new(cells: &mut [u64; 512], carriers: &mut [u64; 512], widths: &mut [u64; 512], figures: &mut [u64; 5]);
+    /// A register of the settings of its group that has seen no entry.
+    pub safe fn chanbook_register_new(
+        group: FlatGroupSettings,
+        settings: &mut [u64; 2],
+        cells: &mut [u64; 512],
+        carriers: &mut [u64; 512],
+        widths: &mut [u64; 512],
+        figures: &mut [u64; 5],
+    );
 
     /// An entry: [`DONE`], [`OLDER`], or the number of document 02 that refuses it.
     pub safe fn chanbook_register_entry(
+        settings: &[u64; 2],
         cells: &mut [u64; 512],
         carriers: &mut [u64; 512],
         widths: &mut [u64; 512],
@@ -83,14 +108,16 @@ unsafe extern "C" {
     ) -> u64;
 
     /// The report at the start of `out`, and how many bytes it has.
-    pub safe fn chanbook_register_report(figures: &[u64; 5], out: &mut [u8; 116]) -> u64;
+    pub safe fn chanbook_register_report(settings: &[u64; 2], figures: &[u64; 5], out: &mut [u8; 116]) -> u64;
 
     /// The stored register in the arrays of a register.
     pub safe fn chanbook_register_widened(
+        group: FlatGroupSettings,
         stored_cells: &[u16; 512],
         stored_carriers: &[u64; 512],
         stored_widths: &[u64; 512],
         stored_figures: &[u64; 5],
+        settings: &mut [u64; 2],
         cells: &mut [u64; 512],
         carriers: &mut [u64; 512],
         widths: &mut [u64; 512],
@@ -115,6 +142,7 @@ unsafe extern "C" {
 
     /// A list fed to a register, with the host's entry beside each value.
     pub fn chanbook_feed(
+        settings: &[u64; 2],
         cells: &mut [u64; 512],
         carriers: &mut [u64; 512],
         widths: &mut [u64; 512],
@@ -132,4 +160,56 @@ unsafe extern "C" {
         entry_widths: *const u64,
         entry_width_count: usize,
     ) -> FlatFed;
+
+    /// No cell has a position.
+    pub safe fn chanbook_positions_new(positions: &mut [FlatPosition; 512]);
+
+    /// An entry of a register with positions: [`DONE`], [`OLDER`], or the number of document 02 that refuses it.
+    pub safe fn chanbook_placed_entry(
+        settings: &[u64; 2],
+        cells: &mut [u64; 512],
+        carriers: &mut [u64; 512],
+        widths: &mut [u64; 512],
+        figures: &mut [u64; 5],
+        positions: &mut [FlatPosition; 512],
+        slot: u64,
+        kind: u64,
+        cell: CellNumber,
+        carrier: u64,
+        width: u64,
+        x: i64,
+        y: i64,
+    ) -> u64;
+
+    /// The cells in conflict with a carrier, in the first of the lent places, and how many they are.
+    pub safe fn chanbook_conflicts(
+        settings: &[u64; 2],
+        cells: &[u64; 512],
+        carriers: &[u64; 512],
+        widths: &[u64; 512],
+        figures: &[u64; 5],
+        positions: &[FlatPosition; 512],
+        carrier: u64,
+        width: u64,
+        x: i64,
+        y: i64,
+        distance: u64,
+        numbers: &mut [u64; 512],
+    ) -> FlatValue;
+
+    /// The lowest carrier of a range that conflicts with no cell.
+    pub safe fn chanbook_first_free(
+        settings: &[u64; 2],
+        cells: &[u64; 512],
+        carriers: &[u64; 512],
+        widths: &[u64; 512],
+        figures: &[u64; 5],
+        positions: &[FlatPosition; 512],
+        first: u64,
+        last: u64,
+        width: u64,
+        x: i64,
+        y: i64,
+        distance: u64,
+    ) -> FlatValue;
 }

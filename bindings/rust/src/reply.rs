@@ -113,8 +113,9 @@ impl Outgoing {
     /// The processes that get the message, in the order in which they are served, in a group of so many.
     ///
     /// ```
-    /// use chanbook_shard::{PFModeSetting, Settings, Shard};
-    /// let mut shard = Shard::new(&Settings::all_live(3, 1, PFModeSetting::Paxos));
+    /// use chanbook_shard::{GroupSettings, LAST_SLOT, PFModeSetting, Settings, Shard};
+    /// let settings = Settings::all_live(3, 1, PFModeSetting::Paxos);
+    /// let mut shard = Shard::new(&GroupSettings::new(settings, LAST_SLOT));
     /// let reply = shard.propose(10);
     /// let to: Vec<u64> = reply.sent().flat_map(|sent| sent.receivers(3)).collect();
     /// assert_eq!(to, [0, 2]);

@@ -1,6 +1,6 @@
 //! The settings of a group, as its host makes them for one member.
 use crate::message::flat_option;
-use crate::sys::FlatSettings;
+use crate::sys::{FlatGroupSettings, FlatSettings};
 
 /// The mode, with its tables.
 #[expect(clippy::large_enum_variant, reason = "settings are made once for each shard")]
@@ -26,14 +26,15 @@ pub enum PFModeSetting {
     },
 }
 
-/// The settings of one member. All members of a group have the same ones but for `my_pid`.
+/// The last slot that may be named.
+pub const LAST_SLOT: u64 = (1 << 63) - 2;
+
+/// The engine's settings of one member. All members of a group have the same ones but for `my_pid`.
 ///
 /// ```
-/// use chanbook_shard::{PFModeSetting, Settings, Shard};
+/// use chanbook_shard::{PFModeSetting, Settings};
 /// let settings = Settings::all_live(5, 0, PFModeSetting::Paxos);
 /// assert_eq!(settings.alive_replicas, 0b11111);
-/// assert!(Shard::new(&settings).made().is_ok());
-/// assert!(Shard::new(&Settings { my_pid: 5, ..settings }).made().is_err());
 /// ```
 #[derive(Clone, Debug, PartialEq, Eq)]
 pub struct Settings {
@@ -61,6 +62,38 @@ impl Settings {
             _ => u64::MAX,
         };
         Settings { process_count, replica_count: process_count, my_pid, alive_replicas: all, first_leader: 0, mode, committers: None }
+    }
+}
+
+/// The settings of a group with what its planners agree on besides. A shard begins from them.
+///
+/// ```
+/// use chanbook_shard::{GroupSettings, LAST_SLOT, PFModeSetting, Refusal, Settings, Shard};
+/// let settings = Settings::all_live(5, 0, PFModeSetting::Paxos);
+/// assert!(Shard::new(&GroupSettings::new(settings.clone(), 1000)).made().is_ok());
+/// let late = GroupSettings::new(settings.clone(), LAST_SLOT + 1);
+/// assert_eq!(Shard::new(&late).made(), Err(Refusal::SettingsOutsideLimits));
+/// let outside = GroupSettings::new(Settings { my_pid: 5, ..settings }, LAST_SLOT);
+/// assert_eq!(Shard::new(&outside).made(), Err(Refusal::SettingsOutsideLimits));
+/// ```
+#[derive(Clone, Debug, PartialEq, Eq)]
+pub struct GroupSettings {
+    /// The engine's.
+    pub settings: Settings,
+    /// The slot from which the width of an assignment must be whole MHz (document 02, E13). It is at most [`LAST_SLOT`], and the same at all members.
+    pub whole_mhz_from: u64,
+}
+
+impl GroupSettings {
+    /// A host that wants no slot of whole MHz names [`LAST_SLOT`], which binds the last slot alone.
+    pub fn new(settings: Settings, whole_mhz_from: u64) -> GroupSettings {
+        GroupSettings { settings, whole_mhz_from }
+    }
+}
+
+impl From<&GroupSettings> for FlatGroupSettings {
+    fn from(group: &GroupSettings) -> FlatGroupSettings {
+        FlatGroupSettings { settings: (&group.settings).into(), whole_mhz_from: group.whole_mhz_from }
     }
 }
 

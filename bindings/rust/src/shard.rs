@@ -2,14 +2,15 @@
 use crate::call::{Call, Delivery};
 use crate::message::{PaxosRound, RoundV, option, promise, round};
 use crate::reply::{OpenRead, Refusal, Reply, open_read, reply};
-use crate::settings::Settings;
+use crate::settings::GroupSettings;
 use crate::sys::{self, FlatReply, FlatShard};
 
 /// A shard: one member's part in agreeing on the slots of one log. It owns its memory and lends it to the engine for each call.
 ///
 /// ```
-/// use chanbook_shard::{Delivery, PFModeSetting, Settings, Shard};
-/// let member = |me| Shard::new(&Settings::all_live(3, me, PFModeSetting::MultiPaxos));
+/// use chanbook_shard::{Delivery, GroupSettings, LAST_SLOT, PFModeSetting, Settings, Shard};
+/// let settings = |me| Settings::all_live(3, me, PFModeSetting::MultiPaxos);
+/// let member = |me| Shard::new(&GroupSettings::new(settings(me), LAST_SLOT));
 /// let (mut leader, mut other) = (member(0), member(1));
 ///
 /// // The leader proposes, the other accepts, and with two of three the leader commits.
@@ -26,8 +27,8 @@ pub struct Shard {
 
 impl Shard {
     /// A new shard, at slot 0 and with no read open. Where the settings are outside the limits it is not made, and refuses every call with 1.
-    pub fn new(settings: &Settings) -> Shard {
-        Shard { flat: Box::new(sys::chanbook_shard_new(settings.into())) }
+    pub fn new(group: &GroupSettings) -> Shard {
+        Shard { flat: Box::new(sys::chanbook_shard_new(group.into())) }
     }
 
     /// Whether the shard is made, as its calls ask it. A shard read back with an unknown mode is not made either.
@@ -96,8 +97,9 @@ impl Shard {
     /// from one call to the next unchanged.
     ///
     /// ```
-    /// use chanbook_shard::{PFModeSetting, Settings, Shard};
-    /// let mut shard = Shard::new(&Settings::all_live(3, 0, PFModeSetting::Paxos));
+    /// use chanbook_shard::{GroupSettings, LAST_SLOT, PFModeSetting, Settings, Shard};
+    /// let settings = Settings::all_live(3, 0, PFModeSetting::Paxos);
+    /// let mut shard = Shard::new(&GroupSettings::new(settings, LAST_SLOT));
     /// shard.propose(10);
     /// let aside = *shard.flat();
     /// assert_eq!(Shard::from_flat(Box::new(aside)), shard);

@@ -1,6 +1,6 @@
-//! The flat forms that cross `extern "C"`, as crates/flat and crates/host declare them, and the functions that crates/host, crates/direct and
-//! crates/direct_fast export. A flat form has numbers only: 0 is no and any other number yes. Every flat form stands for some shard or call, whatever numbers
-//! are in it, and so a call on one is safe.
+//! The flat forms that cross `extern "C"`, as crates/flat, crates/group_settings and crates/host declare them, and the functions that crates/host,
+//! crates/direct and crates/direct_fast export. A flat form has numbers only: 0 is no and any other number yes. Every flat form stands for some shard or
+//! call, whatever numbers are in it, and so a call on one is safe.
 //!
 //! [`Shard`](crate::Shard) is the interface for a host; these are for whoever keeps shards in memory of their own.
 #![allow(missing_docs)]
@@ -56,6 +56,14 @@ pub struct FlatSettings {
     pub has_committers: u64,
     pub committers: [u64; 64],
     pub delegates: [u64; 64],
+}
+
+/// The settings of a group: those of the engine, and the slot from which a width must be whole MHz.
+#[repr(C)]
+#[derive(Clone, Copy, Debug, PartialEq, Eq)]
+pub struct FlatGroupSettings {
+    pub settings: FlatSettings,
+    pub whole_mhz_from: u64,
 }
 
 /// What most calls change.
@@ -212,7 +220,7 @@ pub struct FlatAnswer {
 
 unsafe extern "C" {
     /// A shard as it begins. Its `made` is 0, or 1 where the settings are outside the limits.
-    pub safe fn chanbook_shard_new(settings: FlatSettings) -> FlatShard;
+    pub safe fn chanbook_shard_new(group: FlatGroupSettings) -> FlatShard;
 
     /// A call by value: the shard afterwards and the reply. It copies the shard; a host takes [`chanbook_call`], and the tests compare the two. Where it
     /// is refused, the shard is as it was.
@@ -388,6 +396,7 @@ const _: () = {
     assert!(size_of::<FlatOutgoing>() == 160);
     assert!(size_of::<FlatReply>() == 528);
     assert!(size_of::<FlatSettings>() == 1096);
+    assert!(size_of::<FlatGroupSettings>() == 1104);
     assert!(size_of::<FlatShard>() == 12040);
     assert!(offset_of!(FlatShard, settings) == 8);
     assert!(offset_of!(FlatShard, state) == 1104);

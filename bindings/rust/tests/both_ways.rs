@@ -16,7 +16,7 @@ use chanbook_shard::{
 use numbers::any_number;
 use std::collections::BTreeSet;
 use std::mem::offset_of;
-use support::{Group, Random, all_modes, five};
+use support::{Group, Random, all_modes, begun, five};
 
 // ---- what numbers mean: 1 for yes, and 0 for what is not given
 
@@ -359,7 +359,7 @@ fn fast_paths_in_groups_of_all_sizes() {
         let (mut met, mut committed) = (Met::default(), 0);
         for (count, my_pid) in SIZES.into_iter().flat_map(|count| [0, count / 2, count - 1].map(|my_pid| (count, my_pid))) {
             let settings = Settings::all_live(count, my_pid, fast_modes(count)[mode].clone());
-            let mut member = BothWays::new(*Shard::new(&settings).flat());
+            let mut member = BothWays::new(*begun(&settings).flat());
             committed += (0..6).filter(|_| fast_slot(&mut member, proposers, &mut random, &mut met)).count();
         }
         let figures = (committed, met.fast_commits, met.fast_changes);
@@ -404,7 +404,7 @@ fn likely_calls_in_groups_of_all_sizes() {
     let mut random = Random(23);
     for mode in all_modes().into_iter().cycle().take(140) {
         let settings = any_settings(mode, &mut random);
-        let shard = Shard::new(&settings);
+        let shard = begun(&settings);
         assert_eq!(shard.made(), Ok(()), "{settings:?}");
         let mut member = BothWays::new(*shard.flat());
         for _ in 0..300 {
@@ -420,7 +420,7 @@ fn full_tables_of_reads() {
     for mode in all_modes() {
         let mut met = Met::default();
         let mut random = Random(24);
-        let mut member = BothWays::new(*Shard::new(&five(mode)).flat());
+        let mut member = BothWays::new(*begun(&five(mode)).flat());
         for step in 0..1500 {
             let core = member.lent.state.rounds.core;
             let oldest = member.lent.state.table.reads[0].id;
@@ -446,7 +446,7 @@ fn any_numbers() {
     let mut met = Met::default();
     let mut random = Random(25);
     for mode in all_modes() {
-        let made = *Shard::new(&five(mode)).flat();
+        let made = *begun(&five(mode)).flat();
         for _ in 0..1000 {
             let mut flat = FlatShard::from_numbers(std::array::from_fn(|_| any_number(&mut random)));
             let any = FlatCall::from_numbers(std::array::from_fn(|_| any_number(&mut random)));

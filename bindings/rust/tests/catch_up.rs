@@ -2,6 +2,7 @@
 //! with marks in the lent places. Lists fed to a register against entries that are applied one by one.
 use chanbook_shard::catch_up::{CommitList, Entries, JOIN_PLACES, LIST_ENTRIES, ListRefusal, join_into};
 use chanbook_shard::register::{Assignment, CellEntry, CellNumber, Change, Register};
+use chanbook_shard::{GroupSettings, PFModeSetting, Settings};
 use std::collections::BTreeMap;
 
 const LAST_SLOT: u64 = (1 << 63) - 2;
@@ -194,10 +195,15 @@ fn an_empty_list_gives_the_other() {
     assert_eq!(empty.join(&empty), Ok(CommitList::default()));
 }
 
+/// From slot 40 on widths are in whole MHz.
+fn group() -> GroupSettings {
+    GroupSettings::new(Settings::all_live(3, 0, PFModeSetting::Paxos), 40)
+}
+
 /// What a value says, with cell numbers on both sides of 2^16 and at the largest: assignments, some of them refused, and releases.
 fn says(value: u64) -> (CellNumber, Change) {
     let cell = [7, 65_535, 65_536, 65_543, CellNumber::MAX][(value % 5) as usize];
-    let assignment = Assignment { carrier: value.wrapping_mul(7_919) % 3_400_000, width: value % 11 * 1_000 };
+    let assignment = Assignment { carrier: value.wrapping_mul(7_919) % 3_400_000, width: value % 11 * 500 };
     (cell, if value % 3 == 0 { Change::Release } else { Change::Assign(assignment) })
 }
 
@@ -205,17 +211,18 @@ fn says(value: u64) -> (CellNumber, Change) {
 fn a_list_is_fed_as_its_entries_one_by_one() {
     let mut chosen = Chosen(11);
     let mut given: BTreeMap<Result<bool, u64>, u32> = BTreeMap::new();
-    let (mut fed, mut applied) = (Register::new(), Register::new());
+    let (mut fed, mut applied) = (Register::new(&group()), Register::new(&group()));
     for turn in 0..20_000u64 {
         if turn % 50 == 0 {
-            (fed, applied) = (Register::new(), Register::new());
+            (fed, applied) = (Register::new(&group()), Register::new(&group()));
         }
-        let begin = (fed.next_slot() + chosen.below(8)).saturating_sub(6);
+        let next = fed.next_slot().expect("made");
+        let begin = (next + chosen.below(8)).saturating_sub(6);
         let mut entries: Vec<(u64, u64)> = (begin..begin + chosen.below(12)).map(|slot| (slot, value_of(slot) + turn / 50)).collect();
         if let (Some(last), 0) = (entries.last_mut(), chosen.below(16)) {
             *last = [(last.0 + 1, 5), (LAST_SLOT + 1, 5), (last.0, LARGEST_VALUE + 1)][(turn % 3) as usize];
         }
-        let gap = entries.first().is_some_and(|(first, _)| *first > fed.next_slot());
+        let gap = entries.first().is_some_and(|(first, _)| *first > next);
         let expected = if entries.iter().any(|(slot, value)| *slot > LAST_SLOT || *value > LARGEST_VALUE) {
             Err(2)
         } else if entries.windows(2).any(|pair| pair[0].0 + 1 != pair[1].0) {
@@ -241,10 +248,10 @@ fn a_list_is_fed_as_its_entries_one_by_one() {
 #[test]
 fn no_more_than_8192_entries_are_fed() {
     let list = |count: u64| -> CommitList { (0..count).map(|slot| (slot, slot)).collect() };
-    let mut register = Register::new();
+    let mut register = Register::new(&group());
     assert_eq!(register.feed(&list(8193), says), Err(ListRefusal::OutsideLimits));
-    assert_eq!(register, Register::new());
+    assert_eq!(register, Register::new(&group()));
     assert!(register.feed(&list(8192), says).is_ok());
-    assert_eq!(register.next_slot(), 8192);
+    assert_eq!(register.next_slot(), Ok(8192));
     assert_eq!(register.feed(&CommitList::default(), says), Ok(None));
 }

@@ -3,11 +3,11 @@
 mod numbers;
 mod support;
 
-use chanbook_shard::sys::{self, FlatAnswer, FlatCall, FlatReply, FlatSettings, FlatShard};
-use chanbook_shard::{Call, PFModeSetting, Refusal, Settings, Shard};
+use chanbook_shard::sys::{self, FlatAnswer, FlatCall, FlatGroupSettings, FlatReply, FlatSettings, FlatShard};
+use chanbook_shard::{Call, LAST_SLOT, PFModeSetting, Refusal, Settings, Shard};
 use numbers::{AT_LIMITS, any_number};
 use std::collections::BTreeSet;
-use support::{Group, Random, all_modes, five};
+use support::{Group, Random, all_modes, begun, five};
 
 /// The outcome of the call, once what must hold of every call was checked.
 fn checked(shard: &FlatShard, call: FlatCall) -> u64 {
@@ -96,7 +96,7 @@ fn a_shard_of_any_numbers() {
 fn a_made_shard_with_a_state_of_any_numbers() {
     let mut random = Random(13);
     for mode in all_modes() {
-        let settings = *Shard::new(&five(mode)).flat();
+        let settings = *begun(&five(mode)).flat();
         for _ in 0..2000 {
             let mut shard = FlatShard::from_numbers(std::array::from_fn(|_| any_number(&mut random)));
             shard.made = settings.made;
@@ -123,9 +123,9 @@ fn the_readers_take_a_shard_of_any_numbers() {
 
 #[test]
 fn a_mode_that_there_is_not_is_outside_the_limits() {
-    let known = Shard::new(&Settings::all_live(5, 0, PFModeSetting::Paxos)).flat().settings;
+    let known = begun(&Settings::all_live(5, 0, PFModeSetting::Paxos)).flat().settings;
     for mode in 6..9 {
-        let shard = sys::chanbook_shard_new(FlatSettings { mode, ..known });
+        let shard = sys::chanbook_shard_new(FlatGroupSettings { settings: FlatSettings { mode, ..known }, whole_mhz_from: LAST_SLOT });
         assert_eq!(shard.made, 1);
         assert_eq!(checked(&shard, Call::Propose(1).into()), 1);
         assert_eq!(Shard::from_flat(Box::new(shard)).made(), Err(Refusal::SettingsOutsideLimits));

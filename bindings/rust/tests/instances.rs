@@ -1,16 +1,20 @@
 //! The instances of document 01 that an entry point shows, and its refusals. The other instances, about parts of the state, are proved in
 //! crates/instances alone.
 use chanbook_shard::{
-    Call, ConsensusMessage, ConsensusMsg, Delivery, Destination, PFModeSetting, PaxosRound, ReadId, Refusal, Reply, RoundV, Said, Settings,
-    Shard,
+    Call, ConsensusMessage, ConsensusMsg, Delivery, Destination, GroupSettings, LAST_SLOT, PFModeSetting, PaxosRound, ReadId, Refusal,
+    Reply, RoundV, Said, Settings, Shard,
 };
 
 fn round(round_group: u64, leader: u64) -> PaxosRound {
     PaxosRound { round_group, leader }
 }
 
+fn begun(settings: &Settings) -> Shard {
+    Shard::new(&GroupSettings::new(settings.clone(), LAST_SLOT))
+}
+
 fn member(count: u64, my_pid: u64, mode: PFModeSetting) -> Shard {
-    Shard::new(&Settings::all_live(count, my_pid, mode))
+    begun(&Settings::all_live(count, my_pid, mode))
 }
 
 fn hears(shard: &mut Shard, src: u64, msg: ConsensusMsg) -> Reply {
@@ -100,7 +104,7 @@ fn the_promise_with_the_latest_accept_round_is_held() {
 fn an_accept_heard_twice_counts_once_and_another_value_is_refused_with_9() {
     // Replica 0 hears accepts of round (0,2) from 1 where it is the committer.
     let settings = Settings { first_leader: 2, committers: Some([0; 64]), ..Settings::all_live(5, 0, PFModeSetting::MultiPaxos3P) };
-    let mut shard = Shard::new(&settings);
+    let mut shard = begun(&settings);
     let mut hear = |v| {
         let msg = accept(0, round(0, 2), v);
         let delivery = Delivery::of(ConsensusMessage { msg, src: 1, last_v: None });
@@ -149,7 +153,7 @@ fn with_a_quorum_of_1_a_new_read_waits_for_the_next_response_or_commit() {
     // A second process, which is no replica, so that somebody can answer.
     let settings = Settings { replica_count: 1, alive_replicas: 0b1, ..Settings::all_live(2, 0, PFModeSetting::Paxos) };
     let opened = || {
-        let mut shard = Shard::new(&settings);
+        let mut shard = begun(&settings);
         let reply = shard.start_read(7, 0);
         assert_eq!(reply.messages[0].unwrap().message.msg, ConsensusMsg::ReadRequest { id: ReadId(0) });
         assert!(reply.served_reads.is_empty());
@@ -184,7 +188,7 @@ fn at_slot_4_a_prepare_of_3_does_nothing_one_of_4_is_handled_and_one_of_5_refuse
 
 #[test]
 fn limits_of_the_settings() {
-    let made = |settings: Settings| Shard::new(&settings).made();
+    let made = |settings: Settings| begun(&settings).made();
     let of = |count| Settings::all_live(count, 0, PFModeSetting::Paxos);
     let outside = Err(Refusal::SettingsOutsideLimits);
     assert_eq!(made(of(64)), Ok(()));
@@ -202,9 +206,19 @@ fn limits_of_the_settings() {
     assert_eq!(made(Settings { mode: PFModeSetting::SwiftPaxos { quorum: Some(1 << 5) }, ..of(5) }), outside);
 }
 
+/// Document 02, E13: "one above 2^63−2 gives 1".
 #[test]
-fn an_unmade_shard_refuses_every_call_with_1() {
-    let mut shard = member(65, 0, PFModeSetting::Paxos);
+fn limits_of_the_slot_of_whole_mhz() {
+    let made = |slot| Shard::new(&GroupSettings::new(Settings::all_live(5, 0, PFModeSetting::Paxos), slot)).made();
+    for slot in [0, 1, LAST_SLOT] {
+        assert_eq!(made(slot), Ok(()));
+    }
+    for slot in [LAST_SLOT + 1, LAST_SLOT + 2, u64::MAX] {
+        assert_eq!(made(slot), Err(Refusal::SettingsOutsideLimits));
+    }
+}
+
+fn refuses_every_call_with_1(mut shard: Shard) {
     let before = shard.clone();
     let commit = ConsensusMessage { msg: ConsensusMsg::Commit { slot: 0, v: 1 }, src: 0, last_v: None };
     let calls =
@@ -213,6 +227,13 @@ fn an_unmade_shard_refuses_every_call_with_1() {
         assert_eq!(shard.call(call).outcome, Err(Refusal::SettingsOutsideLimits));
     }
     assert_eq!(shard, before);
+}
+
+#[test]
+fn an_unmade_shard_refuses_every_call_with_1() {
+    refuses_every_call_with_1(member(65, 0, PFModeSetting::Paxos));
+    let settings = Settings::all_live(5, 0, PFModeSetting::Paxos);
+    refuses_every_call_with_1(Shard::new(&GroupSettings::new(settings, LAST_SLOT + 1)));
 }
 
 #[test]
@@ -251,7 +272,7 @@ fn the_other_numbers_of_document_01() {
 
     let without_2 = Settings { alive_replicas: 0b11011, ..Settings::all_live(5, 1, PFModeSetting::Paxos) };
     let from_2 = prepare(0, round(0, 2), not_accepted(7));
-    assert_eq!(heard(&mut Shard::new(&without_2), 2, from_2), Err(7));
+    assert_eq!(heard(&mut begun(&without_2), 2, from_2), Err(7));
 
     let mut proposer = member(7, 0, PFModeSetting::EPaxos);
     proposer.propose(10);

@@ -1,11 +1,12 @@
-//! The flat forms of this crate have the fields of crates/flat, of crates/host and of the C header, in the same order and of the same types. All are numbers and
-//! `#[repr(C)]`, and so equal fields are equal sizes and offsets. The two calls in place have the rows of the source and of the header, in the same
-//! order, and so have the functions of a register and of lists.
+//! The flat forms of this crate have the fields of crates/flat, of crates/group_settings, of crates/host and of the C header, in the same order and of the
+//! same types. All are numbers and `#[repr(C)]`, and so equal fields are equal sizes and offsets. The two calls in place have the rows of the source and of
+//! the header, in the same order, and so have the functions of a register and of lists.
 
 use std::collections::BTreeMap;
 
 const MIRROR: &str = include_str!("../src/sys.rs");
 const FLAT: &str = include_str!("../../../crates/flat/src/lib.rt");
+const GROUP_SETTINGS: &str = include_str!("../../../crates/group_settings/src/lib.rt");
 const HOST: &str = include_str!("../../../crates/host/src/lib.rt");
 const DIRECT: &str = include_str!("../../../crates/direct/src/lib.rt");
 const DIRECT_FAST: &str = include_str!("../../../crates/direct_fast/src/lib.rt");
@@ -15,6 +16,7 @@ const HEADER: &str = include_str!("../../../crates/host/include/chanbook_shard.h
 
 const PLANNING_MIRROR: &str = include_str!("../src/planning_sys.rs");
 const PLANNING_HOST: &str = include_str!("../../../crates/planning_host/src/lib.rt");
+const POSITION_ARRAYS: &str = include_str!("../../../crates/position_arrays/src/lib.rt");
 const REGISTER: &str = include_str!("../../../crates/register/src/lib.rt");
 const PLANNING_HEADER: &str = include_str!("../../../crates/planning_host/include/chanbook_planning.h");
 
@@ -51,6 +53,7 @@ fn field_in_c(name: &str, line: &str) -> String {
     let of = match of {
         "uint64_t" => "u64".to_string(),
         "uint16_t" => "u16".to_string(),
+        "int64_t" => "i64".to_string(),
         other => flat_of(other),
     };
     match field.trim_end_matches(']').split_once('[') {
@@ -113,6 +116,7 @@ fn by_struct(fields: Vec<String>) -> BTreeMap<String, Vec<String>> {
 #[test]
 fn the_flat_forms_are_those_of_the_source() {
     let mut source = fields_in_rust(FLAT);
+    source.extend(fields_in_rust(GROUP_SETTINGS));
     source.extend(fields_in_rust(HOST));
     assert!(source.contains(&"FlatReply.served_count: u64".to_string()), "read to the last one");
     assert_eq!(by_struct(fields_in_rust(MIRROR)), by_struct(source));
@@ -128,24 +132,36 @@ fn the_planning_forms_are_those_of_the_source_and_of_the_header() {
     let mirror = fields_in_rust(PLANNING_MIRROR);
     let value = ["FlatValue.refusal: u64", "FlatValue.value: u64"];
     let columns = ["carriers: [u64; 512]", "widths: [u64; 512]", "figures: [u64; 5]"];
-    let fields = |name: &str, cells: &str| [vec![cells], columns.to_vec()].concat().iter().map(|field| format!("{name}.{field}")).collect::<Vec<_>>();
+    let fields = |name: &str, cells: &str| {
+        [vec![cells], columns.to_vec()].concat().iter().map(|field| format!("{name}.{field}")).collect::<Vec<_>>()
+    };
     assert_eq!(mirror[..2], value);
+    // the settings stand last, so that the four arrays of a register stored before E13 are the beginning of this one
     assert_eq!(mirror[2..6], fields("FlatRegister", "cells: [u64; 512]"));
-    assert_eq!(mirror[6..10], fields("FlatStoredRegister", "cells: [u16; 512]"));
+    assert_eq!(mirror[6], "FlatRegister.settings: [u64; 2]");
+    assert_eq!(mirror[7..11], fields("FlatStoredRegister", "cells: [u16; 512]"));
     let fed = ["FlatFed.refusal: u64", "FlatFed.slot: u64", "FlatFed.number: u64"];
-    assert_eq!(mirror[10..], fed);
+    assert_eq!(mirror[11..14], fed);
+    let position = ["FlatPosition.given: u64", "FlatPosition.x: i64", "FlatPosition.y: i64"];
+    assert_eq!(mirror[14..], position);
     assert_eq!(fields_in_c(PLANNING_HEADER), mirror);
+    assert!(fields_in_rust(POSITION_ARRAYS).iter().map(|field| field.replace("CellPosition", "FlatPosition")).take(3).eq(position));
     assert_eq!(fields_in_rust(PLANNING_HOST), [value.as_slice(), &fed].concat(), "a register's arrays are lent one by one");
 }
 
-/// `cells: &mut [u64; 512]` for `uint64_t cells[512]`, and `slot: u64` for `uint64_t slot`.
+/// `cells: &mut [u64; 512]` for `uint64_t cells[512]`, `slot: u64` for `uint64_t slot`, and the settings of a group.
 fn argument_in_c(argument: &str) -> String {
+    if let Some(name) = argument.strip_prefix("struct chanbook_group_settings ") {
+        return format!("{name}: FlatGroupSettings");
+    }
     let (kind, rest) = argument.strip_prefix("const ").map_or(("&mut ", argument), |rest| ("&", rest));
-    let (of, declared) = rest.split_once(' ').expect("a type and a name");
+    let (of, declared) = rest.rsplit_once(' ').expect("a type and a name");
     let of = match of {
         "uint64_t" => "u64",
         "uint16_t" => "u16",
         "uint8_t" => "u8",
+        "int64_t" => "i64",
+        "struct chanbook_position" => "FlatPosition",
         "chanbook_cell_number" => "CellNumber",
         other => panic!("{other}"),
     };
@@ -157,13 +173,16 @@ fn argument_in_c(argument: &str) -> String {
 
 #[test]
 fn the_functions_of_a_register_are_those_of_the_source_and_of_the_header() {
-    let functions = [("chanbook_register_new", 4), ("chanbook_register_entry", 9), ("chanbook_register_report", 2), ("chanbook_register_widened", 8)];
-    for (function, count) in functions {
+    let functions =
+        [("chanbook_register_new", 6), ("chanbook_register_entry", 10), ("chanbook_register_report", 3), ("chanbook_register_widened", 10)];
+    let placed = [("chanbook_positions_new", 1), ("chanbook_placed_entry", 13), ("chanbook_conflicts", 12), ("chanbook_first_free", 12)];
+    for (function, count) in functions.into_iter().chain(placed) {
         let mirror = arguments(PLANNING_MIRROR, &format!("fn {function}("));
         assert_eq!(mirror.len(), count, "{function}");
         let header = arguments(PLANNING_HEADER, &format!(" {function}("));
         assert_eq!(header.into_iter().map(argument_in_c).collect::<Vec<_>>(), mirror);
-        assert_eq!(arguments(PLANNING_HOST, &format!("fn {function}(")), mirror);
+        let source = arguments(PLANNING_HOST, &format!("fn {function}("));
+        assert_eq!(source.iter().map(|argument| argument.replace("CellPosition", "FlatPosition")).collect::<Vec<_>>(), mirror);
     }
 }
 
@@ -191,7 +210,7 @@ fn lent_in_c(argument: &str) -> String {
 
 #[test]
 fn the_functions_of_lists_are_those_of_the_source_and_of_the_header() {
-    for (function, count) in [("chanbook_join", 12), ("chanbook_feed", 16)] {
+    for (function, count) in [("chanbook_join", 12), ("chanbook_feed", 17)] {
         let mirror = arguments(PLANNING_MIRROR, &format!("fn {function}("));
         let types: Vec<_> = mirror.iter().map(|argument| argument.split_once(": ").expect("a type").1.to_string()).collect();
         assert_eq!(types.len(), count, "{function}");

@@ -4,14 +4,14 @@ mod model;
 mod numbers;
 mod support;
 
+use chanbook_shard::catch_up::{CommitList, ListRefusal};
 use chanbook_shard::planning_sys::{self as sys, FlatRegister};
-use chanbook_shard::register::{Applied, Assignment, Cell, CellEntry, CellNumber, Change, EntryRefusal, Register};
-use model::Model;
+use chanbook_shard::register::{Applied, Assignment, Cell, CellEntry, CellNumber, Change, EntryRefusal, Figures, Register, StoredRegister};
+use chanbook_shard::{GroupSettings, LAST_SLOT, Settings};
+use model::{Model, group};
 use numbers::any_number;
 use std::collections::BTreeMap;
 use support::Random;
-
-const LAST_SLOT: u64 = (1 << 63) - 2;
 
 /// An entry as numbers: a kind that is neither 1 nor 2 may stand in it.
 #[derive(Clone, Copy, Debug)]
@@ -51,10 +51,15 @@ fn apply(register: &mut Register, entry: Numbers) -> u64 {
     }
     let Numbers { slot, kind, cell, carrier, width } = entry;
     let mut flat = Box::new(*register.flat());
-    let FlatRegister { cells, carriers, widths, figures } = &mut *flat;
-    let number = sys::chanbook_register_entry(cells, carriers, widths, figures, slot, kind, cell, carrier, width);
+    let FlatRegister { settings, cells, carriers, widths, figures } = &mut *flat;
+    let number = sys::chanbook_register_entry(settings, cells, carriers, widths, figures, slot, kind, cell, carrier, width);
     *register = Register::from_flat(flat);
     number
+}
+
+/// The live cells of a register that is made.
+fn cells(register: &Register) -> impl Iterator<Item = Cell> {
+    register.cells().expect("made")
 }
 
 /// The entry on both sides: number, next slot, figures, cells and report are the same.
@@ -65,12 +70,12 @@ fn apply_both(register: &mut Register, model: &mut Model, entry: Numbers) -> u64
         None => model.apply_unknown(entry.slot),
     };
     assert_eq!(number, expected, "{entry:?}");
-    assert_eq!(register.next_slot(), model.last_seen.map_or(0, |last| last + 1), "{entry:?}");
+    assert_eq!(register.next_slot(), Ok(model.last_seen.map_or(0, |last| last + 1)), "{entry:?}");
     let figures = model.figures();
-    assert_eq!(register.figures(), figures, "{entry:?}");
+    assert_eq!(register.figures(), Ok(figures), "{entry:?}");
     assert_eq!(figures.made, figures.superseded + figures.released + figures.live);
     let live = model.live.iter().map(|(&number, &assignment)| Cell { number, assignment });
-    assert!(register.cells().eq(live), "{entry:?}");
+    assert!(cells(register).eq(live), "{entry:?}");
     let line = [figures.made, figures.superseded, figures.released, figures.live].map(|figure| figure.to_string()).join(",");
     assert_eq!(register.report(), format!("made,superseded,released,live\r\n{line}\r\n"), "{entry:?}");
     number
@@ -113,10 +118,15 @@ type Numbered = BTreeMap<u64, usize>;
 
 /// Random entries from a new register on, each compared.
 fn beside_the_model(seed: u64, cells: u64, releases: usize, entries: usize) -> Numbered {
+    from_a_slot(LAST_SLOT, seed, cells, releases, entries)
+}
+
+/// The same, with widths in whole MHz from a slot on.
+fn from_a_slot(slot: u64, seed: u64, cells: u64, releases: usize, entries: usize) -> Numbered {
     let (mut random, mut numbered) = (Random(seed), Numbered::new());
-    let (mut register, mut model) = (Register::new(), Model::default());
+    let (mut register, mut model) = (Register::new(&group(slot)), Model::new(slot));
     for _ in 0..entries {
-        let next = some_entry(&mut random, register.next_slot(), cells, releases);
+        let next = some_entry(&mut random, register.next_slot().expect("made"), cells, releases);
         *numbered.entry(apply_both(&mut register, &mut model, next)).or_default() += 1;
     }
     numbered
@@ -146,13 +156,56 @@ fn cells_that_come_and_go_as_the_model() {
     assert!([0, 2, 14, 16, 64].iter().all(|number| numbered[number] > 1_000), "{numbered:?}");
 }
 
+/// Widths of every kind from slot 20,000 on: the odd ones are refused, and what stands there from before stays until its cell is assigned again or released.
+#[test]
+fn odd_widths_end_as_the_model() {
+    let numbered = from_a_slot(20_000, 7, 700, 8, 60_000);
+    assert!([0, 2, 14, 16, 23, 64].iter().all(|number| numbered[number] > 500), "{numbered:?}");
+}
+
+#[test]
+fn widths_about_the_slot() {
+    for named in [0, 1, 7, LAST_SLOT] {
+        for width in [1, 999, 1_000, 1_001, 1_500, 399_999, 400_000] {
+            let (mut register, mut model) = (Register::new(&group(named)), Model::new(named));
+            for slot in [named.saturating_sub(1), named, named + 1] {
+                apply_both(&mut register, &mut model, Numbers { slot, kind: 1, cell: 7, carrier: 1, width });
+            }
+        }
+    }
+}
+
+/// Every call gives 1, and no number changes.
+#[test]
+fn a_register_that_is_not_made() {
+    let outside = GroupSettings { settings: Settings { my_pid: 3, ..group(5).settings }, ..group(5) };
+    for settings in [group(LAST_SLOT + 1), group(u64::MAX), outside] {
+        let mut register = Register::new(&settings);
+        assert_eq!(register.made(), Err(EntryRefusal::Unmade));
+        let before = register.clone();
+        for (slot, kind) in [(0, 1), (0, 2), (0, 3), (u64::MAX, 1)] {
+            assert_eq!(apply(&mut register, Numbers { slot, kind, cell: 7, carrier: u64::MAX, width: 1 }), 1);
+        }
+        assert_eq!(register.feed(&CommitList::default(), |_| (7, Change::Release)), Err(ListRefusal::Unmade));
+        assert_eq!(register, before);
+        let stored = StoredRegister { cells: [7; 512], carriers: [7; 512], widths: [7; 512], figures: [7; 5] };
+        for unmade in [register, Register::from_stored(&stored, &settings)] {
+            assert_eq!(unmade.made(), Err(EntryRefusal::Unmade));
+            assert_eq!(unmade.report(), "refused,1\r\n");
+            assert_eq!((unmade.figures(), unmade.next_slot()), (Err(EntryRefusal::Unmade), Err(EntryRefusal::Unmade)));
+            assert_eq!(unmade.cells().err(), Some(EntryRefusal::Unmade));
+        }
+    }
+    assert_eq!(Register::new(&group(LAST_SLOT)).made(), Ok(()));
+}
+
 #[test]
 fn the_last_slot_is_taken_and_none_after_it() {
-    let (mut register, mut model) = (Register::new(), Model::default());
+    let (mut register, mut model) = (Register::new(&group(LAST_SLOT)), Model::new(LAST_SLOT));
     for slot in [LAST_SLOT - 1, LAST_SLOT + 1, LAST_SLOT, LAST_SLOT, LAST_SLOT + 1, u64::MAX, 0] {
-        apply_both(&mut register, &mut model, Numbers { slot, kind: 1, cell: 7, carrier: 1, width: 1 });
+        apply_both(&mut register, &mut model, Numbers { slot, kind: 1, cell: 7, carrier: 1, width: 1_000 });
     }
-    assert_eq!((register.next_slot(), register.figures().made), (LAST_SLOT + 1, 2));
+    assert_eq!((register.next_slot(), register.figures().map(|figures| figures.made)), (Ok(LAST_SLOT + 1), Ok(2)));
 }
 
 /// The one office gets the entries in slot order, the other also repeats of their slots between them, with the same or another entry: all numbers of the
@@ -160,7 +213,7 @@ fn the_last_slot_is_taken_and_none_after_it() {
 #[test]
 fn equal_entries_equal_registers() {
     let mut random = Random(5);
-    let (mut one, mut other) = (Register::new(), Register::new());
+    let (mut one, mut other) = (Register::new(&group(9_000)), Register::new(&group(9_000)));
     let mut given: Vec<Numbers> = vec![];
     for _ in 0..20_000 {
         while !given.is_empty() && random.below(3) != 0 {
@@ -168,7 +221,7 @@ fn equal_entries_equal_registers() {
             let another = some_entry(&mut random, 0, 700, 6);
             assert_eq!(apply(&mut other, Numbers { slot: again.slot, ..if random.below(2) == 0 { again } else { another } }), 64);
         }
-        let next = Numbers { slot: one.next_slot() + random.next() % 3, ..some_entry(&mut random, 0, 700, 6) };
+        let next = Numbers { slot: one.next_slot().expect("made") + random.next() % 3, ..some_entry(&mut random, 0, 700, 6) };
         assert_eq!(apply(&mut one, next), apply(&mut other, next));
         assert_eq!(one, other);
         given.push(next);
@@ -182,7 +235,8 @@ fn any_register(random: &mut Random) -> FlatRegister {
         figures[sys::LIVE] = [0, 1, 511, 512, 513][random.below(5)];
     }
     let mut row = || std::array::from_fn(|_| any_number(random));
-    FlatRegister { cells: row(), carriers: row(), widths: row(), figures }
+    let settings = [[0, 0, 0, 1][(figures[sys::MADE] % 4) as usize], figures[sys::RELEASED]];
+    FlatRegister { cells: row(), carriers: row(), widths: row(), figures, settings }
 }
 
 #[test]
@@ -197,20 +251,22 @@ fn registers_of_any_numbers_give_an_answer() {
         let mut seen = flat;
         seen.figures[sys::NEXT_SLOT] = next.slot.saturating_add(1);
         match number {
-            0 => assert_eq!(register.next_slot(), next.slot + 1),
-            2 | 64 => assert_eq!(*register.flat(), flat, "{next:?}"),
-            14..=16 => assert_eq!(*register.flat(), seen, "{next:?}"),
+            0 => assert_eq!(register.next_slot(), Ok(next.slot + 1)),
+            1 | 2 | 64 => assert_eq!(*register.flat(), flat, "{next:?}"),
+            14..=16 | 23 => assert_eq!(*register.flat(), seen, "{next:?}"),
             _ => panic!("{number} for {next:?}"),
         }
-        let live = register.figures().live;
-        assert!(live <= 512 && register.cells().count() as u64 <= live);
+        match (register.figures(), register.cells()) {
+            (Ok(Figures { live, .. }), Ok(cells)) => assert!(live <= 512 && cells.count() as u64 <= live),
+            (figures, cells) => assert!(number == 1 && figures.is_err() && cells.is_err()),
+        }
         assert!(register.report().is_ascii());
     }
 }
 
 /// Cells 0 to 511 are live.
 fn full() -> Register {
-    let mut register = Register::new();
+    let mut register = Register::new(&group(LAST_SLOT));
     for cell in 0..512 {
         apply(&mut register, Numbers { slot: cell, kind: 1, cell: cell as CellNumber, carrier: cell, width: 1 });
     }
@@ -227,7 +283,7 @@ fn a_damaged_count_above_512_stands_for_512() {
             let next = Numbers { slot: 512, kind, cell, carrier: 7, width: 7 };
             let (mut one, mut other) = (sound.clone(), Register::from_flat(Box::new(damaged)));
             assert_eq!(apply(&mut one, next), apply(&mut other, next), "{count} {next:?}");
-            assert!(one.figures() == other.figures() && one.cells().eq(other.cells()), "{count} {next:?}");
+            assert!(one.figures() == other.figures() && cells(&one).eq(cells(&other)), "{count} {next:?}");
             assert_eq!(one.report(), other.report());
         }
     }

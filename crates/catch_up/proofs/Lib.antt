@@ -2,7 +2,7 @@
 mod Loops
 mod Answers
 pub mod Deciding
-mod Indices
+pub mod Indices
 mod Ordered
 mod Alike
 pub mod Exact

@@ -9,10 +9,9 @@ use Prim.Native.Nat.{ℕ, zero, suc, ◌+◌, ◌≤◌, ◌<◌}
 use native.Mathlib.Omega.{arith}
 use lib.Dec.{ltb, leb}
 use lib.ListN.{length}
-use borrow.Author.Tests.{lt-ltb, le-ltb, ltb-true, ltb-false}
+use borrow.Author.Tests.{le-ltb, ltb-true, ltb-false}
 use Rattle.basics.proofs.Tests.{either, of-both}
 use Rattle.settings.specs.declared.Settings.{Settings}
-use Rattle.register.specs.History.{register_after, apply_all}
 use Rattle.register.specs.Cells.{is_live_cell}
 use Rattle.register.specs.Register.{live_places, live_cells, assignable, apply, apply_change, assign, release}
 use Rattle.register.specs.declared.Applied.{Applied}
@@ -20,6 +19,14 @@ use Rattle.register.specs.declared.CellEntry.{CellEntry}
 use Rattle.register.specs.declared.Change.{Change}
 use Rattle.register.specs.declared.Change.TheVariants.{Assign, Release}
 use Rattle.register.specs.declared.Register.{Register}
+use Rattle.group_register.specs.Settings.{is_made}
+use Rattle.group_register.specs.GroupHistory.{group_after, apply_all_in_group}
+use Rattle.group_register.specs.GroupRegister.{apply_in_group}
+use Rattle.group_register.specs.declared.GroupApplied.{GroupApplied}
+use Rattle.group_register.specs.declared.GroupRegister.{GroupRegister}
+use Rattle.group_register.specs.declared.RegisterSettings.{RegisterSettings}
+use Rattle.group_register.proofs.Mapped.{bound_entry, bound_slot}
+use Rattle.group_register.proofs.GroupLaws.{applied_made, entry_mapped, older_applied, settings_after}
 use Rattle.group.specs.Claim.{MemberCall, Entry, entries, Legal, slot_at, CommitAt, Claim, NotSwift}
 use Rattle.group.proofs.Agreement.{agreement}
 use Rattle.feeding.specs.Feeding.{FedList, entries_from, entries_in, Feeding, feeding}
@@ -40,15 +47,27 @@ module _ (r : Register) (slot : ℕ) (at : r.next_slot ≡ slot) where
   change_next (Assign a) cell = of-both Next (not (assignable a)) at (of-both Next (is_live_cell cell (live_cells r)) at (of-both Next (leb 512 (live_places r)) at at))
   change_next Release cell = of-both Next (is_live_cell cell (live_cells r)) at at
 
-entry_next : (r : Register) (e : CellEntry) → e.slot ≤ 9223372036854775806 → r.next_slot ≤ e.slot → (apply r e).register.next_slot ≡ e.slot + 1
+register_next : (r : Register) (e : CellEntry) → e.slot ≤ 9223372036854775806 → r.next_slot ≤ e.slot → (apply r e).register.next_slot ≡ e.slot + 1
 unfolding apply
-entry_next r e h k = simp (le-ltb 9223372036854775806 e.slot h, le-ltb e.slot r.next_slot k) (change_next _ (e.slot + 1) refl e.change e.cell)
+register_next r e h k = simp (le-ltb 9223372036854775806 e.slot h, le-ltb e.slot r.next_slot k) (change_next _ (e.slot + 1) refl e.change e.cell)
 
-older_left : (r : Register) (e : CellEntry) → e.slot ≤ 9223372036854775806 → e.slot < r.next_slot → (apply r e).register ≡ r
-unfolding apply
-older_left r e h k = simp (le-ltb 9223372036854775806 e.slot h, lt-ltb e.slot r.next_slot k)
+module _ (g : GroupRegister) (made : is_made g.settings ≡ true) (e : CellEntry) (h : e.slot ≤ 9223372036854775806) where
+  entry_next : g.register.next_slot ≤ e.slot → (apply_in_group g e).group.register.next_slot ≡ e.slot + 1
+  entry_next k =
+      let bound = bound_entry g.settings.whole_mhz_from e in
+      let same = bound_slot g.settings.whole_mhz_from e in
+      ap (λ (a : GroupApplied). a.group.register.next_slot) (applied_made g.settings made g.register e)
+      ∙ ap (λ (x : GroupRegister). x.register.next_slot) (entry_mapped g.settings g.register e)
+      ∙ register_next g.register bound (omega (arith, same)) (omega (arith, same))
+      ∙ ap (λ (n : ℕ). n + 1) same
 
-module _ (says : ℕ → CellChange) (run : List Entry) (claim : Claim run) where
+  older_left : e.slot < g.register.next_slot → (apply_in_group g e).group ≡ g
+  older_left k = ap (λ (a : GroupApplied). a.group) (older_applied g.settings made g.register e h k)
+
+module _ (kept : RegisterSettings) (made : is_made kept ≡ true) (says : ℕ → CellChange) (run : List Entry) (claim : Claim run) where
+  made_after : (es : List CellEntry) → is_made (group_after kept es).settings ≡ true
+  made_after es = ap is_made (settings_after kept es) ∙ made
+
   -- the entries of the slots below k, latest first, each of a commit of the run
   abbrev Below : ℕ → List CellEntry → Type 0
   Below k [] = k ≡ 0
@@ -72,14 +91,14 @@ module _ (says : ℕ → CellChange) (run : List Entry) (claim : Claim run) wher
       let l = latest_commit says run claim member k past u h in
       subst (Below (suc k)) (sym l.is) (k, l.value, refl, refl, l.commit, member_below k member l.before l.up_to l.slot)
 
-  below_next : (k : ℕ) (es : List CellEntry) → k ≤ 9223372036854775807 → Below k es → (register_after es).next_slot ≡ k
-  unfolding register_after
+  below_next : (k : ℕ) (es : List CellEntry) → k ≤ 9223372036854775807 → Below k es → (group_after kept es).register.next_slot ≡ k
+  unfolding group_after
   below_next k [] h b = sym b
   below_next k (e ∷ es) h b =
       let s = b.2 in
       let before = below_next b.0 es (omega arith) b.5 in
       let slot : e.slot ≡ b.0 = ap (λ (x : CellEntry). x.slot) b.3 in
-      entry_next (register_after es) e (omega arith) (omega arith) ∙ omega arith
+      entry_next (group_after kept es) (made_after es) e (omega arith) (omega arith) ∙ omega arith
 
   -- consecutive entries of commits of the run, from slot b on
   abbrev pub FromSlot : ℕ → List CellEntry → Type 0
@@ -87,8 +106,8 @@ module _ (says : ℕ → CellChange) (run : List Entry) (claim : Claim run) wher
   FromSlot b (e ∷ es) = ((v : ℕ) × (e ≡ entry_for_commit says b v) × CommitAt b v run) × FromSlot (b + 1) es
 
   fed_below : (fed : List CellEntry) (b n k : ℕ) (es : List CellEntry) → FromSlot b fed → Below n es → b ≤ n → n ≤ k → b + length fed ≡ k → k ≤ 9223372036854775807
-      → (fs : List CellEntry) × Below k fs × (apply_all (register_after es) fed ≡ register_after fs)
-  unfolding apply_all register_after
+      → (fs : List CellEntry) × Below k fs × (apply_all_in_group (group_after kept es) fed ≡ group_after kept fs)
+  unfolding apply_all_in_group group_after
   fed_below [] b n k es from below h j e lim =
       let same : n ≡ k = omega arith in
       (es, subst (λ (m : ℕ). Below m es) same below, refl)
@@ -98,20 +117,20 @@ module _ (says : ℕ → CellChange) (run : List Entry) (claim : Claim run) wher
       fed_below fed (b + 1) (suc b) k (x ∷ es) from.1 (b, from.0.0, refl, from.0.1, from.0.2, subst (λ (m : ℕ). Below m es) same below) (omega arith)
       (omega arith) (omega arith) lim)
     where
-      Ends : Register → Type 0
-      Ends r = (fs : List CellEntry) × Below k fs × (apply_all r fed ≡ register_after fs)
+      Ends : GroupRegister → Type 0
+      Ends g = (fs : List CellEntry) × Below k fs × (apply_all_in_group g fed ≡ group_after kept fs)
 
-      next : (register_after es).next_slot ≡ n
+      next : (group_after kept es).register.next_slot ≡ n
       next = below_next n es (omega arith) below
 
       slot : x.slot ≡ b
       slot = ap (λ (y : CellEntry). y.slot) from.0.1
 
-      go : (ltb b n ≡ true) ⊎ (ltb b n ≡ false) → (b < n → Ends (register_after es)) → (n ≡ b → Ends (register_after (x ∷ es)))
-          → Ends (apply (register_after es) x).register
+      go : (ltb b n ≡ true) ⊎ (ltb b n ≡ false) → (b < n → Ends (group_after kept es)) → (n ≡ b → Ends (group_after kept (x ∷ es)))
+          → Ends (apply_in_group (group_after kept es) x).group
       go (inl t) older later =
           let less = ltb-true b n t in
-          let same = older_left (register_after es) x (omega (arith, slot)) (omega (arith, slot, next)) in
+          let same = older_left (group_after kept es) (made_after es) x (omega (arith, slot)) (omega (arith, slot, next)) in
           subst Ends (sym same) (older less)
       go (inr t) older later = let more = ltb-false b n t in later (omega arith)
 
@@ -129,22 +148,28 @@ module _ (says : ℕ → CellChange) (run : List Entry) (claim : Claim run) wher
 
 -- ---- the law
 
-module _ (s : Settings) (mode : NotSwift s.mode) (cs : List MemberCall) (legal : Legal s cs) (says : ℕ → CellChange) (i j : ℕ) (p q : List Entry)
-    (up-to-p : UpTo p (entries s cs)) (up-to-q : UpTo q (entries s cs)) where
+module _ (s : Settings) (mode : NotSwift s.mode) (cs : List MemberCall) (legal : Legal s cs) (kept : RegisterSettings) (says : ℕ → CellChange) (i j : ℕ)
+    (p q : List Entry) (up-to-p : UpTo p (entries s cs)) (up-to-q : UpTo q (entries s cs)) where
   -- Office i, which was away since moment p, feeds a list that begins no later than its next slot; another office j is at the slot where the list ends.
   pub holds_what_others_hold : (l : FedList) (b : ℕ) → ((k : ℕ) → k < length l.slots → FedFromRun says (entries s cs) l b k)
       → b ≤ slot_at i p → slot_at i p ≤ slot_at j q → b + length l.slots ≡ slot_at j q → slot_at j q ≤ 9223372036854775807
-      → (first : Option FirstRefused) → (feeding (register_of_member says i p) l).answer ≡ Ok first
-      → (feeding (register_of_member says i p) l).register ≡ register_of_member says j q
+      → (first : Option FirstRefused) → (feeding (register_of_member kept says i p) l).answer ≡ Ok first
+      → (feeding (register_of_member kept says i p) l).group ≡ register_of_member kept says j q
   holds_what_others_hold l b rows h more ends lim first said =
       let claim = agreement s mode cs legal in
+      let told = fed_as_said (register_of_member kept says i p) l first said in
+      let made : is_made kept ≡ true = sym (ap is_made (settings_after kept (entries_for says i p))) ∙ told.0 in
       let n = length l.slots in
       let zero-first : b + 0 ≡ b = omega arith in
-      let from = subst (λ (m : ℕ). FromSlot says (entries s cs) claim m (entries_in l)) zero-first (rows_from says (entries s cs) claim l b 0 n (λ k h. rows k (omega arith))) in
-      let all = rows_count says (entries s cs) claim l 0 n in
-      let own = member_below says (entries s cs) claim (slot_at i p) i p up-to-p refl in
-      let fed = fed_below says (entries s cs) claim (entries_in l) b (slot_at i p) (slot_at j q) (entries_for says i p) from own h more (omega (arith, all, ends)) lim in
-      let others = member_below says (entries s cs) claim (slot_at j q) j q up-to-q refl in
-      ap (λ (f : Feeding). f.register) (fed_as_said (register_of_member says i p) l first said)
-      ∙ fed_one_by_one (unfed (register_of_member says i p)) (entries_in l)
-      ∙ fed.2 ∙ ap register_after (one_below says (entries s cs) claim (slot_at j q) fed.0 (entries_for says j q) fed.1 others)
+      let from =
+      subst (λ (m : ℕ). FromSlot kept made says (entries s cs) claim m (entries_in l)) zero-first
+      (rows_from kept made says (entries s cs) claim l b 0 n (λ k h. rows k (omega arith))) in
+      let all = rows_count kept made says (entries s cs) claim l 0 n in
+      let own = member_below kept made says (entries s cs) claim (slot_at i p) i p up-to-p refl in
+      let fed =
+      fed_below kept made says (entries s cs) claim (entries_in l) b (slot_at i p) (slot_at j q) (entries_for says i p) from own h more
+      (omega (arith, all, ends)) lim in
+      let others = member_below kept made says (entries s cs) claim (slot_at j q) j q up-to-q refl in
+      ap (λ (f : Feeding). f.group) told.1
+      ∙ fed_one_by_one (unfed (register_of_member kept says i p)) (entries_in l)
+      ∙ fed.2 ∙ ap (group_after kept) (one_below kept made says (entries s cs) claim (slot_at j q) fed.0 (entries_for says j q) fed.1 others)

@@ -2,3 +2,5 @@
 pub mod Runs
 pub mod RunExample
 pub mod CatchUp
+pub mod JoinedFed
+pub mod CatchUpExample

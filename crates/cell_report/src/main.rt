@@ -1,19 +1,20 @@
-// The report of the entry lines on standard input, as CSV (document 02, E6; docs/PLANNING.md). It is printed when the input ends. A line that is no
-// entry line settles the answer, `refused,1`; so does one of more than 1,048,576 bytes, and a read that fails, since entries may then be missing.
+// The report of the entry lines on standard input, as CSV (document 02, E6; docs/PLANNING.md). It is printed when the input ends. Before the entry lines
+// a line `register SLOT` may stand (E13). Any other line settles the answer, `refused,1`; so does one of more than 1,048,576 bytes, and a read that
+// fails, since entries may then be missing.
 #![tactic(auto)]
 
 ghost use Rattle.std.specs.Prelude.{◌≡◌, is_some, None};
 ghost use Rattle.register_lines.specs.Reports.{take_line};
 
 use line_blocks::LineTaker;
-use register::Register;
+use register_lines::LinesTaken;
 use std::io::Read;
 use texts::Output;
 
-// The register after the lines so far, where each was an entry line. Nothing is put while lines are taken.
+// The register after the lines so far, where none refuses the input. Nothing is put while lines are taken.
 #[derive(Clone, Copy)]
 struct Entries {
-    taken: Option<Register>,
+    taken: Option<LinesTaken>,
 }
 
 impl LineTaker for Entries {
@@ -51,12 +52,12 @@ impl<R: Read + Drop> Read for Watched<R> {
     }
 }
 
-// The register after the lines of the input, where each was an entry line and none is missing. The input buffer has room for the longest line and its LF.
+// The register after the lines of the input, where none refuses it and none is missing. The input buffer has room for the longest line and its LF.
 fn take_entries<R: Read + Drop>(
     reader: R,
     input_bytes: &mut [u8; 1048577],
     nothing: &mut [u8],
-) -> Option<Register> {
+) -> Option<LinesTaken> {
     let input: &mut [u8] = input_bytes;
     let mut watched = Watched {
         reader,
@@ -64,7 +65,7 @@ fn take_entries<R: Read + Drop>(
     };
     let mut out = Output::new(nothing);
     let mut entries = Entries {
-        taken: Some(Register::new()),
+        taken: register_lines::no_lines(),
     };
     line_blocks::take_input(&mut watched, input, &mut entries, &mut out);
     if watched.failed {
@@ -73,7 +74,7 @@ fn take_entries<R: Read + Drop>(
     entries.taken
 }
 
-fn write_report(taken: Option<Register>) {
+fn write_report(taken: Option<LinesTaken>) {
     let page = register_lines::page_after(taken);
     let bytes = page.bytes;
     let len = page.len;

@@ -11,7 +11,7 @@ use lib.Dec.{eqb, leb}
 use borrow.Author.Tests.{eqb-true}
 use Rattle.basics.proofs.Tests.{either, not_both}
 use Rattle.array_reads.specs.Rows.{open_rows, served_rows}
-use Rattle.consensus.specs.Call.{new_shard, call_of}
+use Rattle.consensus.specs.Call.{call_of}
 use Rattle.consensus.specs.declared.Answer.{Answer}
 use Rattle.consensus.specs.declared.Shard.{Shard}
 use Rattle.direct.specs.Direct.{Direct, direct}
@@ -19,8 +19,14 @@ use Rattle.direct_core.specs.Handled.{Written, put_reply, passed_on}
 use Rattle.direct_fast.specs.DirectFast.{FastDirect, fast_half_acts}
 use Rattle.fast_arrays.specs.FastArrays.{fast_of}
 use Rattle.fast_state.specs.Adopt.{lowest_best}
-use Rattle.group.specs.Claim.{member_settings, begun, ours, MemberCall, Entry, after_call, entries_from, entries, Legal, Claim, NotSwift}
-use Rattle.group.proofs.Agreement.{agreement}
+use Rattle.group.specs.Claim.{ours, MemberCall, Entry, after_call, entries_from, Claim, NotSwift}
+use Rattle.group.proofs.Ties.{lowest_picks_best}
+use Rattle.group_settings.specs.GroupSettings.{decoded_group_settings}
+use Rattle.group_settings.specs.declared.FlatGroupSettings.{FlatGroupSettings}
+use Rattle.group_settings.specs.declared.GroupSettings.{GroupSettings}
+use Rattle.group_shard.specs.Begin.{begin_shard}
+use Rattle.group_settings_runs.specs.Groups.{member_group_settings, begun_from, group_entries, GroupLegal}
+use Rattle.group_settings_runs.proofs.Agreeing.{agreement_from}
 use Rattle.host.proofs.Calls.{refusal_leaves, new_stands}
 use Rattle.host.specs.Calls.{flat_new}
 use Rattle.host.specs.Shards.{decoded_shard}
@@ -30,12 +36,10 @@ use Rattle.message.specs.Refusals.{refusal_number}
 use Rattle.message.specs.declared.Refusal.{Refusal}
 use Rattle.read_tracker.specs.declared.OpenRead.{OpenRead}
 use Rattle.read_tracker.specs.declared.ServedRead.{ServedRead}
-use Rattle.settings.specs.declared.Settings.{Settings}
-use Rattle.flat.specs.Decode.{decoded_open, decoded_served, decoded_settings}
+use Rattle.flat.specs.Decode.{decoded_open, decoded_served}
 use Rattle.flat.specs.declared.FlatCall.{FlatCall}
 use Rattle.flat.specs.declared.FlatOpenRead.{FlatOpenRead}
 use Rattle.flat.specs.declared.FlatServedRead.{FlatServedRead}
-use Rattle.flat.specs.declared.FlatSettings.{FlatSettings}
 use Rattle.direct_calls.specs.Stands.{Stands}
 use Rattle.direct_calls.specs.FastStands.{FastStands}
 use Rattle.direct_calls.specs.Runs.{Memory, shard_of, call_in, HostAnswer, left_by, left_by_fast, by_direct, by_fast, host_call, Told, HostCall, memories_after, calls_from, ToldOf, HostRun, open_numbers, served_numbers, memory_of}
@@ -142,12 +146,16 @@ host_run shards memories same past (c ∷ cs) = (
   host_run (after_call lowest_best shards (member_call shards memories same c)) (memories_after memories c) (next_same shards memories same c) _ cs,
 )
 
--- Demand 3 of hosts that lend arrays: what they are told over a legal list, on memory that stands for new shards, meets the claim.
-pub host_agreement : (s : Settings) → NotSwift s.mode → (memories : ℕ → Memory) → ((j : ℕ) → shard_of (memories j) ≡ begun s j) → (cs : List HostCall)
-    → Legal s (calls_from memories cs) → (all : List Entry) × HostRun memories [] cs all × Claim all
-host_agreement s claimed memories new cs legal =
-    (entries s (calls_from memories cs), host_run (begun s) memories new [] cs, agreement s claimed (calls_from memories cs) legal)
+-- Demand 3 of hosts that lend arrays: what they are told over a legal list, on memory that stands for shards begun from group settings, meets the claim.
+pub host_agreement : (g : GroupSettings) → NotSwift g.settings.mode → (memories : ℕ → Memory) → ((j : ℕ) → shard_of (memories j) ≡ begun_from g j)
+    → (cs : List HostCall) → GroupLegal ours g (calls_from memories cs) → (all : List Entry) × HostRun memories [] cs all × Claim all
+host_agreement g claimed memories new cs legal = (
+  group_entries ours g (calls_from memories cs),
+  host_run (begun_from g) memories new [] cs,
+  agreement_from g claimed ours (λ place. lowest_picks_best) (calls_from memories cs) legal,
+)
 
 -- and so memory begins that `chanbook_shard_new` hands back
-pub host_begins : (s : Settings) (j : ℕ) (t : FlatSettings) → leb t.mode 5 ≡ true → decoded_settings t ≡ member_settings s j → shard_of (memory_of (flat_new t)) ≡ begun s j
-host_begins s j t known e = same_shard (flat_new t) ∙ new_stands t known ∙ ap new_shard e
+pub host_begins : (g : GroupSettings) (j : ℕ) (t : FlatGroupSettings) → leb t.settings.mode 5 ≡ true → decoded_group_settings t ≡ member_group_settings g j
+    → shard_of (memory_of (flat_new t)) ≡ begun_from g j
+host_begins g j t known e = same_shard (flat_new t) ∙ new_stands t known ∙ ap begin_shard e

@@ -8,7 +8,7 @@ use lib.Dec.{ltb, eqb}
 use lib.ListN.{length}
 use Rattle.std.proofs.lemmas.Bool.{or_parts}
 use borrow.Author.Tests.{eqb-true, not-false}
-use Rattle.register.specs.Register.{apply}
+use Rattle.group_register.specs.GroupRegister.{apply_in_group}
 use Rattle.feeding.specs.declared.EntryList.{EntryList}
 use Rattle.feeding.specs.Feeding.{FedList, SameLengths, fed_list, entry_in, entries_from, FedTo, fed_to, or_refused, feed_all, outside_fed}
 
@@ -16,7 +16,7 @@ use Rattle.feeding.specs.Feeding.{FedList, SameLengths, fed_list, entry_in, entr
 pub feed_next : (l : FedList) (i n : ℕ) (f : FedTo) → i < n
     → feed_all f (entries_from l i (n - i))
     ≡ feed_all
-    (fed_to (or_refused f.first (entry_in l i).slot (apply f.register (entry_in l i)).outcome) (apply f.register (entry_in l i)).register)
+    (fed_to (or_refused f.first (entry_in l i).slot (apply_in_group f.group (entry_in l i)).outcome) (apply_in_group f.group (entry_in l i)).group)
     (entries_from l (i + 1) (n - (i + 1)))
 unfolding feed_all entries_from
 feed_next l i n f h = let left : n - i ≡ suc (n - (i + 1)) = omega arith in rw left refl

@@ -2,3 +2,4 @@
 mod FeedTurns
 pub mod FeedLaws
 pub mod FeedNumbers
+pub mod FeedExamples

@@ -1,7 +1,8 @@
--- When a list is not fed (document 02, E10). This page is the statement; proofs/FeedNumbers.antt says that the call gives each number exactly here.
+-- When a list is not fed (document 02, E10). This page is the statement; proofs/FeedNumbers.antt says that a call on a
+-- register that is made gives each number exactly here.
 -- Assumes nothing.
 use Rattle.std.specs.Prelude.{◌≡◌, ◌⊎◌, ◌<◌, length, get_or}
-use Rattle.register.specs.declared.Register.{Register}
+use Rattle.group_register.specs.declared.GroupRegister.{GroupRegister}
 use Rattle.catch_up.specs.Causes.{Consecutive, TooLarge}
 use Rattle.catch_up.specs.declared.JoinRefusal.{JoinRefusal}
 use Rattle.catch_up.specs.declared.JoinRefusal.TheVariants.{NumberTooLarge, OutsideLimits, Gap, TwoValues}
@@ -19,15 +20,15 @@ OutsideFed l =
     ⊎ (Consecutive l.slots → ⊥))))))
 
 -- 19: "where it begins past that", the slot after the last one seen. 20 is none of a single list's.
-abbrev pub FeedCause : JoinRefusal → Register → FedList → Type 0
-FeedCause NumberTooLarge r l = TooLarge (commits_in l)
-FeedCause OutsideLimits r l = OutsideFed l
-FeedCause Gap r l = (0 < length l.slots) × (r.next_slot < get_or l.slots 0 0)
-FeedCause TwoValues r l = ⊥
+abbrev pub FeedCause : JoinRefusal → GroupRegister → FedList → Type 0
+FeedCause NumberTooLarge g l = TooLarge (commits_in l)
+FeedCause OutsideLimits g l = OutsideFed l
+FeedCause Gap g l = (0 < length l.slots) × (g.register.next_slot < get_or l.slots 0 0)
+FeedCause TwoValues g l = ⊥
 
 -- "in that order, after 2"
-abbrev pub NoneBeforeFeed : JoinRefusal → Register → FedList → Type 0
-NoneBeforeFeed NumberTooLarge r l = Unit {0}
-NoneBeforeFeed OutsideLimits r l = FeedCause NumberTooLarge r l → ⊥
-NoneBeforeFeed Gap r l = (FeedCause NumberTooLarge r l → ⊥) × (FeedCause OutsideLimits r l → ⊥)
-NoneBeforeFeed TwoValues r l = ⊥
+abbrev pub NoneBeforeFeed : JoinRefusal → GroupRegister → FedList → Type 0
+NoneBeforeFeed NumberTooLarge g l = Unit {0}
+NoneBeforeFeed OutsideLimits g l = FeedCause NumberTooLarge g l → ⊥
+NoneBeforeFeed Gap g l = (FeedCause NumberTooLarge g l → ⊥) × (FeedCause OutsideLimits g l → ⊥)
+NoneBeforeFeed TwoValues g l = ⊥

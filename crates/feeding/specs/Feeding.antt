@@ -1,20 +1,22 @@
--- A list of commits fed to a register (document 02, E10: "A second call feeds it to the register, with the host's entry beside each value, each taken as in
--- E6, from the slot after the last one seen (at first 0), or gives 19 and feeds nothing where it begins past that; it hands back the first refused
--- slot, if any, with its number").
+-- A list of commits fed to a register of group settings (document 02, E10: "A second call feeds it to the register, with the host's entry beside each value,
+-- each taken as in E6, from the slot after the last one seen (at first 0), or gives 19 and feeds nothing where it begins past that; it hands back the first
+-- refused slot, if any, with its number").
 -- Assumes nothing.
 use Rattle.std.specs.Prelude.{◌≡◌, Option, Some, None, Result, Ok, Err, Bool, cond, not, ◌&&◌, ◌||◌, List, [], ◌∷◌, ℕ, zero, suc, ◌+◌, ltb, eqb, length, get_or}
-use Rattle.register.specs.Register.{apply}
-use Rattle.register.specs.Refusals.{entry_refusal_number}
 use Rattle.register.specs.declared.Entered.{Entered}
-use Rattle.register.specs.declared.EntryRefusal.{EntryRefusal}
 use Rattle.register.specs.declared.CellEntry.{CellEntry}
-use Rattle.register.specs.declared.Register.{Register}
 use Rattle.register_arrays.specs.Columns.{entry_from_numbers}
-use Rattle.catch_up.specs.Causes.{CommitList}
+use Rattle.group_register.specs.Settings.{is_made}
+use Rattle.group_register.specs.GroupRegister.{group_refusal_number, apply_in_group}
+use Rattle.group_register.specs.declared.GroupRefusal.{GroupRefusal}
+use Rattle.group_register.specs.declared.GroupRegister.{GroupRegister}
+use Rattle.catch_up.specs.Causes.{CommitList, join_number}
 use Rattle.catch_up.specs.Joining.{too_large, counts_from, first_slot}
 use Rattle.catch_up.specs.declared.JoinRefusal.{JoinRefusal}
 use Rattle.catch_up.specs.declared.JoinRefusal.TheVariants.{NumberTooLarge, OutsideLimits, Gap}
 use Rattle.feeding.specs.declared.EntryList.{EntryList}
+use Rattle.feeding.specs.declared.FeedRefusal.{FeedRefusal}
+use Rattle.feeding.specs.declared.FeedRefusal.TheVariants.{Unmade, AsList}
 use Rattle.feeding.specs.declared.FirstRefused.{FirstRefused}
 
 -- ---- the list
@@ -62,30 +64,30 @@ entries_in l = entries_from l 0 (length l.slots)
 
 -- a register, and the first slot that was refused on the way to it
 pub record FedTo : Type 0 where
-  pub register : Register
+  pub group : GroupRegister
   pub first : Option FirstRefused
 
-abbrev pub fed_to : Option FirstRefused → Register → FedTo
-fed_to first r = record { register = r; first = first }
+abbrev pub fed_to : Option FirstRefused → GroupRegister → FedTo
+fed_to first g = record { group = g; first = first }
 
 -- document 02's number of a refusal: neither 0, done, nor 64, older
 abbrev pub is_refusal : ℕ → Bool
 is_refusal number = not (eqb number 0) && not (eqb number 64)
 
 -- the first that was refused, after one more
-unfoldable pub or_refused : Option FirstRefused → ℕ → Result Entered EntryRefusal → Option FirstRefused
+unfoldable pub or_refused : Option FirstRefused → ℕ → Result Entered GroupRefusal → Option FirstRefused
 or_refused None slot (Ok entered) = None
 or_refused None slot (Err why) = Some (record { slot = slot; why = why })
 or_refused (Some first) slot outcome = Some first
 
--- every entry is "taken as in E6", also those behind a refused one; what is older does nothing there
+-- every entry is "taken as in E6", from E13 on with 23 among its numbers, also those behind a refused one; what is older does nothing there
 unfoldable pub feed_all : FedTo → List CellEntry → FedTo
 feed_all f [] = f
 feed_all f (e ∷ es) =
     feed_all
     (record {
-      register = (apply f.register e).register;
-      first = or_refused f.first e.slot (apply f.register e).outcome;
+      group = (apply_in_group f.group e).group;
+      first = or_refused f.first e.slot (apply_in_group f.group e).outcome;
     })
     es
 
@@ -96,7 +98,7 @@ refused_slot (Some first) = first.slot
 
 abbrev pub refused_number : Option FirstRefused → ℕ
 refused_number None = 0
-refused_number (Some first) = entry_refusal_number first.why
+refused_number (Some first) = group_refusal_number first.why
 
 -- ---- the call
 
@@ -112,26 +114,35 @@ outside_fed l =
     || not (counts_from (first_slot l.slots) l.slots))))))
 
 -- 19: "where it begins past that"
-abbrev pub begins_past : Register → FedList → Bool
-begins_past r l = ltb 0 (length l.slots) && ltb r.next_slot (first_slot l.slots)
+abbrev pub begins_past : GroupRegister → FedList → Bool
+begins_past g l = ltb 0 (length l.slots) && ltb g.register.next_slot (first_slot l.slots)
+
+-- document 02's number: a register that is not made gives 1
+abbrev pub feed_refusal_number : FeedRefusal → ℕ
+feed_refusal_number Unmade = 1
+feed_refusal_number (AsList why) = join_number why
 
 -- the register afterwards, and the answer
 pub record Feeding : Type 0 where
-  pub register : Register
-  pub answer : Result (Option FirstRefused) JoinRefusal
+  pub group : GroupRegister
+  pub answer : Result (Option FirstRefused) FeedRefusal
 
-abbrev pub feeding_in : Result (Option FirstRefused) JoinRefusal → Register → Feeding
-feeding_in answer r = record { register = r; answer = answer }
+abbrev pub feeding_in : Result (Option FirstRefused) FeedRefusal → GroupRegister → Feeding
+feeding_in answer g = record { group = g; answer = answer }
 
-abbrev pub not_fed : JoinRefusal → Register → Feeding
-not_fed why r = feeding_in (Err why) r
+abbrev pub not_fed : JoinRefusal → GroupRegister → Feeding
+not_fed why g = feeding_in (Err (AsList why)) g
 
 abbrev pub fed_by : FedTo → Feeding
-fed_by f = feeding_in (Ok f.first) f.register
+fed_by f = feeding_in (Ok f.first) f.group
 
--- "in that order, after 2"
-unfoldable pub feeding : Register → FedList → Feeding
-feeding r l =
-    cond (too_large (commits_in l)) (not_fed NumberTooLarge r)
-    (cond (outside_fed l) (not_fed OutsideLimits r)
-    (cond (begins_past r l) (not_fed Gap r) (fed_by (feed_all (fed_to None r) (entries_in l)))))
+-- to a register that is made: "in that order, after 2"
+unfoldable pub feeding_made : GroupRegister → FedList → Feeding
+feeding_made g l =
+    cond (too_large (commits_in l)) (not_fed NumberTooLarge g)
+    (cond (outside_fed l) (not_fed OutsideLimits g)
+    (cond (begins_past g l) (not_fed Gap g) (fed_by (feed_all (fed_to None g) (entries_in l)))))
+
+-- a register that is not made gives its number before anything else (E13)
+unfoldable pub feeding : GroupRegister → FedList → Feeding
+feeding g l = cond (is_made g.settings) (feeding_made g l) (feeding_in (Err Unmade) g)

@@ -1,15 +1,17 @@
 // A list of commits fed to a register of cells (document 02, E10: "A second call feeds it to the register, with the host's entry beside each value"). The
-// register stands in lent arrays, as in crates/register_arrays, and an entry's kind, cell, carrier and width are numbers as there.
+// register is one value or stands in lent arrays (`RegisterPlaces`), and an entry's kind, cell, carrier and width are numbers as in crates/register_arrays.
 #![tactic(auto)]
 
 ghost use Rattle.std.specs.Prelude.{◌≡◌, ◌<◌, ◌&&◌, ltb, length};
 ghost use Rattle.catch_up.specs.Joining.{first_slot};
-ghost use Rattle.register_arrays.specs.Columns.{register_in, SameArrays};
-ghost use Rattle.feeding.specs.Feeding.{or_refused, feed_all, entry_in, entries_in, SameLengths, fed_to, fed_list, outside_fed, feeding_in, feeding};
+ghost use Rattle.group_register.specs.GroupRegister.{group_register};
+ghost use Rattle.feeding.specs.Feeding.{or_refused, feed_all, entry_in, entries_in, SameLengths, fed_to, fed_list, outside_fed, feed_refusal_number, feeding_in, feeding};
 
 use catch_up::{JoinRefusal, LentList};
-use register::{CellEntry, CellNumber, Entered, EntryRefusal};
-use register_arrays::{Columns, entry_from_numbers};
+use group_register::{GroupRefusal, RegisterSettings, apply_in};
+use refusals::Refused;
+use register::{CellEntry, CellNumber, Entered, RegisterPlaces};
+use register_arrays::entry_from_numbers;
 
 // The list as a host lends it: the commits, and beside each value its entry's kind, cell, carrier and width. Slices in place of one of entries, and a
 // number as a kind: the C interface has them so.
@@ -26,17 +28,36 @@ pub struct EntryList<'a> {
 #[derive(Clone, Copy, PartialEq, Eq, Debug)]
 pub struct FirstRefused {
     pub slot: u64,
-    pub why: EntryRefusal,
+    pub why: GroupRefusal,
+}
+
+// Why nothing of a list is fed: the register is not made (E13); or the list, by 2, 18 or 19.
+#[derive(Clone, Copy, PartialEq, Eq, Debug)]
+pub enum FeedRefusal {
+    Unmade,
+    AsList(JoinRefusal),
 }
 
 const MOST_FED: usize = 8192;
+
+impl Refused for FeedRefusal {
+    ghost refusal_number = { feed_refusal_number };
+
+    // Document 02's number.
+    fn number(self) -> u64 {
+        match self {
+            FeedRefusal::Unmade => 1,
+            FeedRefusal::AsList(why) => why.number(),
+        }
+    }
+}
 
 // The first refused entry, after one more.
 #[tactic(auto, unfolding(crate::specs::Feeding::or_refused))]
 fn or_refused(
     first: Option<FirstRefused>,
     slot: u64,
-    outcome: Result<Entered, EntryRefusal>,
+    outcome: Result<Entered, GroupRefusal>,
 ) -> Option<FirstRefused>
     ensures { result ≡ or_refused first slot outcome }
 {
@@ -87,35 +108,48 @@ impl EntryList<'_> {
 
 // Every entry of the list in its order.
 #[tactic(auto, using(crate::proofs::FeedTurns::feed_next, crate::proofs::FeedTurns::feed_end))]
-fn feed_all(columns: &mut Columns, list: EntryList) -> Option<FirstRefused>
+fn feed_all<R: RegisterPlaces>(
+    settings: RegisterSettings,
+    register: &mut R,
+    list: EntryList,
+) -> Option<FirstRefused>
     requires { SameLengths (fed_list list) }
-    ensures same { SameArrays columns.old columns.new }
-    ensures fed { fed_to result (register_in columns.new) ≡ feed_all (fed_to None (register_in columns.old)) (entries_in (fed_list list.entry)) }
+    ensures same { R.lent register.new ≡ R.lent register.old }
+    ensures fed { fed_to result (group_register settings (R.register register.new))
+        ≡ feed_all (fed_to None (group_register settings (R.register register.old))) (entries_in (fed_list list.entry)) }
 {
     let mut first = None;
     // an index into the five slices, which a chain of four zips and its tuples would not make plainer
     for i in 0..list.commits.slots.len() {
         let entry = list.entry(i);
-        let outcome = columns.apply(entry);
+        let outcome = apply_in(settings, register, entry);
         first = or_refused(first, entry.slot, outcome);
     }
     first
 }
 
-// Feeds a list: 2, 18 or 19 and nothing fed, or every entry taken as in E6 and the first refused slot with its number.
-#[tactic(auto, using(crate::proofs::FeedTurns::kinds_same, crate::proofs::FeedTurns::cells_same, crate::proofs::FeedTurns::carriers_same, crate::proofs::FeedTurns::widths_same), unfolding(crate::specs::Feeding::feeding))]
-pub fn feed(columns: &mut Columns, list: EntryList) -> Result<Option<FirstRefused>, JoinRefusal>
-    ensures same { SameArrays columns.old columns.new }
-    ensures fed { feeding_in result (register_in columns.new) ≡ feeding (register_in columns.old) (fed_list list.entry) }
+// Feeds a list: 1, 2, 18 or 19 and nothing fed, or every entry taken as in E6 and E13 and the first refused slot with its number.
+#[tactic(auto, using(crate::proofs::FeedTurns::kinds_same, crate::proofs::FeedTurns::cells_same, crate::proofs::FeedTurns::carriers_same, crate::proofs::FeedTurns::widths_same), unfolding(crate::specs::Feeding::feeding, crate::specs::Feeding::feeding_made))]
+pub fn feed<R: RegisterPlaces>(
+    settings: RegisterSettings,
+    register: &mut R,
+    list: EntryList,
+) -> Result<Option<FirstRefused>, FeedRefusal>
+    ensures same { R.lent register.new ≡ R.lent register.old }
+    ensures fed { feeding_in result (group_register settings (R.register register.new))
+        ≡ feeding (group_register settings (R.register register.old)) (fed_list list.entry) }
 {
+    if !settings.is_made() {
+        return Err(FeedRefusal::Unmade);
+    }
     if list.commits.too_large() {
-        return Err(JoinRefusal::NumberTooLarge);
+        return Err(FeedRefusal::AsList(JoinRefusal::NumberTooLarge));
     }
     if list.outside() {
-        return Err(JoinRefusal::OutsideLimits);
+        return Err(FeedRefusal::AsList(JoinRefusal::OutsideLimits));
     }
-    if begins_past(list.commits.slots, columns.figures[0]) {
-        return Err(JoinRefusal::Gap);
+    if begins_past(list.commits.slots, register.next_slot()) {
+        return Err(FeedRefusal::AsList(JoinRefusal::Gap));
     }
-    Ok(feed_all(columns, list))
+    Ok(feed_all(settings, register, list))
 }

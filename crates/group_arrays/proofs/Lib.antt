@@ -1,1 +1,2 @@
 pub mod GroupArrayLaws
+pub mod StoredLaws

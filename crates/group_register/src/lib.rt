@@ -5,7 +5,7 @@
 ghost use Rattle.std.specs.Prelude.{◌≡◌};
 ghost use Rattle.group_register.specs.Settings.{settings_from, is_made};
 ghost use Rattle.group_register.specs.WholeMhz.{is_odd};
-ghost use Rattle.group_register.specs.GroupRegister.{group_register, new_group_register, group_applied, group_refusal_number, change_assignable, gives_odd_width, apply_in_group, group_page};
+ghost use Rattle.group_register.specs.GroupRegister.{group_register, new_group_register, group_applied, group_done, group_refusal_number, change_assignable, gives_odd_width, apply_in_group, group_page};
 
 use refusals::Refused;
 use register::{CellEntry, Change, Entered, EntryRefusal, Register, RegisterPlaces};
@@ -144,6 +144,16 @@ pub fn apply_in<R: RegisterPlaces>(
         return Err(GroupRefusal::OddWidth);
     }
     register::apply_in(register, entry).map_err(GroupRefusal::AsRegister)
+}
+
+// Nothing is refused, or nothing has become of an entry: the register is as it is.
+pub fn done(group: GroupRegister) -> GroupApplied
+    ensures { result ≡ group_done group }
+{
+    GroupApplied {
+        group,
+        outcome: Ok(Entered::Done),
+    }
 }
 
 // The register after an entry.

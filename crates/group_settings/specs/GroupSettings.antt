@@ -31,3 +31,10 @@ decoded_group_settings f = record { settings = decoded_settings f.settings; whol
 -- a mode that there is not is outside the limits
 unfoldable pub flat_settings_number : FlatGroupSettings → ℕ
 flat_settings_number f = encoded_made (settings_outcome (decoded_group_settings f)) f.settings.mode
+
+-- the number in words: 0, with a mode that there is, the engine's settings within document 01's limits and the slot no later than the last one; or 1, where
+-- one of these is not so
+abbrev pub FlatNumberBySettings : FlatGroupSettings → ℕ → Type 0
+FlatNumberBySettings f n =
+    ((n ≡ 0) × (f.settings.mode ≤ 5) × (within_limits (decoded_settings f.settings) ≡ true) × (f.whole_mhz_from ≤ 9223372036854775806))
+    ⊎ ((n ≡ 1) × ((5 < f.settings.mode) ⊎ ((within_limits (decoded_settings f.settings) ≡ false) ⊎ (9223372036854775806 < f.whole_mhz_from))))

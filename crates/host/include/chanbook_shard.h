@@ -65,6 +65,17 @@ struct chanbook_settings {
     uint64_t delegates[64];
 };
 
+/* The last slot that may be named, 2^63-2. */
+#define CHANBOOK_LAST_SLOT UINT64_C(9223372036854775806)
+
+/* The settings of a group with what its planners agree on besides: those of the engine, and the slot from which the width of an assignment must be
+   whole MHz (23 of document 02, E13), at most CHANBOOK_LAST_SLOT. All members name the same slot. A host that wants none names CHANBOOK_LAST_SLOT,
+   which binds the last slot alone. */
+struct chanbook_group_settings {
+    struct chanbook_settings settings;
+    uint64_t whole_mhz_from;
+};
+
 struct chanbook_core {
     uint64_t slot;
     struct chanbook_option last_v;
@@ -198,8 +209,9 @@ struct chanbook_answer {
     struct chanbook_reply reply;
 };
 
-/* A shard as it begins. Its `made` is 0, or 1 where the settings are outside the limits. */
-struct chanbook_shard chanbook_shard_new(struct chanbook_settings settings);
+/* A shard as it begins from the settings of its group, of which it keeps the engine's alone. Its `made` is 0, or 1 where the settings are outside the
+   limits. */
+struct chanbook_shard chanbook_shard_new(struct chanbook_group_settings group);
 
 /* A call by value. It copies the shard; a host takes chanbook_call below, which changes the shard in place. The tests compare the two. */
 struct chanbook_answer chanbook_shard_call(struct chanbook_shard shard, struct chanbook_call call);

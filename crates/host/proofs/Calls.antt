@@ -1,11 +1,11 @@
 -- A call on a flat form is the call on the shard that it stands for: the flat form afterwards stands for the new shard, the reply is the call's, and after a
--- refusal the flat form is as it was, number for number. A flat form that begins stands for a new shard.
+-- refusal the flat form is as it was, number for number. A flat form that begins stands for the shard that begins from the same group settings.
 -- Assumes nothing.
 use Rattle.std.specs.Prelude.{Ok, Err}
 use Rattle.message.specs.Outcomes.{Outcome}
 use mathlib.Core.Path.{◌≡◌, refl, sym, ap, ap₂, ◌∙◌}
 use mathlib.Core.Logic.{inl, inr}
-use mathlib.Core.Bool.{Bool, true, false, cond}
+use mathlib.Core.Bool.{Bool, true, false, cond, ◌&&◌}
 use lib.Dec.{leb}
 use Rattle.basics.proofs.Tests.{not_both}
 use Rattle.message.specs.declared.Refusal.{Refusal}
@@ -16,7 +16,7 @@ use Rattle.steps.specs.declared.Rounds.{Rounds}
 use Rattle.state_calls.specs.declared.State.{State}
 use Rattle.settings.specs.Settings.{within_limits}
 use Rattle.consensus.specs.Answers.{with_state}
-use Rattle.consensus.specs.Call.{new_shard, call_of}
+use Rattle.consensus.specs.Call.{call_of}
 use Rattle.consensus.specs.FirstCause.{ByFirstCause}
 use Rattle.consensus.specs.declared.Answer.{Answer}
 use Rattle.calls.specs.declared.Call.{Call}
@@ -26,8 +26,10 @@ use Rattle.consensus.proofs.ByParts.{by_parts}
 use Rattle.flat.specs.Encode.{encoded_made, encoded_outcome, encoded_reply}
 use Rattle.flat.specs.Decode.{decoded_made, decoded_settings}
 use Rattle.flat.specs.declared.FlatCall.{FlatCall}
-use Rattle.flat.specs.declared.FlatSettings.{FlatSettings}
 use Rattle.flat.proofs.Encoded.{rounds_encoded, table_encoded}
+use Rattle.group_settings.specs.GroupSettings.{settings_outcome, decoded_group_settings, flat_settings_number}
+use Rattle.group_settings.specs.declared.FlatGroupSettings.{FlatGroupSettings}
+use Rattle.group_shard.specs.Begin.{begin_shard}
 use Rattle.host.specs.Calls.{flat_answer, called, flat_call, flat_new}
 use Rattle.host.specs.Shards.{decoded_state, encoded_state, decoded_shard}
 use Rattle.host.specs.declared.FlatAnswer.{FlatAnswer}
@@ -38,19 +40,22 @@ state_encoded s = ap₂ (λ (r : Rounds) (t : ReadTable). record { rounds = r; t
 
 -- ---- new
 
--- in a mode that there is, a flat form that begins stands for the new shard with these settings
-pub new_stands : (s : FlatSettings) → leb s.mode 5 ≡ true → decoded_shard (flat_new s) ≡ new_shard (decoded_settings s)
-unfolding flat_new new_shard decoded_made encoded_made encoded_outcome
-new_stands s known = ap₂ (λ (o : Outcome) (t : State). record { made = o; settings = decoded_settings s; state = t }) (go (within_limits (decoded_settings s))) (state_encoded _)
+-- in a mode that there is, a flat form that begins stands for the shard that begins from these settings
+pub new_stands : (g : FlatGroupSettings) → leb g.settings.mode 5 ≡ true → decoded_shard (flat_new g) ≡ begin_shard (decoded_group_settings g)
+unfolding flat_new flat_settings_number settings_outcome begin_shard decoded_made encoded_made encoded_outcome
+new_stands g known =
+    ap₂ (λ (o : Outcome) (t : State). record { made = o; settings = decoded_settings g.settings; state = t })
+    (go (within_limits (decoded_settings g.settings) && leb g.whole_mhz_from 9223372036854775806)) (state_encoded _)
   where
-    go : (t : Bool) → decoded_made (encoded_made (cond t (Ok tt) (Err SettingsOutsideLimits)) s.mode) s.mode ≡ cond t (Ok tt) (Err SettingsOutsideLimits)
+    go : (t : Bool)
+        → decoded_made (encoded_made (cond t (Ok tt) (Err SettingsOutsideLimits)) g.settings.mode) g.settings.mode ≡ cond t (Ok tt) (Err SettingsOutsideLimits)
     go true = simp known
     go false = simp known
 
 -- in another mode it is not made
-pub unknown_mode_unmade : (s : FlatSettings) → leb s.mode 5 ≡ false → (decoded_shard (flat_new s)).made ≡ Err SettingsOutsideLimits
+pub unknown_mode_unmade : (g : FlatGroupSettings) → leb g.settings.mode 5 ≡ false → (decoded_shard (flat_new g)).made ≡ Err SettingsOutsideLimits
 unfolding flat_new decoded_made
-unknown_mode_unmade s unknown = simp unknown
+unknown_mode_unmade g unknown = simp unknown
 
 -- ---- refusals
 

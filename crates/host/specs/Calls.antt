@@ -2,12 +2,13 @@
 -- Assumes nothing.
 use Rattle.std.specs.Prelude.{Ok, Err}
 use Rattle.message.specs.Outcomes.{Outcome}
-use Rattle.consensus.specs.Call.{new_shard, call_of}
+use Rattle.consensus.specs.Call.{new_state, call_of}
 use Rattle.consensus.specs.declared.Answer.{Answer}
-use Rattle.flat.specs.Encode.{encoded_made, encoded_reply}
+use Rattle.flat.specs.Encode.{encoded_reply}
 use Rattle.flat.specs.Decode.{decoded_settings, decoded_call}
 use Rattle.flat.specs.declared.FlatCall.{FlatCall}
-use Rattle.flat.specs.declared.FlatSettings.{FlatSettings}
+use Rattle.group_settings.specs.GroupSettings.{flat_settings_number}
+use Rattle.group_settings.specs.declared.FlatGroupSettings.{FlatGroupSettings}
 use Rattle.host.specs.Shards.{encoded_state, decoded_shard}
 use Rattle.host.specs.declared.FlatAnswer.{FlatAnswer}
 use Rattle.host.specs.declared.FlatShard.{FlatShard}
@@ -25,10 +26,6 @@ called f c = call_of (decoded_shard f) (decoded_call f.settings.process_count f.
 unfoldable pub flat_call : FlatShard → FlatCall → FlatAnswer
 flat_call f c = flat_answer f (called f c) (called f c).reply.outcome
 
-unfoldable pub flat_new : FlatSettings → FlatShard
-flat_new s =
-    record {
-      made = encoded_made (new_shard (decoded_settings s)).made s.mode;
-      settings = s;
-      state = encoded_state (new_shard (decoded_settings s)).state;
-    }
+-- a shard as it begins, marked with the number of the group settings
+unfoldable pub flat_new : FlatGroupSettings → FlatShard
+flat_new g = record { made = flat_settings_number g; settings = g.settings; state = encoded_state (new_state (decoded_settings g.settings)) }

@@ -8,6 +8,7 @@ ghost use Rattle.host.specs.Calls.{flat_answer, flat_call, flat_new};
 
 use consensus::{Answer, Shard};
 use flat::{FlatCall, FlatReply, FlatRounds, FlatSettings, FlatTable};
+use group_settings::FlatGroupSettings;
 use message::Outcome;
 use state_calls::State;
 
@@ -110,16 +111,16 @@ pub fn chanbook_shard_call(shard: FlatShard, call: FlatCall) -> FlatAnswer
     flat_answer(shard, a, outcome)
 }
 
-// A shard as it begins. Settings outside the limits give one that is not made.
-#[tactic(auto, unfolding(crate::specs::Calls::flat_new))]
-pub fn chanbook_shard_new(settings: FlatSettings) -> FlatShard
-    ensures { result ≡ flat_new settings }
+// A shard as it begins from the settings of its group. Settings outside the limits give one that is not made.
+#[tactic(auto, unfolding(crate::specs::Calls::flat_new, group_shard::specs::Begin::begin_shard))]
+pub fn chanbook_shard_new(group: FlatGroupSettings) -> FlatShard
+    ensures { result ≡ flat_new group }
 {
-    let shard = Shard::new(flat::decode_settings(settings));
-    let made = shard.made;
+    let settings = group.settings;
+    let shard = group_shard::begin_shard(group_settings::decode_group_settings(group));
     let state = shard.state;
     FlatShard {
-        made: flat::encode_made(made, settings.mode),
+        made: group_settings::flat_number(group),
         settings,
         state: encode_state(state),
     }

@@ -113,23 +113,24 @@ static void deliver_all(void)
     }
 }
 
-static struct chanbook_settings settings_of(uint64_t mode)
+static struct chanbook_group_settings settings_of(uint64_t mode)
 {
-    struct chanbook_settings s = {0};
-    s.process_count = MEMBERS;
-    s.replica_count = MEMBERS;
-    s.alive_replicas = 7;
-    s.mode = mode;
-    return s;
+    struct chanbook_group_settings g = {0};
+    g.settings.process_count = MEMBERS;
+    g.settings.replica_count = MEMBERS;
+    g.settings.alive_replicas = 7;
+    g.settings.mode = mode;
+    g.whole_mhz_from = CHANBOOK_LAST_SLOT;
+    return g;
 }
 
 static void a_group_commits_and_reads(uint64_t mode)
 {
-    struct chanbook_settings s = settings_of(mode);
+    struct chanbook_group_settings g = settings_of(mode);
     from = until = 0;
     for (uint64_t p = 0; p < MEMBERS; p++) {
-        s.my_pid = p;
-        shards[p] = chanbook_shard_new(s);
+        g.settings.my_pid = p;
+        shards[p] = chanbook_shard_new(g);
         require(shards[p].made == 0, "settings refused");
         commits[p] = 0;
     }
@@ -171,16 +172,20 @@ static void messages_are_refused(void)
 
 static void shards_are_not_made(void)
 {
-    struct chanbook_settings s = settings_of(6);
+    struct chanbook_group_settings g = settings_of(6);
     struct chanbook_call c = {0};
-    struct chanbook_shard other = chanbook_shard_new(s);
+    struct chanbook_shard other = chanbook_shard_new(g);
     require(other.made == 1, "unknown mode: 1");
     memset(&other, 0xff, sizeof other);
     require(call_both_ways(&other, c).outcome == 1, "damaged shard: 1");
-    s.mode = CHANBOOK_PAXOS;
-    s.process_count = 65;
-    other = chanbook_shard_new(s);
+    g = settings_of(CHANBOOK_PAXOS);
+    g.settings.process_count = 65;
+    other = chanbook_shard_new(g);
     require(other.made == 1 && call_both_ways(&other, c).outcome == 1, "65 processes: 1");
+    g = settings_of(CHANBOOK_PAXOS);
+    g.whole_mhz_from = CHANBOOK_LAST_SLOT + 1;
+    other = chanbook_shard_new(g);
+    require(other.made == 1 && call_both_ways(&other, c).outcome == 1, "whole MHz from 2^63-1 on: 1");
 }
 
 int main(void)

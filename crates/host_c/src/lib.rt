@@ -4,7 +4,8 @@
 ghost use Rattle.std.specs.Prelude.{◌≡◌};
 ghost use Rattle.host.specs.Calls.{flat_call, flat_new};
 
-use flat::{FlatCall, FlatSettings};
+use flat::FlatCall;
+use group_settings::FlatGroupSettings;
 use host::{FlatAnswer, FlatShard};
 
 // A call, whole.
@@ -15,10 +16,10 @@ pub extern "C" fn chanbook_shard_call(shard: FlatShard, call: FlatCall) -> FlatA
     host::chanbook_shard_call(shard, call)
 }
 
-// A shard as it begins. Settings outside the limits give one that is not made.
+// A shard as it begins from the settings of its group. Settings outside the limits give one that is not made.
 #[unsafe(no_mangle)]
-pub extern "C" fn chanbook_shard_new(settings: FlatSettings) -> FlatShard
-    ensures { result ≡ flat_new settings }
+pub extern "C" fn chanbook_shard_new(group: FlatGroupSettings) -> FlatShard
+    ensures { result ≡ flat_new group }
 {
-    host::chanbook_shard_new(settings)
+    host::chanbook_shard_new(group)
 }

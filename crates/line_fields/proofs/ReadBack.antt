@@ -74,7 +74,7 @@ digits_read (suc k) n h l =
     ∙ ap (λ (m : ℕ). reading m) (omega arith)
 
 -- `digit_count` counts at least one digit, and enough
-some_digit : (most n : ℕ) → 0 < digit_count most n
+pub some_digit : (most n : ℕ) → 0 < digit_count most n
 unfolding digit_count
 some_digit zero n = omega arith
 some_digit (suc most) n = of-both (λ (k : ℕ). 0 < k) (ltb n 10) (omega arith) (omega arith)

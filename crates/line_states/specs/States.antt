@@ -1,10 +1,11 @@
--- The settings and the state of the lines of kind 1 and 2, from their numbers (docs/ORACLE.md, "Call lines").
+-- The group settings and the state of the lines of kind 1 and 2, from their numbers (docs/ORACLE.md, "Call lines").
 -- Assumes nothing.
 use Rattle.std.specs.Prelude.{cond, List, ℕ, zero, suc, ◌+◌, ◌*◌, min, eqb, ltb, set, replicate, Option, None, Some}
 use Rattle.message.specs.declared.RoundV.{RoundV}
 use Rattle.tables.specs.Tables.{store}
 use Rattle.message.specs.Modes.{mode_of_number}
 use Rattle.settings.specs.declared.Settings.{Settings}
+use Rattle.group_settings.specs.declared.GroupSettings.{GroupSettings}
 use Rattle.round_state.specs.declared.PaxosState.{PaxosState}
 use Rattle.fast_state.specs.declared.FastState.{FastState}
 use Rattle.read_tracker.specs.Reads.{new_table}
@@ -28,7 +29,7 @@ unfoldable pub table_to : List ℕ → ℕ → ℕ → ℕ → List ℕ
 table_to ns w n zero = replicate 64 0
 table_to ns w n (suc i) = set (table_to ns w n i) i (entry_at ns w n i)
 
--- the settings of a line with these tables
+-- the engine's settings of a line with these tables
 unfoldable pub settings_with : List ℕ → List ℕ → List ℕ → Settings
 settings_with ns committers delegates =
     record {
@@ -43,12 +44,16 @@ settings_with ns committers delegates =
       delegates = delegates;
     }
 
--- the settings of a line with c committers
-unfoldable pub settings_at : List ℕ → ℕ → Settings
-settings_at ns c = settings_with ns (table_to ns 11 c 64) (table_to ns (12 + c) (min (at ns (11 + c)) 64) 64)
+-- the group settings of a line with c committers: the engine's, and behind the delegates the slot of whole MHz
+unfoldable pub group_settings_at : List ℕ → ℕ → GroupSettings
+group_settings_at ns c =
+    record {
+      settings = settings_with ns (table_to ns 11 c 64) (table_to ns (12 + c) (min (at ns (11 + c)) 64) 64);
+      whole_mhz_from = at ns (12 + c + min (at ns (11 + c)) 64);
+    }
 
-abbrev pub settings_of : List ℕ → Settings
-settings_of ns = settings_at ns (min (at ns 10) 64)
+abbrev pub group_settings_of : List ℕ → GroupSettings
+group_settings_of ns = group_settings_at ns (min (at ns 10) 64)
 
 -- ---- state
 

@@ -1,14 +1,15 @@
-// The numbers of a line as settings or a state, and what is wrong with them (docs/ORACLE.md, "Call lines"). Kinds of lines, of
+// The numbers of a line as group settings or a state, and what is wrong with them (docs/ORACLE.md, "Call lines"). Kinds of lines, of
 // promises and modes are the numbers of that format here, and no enums: what stands in a line may be any number, and each has an answer.
 #![tactic(auto)]
 
 ghost use Rattle.std.specs.Prelude.{◌≡◌, ◌+◌, ◌*◌, ◌≤◌, ◌<◌, min};
 ghost use Rattle.line_calls.specs.Calls.{at};
-ghost use Rattle.line_states.specs.States.{entry_at, table_to, settings_with, settings_at, settings_of, held_of, paxos_of, core_at, proposers_to, fast_at, read_at, read_table_at, state_at, state_of};
+ghost use Rattle.line_states.specs.States.{entry_at, table_to, settings_with, group_settings_at, group_settings_of, held_of, paxos_of, core_at, proposers_to, fast_at, read_at, read_table_at, state_at, state_of};
 ghost use Rattle.line_states.specs.Faults.{is_kind, settings_count_at, state_count_at, expected_count, is_flag, read_flags, settings_flags, state_flags_at, message_flags, flags_fit, mode_fits, promise_fits, settings_places, proposers_fit, state_places_at, places_fit, numbers_fault};
 
 use call_lines::Fault;
 use fast_state::FastState;
+use group_settings::GroupSettings;
 use line_calls::{number_at, optional, promise, words_place};
 use message::{PFMode, PaxosRound, ReadId, RoundV};
 use read_tracker::{OpenRead, ReadTable, ReadTracker};
@@ -46,7 +47,7 @@ fn table_at(numbers: &[u64], at: usize, count: usize) -> [u64; 64]
     table
 }
 
-// The settings of a line of kind 1 with these tables.
+// The engine's settings of a line of kind 1 with these tables.
 #[tactic(auto, unfolding(crate::specs::States::settings_with, crate::specs::States::optional_set))]
 fn settings_with(numbers: &[u64], committers: [u64; 64], delegates: [u64; 64]) -> Settings
     ensures { result ≡ settings_with numbers.now committers delegates }
@@ -68,16 +69,19 @@ fn settings_with(numbers: &[u64], committers: [u64; 64], delegates: [u64; 64]) -
     }
 }
 
-// The settings of a line of kind 1.
-#[tactic(auto, unfolding(crate::specs::States::settings_at))]
-pub fn settings_of(numbers: &[u64]) -> Settings
-    ensures { result ≡ settings_of numbers.now }
+// The group settings of a line of kind 1.
+#[tactic(auto, unfolding(crate::specs::States::group_settings_at))]
+pub fn group_settings_of(numbers: &[u64]) -> GroupSettings
+    ensures { result ≡ group_settings_of numbers.now }
 {
     let committer_count = at_most(number_at(numbers, 10), 64);
     let delegate_count = at_most(number_at(numbers, 11 + committer_count), 64);
     let committers = table_at(numbers, 11, committer_count);
     let delegates = table_at(numbers, 12 + committer_count, delegate_count);
-    settings_with(numbers, committers, delegates)
+    GroupSettings {
+        settings: settings_with(numbers, committers, delegates),
+        whole_mhz_from: number_at(numbers, 12 + committer_count + delegate_count),
+    }
 }
 
 #[tactic(auto, unfolding(crate::specs::States::paxos_of, line_calls::specs::Calls::optional_round))]
@@ -213,7 +217,7 @@ fn settings_count(numbers: &[u64]) -> usize
 {
     let committer_count = at_most(number_at(numbers, 10), 2048);
     let delegate_count = at_most(number_at(numbers, 11 + committer_count), 2048);
-    12 + committer_count + delegate_count
+    13 + committer_count + delegate_count
 }
 
 // How many numbers a line of kind 2 has.

@@ -12,7 +12,7 @@ use lib.Dec.{eqb, leb}
 use borrow.Author.Tests.{eqb-true}
 use Rattle.basics.proofs.Tests.{not_both}
 use Rattle.sets.specs.Sets.{size}
-use Rattle.paxos.specs.PaxosMadeSimple.{Proposal, is_majority, accepts, announcement, learns}
+use Rattle.paxos.specs.PaxosMadeSimple.{Proposal, is_majority, learns}
 use Rattle.paxos.specs.PaxosMadeSimple.Message.{acceptance}
 use Rattle.message.specs.Modes.{is_swift_paxos, has_fast_path}
 use Rattle.message.specs.Promises.{is_process}
@@ -39,9 +39,10 @@ use Rattle.consensus.specs.FirstCause.{is_oneself}
 use Rattle.consensus.specs.declared.Shard.{Shard}
 use Rattle.consensus.proofs.Entered.{not_swift}
 use Rattle.consensus.proofs.Handled.{eqb_sym}
-use Rattle.paper.specs.Replica.{Replica, replica_of, accepts_with}
-use Rattle.paper.specs.PaperCall.{Seen, Place, Known, seen, in_places, is_one_of, but, leaves, commits, addressed, learners, is_learner, announced_to, to_each, announces, served_first, informs, learning, counts, in_accept, committers_in}
-use Rattle.paper.proofs.Views.{place_in, known_in, seen_after, taken_no, push, Agrees, agrees, through, no_refusal, agree_both, agree_unless, exceeded_older, accept_counted}
+use Rattle.paper.specs.Replica.{Replica, replica_of}
+use Rattle.paper.specs.PaperCall.{Seen, Place, Known, seen, in_places, is_one_of, but, leaves, commits, addressed, learners, is_learner, to_each, served_first, informs, learning, counts, committers_in}
+use Rattle.paper.proofs.Views.{place_in, known_in, seen_after, taken_no, push, Agrees, agrees, through, no_refusal, agree_both, agree_unless, accept_counted}
+use Rattle.paper.proofs.InOrder.{then_accept}
 use Rattle.paper.proofs.Handlers.{off_paxos}
 
 or_same : (s t : Bool) → t ≡ s → (s || false) ≡ (s || t)
@@ -277,24 +278,15 @@ module _ (shard : Shard) (a : Asked) (h : Heard) (there : Bool) (acceptors : ℕ
         through refl (by_roles leads from_proposer (is_committer a h) refl)
         (ap (rule (replica_of after) (announced leads from_proposer)) (sym learner_same))
 
-    -- what was entered is accepted, and so is announced
-    announces_accepted : before (Some n) p.round ≡ false → announces here known proposal (replica_of p) ≡ announced leads from_proposer
-    unfolding announces announcement accepts
-    announces_accepted free =
-        ap (λ (t : Bool). cond from_proposer (to_each here known (announced_to here known n) (cond (not t) (some (acceptance proposal)) none)) [])
-        (sym (exceeded_older p.round n) ∙ free)
-
     pub accepting_paper : before (Some n) p.round ≡ false
-        → Agrees (seen_step (accepting a h n v (with_paxos p core))) (in_accept here known proposal (replica_of p))
-    unfolding accepting receive_accept in_accept
+        → Agrees (seen_step (accepting a h n v (with_paxos p core))) (then_accept here known proposal (replica_of p))
+    unfolding accepting receive_accept
     accepting_paper free =
         agree_unless g (accept_fits p.max_rv n v)
         (λ fit.
         through (ap (λ (c : Core). seen_step (accepted_step a h n v c)) (off_paxos shard a h there acceptors classic quorum (with_paxos after core)))
         accepted_paper
-        (ap (λ (r : Replica). rule r (announced leads from_proposer) (is_learner here known n)) (accept_counted a replica h.src n v p free fit)
-        ∙ ap (λ (ms : List Outgoing). rule (accepts_with here.self h.src proposal (replica_of p)) ms (is_learner here known n))
-        (sym (announces_accepted free))))
+        (ap (λ (r : Replica). rule r (announced leads from_proposer) (is_learner here known n)) (accept_counted a replica h.src n v p free fit)))
         (λ fit. no_refusal refl)
       where
         g : Result PaxosState Refusal → Seen

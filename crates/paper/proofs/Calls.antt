@@ -13,7 +13,7 @@ use native.Mathlib.Omega.{arith}
 use lib.Dec.{eqb, ltb, leb}
 use borrow.Author.Tests.{ltb-true, leb-true, lt-ltb, le-leb, ne_eqb}
 use Rattle.basics.proofs.Tests.{not_both, and_left, and_right, same_test}
-use Rattle.paxos.specs.PaxosMadeSimple.{is_majority, accepts}
+use Rattle.paxos.specs.PaxosMadeSimple.{is_majority}
 use Rattle.message.specs.Modes.{has_fast_path}
 use Rattle.message.specs.Rounds.{increment, before, starting_round, round_of}
 use Rattle.message.specs.declared.ConsensusMsg.{ConsensusMsg}
@@ -60,10 +60,11 @@ use Rattle.consensus.specs.FirstCause.{number_of, is_live, leader_delegate, prom
 use Rattle.consensus.specs.Handle.{processed, process_message, on_commit, on_read_request, on_read_response, read_inserted, after_insert, start_read, handle}
 use Rattle.consensus.specs.declared.Answer.{Answer}
 use Rattle.consensus.specs.declared.Shard.{Shard}
-use Rattle.paper.specs.Replica.{Replica, responded_of, enters, takes_up}
-use Rattle.paper.specs.PaperCall.{Seen, Place, Known, place_of, proposer_by, committers_in, known_of, seen, commits, in_prepare, receives_prepare, in_accept, receives_accept, proposes_own, received, OfPaxos, InPaxos, LeavesPaxos, beginning, AtBeginning, replica_in, refused_with, by_rules, paper_call}
+use Rattle.paper.specs.Replica.{Replica, responded_of, enters}
+use Rattle.paper.specs.PaperCall.{Seen, Place, Known, place_of, proposer_by, committers_in, known_of, seen, commits, receives_prepare, receives_accept, proposes_own, received, OfPaxos, InPaxos, LeavesPaxos, beginning, AtBeginning, replica_in, refused_with, by_rules, paper_call}
 use Rattle.paper.specs.Runs.{ClassicMode, Reached, new, called}
 use Rattle.paper.proofs.Views.{place_in, known_in, seen_after, taken_no, Agrees, agrees, through, no_refusal, agree_both, agree_unless, round_entered, not_exceeded}
+use Rattle.paper.proofs.InOrder.{kept, then_prepare, prepare_in_order, then_accept, accept_in_order}
 use Rattle.paper.proofs.Handlers.{enter_paper, entered_core, prepared_paper}
 use Rattle.paper.proofs.Accepting.{accepting_paper}
 use Rattle.paper.proofs.Proposals.{proposal_paper}
@@ -175,23 +176,31 @@ module _ (shard : Shard) (classic : has_fast_path shard.settings.mode ≡ false)
     seen_step step = seen_after shard a there step
 
     prepare_paper : (slot : ℕ) (n : PaxosRound) (rv : RoundV) → Agrees (seen_step (on_prepare a h slot n rv core)) (receives_prepare here known slot n rv)
-    unfolding on_prepare in_prepare_step receives_prepare
+    unfolding on_prepare in_prepare_step
     prepare_paper slot n rv =
-        enter_paper shard a h there acceptors classic quorum slot n (in_prepare_step a h n rv) (in_prepare here known n rv (takes_up here.self rv (enters n old)))
+        through refl
+        (enter_paper shard a h there acceptors classic quorum slot n (in_prepare_step a h n rv) (ends (enters n old))
         (λ replica free.
         through (ap (λ (c : Core). seen_step (and_then (prepared a h n rv c) (gather a h n rv))) (entered_core shard a h there acceptors classic quorum n))
         (prepared_paper shard a h there acceptors classic quorum replica n rv (in_round n core).paxos (not_exceeded n core free))
-        (ap (λ (r : Replica). in_prepare here known n rv (takes_up here.self rv r)) (round_entered n core)))
+        (ap ends (round_entered n core))))
+        (sym (prepare_in_order here known n rv slot))
+      where
+        ends : Replica → Seen
+        ends r = then_prepare here known n rv (kept here known n rv r)
 
     accept_paper : (slot : ℕ) (n : PaxosRound) (v : ℕ)
         → Agrees (seen_step (on_accept a h slot n v core)) (receives_accept here known slot (record { number = n; value = v }))
-    unfolding on_accept receives_accept accepts
+    unfolding on_accept
     accept_paper slot n v =
-        enter_paper shard a h there acceptors classic quorum slot n (accepting a h n v) (in_accept here known (record { number = n; value = v }) (enters n old))
+        through refl
+        (enter_paper shard a h there acceptors classic quorum slot n (accepting a h n v)
+        (then_accept here known (record { number = n; value = v }) (enters n old))
         (λ replica free.
         through (ap (λ (c : Core). seen_step (accepting a h n v c)) (entered_core shard a h there acceptors classic quorum n))
         (accepting_paper shard a h there acceptors classic quorum replica n v (in_round n core).paxos (not_exceeded n core free))
-        (ap (in_accept here known (record { number = n; value = v })) (round_entered n core)))
+        (ap (then_accept here known (record { number = n; value = v })) (round_entered n core))))
+        (sym (accept_in_order here known (record { number = n; value = v }) slot))
 
     -- in the classic modes the message is handled by the core alone
     by_core_lem : (m : ConsensusMsg) → d.message.msg ≡ m → seen (process_message lowest_best shard d) ≡ seen_step (process_classic a h m core)
@@ -335,7 +344,7 @@ abbrev is_done : Outcome → Bool
 is_done (Ok tt) = true
 is_done (Err why) = false
 
-new_within : (s : Settings) → (new_shard s).made ≡ Ok tt → within_limits (new_shard s).settings ≡ true
+pub new_within : (s : Settings) → (new_shard s).made ≡ Ok tt → within_limits (new_shard s).settings ≡ true
 unfolding new_shard
 new_within s e = go (within_limits s) e
   where
@@ -353,7 +362,7 @@ reached_within : (shard : Shard) → Reached shard → within_limits shard.setti
 reached_within shard (new s e) = new_within s e
 reached_within shard (called before c r) = ap within_limits (settings_kept before c) ∙ reached_within before r
 
-no_fast_path : (m : PFMode) → ClassicMode m → has_fast_path m ≡ false
+pub no_fast_path : (m : PFMode) → ClassicMode m → has_fast_path m ≡ false
 no_fast_path Paxos c = refl
 no_fast_path MultiPaxos c = refl
 no_fast_path MultiPaxos3P c = refl

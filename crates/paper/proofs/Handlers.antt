@@ -4,12 +4,12 @@ use Rattle.std.specs.Prelude.{Option as Optional, None, Some, is_some, Result, O
 use mathlib.Core.Path.{◌≡◌, refl, sym, ap, ◌∙◌}
 use mathlib.Core.Bool.{Bool, true, false, cond, not, ◌&&◌, ◌||◌}
 use mathlib.Core.List.{List, [], ◌∷◌}
-use mathlib.Core.Option.{none, some}
+use mathlib.Core.Option.{Option, none, some}
 use Prim.Native.Nat.{ℕ}
 use lib.Dec.{eqb, ltb, leb}
 use Rattle.basics.proofs.Tests.{not_both}
 use Rattle.sets.specs.Sets.{size, is_empty}
-use Rattle.paxos.specs.PaxosMadeSimple.{is_majority, exceeded, accepted_in, ignores, proposal_of, proposes}
+use Rattle.paxos.specs.PaxosMadeSimple.{Message, is_majority, exceeded, accepted_in, proposal_of, proposes}
 use Rattle.paxos.specs.PaxosMadeSimple.Message.{promise}
 use Rattle.message.specs.Modes.{is_swift_paxos, has_fast_path}
 use Rattle.message.specs.Rounds.{round_before, before, equal}
@@ -30,15 +30,12 @@ use Rattle.steps.specs.declared.Outgoing.{Outgoing}
 use Rattle.steps.specs.declared.Heard.{Heard}
 use Rattle.consensus.proofs.Entered.{not_swift}
 use Rattle.consensus.specs.declared.Shard.{Shard}
-use Rattle.paper.specs.Replica.{Replica, accepted_of, replica_of, promises, keeps_something, proposer_in, newly, hears, takes_up, accepts_with}
-use Rattle.paper.specs.PaperCall.{Seen, Place, Known, in_places, leaves, nothing, takes_part, responding, requesting, gathers, in_prepare}
+use Rattle.paper.specs.Replica.{Replica, accepted_of, replica_of, keeps_something, proposer_in, newly, hears, accepts_with}
+use Rattle.paper.specs.PaperCall.{Seen, Place, Known, in_places, leaves, nothing, takes_part, to_proposer, requesting, gathers}
 use Rattle.paper.proofs.Views.{place_in, known_in, seen_after, taken_no, push, once, Agrees, agrees, through, no_refusal, agree_both, agree_unless, held_kept, held_brings, held_value_lem, held_accepted_in, exceeded_older, promise_heard, accept_counted}
+use Rattle.paper.proofs.InOrder.{or_false, kept, then_prepare}
 
 -- ---- the classic modes
-
-pub or_false : (s t : Bool) → t ≡ false → (s || t) ≡ s
-or_false true t e = refl
-or_false false t e = e
 
 neither_right : (s t : Bool) → (s || t) ≡ false → t ≡ false
 neither_right true t e = absurd (not_both refl e)
@@ -184,31 +181,32 @@ module _ (shard : Shard) (a : Asked) (h : Heard) (there : Bool) (acceptors : ℕ
       seen_then step = seen_step (and_then step (gather a h n rv))
 
       preparing_paper : (p : PaxosState) → before (Some n) p.round ≡ false
-          → Agrees (seen_then (preparing a h n (with_paxos p core))) (in_prepare here known n rv (replica_of p))
-      unfolding preparing answers_nothing answer_prepare in_prepare responding promises ignores
+          → Agrees (seen_then (preparing a h n (with_paxos p core))) (then_prepare here known n rv (replica_of p))
+      unfolding preparing answers_nothing answer_prepare
       preparing_paper p free =
           agree_both seen_then (eqb h.delegate a.member.my_pid) (eqb h.delegate a.member.my_pid) refl
           (λ e. gather_paper p free)
           (λ e.
           through refl
-          (agree_both seen_then (answers_nothing a h n (with_paxos p core)) (ignores round_before (replica_of p).acceptor n)
-          (ap (λ (t : Bool). (t && eqb h.delegate n.leader) || last) swift
-          ∙ held_accepted_in p.max_rv n
-          ∙ ap (λ (t : Bool). t || accepted_in round_before n (accepted_of p.max_rv)) (sym free ∙ exceeded_older p.round n))
+          (agree_both seen_then (answers_nothing a h n (with_paxos p core)) (accepted_in round_before n (accepted_of p.max_rv))
+          (ap (λ (t : Bool). (t && eqb h.delegate n.leader) || last) swift ∙ held_accepted_in p.max_rv n)
           (λ d. agrees refl)
           (λ d.
           agree_unless seen_then (may_answer h n)
           (λ m. agrees (ap (λ (x : RoundV). leaves here (replica_of p) (sends a core (One h.delegate) (Prepare core.slot n x) ∷ []))
           (held_brings p.max_rv)))
           (λ m. no_refusal refl)))
-          (push (responding here known (replica_of p)) (ignores round_before (replica_of p).acceptor n) none (some (promise n (accepted_of p.max_rv)))))
+          (push answer (accepted_in round_before n (accepted_of p.max_rv)) none (some (promise n (accepted_of p.max_rv)))))
         where
           last : Bool
           last = equal (get_last_accepted_round p.max_rv) (Some n)
 
+          answer : Option (Message PaxosRound ℕ) → Seen
+          answer m = leaves here (replica_of p) (to_proposer here known (replica_of p).wish m)
+
       pub prepared_paper : (p : PaxosState) → before (Some n) p.round ≡ false
-          → Agrees (seen_then (prepared a h n rv (with_paxos p core))) (in_prepare here known n rv (takes_up here.self rv (replica_of p)))
-      unfolding prepared hold_first paxos_propose_v takes_up receive_promise
+          → Agrees (seen_then (prepared a h n rv (with_paxos p core))) (then_prepare here known n rv (kept here known n rv (replica_of p)))
+      unfolding prepared hold_first paxos_propose_v receive_promise
       prepared_paper p free =
           through refl
           (agree_both g (is_some p.max_rv) (keeps_something (replica_of p)) (held_kept p.max_rv)
@@ -216,8 +214,8 @@ module _ (shard : Shard) (a : Asked) (h : Heard) (there : Bool) (acceptors : ℕ
           (λ e.
           through (taken_no g (is_some p.max_rv) (Err Panic) (cond (is_empty p.prepared_set) (Ok q) (Err Panic)) e)
           (agree_unless g (is_empty p.prepared_set) (λ d. preparing_paper q free) (λ d. no_refusal refl))
-          (ap (in_prepare here known n rv) (promise_heard a replica a.member.my_pid rv p))))
-          (push (in_prepare here known n rv) (keeps_something (replica_of p)) (replica_of p) (hears here.self here.self rv (replica_of p)))
+          (ap (then_prepare here known n rv) (promise_heard a replica a.member.my_pid rv p))))
+          (push (then_prepare here known n rv) (keeps_something (replica_of p)) (replica_of p) (hears here.self here.self rv (replica_of p)))
         where
           q : PaxosState
           q = receive_promise a.member a.member.my_pid rv p

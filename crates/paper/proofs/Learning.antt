@@ -37,13 +37,13 @@ use Rattle.consensus.proofs.Handled.{fits_same}
 use Rattle.consensus.proofs.Refusals.{by_first_cause, refusal_numbered}
 use Rattle.consensus.specs.declared.Answer.{Answer}
 use Rattle.consensus.specs.declared.Shard.{Shard}
-use Rattle.paper.specs.Replica.{Replica, enters, accepts_with}
+use Rattle.paper.specs.Replica.{Replica, enters, also_self, accepts_with}
 use Rattle.paper.specs.PaperCall.{replica_in}
 use Rattle.paper.specs.Runs.{Acceptance, accepts_all, Announced, acceptance_of, Counted, none_yet, one_counted}
 use Rattle.paper.proofs.Views.{exceeded_older, accept_higher}
 use Rattle.paper.proofs.Calls.{settings_kept}
 use Rattle.paper.proofs.Consequences.{counted_by, also_members}
-use Rattle.paper.proofs.Roles.{entered_acceptor, accept_leaves, learner_learns}
+use Rattle.paper.proofs.Roles.{accepted_acceptor, entered_acceptor, accept_leaves, learner_learns}
 
 -- ---- the cause of 9
 
@@ -208,8 +208,17 @@ agreed_heard : (me : ℕ) (n : PaxosRound) (r : Replica) (xs : List Acceptance) 
 unfolding accepts_with
 agreed_heard me n r [] q e = inl e
 agreed_heard me n r (x ∷ xs) q e =
-    counted_by (λ (y : Acceptance). y.src) me q x xs (also_members me x.src r.agreed q)
+    counted_by (λ (y : Acceptance). y.src) me q x xs (taken (accepts round_before r.acceptor (record { number = n; value = x.value })))
     (agreed_heard me n (accepts_with me x.src (record { number = n; value = x.value }) r) xs q e)
+  where
+    taken : (t : Bool) → contains (cond t (record {
+      acceptor = accept round_before r.acceptor (record { number = n; value = x.value });
+      wish = none;
+      promised = r.promised;
+      agreed = also_self me x.src r.agreed;
+    }) r).agreed q ≡ true → (contains r.agreed q ≡ true) ⊎ (q ≡ me) ⊎ (q ≡ x.src)
+    taken true f = also_members me x.src r.agreed q f
+    taken false f = inl f
 
 module _ (n : PaxosRound) (first : Shard) (classic : has_fast_path first.settings.mode ≡ false) (within : within_limits first.settings ≡ true)
     (newer : exceeded round_before (replica_in first).acceptor.responded n ≡ false) where
@@ -255,14 +264,17 @@ module _ (n : PaxosRound) (first : Shard) (classic : has_fast_path first.setting
         ∙ ap (accepts_with me d.message.src p) s.counted
         ∙ accepted_last me n begin xs (acceptance_of d v)
 
+    next_acceptor : next.acceptor ≡ accept round_before (enters n (replica_in shard)).acceptor p
+    next_acceptor = accepted_acceptor shard.settings.my_pid d.message.src p (enters n (replica_in shard))
+
     next_number_lem : next.acceptor.responded ≡ some n
-    unfolding accepts_with
-    next_number_lem = accept_responded (enters n (replica_in shard)).acceptor p ∙ entered_number n (replica_in shard) s.free
+    next_number_lem =
+        ap (λ (x : Acceptor PaxosRound ℕ). x.responded) next_acceptor ∙ accept_responded (enters n (replica_in shard)).acceptor p ∙ entered_number n (replica_in shard) s.free
 
     next_accepted : next.acceptor.accepted ≡ some p
-    unfolding accepts_with
     next_accepted =
-        accepts_in (enters n (replica_in shard)).acceptor p (entered_number n (replica_in shard) s.free)
+        ap (λ (x : Acceptor PaxosRound ℕ). x.accepted) next_acceptor
+        ∙ accepts_in (enters n (replica_in shard)).acceptor p (entered_number n (replica_in shard) s.free)
         ∙ ap (λ (o : Option (Proposal PaxosRound ℕ)). higher round_before o (some p)) (entered_accepted n (replica_in shard))
         ∙ highest_now
 

@@ -1,4 +1,5 @@
 pub mod Views
+pub mod InOrder
 pub mod Handlers
 pub mod Accepting
 pub mod Proposals

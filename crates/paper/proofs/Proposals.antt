@@ -34,7 +34,7 @@ use Rattle.consensus.specs.declared.Shard.{Shard}
 use Rattle.paper.specs.Replica.{Replica, accepted_of, wish_of, responded_of, replica_of, brings, is_there, number_or, proposer_in, hears, accepts_with}
 use Rattle.paper.specs.PaperCall.{Seen, Place, leaves, requesting, own_number, begins, proposes_own}
 use Rattle.paper.proofs.Views.{place_in, seen_after, Agrees, agrees, no_refusal, agree_both, agree_unless, promise_heard, accept_counted}
-use Rattle.paper.proofs.Handlers.{or_false}
+use Rattle.paper.proofs.InOrder.{or_false}
 
 or_default : (o : Optional PaxosRound) → unwrap_or_default o ≡ number_or default_round (responded_of o)
 or_default None = refl

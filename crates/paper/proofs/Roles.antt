@@ -6,6 +6,7 @@ use Rattle.calls.specs.Commits.{committed_slot}
 use Rattle.calls.specs.declared.CommittedSlot.{CommittedSlot}
 use mathlib.Core.Path.{◌≡◌, refl, sym, ap, subst, ◌∙◌}
 use mathlib.Core.Bool.{Bool, true, false, cond, not, ◌&&◌, ◌||◌}
+use Rattle.std.proofs.Math.Bool.{or-false}
 use mathlib.Core.List.{List, [], ◌∷◌, ◌++◌}
 use mathlib.Core.Option.{Option, none, some}
 use Prim.Native.Nat.{ℕ}
@@ -23,14 +24,16 @@ use Rattle.message.specs.declared.PaxosRound.{PaxosRound}
 use Rattle.message.specs.declared.RoundV.{RoundV}
 use Rattle.settings.specs.Settings.{within_limits}
 use Rattle.steps.specs.declared.Destination.TheVariants.{One}
+use Rattle.steps.specs.declared.Messages.{Messages}
 use Rattle.steps.specs.declared.Outgoing.{Outgoing}
 use Rattle.delivery.specs.declared.Delivery.{Delivery}
 use Rattle.calls.specs.declared.Call.TheVariants.{Receive}
 use Rattle.consensus.specs.Call.{call_of}
 use Rattle.consensus.specs.declared.Shard.{Shard}
-use Rattle.paper.specs.Replica.{Replica, report_of, enters, promises, unless_accepted, is_there, keeps_something, proposer_in, newly, also_self, hears, takes_up, accepts_with}
-use Rattle.paper.specs.PaperCall.{Known, known_of, is_one_of, but, Seen, Place, place_of, seen, leaves, nothing, commits, sending, takes_part, responding, requesting, gathers, in_prepare, learners, is_learner, is_leader, announced_to, to_each, announces, informs, learning, counts, in_accept, receives_prepare, receives_accept, received, OfPaxos, replica_in, refused_with, by_rules, paper_call}
+use Rattle.paper.specs.Replica.{Replica, report_of, enters, or_again, promises, unless_accepted, is_there, keeps_something, proposer_in, newly, also_self, hears, takes_up, accepts_with}
+use Rattle.paper.specs.PaperCall.{Known, known_of, is_one_of, but, Seen, Place, place_of, seen, in_places, leaves, nothing, commits, sending, takes_part, prepared_with, to_proposer, responding, requesting, gathers, hearing, receives_prepare, learners, is_learner, is_leader, announced_to, to_each, informs, learning, counts, received, OfPaxos, replica_in, refused_with, by_rules, paper_call}
 use Rattle.paper.specs.Runs.{Handled, Response, hears_all, with_all}
+use Rattle.paper.proofs.InOrder.{later_not_exceeded, exceeded_not_later, kept, then_prepare, prepared_in, prepare_in_order, announced, then_accept, accept_in_order}
 use Rattle.paper.proofs.Calls.{call_as_paper}
 use Rattle.paper.proofs.Consequences.{heard_keeps, heard_last, proposes_of_all}
 
@@ -42,14 +45,6 @@ abbrev is_some : {A : Type 0} → Option A → Bool
 is_some none = false
 is_some (some x) = true
 
-later_not_exceeded : (o : Option PaxosRound) (n : PaxosRound) → greater round_before n o ≡ true → exceeded round_before o n ≡ false
-later_not_exceeded none n e = refl
-later_not_exceeded (some m) n e = fails (λ f. not_both (rounds_ordered.transitive m n m e f) (rounds_ordered.irreflexive m))
-
-exceeded_not_later : (o : Option PaxosRound) (n : PaxosRound) → exceeded round_before o n ≡ true → greater round_before n o ≡ false
-exceeded_not_later none n e = absurd (not_both e refl)
-exceeded_not_later (some m) n e = fails (λ f. not_both (rounds_ordered.transitive n m n e f) (rounds_ordered.irreflexive n))
-
 abbrev is_commit : Optional CommittedSlot → Bool
 is_commit None = false
 is_commit (Some commit) = true
@@ -57,6 +52,23 @@ is_commit (Some commit) = true
 abbrev committed_value : Optional CommittedSlot → ℕ
 committed_value None = 0
 committed_value (Some commit) = commit.v
+
+pub accepted_acceptor : (me src : ℕ) (p : Proposal PaxosRound ℕ) (r : Replica) → (accepts_with me src p r).acceptor ≡ accept round_before r.acceptor p
+unfolding accepts_with accept
+accepted_acceptor me src p r = go (accepts round_before r.acceptor p) refl
+  where
+    go : (t : Bool) → accepts round_before r.acceptor p ≡ t
+        → (cond t (record {
+          acceptor = accept round_before r.acceptor p;
+          wish = none;
+          promised = r.promised;
+          agreed = also_self me src r.agreed;
+        }) r).acceptor
+        ≡ accept round_before r.acceptor p
+    go true e = refl
+    go false e =
+        ap (λ (t : Bool). cond t (record { responded = r.acceptor.responded; accepted = higher round_before r.acceptor.accepted (some p) }) r.acceptor)
+        (sym e)
 
 pub entered_acceptor : (n : PaxosRound) (r : Replica) → (enters n r).acceptor ≡ prepare round_before r.acceptor n
 unfolding enters prepare
@@ -77,18 +89,17 @@ older_accept x p e =
     (exceeded_not_later x.responded p.number e)
     ∙ ap (λ (t : Bool). cond (not t) (record { responded = x.responded; accepted = higher round_before x.accepted (some p) }) x) e
 
--- one that accepts behind a prepare request of the number has responded to no greater one
-prepared_accepts : (x : Acceptor PaxosRound ℕ) (p : Proposal PaxosRound ℕ) → accepts round_before (prepare round_before x p.number) p ≡ true
-    → exceeded round_before x.responded p.number ≡ false
-unfolding prepare responds accepts
-prepared_accepts x p f =
-    fails
-    (λ g.
-    not_both f
-    (ap not
-    (ap (λ (t : Bool). exceeded round_before (cond t (record { responded = some p.number; accepted = x.accepted }) x).responded p.number)
-    (exceeded_not_later x.responded p.number g)
-    ∙ g)))
+-- one that ignores a prepare request takes nothing up from it: it keeps a proposal, or has responded to a greater number
+kept_as_ignored : (me : ℕ) (n : PaxosRound) (rv : RoundV) (r : Replica) → ignores round_before r.acceptor n ≡ true → takes_up me n rv r ≡ r
+unfolding takes_up ignores
+kept_as_ignored me n rv r e = ap (λ (t : Bool). cond t r (hears me me rv r)) (go r.acceptor.accepted e)
+  where
+    older : Bool
+    older = exceeded round_before r.acceptor.responded n
+
+    go : (x : Option (Proposal PaxosRound ℕ)) → (older || accepted_in round_before n x) ≡ true → ((is_there x || is_there r.wish) || older) ≡ true
+    go none f = or_right (is_there r.wish) (sym (or-false older) ∙ f)
+    go (some p) f = refl
 
 -- ---- lists of processes
 
@@ -132,12 +143,12 @@ module _ (shard : Shard) (classic : has_fast_path shard.settings.mode ≡ false)
       ∙ ap (λ (k : ℕ). cond (eqb k 0) (by_rules shard (Receive d)) (refused_with k shard)) handled.free
       ∙ ap (received here h) e
 
+  takes : takes_part here slot ≡ true
+  takes = ap (λ (t : Bool). t && not (ltb slot shard.state.rounds.core.slot)) handled.replica ∙ ap not handled.own
+
   -- it takes part, and what remains is the number
   entered : (rule : Seen) → cond (takes_part here slot && not older) rule (nothing here) ≡ cond older (nothing here) rule
-  entered rule =
-      ap (λ (t : Bool). cond (t && not (ltb slot shard.state.rounds.core.slot) && not older) rule (nothing here)) handled.replica
-      ∙ ap (λ (t : Bool). cond (not t && not older) rule (nothing here)) handled.own
-      ∙ turned older
+  entered rule = ap (λ (t : Bool). cond (t && not older) rule (nothing here)) takes ∙ turned older
     where
       turned : (t : Bool) → cond (not t) rule (nothing here) ≡ cond t (nothing here) rule
       turned true = refl
@@ -146,37 +157,39 @@ module _ (shard : Shard) (classic : has_fast_path shard.settings.mode ≡ false)
   -- ---- Prepare
 
   module _ (rv : RoundV) (message : d.message.msg ≡ Prepare slot n rv) where
-    prepare_handled : seen (call_of shard (Receive d)) ≡ cond older (nothing here) (in_prepare here h n rv (takes_up me rv (enters n old)))
-    unfolding received receives_prepare
-    prepare_handled = by_rule (Prepare slot n rv) message tt ∙ entered (in_prepare here h n rv (takes_up me rv (enters n old)))
+    -- what the replica r makes of it, in the number
+    abbrev ends : Replica → Seen
+    ends r = then_prepare here h n rv (kept here h n rv r)
+
+    prepare_handled : seen (call_of shard (Receive d)) ≡ cond older (nothing here) (ends (enters n old))
+    unfolding received
+    prepare_handled = by_rule (Prepare slot n rv) message tt ∙ prepare_in_order here h n rv slot ∙ entered (ends (enters n old))
 
     -- the acceptor that has responded to n
     abbrev now : Replica
     now = record { acceptor = record { responded = some n; accepted = old.acceptor.accepted }; wish = old.wish; promised = 0; agreed = 0 }
 
     -- the paper's acceptor responds: so does the replica, once it has entered the number
-    responded : responds round_before old.acceptor n ≡ true → seen (call_of shard (Receive d)) ≡ in_prepare here h n rv (takes_up me rv now)
+    responded : responds round_before old.acceptor n ≡ true → seen (call_of shard (Receive d)) ≡ ends now
     unfolding enters prepare responds
     responded f =
         prepare_handled
-        ∙ ap (λ (t : Bool). cond t (nothing here) (in_prepare here h n rv (takes_up me rv (enters n old)))) (later_not_exceeded old.acceptor.responded n f)
-        ∙ ap (λ (t : Bool). in_prepare here h n rv (takes_up me rv
-        (cond t (record { acceptor = cond t now.acceptor old.acceptor; wish = old.wish; promised = 0; agreed = 0 }) old))) f
+        ∙ ap (λ (t : Bool). cond t (nothing here) (ends (enters n old))) (later_not_exceeded old.acceptor.responded n f)
+        ∙ ap (λ (t : Bool). ends
+        (cond t (record { acceptor = cond t now.acceptor old.acceptor; wish = old.wish; promised = 0; agreed = 0 }) old)) f
 
     prepared_acceptor : responds round_before old.acceptor n ≡ true → now.acceptor ≡ prepare round_before old.acceptor n
     unfolding prepare responds
     prepared_acceptor f = ap (λ (t : Bool). cond t now.acceptor old.acceptor) (sym f)
 
     -- the promise of one that is not the gatherer, in the number that it has entered and has accepted nothing in
-    promised_in : (r : Replica) → eqb h.proposer me ≡ false → r.acceptor.responded ≡ some n → accepted_in round_before n r.acceptor.accepted ≡ false
-        → in_prepare here h n rv r ≡ leaves here r (sending here r.wish (promise n r.acceptor.accepted) (One h.proposer) ∷ [])
-    unfolding in_prepare promises ignores responding
-    promised_in r other entry fresh =
-        ap (λ (t : Bool). cond t (gathers here h n rv r) (responding here h r (promises n r))) other
-        ∙ ap (λ (t : Bool). responding here h r (cond t none (some (promise n r.acceptor.accepted))))
-        (ap (λ (o : Option PaxosRound). exceeded round_before o n || accepted_in round_before n r.acceptor.accepted) entry
-        ∙ ap (λ (t : Bool). t || accepted_in round_before n r.acceptor.accepted) (rounds_ordered.irreflexive n)
-        ∙ fresh)
+    promised_in : (r : Replica) → eqb h.proposer me ≡ false → accepted_in round_before n r.acceptor.accepted ≡ false
+        → then_prepare here h n rv r ≡ leaves here r (sending here r.wish (promise n r.acceptor.accepted) (One h.proposer) ∷ [])
+    promised_in r other fresh =
+        ap (λ (t : Bool). cond t (gathers here h n rv r) (answer (accepted_in round_before n r.acceptor.accepted))) other ∙ ap answer fresh
+      where
+        answer : Bool → Seen
+        answer t = leaves here r (to_proposer here h r.wish (cond t none (some (promise n r.acceptor.accepted))))
 
     -- Phase 1 (b), at another than the gatherer that keeps something and has not accepted in the number: where the paper's acceptor responds, the
     -- replica's does, and the response is the message, to the gatherer.
@@ -185,7 +198,7 @@ module _ (shard : Shard) (classic : has_fast_path shard.settings.mode ≡ false)
         → seen (call_of shard (Receive d))
         ≡ leaves here (record { acceptor = prepare round_before old.acceptor n; wish = old.wish; promised = 0; agreed = 0 })
         (sending here old.wish m (One h.proposer) ∷ [])
-    unfolding response takes_up
+    unfolding response
     acceptor_responds other keeps fresh m e = go (responds round_before old.acceptor n) refl e
       where
         answer : Message PaxosRound ℕ
@@ -198,8 +211,8 @@ module _ (shard : Shard) (classic : has_fast_path shard.settings.mode ≡ false)
         go false f g = absurd (not_both refl (ap is_some (sym g)))
         go true f g =
             responded f
-            ∙ ap (λ (t : Bool). in_prepare here h n rv (cond t now (hears me me rv now))) keeps
-            ∙ promised_in now other refl fresh
+            ∙ ap (λ (t : Bool). then_prepare here h n rv (cond t now (hears me me rv now))) keeps
+            ∙ promised_in now other fresh
             ∙ ap (λ (x : Message PaxosRound ℕ). leaves here now (sending here old.wish x (One h.proposer) ∷ [])) (ap (value_in answer) g)
             ∙ ap (λ (x : Acceptor PaxosRound ℕ). leaves here (record { acceptor = x; wish = old.wish; promised = 0; agreed = 0 })
             (sending here old.wish m (One h.proposer) ∷ [])) (prepared_acceptor f)
@@ -211,7 +224,7 @@ module _ (shard : Shard) (classic : has_fast_path shard.settings.mode ≡ false)
         → seen (call_of shard (Receive d))
         ≡ leaves here (record { acceptor = prepare round_before old.acceptor n; wish = some rv; promised = also_self me me 0; agreed = 0 })
         (sending here (some rv) m (One h.proposer) ∷ [])
-    unfolding response takes_up hears
+    unfolding response hears
     acceptor_responds_first other keeps unreported m e = go (responds round_before old.acceptor n) refl e
       where
         Nothing : Option (Proposal PaxosRound ℕ) → Option RoundV → Type 0
@@ -252,31 +265,70 @@ module _ (shard : Shard) (classic : has_fast_path shard.settings.mode ≡ false)
         go false f g = absurd (not_both refl (ap is_some (sym g)))
         go true f g =
             responded f
-            ∙ ap (λ (t : Bool). in_prepare here h n rv (cond t now (hears me me rv now))) keeps
-            ∙ ap (λ (x : Option (Proposal PaxosRound ℕ)). in_prepare here h n rv (hears me me rv (with x old.wish))) nothing_kept.0
-            ∙ ap (λ (w : Option RoundV). in_prepare here h n rv (hears me me rv (with none w))) nothing_kept.1
-            ∙ ap (λ (x : Option (Proposal PaxosRound ℕ)). in_prepare here h n rv (heard x)) unreported
-            ∙ promised_in (heard none) other refl refl
+            ∙ ap (λ (t : Bool). then_prepare here h n rv (cond t now (hears me me rv now))) keeps
+            ∙ ap (λ (x : Option (Proposal PaxosRound ℕ)). then_prepare here h n rv (hears me me rv (with x old.wish))) nothing_kept.0
+            ∙ ap (λ (w : Option RoundV). then_prepare here h n rv (hears me me rv (with none w))) nothing_kept.1
+            ∙ ap (λ (x : Option (Proposal PaxosRound ℕ)). then_prepare here h n rv (heard x)) unreported
+            ∙ promised_in (heard none) other refl
             ∙ ap (λ (x : Message PaxosRound ℕ). leaves here (heard none) (reply x)) (ap (promise n) (sym nothing_kept.0) ∙ ap (value_in answer) g)
             ∙ ap (λ (x : Option (Proposal PaxosRound ℕ)). leaves here (after (record { responded = some n; accepted = x })) (reply m)) (sym nothing_kept.0)
             ∙ ap (λ (x : Acceptor PaxosRound ℕ). leaves here (after x) (reply m)) (prepared_acceptor f)
 
-    -- Phase 2 (a), at the gatherer that is in the number and keeps something: it hears the promise, and sends the accept request of the paper's
-    -- proposer where that one proposes and did not before (`proposes_of_all` for what it has heard before).
+    -- Where the paper's acceptor ignores the request, nothing is sent.
+    pub acceptor_ignores : eqb h.proposer me ≡ false → ignores round_before old.acceptor n ≡ true
+        → (call_of shard (Receive d)).reply.messages ≡ in_places []
+    unfolding received receives_prepare responding promises
+    acceptor_ignores other ignored =
+        ap (λ (s : Seen). s.messages)
+        (by_rule (Prepare slot n rv) message tt
+        ∙ ap (λ (t : Bool). cond t (cond (eqb h.proposer me) (hearing here h n rv) (responding here h n rv)) (nothing here)) takes
+        ∙ ap (λ (t : Bool). cond t (hearing here h n rv) (responding here h n rv)) other)
+        ∙ ap (λ (r : Replica). answer (promises n r.acceptor)) as_it_was
+        ∙ ap (λ (t : Bool). answer (cond t none (or_again n old.acceptor (response round_before old.acceptor n)))) ignored
+      where
+        answer : Option (Message PaxosRound ℕ) → Messages
+        answer m = in_places (to_proposer here h (prepared_with here h n rv).wish m)
+
+        -- it takes up nothing
+        as_it_was : takes_up me n rv old ≡ old
+        as_it_was = kept_as_ignored me n rv old ignored
+
+    -- Phase 2 (a), at the gatherer, unless the proposal is abandoned: in the number, which it may enter with this very Prepare, it hears the promise, and sends
+    -- the accept request of the paper's proposer where that one proposes and did not before.
+    pub proposer_enters : eqb h.proposer me ≡ true → older ≡ false
+        → seen (call_of shard (Receive d))
+        ≡ requesting here (hears me h.src rv (prepared_with here h n rv))
+        (newly (proposes round_before acceptors (proposer_in n (prepared_with here h n rv)))
+        (proposes round_before acceptors (proposer_in n (hears me h.src rv (prepared_with here h n rv)))))
+    unfolding gathers
+    proposer_enters gathering newer =
+        prepare_handled
+        ∙ ap (λ (t : Bool). cond t (nothing here) (ends (enters n old))) newer
+        ∙ ap (then_prepare here h n rv) (sym (prepared_in here h n rv newer))
+        ∙ ap (λ (t : Bool). cond t (gathers here h n rv r) (leaves here r
+        (to_proposer here h r.wish (cond (accepted_in round_before n r.acceptor.accepted) none (some (promise n r.acceptor.accepted)))))) gathering
+      where
+        r : Replica
+        r = prepared_with here h n rv
+
+    -- one that is in the number and keeps something is as it was
+    prepared_before : keeps_something old ≡ true → old.acceptor.responded ≡ some n → prepared_with here h n rv ≡ old
+    unfolding enters responds takes_up
+    prepared_before keeps entry =
+        ap (λ (t : Bool). takes_up me n rv (cond t (record { acceptor = prepare round_before old.acceptor n; wish = old.wish; promised = 0; agreed = 0 }) old))
+        (ap (greater round_before n) entry ∙ rounds_ordered.irreflexive n)
+        ∙ ap (λ (t : Bool). cond (t || older) old (hears me me rv old)) keeps
+
+    -- and for what it has heard before there is `proposes_of_all`
     pub proposer_proposes : eqb h.proposer me ≡ true → keeps_something old ≡ true → old.acceptor.responded ≡ some n
         → seen (call_of shard (Receive d))
         ≡ requesting here (hears me h.src rv old)
         (newly (proposes round_before acceptors (proposer_in n old)) (proposes round_before acceptors (proposer_in n (hears me h.src rv old))))
-    unfolding enters responds in_prepare gathers takes_up
     proposer_proposes gathering keeps entry =
-        prepare_handled
-        ∙ ap (λ (t : Bool). cond t (nothing here) (in_prepare here h n rv (takes_up me rv (enters n old))))
-        (ap (λ (o : Option PaxosRound). exceeded round_before o n) entry ∙ rounds_ordered.irreflexive n)
-        ∙ ap (λ (t : Bool). in_prepare here h n rv (takes_up me rv
-        (cond t (record { acceptor = prepare round_before old.acceptor n; wish = old.wish; promised = 0; agreed = 0 }) old)))
-        (ap (λ (o : Option PaxosRound). greater round_before n o) entry ∙ rounds_ordered.irreflexive n)
-        ∙ ap (λ (t : Bool). in_prepare here h n rv (cond t old (hears me me rv old))) keeps
-        ∙ ap (λ (t : Bool). cond t (gathers here h n rv old) (responding here h old (promises n old))) gathering
+        proposer_enters gathering (ap (λ (o : Option PaxosRound). exceeded round_before o n) entry ∙ rounds_ordered.irreflexive n)
+        ∙ ap (λ (r : Replica). requesting here (hears me h.src rv r)
+        (newly (proposes round_before acceptors (proposer_in n r)) (proposes round_before acceptors (proposer_in n (hears me h.src rv r)))))
+        (prepared_before keeps entry)
 
     -- The same by all that it has heard: since it kept r it has heard the promises ps and nothing else. What it proposes is the proposal of the
     -- paper's proposer with every report, its own acceptor's first.
@@ -309,14 +361,14 @@ module _ (shard : Shard) (classic : has_fast_path shard.settings.mode ≡ false)
     abbrev counted : Replica
     counted = accepts_with me h.src p (enters n old)
 
-    accept_handled : seen (call_of shard (Receive d)) ≡ cond older (nothing here) (in_accept here h p (enters n old))
-    unfolding received receives_accept accepts
-    accept_handled = by_rule (Accept slot n v) message tt ∙ entered (in_accept here h p (enters n old))
+    accept_handled : seen (call_of shard (Receive d)) ≡ cond older (nothing here) (then_accept here h p (enters n old))
+    unfolding received
+    accept_handled = by_rule (Accept slot n v) message tt ∙ accept_in_order here h p slot ∙ entered (then_accept here h p (enters n old))
 
     -- what holds of every way in which an Accept can end holds of the call
     of_accept : (P : Seen → Type 0) → (older ≡ true → P (nothing here)) → ((ms : List Outgoing) → P (leaves here counted ms))
         → ((ms : List Outgoing) → is_majority acceptors (size counted.agreed) ≡ true → P (commits here v ms)) → P (seen (call_of shard (Receive d)))
-    unfolding in_accept learning learns
+    unfolding learning learns
     of_accept P stay leave commit = subst P (sym accept_handled) (by_age older refl)
       where
         count : (ms : List Outgoing) → P (counts here h p counted ms)
@@ -326,40 +378,62 @@ module _ (shard : Shard) (classic : has_fast_path shard.settings.mode ≡ false)
             go true e = commit (ms ++ informs here h p) e
             go false e = leave ms
 
-        by_age : (t : Bool) → older ≡ t → P (cond t (nothing here) (in_accept here h p (enters n old)))
+        by_age : (t : Bool) → older ≡ t → P (cond t (nothing here) (then_accept here h p (enters n old)))
         by_age true e = stay e
-        by_age false e = of-both P (is_learner here h n) (count (announces here h p (enters n old))) (leave (announces here h p (enters n old)))
+        by_age false e = of-both P (is_learner here h n) (count (announced here h p)) (leave (announced here h p))
 
-    -- Section 2.3, at another than a distinguished learner, for an accept request, which comes from the proposer: where the paper's acceptor announces
-    -- the proposal, the replica does, to each of the distinguished learners.
-    pub acceptor_announces : is_learner here h n ≡ false → eqb h.src h.proposer ≡ true
-        → (m : Message PaxosRound ℕ) → announcement round_before (prepare round_before old.acceptor n) p ≡ some m
-        → seen (call_of shard (Receive d)) ≡ leaves here counted (to_each here h (learners here h n) (some m))
-    unfolding announcement in_accept announces
-    acceptor_announces other asked m e = go (accepts round_before (prepare round_before old.acceptor n) p) refl e
+    -- Section 2.3, for an accept request, which comes from the proposer: where the paper's acceptor announces the proposal, another than the leader does, to
+    -- each of the distinguished learners but itself
+    announced_by : is_leader here h n ≡ false → eqb h.src h.proposer ≡ true → (m : Message PaxosRound ℕ)
+        → announcement round_before old.acceptor p ≡ some m → (older ≡ false) × (announced here h p ≡ to_each here h (but me (learners here h n)) (some m))
+    unfolding announcement accepts
+    announced_by other asked m e = go older refl e
       where
-        entry : accepts round_before (enters n old).acceptor p ≡ accepts round_before (prepare round_before old.acceptor n) p
-        entry = ap (λ (x : Acceptor PaxosRound ℕ). accepts round_before x p) (entered_acceptor n old)
+        told : Bool → List ℕ → Option (Message PaxosRound ℕ) → List Outgoing
+        told t ps x = cond t (to_each here h ps x) []
 
+        go : (t : Bool) → older ≡ t → cond (not t) (some (acceptance p)) none ≡ some m
+            → (older ≡ false) × (announced here h p ≡ to_each here h (but me (learners here h n)) (some m))
+        go true f g = absurd (not_both refl (ap is_some (sym g)))
+        go false f g = (
+          f,
+          ap (λ (t : Bool). told t (announced_to here h n) (some (acceptance p))) asked
+              ∙ ap (λ (t : Bool). told true (cond t [] (but me (learners here h n))) (some (acceptance p))) other
+              ∙ ap (told true (but me (learners here h n))) g,
+        )
+
+    -- and what it makes of the Accept is by whether it is one of them
+    by_learner : older ≡ false → (t : Bool) → is_learner here h n ≡ t → (ms : List Outgoing) → announced here h p ≡ ms
+        → seen (call_of shard (Receive d)) ≡ cond t (counts here h p counted ms) (leaves here counted ms)
+    by_learner newer t learner ms told =
+        accept_handled
+        ∙ ap (λ (o : Bool). cond o (nothing here) (then_accept here h p (enters n old))) newer
+        ∙ ap (λ (l : Bool). cond l (counts here h p counted (announced here h p)) (leaves here counted (announced here h p))) learner
+        ∙ ap (λ (xs : List Outgoing). cond t (counts here h p counted xs) (leaves here counted xs)) told
+
+    -- At another than a distinguished learner each of them is told, and nothing else happens.
+    pub acceptor_announces : is_learner here h n ≡ false → eqb h.src h.proposer ≡ true
+        → (m : Message PaxosRound ℕ) → announcement round_before old.acceptor p ≡ some m
+        → seen (call_of shard (Receive d)) ≡ leaves here counted (to_each here h (learners here h n) (some m))
+    acceptor_announces other asked m e =
+        by_learner told.0 false other _ told.1
+        ∙ ap (λ (qs : List ℕ). leaves here counted (to_each here h qs (some m))) (but_other me (learners here h n) other)
+      where
         not_leader : is_leader here h n ≡ false
         not_leader = fails (λ g. not_both (last_of me n.leader (but n.leader h.committers) g) other)
 
-        announced : Bool → Option (Message PaxosRound ℕ)
-        announced t = cond t (some (acceptance p)) none
+        told : (older ≡ false) × (announced here h p ≡ to_each here h (but me (learners here h n)) (some m))
+        told = announced_by not_leader asked m e
 
-        go : (t : Bool) → accepts round_before (prepare round_before old.acceptor n) p ≡ t → announced t ≡ some m
-            → seen (call_of shard (Receive d)) ≡ leaves here counted (to_each here h (learners here h n) (some m))
-        go false f g = absurd (not_both refl (ap is_some (sym g)))
-        go true f g =
-            accept_handled
-            ∙ ap (λ (t : Bool). cond t (nothing here) (in_accept here h p (enters n old))) (prepared_accepts old.acceptor p f)
-            ∙ ap (λ (t : Bool). cond t (counts here h p counted (announces here h p (enters n old))) (leaves here counted (announces here h p (enters n old)))) other
-            ∙ ap (λ (t : Bool). leaves here counted
-            (cond t (to_each here h (announced_to here h n) (announced (accepts round_before (enters n old).acceptor p))) [])) asked
-            ∙ ap (λ (t : Bool). leaves here counted (to_each here h (announced_to here h n) (announced t))) (entry ∙ f)
-            ∙ ap (λ (t : Bool). leaves here counted (to_each here h (cond t [] (but me (learners here h n))) (announced true))) not_leader
-            ∙ ap (λ (qs : List ℕ). leaves here counted (to_each here h qs (announced true))) (but_other me (learners here h n) other)
-            ∙ ap (λ (x : Option (Message PaxosRound ℕ)). leaves here counted (to_each here h (learners here h n) x)) g
+    -- At a committer, a distinguished learner that is not the leader, each of the others is told, and it learns the value where a majority has accepted.
+    pub committer_announces : is_learner here h n ≡ true → is_leader here h n ≡ false → eqb h.src h.proposer ≡ true
+        → (m : Message PaxosRound ℕ) → announcement round_before old.acceptor p ≡ some m
+        → seen (call_of shard (Receive d))
+        ≡ learning here h p counted (to_each here h (but me (learners here h n)) (some m)) (learns round_before acceptors (size counted.agreed) p)
+    committer_announces learner not_leader asked m e = by_learner told.0 true learner _ told.1
+      where
+        told : (older ≡ false) × (announced here h p ≡ to_each here h (but me (learners here h n)) (some m))
+        told = announced_by not_leader asked m e
 
     -- the replica after one that commits nothing, in a number that is not exceeded
     pub accept_leaves : older ≡ false → (call_of shard (Receive d)).reply.commit ≡ None → replica_in (call_of shard (Receive d)).shard ≡ counted
@@ -373,11 +447,11 @@ module _ (shard : Shard) (classic : has_fast_path shard.settings.mode ≡ false)
     -- older number leaves it as it was, as in the paper.
     pub acceptor_accepts : (call_of shard (Receive d)).reply.commit ≡ None
         → (replica_in (call_of shard (Receive d)).shard).acceptor ≡ accept round_before (prepare round_before old.acceptor n) p
-    unfolding accepts_with
     acceptor_accepts =
         of_accept (λ (s : Seen). s.commit ≡ None → s.replica.acceptor ≡ accept round_before (prepare round_before old.acceptor n) p)
         (λ e c. sym (older_accept old.acceptor p e))
-        (λ ms c. ap (λ (x : Acceptor PaxosRound ℕ). accept round_before x p) (entered_acceptor n old))
+        (λ ms c.
+        accepted_acceptor me h.src p (enters n old) ∙ ap (λ (x : Acceptor PaxosRound ℕ). accept round_before x p) (entered_acceptor n old))
         (λ ms m c. absurd (not_both refl (ap is_commit c)))
 
     -- Section 2.3: what an Accept commits is its value, and a majority of the replicas is counted as having accepted it in the number.

@@ -339,7 +339,7 @@ module _ (a : Asked) (replica : a.member.replica ≡ true) where
       ap (λ (x : Option (Proposal PaxosRound ℕ)). made (record { responded = responded_of p.round; accepted = x })
       (counted a.member src p.accepted_set)) (accept_higher p.max_rv n v fit)
       ∙ ap (made taken) (counted_also src p.accepted_set)
-      ∙ ap (λ (t : Bool). made (cond (not t) taken (replica_of p).acceptor) (also_self a.member.my_pid src p.accepted_set))
+      ∙ ap (λ (t : Bool). cond (not t) (made (cond (not t) taken (replica_of p).acceptor) (also_self a.member.my_pid src p.accepted_set)) (replica_of p))
       (sym free ∙ exceeded_older p.round n)
     where
       taken : Acceptor PaxosRound ℕ

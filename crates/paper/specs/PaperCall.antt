@@ -3,15 +3,16 @@
 -- of its row in docs/DIFFERENCES.md, "The Rust and the paper". The paper refuses nothing: a call that a cause of document 01 refuses
 -- (crates/consensus/specs/FirstCause.antt, demand 1) is left to that cause, and every other call follows the rules. `paper_call` at the end is what the
 -- theorems of proofs/ are about. Of the engine's definitions this page cites the order and the next number of rounds (`round_before`, `next_leader_round`,
--- `default_round`, `increment`) and sets of processes (`size`), and of demand 1's page the causes, who is live, the delegates, the committer of a value and
--- the starting round.
+-- `default_round`, `increment`), sets of processes (`size`) and a commit as the host is told it (`committed_slot`); of demand 1's page the causes
+-- (`first_cause`, at our choice among the best of EPaxos, which no classic mode asks for), a number as it is given (`number_of`), who is live, a process that
+-- is given or is oneself, the delegates, the committer of a value and the starting round.
 -- Assumes nothing.
 use Rattle.std.specs.Prelude.{◌≡◌, Bool, false, cond, not, ◌&&◌, ◌||◌, List, [], ◌∷◌, ◌++◌, map, ℕ, eqb, ltb, Option as Optional, None, Some}
 use Rattle.calls.specs.Commits.{committed_slot}
 use Rattle.calls.specs.declared.CommittedSlot.{CommittedSlot}
 use Rattle.std.proofs.Math.Option.{Option, none, some}
 use Rattle.sets.specs.Sets.{size}
-use Rattle.paxos.specs.PaxosMadeSimple.{Proposal, Message, exceeded, prepare, accepts, announcement, asks, proposal_of, proposes, learns}
+use Rattle.paxos.specs.PaxosMadeSimple.{Proposal, Message, prepare, accepts, announcement, asks, proposal_of, proposes, learns}
 use Rattle.paxos.specs.PaxosMadeSimple.Message.{accept_request}
 use Rattle.message.specs.Rounds.{increment, round_before, next_leader_round, default_round}
 use Rattle.message.specs.declared.ConsensusMsg.{ConsensusMsg}
@@ -33,7 +34,7 @@ use Rattle.calls.specs.declared.Call.TheVariants.{Propose, StartRead, Receive}
 use Rattle.consensus.specs.FirstCause.{number_of, given_number, is_live, is_oneself, leader_delegate, value_committer, starts_in, first_cause}
 use Rattle.consensus.specs.declared.Answer.{Answer}
 use Rattle.consensus.specs.declared.Shard.{Shard}
-use Rattle.paper.specs.Replica.{Replica, responded_of, replica_of, written, enters, promises, is_there, proposer_in, newly, hears, takes_up, accepts_with, number_or}
+use Rattle.paper.specs.Replica.{Replica, responded_of, replica_of, written, enters, promises, is_there, abandons, proposer_in, newly, hears, takes_up, accepts_with, number_or}
 
 -- ---- what is seen of a call
 
@@ -143,7 +144,8 @@ module _ (here : Place) where
   abbrev pub takes_part : ℕ → Bool
   takes_part slot = here.acceptor && not (ltb slot here.slot)
 
-  -- Phase 2 (a): the accept request to all; the proposer's own acceptor accepts
+  -- Phase 2 (a): the accept request; the proposer's own acceptor accepts. DIFFERENCE ("whom a request goes to"): it goes to all.
+  -- DIFFERENCE ("a group of one, in MultiPaxos and MultiPaxos3P"): it is counted, and where it alone is a majority the value is not learned.
   unfoldable pub requesting : Replica → Option (Proposal PaxosRound ℕ) → Seen
   requesting r none = leaves r []
   requesting r (some p) = leaves (accepts_with here.self here.self p r) (sending none (accept_request p) (All None) ∷ [])
@@ -162,8 +164,9 @@ module _ (here : Place) where
       hears here.self here.self (PaxosV None v)
       (record { acceptor = prepare round_before here.old.acceptor own_number; wish = here.old.wish; promised = 0; agreed = 0 })
 
-  -- The prepare request to all. DIFFERENCE ("the first round of MultiPaxos and MultiPaxos3P"): where slots begin with a number, its leader needs no
-  -- promises, and sends the accept request.
+  -- The prepare request. DIFFERENCE ("whom a request goes to"): it goes to all. DIFFERENCE ("a group of one, in Paxos and Pando"): the own promise is counted
+  -- here, and where it alone is a majority no accept request follows. DIFFERENCE ("the first round of MultiPaxos and MultiPaxos3P"): where slots begin with a
+  -- number, its leader needs no promises, and sends the accept request.
   unfoldable pub proposes_own : ℕ → Seen
   proposes_own v =
       cond (is_there here.start)
@@ -173,35 +176,42 @@ module _ (here : Place) where
   module _ (known : Known) where
     -- ---- Prepare
 
-    -- Phase 1 (b): the response, to the proposer
-    unfoldable pub responding : Replica → Option (Message PaxosRound ℕ) → Seen
-    responding r none = leaves r []
-    responding r (some m) = leaves r (sending r.wish m (One known.proposer) ∷ [])
+    -- The replica after a Prepare of the number n: its acceptor is what the paper's `prepare` leaves (`enters`), but for what it takes up. DIFFERENCE
+    -- ("a prepare request for a proposal that is held as accepted"): the number is entered also where the request is ignored for that reason.
+    abbrev pub prepared_with : PaxosRound → RoundV → Replica
+    prepared_with n rv = takes_up here.self n rv (enters n here.old)
 
-    -- it hears the promise, and proposes when a majority has responded
+    -- Phase 1 (b): the response, to the proposer
+    abbrev pub to_proposer : Option RoundV → Option (Message PaxosRound ℕ) → List Outgoing
+    to_proposer wish none = []
+    to_proposer wish (some m) = sending wish m (One known.proposer) ∷ []
+
+    -- At an acceptor: the response is that of the acceptor as it was before the call, but for what it takes up.
+    unfoldable pub responding : PaxosRound → RoundV → Seen
+    responding n rv =
+        leaves (prepared_with n rv) (to_proposer (prepared_with n rv).wish (promises n (takes_up here.self n rv here.old).acceptor))
+
+    -- At the proposer: it hears the promise, and proposes when a majority has responded.
     unfoldable pub gathers : PaxosRound → RoundV → Replica → Seen
     gathers n rv r =
         requesting (hears here.self known.src rv r)
         (newly (proposes round_before here.acceptors (proposer_in n r))
         (proposes round_before here.acceptors (proposer_in n (hears here.self known.src rv r))))
 
-    -- a Prepare is a promise at the proposer, and a prepare request at every other
-    unfoldable pub in_prepare : PaxosRound → RoundV → Replica → Seen
-    in_prepare n rv r = cond (eqb known.proposer here.self) (gathers n rv r) (responding r (promises n r))
+    -- It does so unless the proposal is abandoned. Its own acceptor has responded to the number, or does so now: DIFFERENCE ("who proposes"), Pando's delegate
+    -- with the Prepare of the leader; DIFFERENCE ("a promise in a number that was not asked for"), any proposer with the first promise that comes.
+    unfoldable pub hearing : PaxosRound → RoundV → Seen
+    hearing n rv = cond (abandons here.old.acceptor n) nothing (gathers n rv (prepared_with n rv))
 
-    -- One of a number lower than that to which it has responded is ignored. A proposer so abandons a number of its own, which it may: "It can abandon a
-    -- proposal in the middle of the protocol at any time".
+    -- DIFFERENCE ("requests and answers"): a Prepare is a promise at the proposer, and a prepare request at every other
     unfoldable pub receives_prepare : ℕ → PaxosRound → RoundV → Seen
-    receives_prepare slot n rv =
-        cond (takes_part slot && not (exceeded round_before here.old.acceptor.responded n))
-        (in_prepare n rv (takes_up here.self rv (enters n here.old)))
-        nothing
+    receives_prepare slot n rv = cond (takes_part slot) (cond (eqb known.proposer here.self) (hearing n rv) (responding n rv)) nothing
 
     -- ---- Accept
 
     -- Section 2.3: "the acceptors could respond with their acceptances to some set of distinguished learners, each of which can then inform all the
     -- learners when a value has been chosen". Those of a number are the committer of the value, where there is one and it is another, and the leader, in the
-    -- order in which they are told.
+    -- order in which they are told. Section 2.5: the leader "plays the roles of the distinguished proposer and the distinguished learner".
     abbrev pub learners : PaxosRound → List ℕ
     learners n = but n.leader known.committers ++ (n.leader ∷ [])
 
@@ -219,10 +229,10 @@ module _ (here : Place) where
     to_each ps none = []
     to_each ps (some m) = map (λ (p : ℕ). sending none m (One p)) ps
 
-    -- The acceptance of an accept request, which comes from the proposer. Any other Accept is an acceptance; what it brings the replica to accept
-    -- (`in_accept`) is not announced.
-    unfoldable pub announces : Proposal PaxosRound ℕ → Replica → List Outgoing
-    announces p r = cond (eqb known.src known.proposer) (to_each (announced_to p.number) (announcement round_before r.acceptor p)) []
+    -- Phase 2 (b) and section 2.3: the acceptor as it was before the call announces that it accepts an accept request, which comes from the proposer. Any
+    -- other Accept is an acceptance; what it brings the replica to accept (`accepted_with`) is not announced.
+    unfoldable pub announces : Proposal PaxosRound ℕ → List Outgoing
+    announces p = cond (eqb known.src known.proposer) (to_each (announced_to p.number) (announcement round_before here.old.acceptor p)) []
 
     -- DIFFERENCE ("what a message carries besides"): a Commit goes to the requester of its value first, where that is another process
     abbrev pub served_first : Optional ℕ → Optional ℕ
@@ -247,22 +257,27 @@ module _ (here : Place) where
     abbrev pub counts : Proposal PaxosRound ℕ → Replica → List Outgoing → Seen
     counts p r ms = learning p r ms (learns round_before here.acceptors (size r.agreed) p)
 
-    -- The source is counted. DIFFERENCE ("requests and answers"): also that of an accept request, whose own acceptor has accepted. DIFFERENCE ("an answer to
-    -- an accept request"): a learner that gets an acceptance accepts as well, as if it were an accept request.
-    unfoldable pub in_accept : Proposal PaxosRound ℕ → Replica → Seen
-    in_accept p r =
-        cond (is_learner p.number)
-        (counts p (accepts_with here.self known.src p r) (announces p r))
-        (leaves (accepts_with here.self known.src p r) (announces p r))
+    -- The replica after an Accept: its acceptor is what the paper's `accept` leaves (`accepts_with`). DIFFERENCE ("an accept request"): the number is entered
+    -- before. The source is counted. DIFFERENCE ("requests and answers"): also that of an accept request, whose own acceptor has accepted. DIFFERENCE
+    -- ("an answer to an accept request"): a learner that gets an acceptance accepts as well, as if it were an accept request.
+    abbrev pub accepted_with : Proposal PaxosRound ℕ → Replica
+    accepted_with p = accepts_with here.self known.src p (enters p.number here.old)
 
-    -- Phase 2 (b): the proposal is accepted unless a prepare request of a greater number was responded to. DIFFERENCE ("an acceptance with a lower number"): a
-    -- learner that has responded to a greater number ignores an acceptance as well. DIFFERENCE ("an accept request"): its number is entered.
+    -- DIFFERENCE ("an acceptance with a lower number"): a learner that has responded to a greater number, and so does not accept, ignores an acceptance
+    abbrev pub listens : Proposal PaxosRound ℕ → Bool
+    listens p = is_learner p.number && accepts round_before here.old.acceptor p
+
+    -- An acceptor announces; a distinguished learner counts as well, and learns.
+    unfoldable pub in_accept : Proposal PaxosRound ℕ → Seen
+    in_accept p = cond (listens p) (counts p (accepted_with p) (announces p)) (leaves (accepted_with p) (announces p))
+
     unfoldable pub receives_accept : ℕ → Proposal PaxosRound ℕ → Seen
-    receives_accept slot p = cond (takes_part slot && accepts round_before here.old.acceptor p) (in_accept p (enters p.number here.old)) nothing
+    receives_accept slot p = cond (takes_part slot) (in_accept p) nothing
 
     -- ---- messages
 
-    -- A Commit is what a distinguished learner informs with, and is believed. A ForwardRequest is for the host. Reads are no part of the paper (`InPaxos`).
+    -- A Commit is what a distinguished learner informs with, and is believed; one of a slot that is committed says nothing new. A ForwardRequest is for the
+    -- host. Reads are no part of the paper (`InPaxos`).
     unfoldable pub received : ConsensusMsg → Seen
     received (Prepare slot n rv) = receives_prepare slot n rv
     received (Accept slot n v) = receives_accept slot (record { number = n; value = v })
@@ -291,7 +306,7 @@ InPaxos (Receive d) = OfPaxos d.message.msg
 abbrev pub replica_in : Shard → Replica
 replica_in shard = replica_of shard.state.rounds.core.paxos
 
--- where its calls are handled: an acceptor is a live replica, and the acceptors are as many as the settings have replicas
+-- where its calls are handled: the acceptors are the replicas, as many as the settings say; those that are not live have stopped
 abbrev pub place_of : Shard → Place
 place_of shard =
     record {

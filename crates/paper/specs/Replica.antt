@@ -5,7 +5,7 @@
 use Rattle.std.specs.Prelude.{Bool, true, false, cond, ◌||◌, [], ◌∷◌, ℕ, Option as Optional, None, Some}
 use Rattle.std.proofs.Math.Option.{Option, none, some}
 use Rattle.sets.specs.Sets.{insert, size}
-use Rattle.paxos.specs.PaxosMadeSimple.{Proposal, Acceptor, Message, Proposer, higher, responds, prepare, ignores, accept}
+use Rattle.paxos.specs.PaxosMadeSimple.{Proposal, Acceptor, Message, Proposer, exceeded, higher, responds, prepare, response, ignores, accepts, accept}
 use Rattle.paxos.specs.PaxosMadeSimple.Message.{prepare_request, promise, accept_request, acceptance}
 use Rattle.message.specs.Rounds.{round_before}
 use Rattle.message.specs.declared.ConsensusMsg.{ConsensusMsg}
@@ -93,7 +93,8 @@ abbrev pub value_brought : RoundV → ℕ
 value_brought (FastV proposer v) = v
 value_brought (PaxosV at v) = v
 
--- "any value if the responses reported no proposals": that of the wish
+-- "any value if the responses reported no proposals": that of the wish. DIFFERENCE ("whose value Pando's delegate proposes"): the delegate's is the first that
+-- came, whoever wished it.
 abbrev pub own_value : Option RoundV → ℕ
 own_value wish = value_brought (brings none wish)
 
@@ -113,12 +114,23 @@ enters n r =
     (record { acceptor = prepare round_before r.acceptor n; wish = r.wish; promised = 0; agreed = 0 })
     r
 
--- Phase 1 (b): the promise, unless the paper's acceptor ignores the request. DIFFERENCE ("a prepare request with a number that was answered before"):
--- one with the number to which it has responded last is answered again.
-unfoldable pub promises : PaxosRound → Replica → Option (Message PaxosRound ℕ)
-promises n r = cond (ignores round_before r.acceptor n) none (some (promise n r.acceptor.accepted))
+-- DIFFERENCE ("a prepare request with a number that was answered before"): where the paper's acceptor does not respond to a request that it does not
+-- ignore, the number is the one to which it has responded last, and it responds again
+abbrev pub or_again : PaxosRound → Acceptor PaxosRound ℕ → Option (Message PaxosRound ℕ) → Option (Message PaxosRound ℕ)
+or_again n a none = some (promise n a.accepted)
+or_again n a (some m) = some m
+
+-- Phase 1 (b): nothing where the paper's acceptor ignores the request, and else its response. DIFFERENCE ("a request that is ignored because its number is
+-- too low"): its sender is not told.
+unfoldable pub promises : PaxosRound → Acceptor PaxosRound ℕ → Option (Message PaxosRound ℕ)
+promises n a = cond (ignores round_before a n) none (or_again n a (response round_before a n))
 
 -- ---- the proposer
+
+-- Section 2.2: "It can abandon a proposal in the middle of the protocol at any time." and "It is probably a good idea to abandon a proposal if some proposer
+-- has begun trying to issue a higher-numbered one": a proposer knows of one by its own acceptor, which has responded to its prepare request
+unfoldable pub abandons : Acceptor PaxosRound ℕ → PaxosRound → Bool
+abandons a n = exceeded round_before a.responded n
 
 -- DIFFERENCE ("the own promise", "an answer to an accept request"): the replica itself (me) is counted with each one that it hears, since it promises and
 -- accepts too
@@ -153,10 +165,11 @@ is_there (some x) = true
 abbrev pub keeps_something : Replica → Bool
 keeps_something r = is_there r.acceptor.accepted || is_there r.wish
 
--- DIFFERENCE ("a Prepare that brings an accepted proposal to one that holds nothing"): a replica that keeps nothing keeps what a Prepare brings, a
--- reported proposal as if it had accepted it, and counts its own promise
-unfoldable pub takes_up : ℕ → RoundV → Replica → Replica
-takes_up me rv r = cond (keeps_something r) r (hears me me rv r)
+-- DIFFERENCE ("what is promised", "a Prepare that brings an accepted proposal to one that holds nothing"): a replica that keeps nothing keeps what a
+-- Prepare of the number n brings, a reported proposal as if it had accepted it, and counts its own promise; where it has responded to a greater number
+-- it does not
+unfoldable pub takes_up : ℕ → PaxosRound → RoundV → Replica → Replica
+takes_up me n rv r = cond (keeps_something r || exceeded round_before r.acceptor.responded n) r (hears me me rv r)
 
 -- the proposer that a replica is in the number n; of the reports it keeps the highest-numbered alone, which changes no choice (`choice_kept`,
 -- crates/paxos/proofs/Choice.antt)
@@ -175,7 +188,9 @@ number_or n (some m) = m
 
 -- ---- the acceptor and the learner: an accept request
 
--- Phase 2 (b): the acceptor accepts; as a learner the replica counts who has accepted
+-- Phase 2 (b): the acceptor has an accept request. Where it accepts, the replica wishes nothing more, and as a learner counts who has accepted.
 unfoldable pub accepts_with : ℕ → ℕ → Proposal PaxosRound ℕ → Replica → Replica
 accepts_with me src p r =
-    record { acceptor = accept round_before r.acceptor p; wish = none; promised = r.promised; agreed = also_self me src r.agreed }
+    cond (accepts round_before r.acceptor p)
+    (record { acceptor = accept round_before r.acceptor p; wish = none; promised = r.promised; agreed = also_self me src r.agreed })
+    r

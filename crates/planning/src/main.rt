@@ -3,28 +3,28 @@
 #![tactic(auto)]
 
 ghost use Rattle.std.specs.Prelude.{◌≡◌, true};
-ghost use Rattle.stored_lines.specs.Answers.{register_after_line};
+ghost use Rattle.list_lines.specs.Answers.{register_after_list_line};
 
+use group_register::GroupRegister;
 use line_blocks::LineTaker;
-use register::Register;
 use std::io::Read;
 use texts::Output;
 
 // The register that the lines ask of.
 #[derive(Clone, Copy)]
 struct Planner {
-    register: Register,
+    group: GroupRegister,
 }
 
 impl LineTaker for Planner {
-    ghost takes = { λ old line new. new.register ≡ register_after_line old.register line };
+    ghost takes = { λ old line new. new.group ≡ register_after_list_line old.group line };
 
     ghost takes_too_long = { λ old _ new. new ≡ old };
 
     ghost asks = { λ _. true };
 
     fn take(&mut self, line: &[u8], out: &mut Output<'_>) {
-        self.register = stored_lines::answer_line(self.register, line, out);
+        self.group = list_lines::answer_line(self.group, line, out);
     }
 
     fn take_too_long(&mut self, _start: &[u8], out: &mut Output<'_>) {
@@ -36,13 +36,13 @@ impl LineTaker for Planner {
     }
 }
 
-// The input buffer has room for the longest line and its LF. The output buffer has 65,536 bytes left where an answer begins (line_blocks), and the
-// longest answer, that to `cells` with 512 of them, needs 34,837 (`answer_whole`, crates/planning_lines/proofs/Laws.antt).
+// The input buffer has room for the longest line and its LF. The output buffer has 360,449 bytes left where an answer begins (line_blocks), and the
+// longest answer, that to `join` with a result of 8,192 entries, needs 344,085 (`join_answer_whole`, crates/list_lines/proofs/Laws.antt).
 fn answer_input<R: Read>(reader: &mut R, input_bytes: &mut [u8; 1048577], output_bytes: &mut [u8]) {
     let input: &mut [u8] = input_bytes;
     let mut out = Output::new(output_bytes);
     let mut planner = Planner {
-        register: Register::new(),
+        group: register_lines::first_register(),
     };
     line_blocks::take_input(reader, input, &mut planner, &mut out);
 }
@@ -50,6 +50,6 @@ fn answer_input<R: Read>(reader: &mut R, input_bytes: &mut [u8; 1048577], output
 fn main(rt: HostRuntime) {
     let mut stdin = rt.stdin();
     let mut input_bytes = [0u8; 1048577];
-    let mut output_bytes = [0u8; 98304];
+    let mut output_bytes = [0u8; 393216];
     answer_input(&mut stdin, &mut input_bytes, &mut output_bytes);
 }

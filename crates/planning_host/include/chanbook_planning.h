@@ -1,10 +1,13 @@
 /* What a host in C, C++ or Rust calls of Chanbook's planning modules, beside the engine (chanbook_shard.h). Link libplanning_host.a, which
-   tools/static_libraries.sh writes to target/staticlib. Whatever numbers a function is given or lent, it ends and answers. It holds nothing between two calls. */
+   tools/static_libraries.sh writes to target/staticlib. Whatever numbers a function is given or lent, it ends and answers. It holds nothing between two
+   calls. */
 #ifndef CHANBOOK_PLANNING_H
 #define CHANBOOK_PLANNING_H
 
 #include <stddef.h>
 #include <stdint.h>
+
+#include "chanbook_shard.h" /* struct chanbook_group_settings */
 
 #ifdef __cplusplus
 extern "C" {
@@ -12,13 +15,17 @@ extern "C" {
 
 /* Why a call is refused: numbers of document 02. */
 enum {
+    CHANBOOK_UNMADE = 1,          /* the settings that the register was begun from are outside their limits */
     CHANBOOK_TOO_LARGE = 2,       /* a slot is above 2^63-2; in a list also a value above 2^63-1 */
     CHANBOOK_NO_RASTER = 14,      /* no raster number or no raster frequency; in an entry also a width outside its limits, or an unknown kind */
     CHANBOOK_NO_ROOM = 15,        /* a new cell with 512 live */
     CHANBOOK_CELL_NOT_LIVE = 16,  /* release of a cell that is not live */
     CHANBOOK_OUTSIDE_LIMITS = 18, /* too many entries in a list, slots not consecutive, slices of unequal length, or too few places */
     CHANBOOK_GAP = 19,            /* a gap between two lists, or between a register and a list */
-    CHANBOOK_TWO_VALUES = 20      /* one slot with two values */
+    CHANBOOK_TWO_VALUES = 20,     /* one slot with two values */
+    CHANBOOK_OUTSIDE_GRID = 21,   /* a position or a distance outside its limits */
+    CHANBOOK_NONE_FREE = 22,      /* no carrier in the range is free */
+    CHANBOOK_ODD_WIDTH = 23       /* a width not in whole MHz at or after the slot that the settings name */
 };
 
 /* What document 02 gives no number: these are ours, and none of them is one of its numbers, 1 to 23. */
@@ -37,11 +44,11 @@ struct chanbook_value {
 struct chanbook_value chanbook_raster_khz(uint64_t number);
 struct chanbook_value chanbook_raster_number(uint64_t khz);
 
-/* E6, a register of cells from the commits. A host keeps the four arrays, begins them with chanbook_register_new, and lends them for each entry.
+/* E6 and E13, a register of cells from the commits. A host keeps the five arrays, begins them with chanbook_register_new, and lends them for each entry.
    Place i of cells, carriers and widths is live cell i, by cell number; what stands behind the live cells changes no answer. The arrays do not
    overlap, each is as the call before left it, and nothing else writes to it. One thread at a time may hold a register.
-   Two offices that give equal entries in slot order hold equal registers, every number of the four arrays, whatever repeats and older entries stand
-   between. So the hosts of a group give one and the same entry for a committed value, and its slot is the commit's. */
+   Two offices with the same settings that give equal entries in slot order hold equal registers, every number of the five arrays, whatever repeats and
+   older entries stand between. So the hosts of a group give one and the same entry for a committed value, and its slot is the commit's. */
 enum {
     CHANBOOK_LIVE_CELLS = 512,  /* at most so many cells are live */
     CHANBOOK_REPORT_BYTES = 116 /* a report has at most so many bytes */
@@ -57,12 +64,23 @@ enum {
     CHANBOOK_FIGURES = 5 /* how many there are */
 };
 
-/* The arrays in one block, for a host that wants to copy, store or compare a register whole. */
+/* The places of settings: what a register keeps of the settings of its group. A number that is not 0 is read as 1. */
+enum {
+    CHANBOOK_SETTINGS_NUMBER = 0, /* 0, or the number that every call on the register gives before anything else, with nothing changed */
+    CHANBOOK_WHOLE_MHZ_FROM = 1,  /* from this slot on the width of an assignment is in whole MHz */
+    CHANBOOK_SETTINGS = 2         /* how many there are */
+};
+
+/* The arrays in one block, for a host that wants to copy, store or compare a register whole. The settings stand last: a block that was stored before E13, the
+   four other arrays, is the beginning of this one. A host that has such a block begins a register with chanbook_register_new and puts the block in the
+   place of the first four arrays; the settings stay those that chanbook_register_new wrote. Zeros in their place would be a slot of 0: widths in whole MHz
+   from the first slot on. */
 struct chanbook_register {
     uint64_t cells[512];
     uint64_t carriers[512];
     uint64_t widths[512];
     uint64_t figures[5];
+    uint64_t settings[2];
 };
 
 /* A cell's number in an entry (E7). A host that has longer ones asks first whether they fit: C would take them modulo 2^32 before the call. */
@@ -74,20 +92,21 @@ enum {
     CHANBOOK_RELEASE = 2     /* the cell is live no more; carrier and width say nothing */
 };
 
-/* A register that has seen no entry. */
-void chanbook_register_new(uint64_t cells[512], uint64_t carriers[512], uint64_t widths[512], uint64_t figures[5]);
+/* A register of the settings of its group that has seen no entry. Of settings outside their limits it is not made, and gives their number, 1. */
+void chanbook_register_new(struct chanbook_group_settings group, uint64_t settings[2], uint64_t cells[512], uint64_t carriers[512],
+                           uint64_t widths[512], uint64_t figures[5]);
 
-/* An entry: the first of 2, 64, 14, 15 and 16 whose cause holds, or 0, and it is done. After 2 and 64 every number is as it was. After 14, 15 and
-   16 the slot is seen, and nothing else has changed. */
-uint64_t chanbook_register_entry(uint64_t cells[512], uint64_t carriers[512], uint64_t widths[512], uint64_t figures[5], uint64_t slot,
-                                 uint64_t kind, chanbook_cell_number cell, uint64_t carrier, uint64_t width);
+/* An entry: the first of 1, 2, 64, 14, 23, 15 and 16 whose cause holds, or 0, and it is done. After 1, 2 and 64 every number is as it was. After 14, 23,
+   15 and 16 the slot is seen, and nothing else has changed. */
+uint64_t chanbook_register_entry(const uint64_t settings[2], uint64_t cells[512], uint64_t carriers[512], uint64_t widths[512], uint64_t figures[5],
+                                 uint64_t slot, uint64_t kind, chanbook_cell_number cell, uint64_t carrier, uint64_t width);
 
-/* The report as CSV: the header made,superseded,released,live and one line, each ended with CR LF. Hands back how many bytes it has; zeros stand
-   behind them. */
-uint64_t chanbook_register_report(const uint64_t figures[5], uint8_t out[116]);
+/* The report as CSV: the header made,superseded,released,live and one line, each ended with CR LF; of a register that is not made the one line
+   refused,1. Hands back how many bytes it has; zeros stand behind them. */
+uint64_t chanbook_register_report(const uint64_t settings[2], const uint64_t figures[5], uint8_t out[116]);
 
 /* E7, a register that was stored while cell numbers had 16 bits: its numbers, as they stood in the arrays. A host that stored the arrays themselves, 64 bits a
-   number, goes on with them as they are. */
+   number, puts them in the place of those of a new register: their numbers stay, and the settings are those of chanbook_register_new. */
 struct chanbook_stored_register {
     uint16_t cells[512];
     uint64_t carriers[512];
@@ -96,10 +115,11 @@ struct chanbook_stored_register {
 };
 
 /* The stored register in the arrays of a register: each cell has its number, its carrier and its width, and the figures and the next slot are the stored
-   ones. So the report is the same, and it is gone on with as if all its entries had been given to this library. Whatever numbers are stored. */
-void chanbook_register_widened(const uint16_t stored_cells[512], const uint64_t stored_carriers[512], const uint64_t stored_widths[512],
-                               const uint64_t stored_figures[5], uint64_t cells[512], uint64_t carriers[512], uint64_t widths[512],
-                               uint64_t figures[5]);
+   ones. So the report is the same, and it is gone on with as if all its entries had been given to this library. Whatever numbers are stored. The settings
+   are those that it is read with; odd widths that stand in it stay. */
+void chanbook_register_widened(struct chanbook_group_settings group, const uint16_t stored_cells[512], const uint64_t stored_carriers[512],
+                               const uint64_t stored_widths[512], const uint64_t stored_figures[5], uint64_t settings[2], uint64_t cells[512],
+                               uint64_t carriers[512], uint64_t widths[512], uint64_t figures[5]);
 
 /* E10: how many entries a list may have that is joined, and how many places must be lent for the result, which is how many may be fed. */
 enum {
@@ -116,7 +136,7 @@ struct chanbook_value chanbook_join(
     const uint64_t *b_slots, size_t b_slot_count, const uint64_t *b_values, size_t b_value_count,
     uint64_t *slots, size_t slot_places, uint64_t *values, size_t value_places);
 
-/* refusal: 0 and the list is fed, or 2, 18 or 19 and nothing of it is. slot and number: the first entry that was refused and document 02's number, both
+/* refusal: 0 and the list is fed, or 1, 2, 18 or 19 and nothing of it is. slot and number: the first entry that was refused and document 02's number, both
    0 where none was. */
 struct chanbook_fed {
     uint64_t refusal;
@@ -125,13 +145,50 @@ struct chanbook_fed {
 };
 
 /* E10, a list fed to a register (E6), with the host's entry beside each value: kind, cell, carrier and width as in chanbook_register_entry. Each entry from the
-   slot after the last one seen is taken as there, also those behind a refused one; what lies before that slot is not fed. 2, 18 (more than 8,192
-   entries, slots not consecutive, or slices of unequal length) or 19 (it begins past that slot) and nothing fed. */
+   slot after the last one seen is taken as there, also those behind a refused one; what lies before that slot is not fed. 1, 2, 18 (more than 8,192
+   entries, slots not consecutive, or slices of unequal length) or 19 (it begins past that slot) and nothing fed. The list's arrays may lie anywhere, but
+   they overlap none of the register's. An empty list may have null pointers. */
 struct chanbook_fed chanbook_feed(
-    uint64_t cells[512], uint64_t carriers[512], uint64_t widths[512], uint64_t figures[5],
+    const uint64_t settings[2], uint64_t cells[512], uint64_t carriers[512], uint64_t widths[512], uint64_t figures[5],
     const uint64_t *slots, size_t slot_count, const uint64_t *values, size_t value_count,
     const uint64_t *kinds, size_t kind_count, const chanbook_cell_number *entry_cells, size_t entry_cell_count,
     const uint64_t *entry_carriers, size_t entry_carrier_count, const uint64_t *entry_widths, size_t entry_width_count);
+
+/* E11, positions. Place i is the position of the cell in place i of a register: given is 0 where there is none, and with any other number x and y, whole metres
+   on the national grid, are the position. */
+struct chanbook_position {
+    uint64_t given;
+    int64_t x;
+    int64_t y;
+};
+
+/* A further kind of entry: the live cell gets the position x, y, each within 2,000,000 either way. */
+enum {
+    CHANBOOK_POSITION = 3
+};
+
+/* No cell has a position. */
+void chanbook_positions_new(struct chanbook_position positions[512]);
+
+/* An entry of a register whose host lends positions too: kinds 1 and 2 as in chanbook_register_entry, and a position, of which x and y are read and carrier and
+   width are not: the first of 2, 64, 21 and 16 whose cause holds, or 0; it adds to no figure. An assignment keeps its cell's position, and a release drops it.
+   Such a host gives every entry here and none by chanbook_register_entry or chanbook_feed, which would leave the positions where other cells stand.
+   settings: 0 and the slot from which widths are in whole MHz (23); any other number in its first place gives 1, and nothing changes. */
+uint64_t chanbook_placed_entry(const uint64_t settings[2], uint64_t cells[512], uint64_t carriers[512], uint64_t widths[512], uint64_t figures[5],
+                               struct chanbook_position positions[512], uint64_t slot, uint64_t kind, chanbook_cell_number cell, uint64_t carrier,
+                               uint64_t width, int64_t x, int64_t y);
+
+/* The numbers of the live cells that overlap the carrier and lie within the distance, 0 to 6,000,000 metres, of x, y, by number, in the first of the lent
+   places; the others stay as they are. A cell without a position is near. The value is how many they are. 1, 21 or 14, the first of them whose cause holds,
+   and then all places stay. */
+struct chanbook_value chanbook_conflicts(const uint64_t settings[2], const uint64_t cells[512], const uint64_t carriers[512], const uint64_t widths[512],
+                                         const uint64_t figures[5], const struct chanbook_position positions[512], uint64_t carrier, uint64_t width,
+                                         int64_t x, int64_t y, uint64_t distance, uint64_t numbers[512]);
+
+/* The lowest carrier number from first to last, both of the range, that conflicts with no cell. 1, 21, 14 or 22, the first of them whose cause holds. */
+struct chanbook_value chanbook_first_free(const uint64_t settings[2], const uint64_t cells[512], const uint64_t carriers[512], const uint64_t widths[512],
+                                          const uint64_t figures[5], const struct chanbook_position positions[512], uint64_t first, uint64_t last,
+                                          uint64_t width, int64_t x, int64_t y, uint64_t distance);
 
 #ifdef __cplusplus
 }

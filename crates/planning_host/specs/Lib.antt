@@ -1,2 +1,4 @@
+pub mod Begun
 pub mod Conversions
 pub mod Lists
+pub mod Reach

@@ -4,9 +4,10 @@
 use Rattle.std.specs.Prelude.{◌≡◌, ℕ, Option, Result, Ok, Err}
 use Rattle.catch_up.specs.Joining.{Joins}
 use Rattle.catch_up.specs.declared.JoinRefusal.{JoinRefusal}
-use Rattle.register.specs.declared.Register.{Register}
+use Rattle.group_register.specs.declared.GroupRegister.{GroupRegister}
 use Rattle.catch_up.specs.Causes.{CommitList, join_number}
-use Rattle.feeding.specs.Feeding.{FedList, refused_slot, refused_number, feeding}
+use Rattle.feeding.specs.Feeding.{FedList, refused_slot, refused_number, feed_refusal_number, feeding}
+use Rattle.feeding.specs.declared.FeedRefusal.{FeedRefusal}
 use Rattle.feeding.specs.declared.FirstRefused.{FirstRefused}
 use Rattle.planning_host.specs.Conversions.{flat_value}
 use Rattle.planning_host.specs.declared.FlatFed.{FlatFed}
@@ -21,11 +22,11 @@ pub record JoinsFlat (a b places after : CommitList) (answer : FlatValue) : Type
   pub numbers : answer ≡ flat_join joined
   pub call : Joins a b places after joined
 
-abbrev pub flat_fed : Result (Option FirstRefused) JoinRefusal → FlatFed
+abbrev pub flat_fed : Result (Option FirstRefused) FeedRefusal → FlatFed
 flat_fed (Ok first) = record { refusal = 0; slot = refused_slot first; number = refused_number first }
-flat_fed (Err why) = record { refusal = join_number why; slot = 0; number = 0 }
+flat_fed (Err why) = record { refusal = feed_refusal_number why; slot = 0; number = 0 }
 
 -- the list is fed to the register, and the answer is in numbers
-pub record FeedsFlat (r : Register) (l : FedList) (after : Register) (answer : FlatFed) : Type 0 where
-  pub register : after ≡ (feeding r l).register
-  pub numbers : answer ≡ flat_fed (feeding r l).answer
+pub record FeedsFlat (g : GroupRegister) (l : FedList) (after : GroupRegister) (answer : FlatFed) : Type 0 where
+  pub group : after ≡ (feeding g l).group
+  pub numbers : answer ≡ flat_fed (feeding g l).answer

@@ -1,22 +1,37 @@
 // What a host in C, C++ or Rust calls of the planning modules: numbers in and numbers out (include/chanbook_planning.h).
 #![tactic(auto)]
 
-ghost use Rattle.std.specs.Prelude.{◌≡◌};
-ghost use Rattle.register.specs.Register.{new_register};
-ghost use Rattle.register_arrays.specs.Columns.{register_of, entry_from_numbers, after_entry, report_in};
+ghost use Rattle.std.specs.Prelude.{◌≡◌, None, replicate};
+ghost use Rattle.register_arrays.specs.Columns.{entry_from_numbers};
+ghost use Rattle.group_register.specs.GroupRegister.{group_register, new_group_register};
+ghost use Rattle.group_arrays.specs.GroupColumns.{settings_in, group_in, after_group_entry, group_report_in};
 ghost use Rattle.stored_register.specs.Stored.{widened};
 ghost use Rattle.stored_arrays.specs.Columns.{stored_in};
 ghost use Rattle.catch_up.specs.Joining.{list_of};
 ghost use Rattle.feeding.specs.Feeding.{fed_list_of};
+ghost use Rattle.planning_host.specs.Begun.{register_settings};
 ghost use Rattle.planning_host.specs.Conversions.{flat_value, flat_raster, flat_khz, flat_number};
+ghost use Rattle.group_register.specs.Settings.{is_made};
+ghost use Rattle.position_arrays.specs.Row.{positions_in, placed_entry_of};
+ghost use Rattle.reach.specs.Cells.{cells_of};
+ghost use Rattle.reach.specs.Reach.{conflicts_of, first_free};
+ghost use Rattle.planning_host.specs.Reach.{placed_in_arrays, after_placed_entry, question_of, flat_answer, flat_list};
 ghost use Rattle.planning_host.specs.Lists.{JoinsFlat, flat_fed, FeedsFlat};
 
-use catch_up::{JoinRefusal, LentList, LentPlaces};
-use feeding::{EntryList, FirstRefused};
+use catch_up::{LentList, LentPlaces};
+use feeding::{EntryList, FeedRefusal, FirstRefused};
+use group_arrays::{
+    apply_group_entry, new_group_register, put_group_page, settings_in, widen_in_group,
+};
+use group_register::RegisterSettings;
+use group_settings::FlatGroupSettings;
+use position_arrays::{CellPosition, LentCells, PositionRow};
+use positions::Position;
 use raster::NotOnRaster;
+use reach::Question;
 use refusals::{Refused, refusal};
 use register::{CellNumber, entry_number};
-use register_arrays::{Columns, entry_from_numbers};
+use register_arrays::Columns;
 use stored_arrays::StoredColumns;
 
 // The number of document 02 that refuses, with 0 as the value; or 0 and the value: a Result or an Option as the C interface has it.
@@ -69,15 +84,28 @@ pub extern "C" fn chanbook_raster_number(khz: u64) -> FlatValue
     flat_raster(raster::number_of(khz))
 }
 
-// E6: a register that has seen no entry, in four arrays that the host lends (crates/register_arrays says what stands where).
+// What a register keeps of the settings of its group: their number, and E13's slot.
+fn register_settings(group: FlatGroupSettings) -> RegisterSettings
+    ensures { result ≡ register_settings group }
+{
+    RegisterSettings {
+        number: group_settings::flat_number(group),
+        whole_mhz_from: group.whole_mhz_from,
+    }
+}
+
+// E6 and E13: a register of the settings of its group that has seen no entry, in five arrays that the host lends (crates/group_arrays says what stands
+// where).
 #[unsafe(no_mangle)]
 pub extern "C" fn chanbook_register_new(
+    group: FlatGroupSettings,
+    settings: &mut [u64; 2],
     cells: &mut [u64; 512],
     carriers: &mut [u64; 512],
     widths: &mut [u64; 512],
     figures: &mut [u64; 5],
 )
-    ensures { register_of cells.new carriers.new widths.new figures.new ≡ new_register }
+    ensures { group_in settings.new cells.new carriers.new widths.new figures.new ≡ new_group_register (register_settings group) }
 {
     let mut columns = Columns {
         cells,
@@ -85,13 +113,14 @@ pub extern "C" fn chanbook_register_new(
         widths,
         figures,
     };
-    columns.clear();
+    new_group_register(register_settings(group), settings, &mut columns);
 }
 
-// E6: an entry. Kind 1 is an assignment, kind 2 a release, any other kind is refused with 14. Hands back 0, done; 64, older; or the number of
+// E6 and E13: an entry. Kind 1 is an assignment, kind 2 a release, any other kind is refused with 14. Hands back 0, done; 64, older; or the number of
 // document 02 that refuses.
 #[unsafe(no_mangle)]
 pub extern "C" fn chanbook_register_entry(
+    settings: &[u64; 2],
     cells: &mut [u64; 512],
     carriers: &mut [u64; 512],
     widths: &mut [u64; 512],
@@ -102,7 +131,8 @@ pub extern "C" fn chanbook_register_entry(
     carrier: u64,
     width: u64,
 ) -> u64
-    ensures { (register_of cells.new carriers.new widths.new figures.new, result) ≡ after_entry (register_of cells.old carriers.old widths.old figures.old) (entry_from_numbers slot kind cell carrier width) }
+    ensures { (group_in settings.now cells.new carriers.new widths.new figures.new, result)
+        ≡ after_group_entry (group_in settings.now cells.old carriers.old widths.old figures.old) (entry_from_numbers slot kind cell carrier width) }
 {
     let mut columns = Columns {
         cells,
@@ -110,31 +140,37 @@ pub extern "C" fn chanbook_register_entry(
         widths,
         figures,
     };
-    let entry = entry_from_numbers(slot, kind, cell, carrier, width);
-    entry_number(columns.apply(entry))
+    apply_group_entry(settings, &mut columns, slot, kind, cell, carrier, width)
 }
 
-// E6: the report at the start of out, zeros after it; hands back its length.
+// E6 and E13: the report at the start of out, or the line `refused,1` of a register that is not made, zeros after it; hands back its length.
 #[unsafe(no_mangle)]
-pub extern "C" fn chanbook_register_report(figures: &[u64; 5], out: &mut [u8; 116]) -> u64
-    ensures { (out.new, result) ≡ report_in figures.now }
+pub extern "C" fn chanbook_register_report(
+    settings: &[u64; 2],
+    figures: &[u64; 5],
+    out: &mut [u8; 116],
+) -> u64
+    ensures { (out.new, result) ≡ group_report_in settings.now figures.now }
 {
-    register_arrays::put_page(figures, out)
+    put_group_page(settings, figures, out)
 }
 
-// E7: the register that a stored one becomes, whose cells have numbers of 16 bits.
+// E7 and E13: the register that a stored one becomes, whose cells have numbers of 16 bits, with the settings of its group.
 #[unsafe(no_mangle)]
 pub extern "C" fn chanbook_register_widened(
+    group: FlatGroupSettings,
     stored_cells: &[u16; 512],
     stored_carriers: &[u64; 512],
     stored_widths: &[u64; 512],
     stored_figures: &[u64; 5],
+    settings: &mut [u64; 2],
     cells: &mut [u64; 512],
     carriers: &mut [u64; 512],
     widths: &mut [u64; 512],
     figures: &mut [u64; 5],
 )
-    ensures { register_of cells.new carriers.new widths.new figures.new ≡ widened (stored_in stored_cells.now stored_carriers.now stored_widths.now stored_figures.now) }
+    ensures { group_in settings.new cells.new carriers.new widths.new figures.new
+        ≡ group_register (register_settings group) (widened (stored_in stored_cells.now stored_carriers.now stored_widths.now stored_figures.now)) }
 {
     let stored = StoredColumns {
         cells: stored_cells,
@@ -148,7 +184,7 @@ pub extern "C" fn chanbook_register_widened(
         widths,
         figures,
     };
-    stored.widen(&mut columns);
+    widen_in_group(register_settings(group), stored, settings, &mut columns);
 }
 
 // E10: joins two lists, each a slice of slots and a slice of values, into the lent places. The value is how many entries stand in the first places.
@@ -176,7 +212,7 @@ pub extern "C" fn chanbook_join(
     flat_value(catch_up::join(a, b, &mut places))
 }
 
-fn flat_fed(fed: Result<Option<FirstRefused>, JoinRefusal>) -> FlatFed
+fn flat_fed(fed: Result<Option<FirstRefused>, FeedRefusal>) -> FlatFed
     ensures { result ≡ flat_fed fed }
 {
     let refusal = refusal(fed);
@@ -197,6 +233,7 @@ fn flat_fed(fed: Result<Option<FirstRefused>, JoinRefusal>) -> FlatFed
 // E10: feeds a list, with the host's entry beside each value, to a register: kinds, cells, carriers and widths as in chanbook_register_entry.
 #[unsafe(no_mangle)]
 pub extern "C" fn chanbook_feed(
+    settings: &[u64; 2],
     cells: &mut [u64; 512],
     carriers: &mut [u64; 512],
     widths: &mut [u64; 512],
@@ -208,9 +245,9 @@ pub extern "C" fn chanbook_feed(
     entry_carriers: &[u64],
     entry_widths: &[u64],
 ) -> FlatFed
-    ensures { FeedsFlat (register_of cells.old carriers.old widths.old figures.old)
+    ensures { FeedsFlat (group_in settings.now cells.old carriers.old widths.old figures.old)
         (fed_list_of slots.now values.now kinds.now entry_cells.now entry_carriers.now entry_widths.now)
-        (register_of cells.new carriers.new widths.new figures.new) result }
+        (group_in settings.now cells.new carriers.new widths.new figures.new) result }
 {
     let mut columns = Columns {
         cells,
@@ -225,5 +262,115 @@ pub extern "C" fn chanbook_feed(
         carriers: entry_carriers,
         widths: entry_widths,
     };
-    flat_fed(feeding::feed(&mut columns, list))
+    flat_fed(feeding::feed(settings_in(settings), &mut columns, list))
+}
+
+// E11: no cell has a position, in an array that the host lends beside those of a register.
+#[unsafe(no_mangle)]
+pub extern "C" fn chanbook_positions_new(positions: &mut [CellPosition; 512])
+    ensures { positions_in positions.new ≡ replicate 512 None }
+{
+    let mut row = PositionRow { cells: positions };
+    row.clear();
+}
+
+// E11: an entry of a register with positions. Kind 3 is a position, of which x and y are read; the other kinds are those of chanbook_register_entry. A host
+// that lends positions gives every entry here, so that they stay beside their cells.
+#[unsafe(no_mangle)]
+pub extern "C" fn chanbook_placed_entry(
+    settings: &[u64; 2],
+    cells: &mut [u64; 512],
+    carriers: &mut [u64; 512],
+    widths: &mut [u64; 512],
+    figures: &mut [u64; 5],
+    positions: &mut [CellPosition; 512],
+    slot: u64,
+    kind: u64,
+    cell: CellNumber,
+    carrier: u64,
+    width: u64,
+    x: i64,
+    y: i64,
+) -> u64
+    ensures { (placed_in_arrays settings.now cells.new carriers.new widths.new figures.new positions.new, result) ≡ after_placed_entry (placed_in_arrays settings.now cells.old carriers.old widths.old figures.old positions.old) (placed_entry_of slot kind cell carrier width (record { x = x; y = y })) }
+{
+    let mut columns = Columns {
+        cells,
+        carriers,
+        widths,
+        figures,
+    };
+    let mut row = PositionRow { cells: positions };
+    let entry = position_arrays::entry_from_numbers(slot, kind, cell, carrier, width, x, y);
+    entry_number(position_arrays::apply(settings, &mut columns, &mut row, entry))
+}
+
+// E11: the numbers of the cells that a carrier conflicts with, in the first of the lent places. The value is how many they are.
+#[unsafe(no_mangle)]
+pub extern "C" fn chanbook_conflicts(
+    settings: &[u64; 2],
+    cells: &[u64; 512],
+    carriers: &[u64; 512],
+    widths: &[u64; 512],
+    figures: &[u64; 5],
+    positions: &[CellPosition; 512],
+    carrier: u64,
+    width: u64,
+    x: i64,
+    y: i64,
+    distance: u64,
+    numbers: &mut [u64; 512],
+) -> FlatValue
+    ensures { (result, numbers.new) ≡ flat_list (conflicts_of (is_made (settings_in settings.now)) (cells_of (placed_in_arrays settings.now cells.now carriers.now widths.now figures.now positions.now)) carrier (question_of width x y distance) numbers.old) }
+{
+    let lent = LentCells {
+        settings,
+        cells,
+        carriers,
+        widths,
+        figures,
+        positions,
+    };
+    let question = question_of(width, x, y, distance);
+    flat_value(reach::conflicts_of(&lent, carrier, question, numbers).map(|count| count as u64))
+}
+
+// E11: the lowest carrier of a range that conflicts with none, as the value.
+#[unsafe(no_mangle)]
+pub extern "C" fn chanbook_first_free(
+    settings: &[u64; 2],
+    cells: &[u64; 512],
+    carriers: &[u64; 512],
+    widths: &[u64; 512],
+    figures: &[u64; 5],
+    positions: &[CellPosition; 512],
+    first: u64,
+    last: u64,
+    width: u64,
+    x: i64,
+    y: i64,
+    distance: u64,
+) -> FlatValue
+    ensures { result ≡ flat_answer (first_free (is_made (settings_in settings.now)) (cells_of (placed_in_arrays settings.now cells.now carriers.now widths.now figures.now positions.now)) first last (question_of width x y distance)) }
+{
+    let lent = LentCells {
+        settings,
+        cells,
+        carriers,
+        widths,
+        figures,
+        positions,
+    };
+    let question = question_of(width, x, y, distance);
+    flat_value(reach::first_free(&lent, first, last, question))
+}
+
+fn question_of(width: u64, x: i64, y: i64, distance: u64) -> Question
+    ensures { result ≡ question_of width x y distance }
+{
+    Question {
+        width,
+        position: Position { x, y },
+        distance,
+    }
 }

@@ -1,6 +1,6 @@
 /* chanbook_feed against entries that are applied one by one, with a copy of the register: lists that begin before, at and past the next slot, refused
    entries on the way, 8,192 and 8,193 entries, each refusal of a list, which leaves the register.
-   Build: cc -I crates/planning_host/include crates/planning_host/test/feed_test.c target/staticlib/libplanning_host.a -o feed_test */
+   Build: cc -I crates/host/include -I crates/planning_host/include crates/planning_host/test/feed_test.c target/staticlib/libplanning_host.a -o feed_test */
 #include <stdio.h>
 #include <stdlib.h>
 #include <string.h>
@@ -10,7 +10,7 @@
 enum { MOST = CHANBOOK_JOIN_PLACES + 1 };
 
 struct office {
-    uint64_t cells[512], carriers[512], widths[512], figures[5];
+    uint64_t settings[2], cells[512], carriers[512], widths[512], figures[5];
 };
 
 static size_t count;
@@ -34,9 +34,15 @@ static uint64_t below(uint64_t n)
     return state % n;
 }
 
+/* from one slot on the entries with an odd width are refused with 23 */
 static void begin(struct office *o)
 {
-    chanbook_register_new(o->cells, o->carriers, o->widths, o->figures);
+    struct chanbook_group_settings group;
+    memset(&group, 0, sizeof group);
+    group.settings.process_count = group.settings.replica_count = 3;
+    group.settings.alive_replicas = 7;
+    group.whole_mhz_from = below(2) ? below(300) : CHANBOOK_LAST_SLOT;
+    chanbook_register_new(group, o->settings, o->cells, o->carriers, o->widths, o->figures);
 }
 
 /* the entry of a slot is the same wherever it stands; some are refused with 14, and releases of cells that are not live with 16 */
@@ -51,14 +57,14 @@ static void fill(uint64_t first, size_t n, uint64_t pool)
         /* numbers on both sides of 2^16 */
         cells[i] = (chanbook_cell_number)(65536 - pool / 2 + mixed % pool);
         carriers[i] = mixed % 3279166;
-        widths[i] = mixed % 13 == 0 ? 0 : 1 + mixed % 400000;
+        widths[i] = mixed % 13 == 0 ? 0 : mixed % 2 ? 1 + mixed % 400000 : 1000 * (1 + mixed % 400);
     }
 }
 
 static struct chanbook_fed feed(struct office *o, size_t value_count, size_t kind_count, size_t cell_count, size_t carrier_count, size_t width_count)
 {
-    return chanbook_feed(o->cells, o->carriers, o->widths, o->figures, slots, count, values, value_count, kinds, kind_count, cells, cell_count, carriers,
-                         carrier_count, widths, width_count);
+    return chanbook_feed(o->settings, o->cells, o->carriers, o->widths, o->figures, slots, count, values, value_count, kinds, kind_count, cells,
+                         cell_count, carriers, carrier_count, widths, width_count);
 }
 
 static struct chanbook_fed feed_all(struct office *o)
@@ -71,7 +77,8 @@ static void one_by_one(struct office *o, struct chanbook_fed *first)
 {
     memset(first, 0, sizeof *first);
     for (size_t i = 0; i < count; i++) {
-        uint64_t number = chanbook_register_entry(o->cells, o->carriers, o->widths, o->figures, slots[i], kinds[i], cells[i], carriers[i], widths[i]);
+        uint64_t number = chanbook_register_entry(o->settings, o->cells, o->carriers, o->widths, o->figures, slots[i], kinds[i], cells[i], carriers[i],
+                                                  widths[i]);
         if (number != 0 && number != CHANBOOK_OLDER && first->number == 0) {
             first->slot = slots[i];
             first->number = number;
@@ -145,7 +152,7 @@ static void catches_up(void)
     static uint64_t a_slots[4096], a_values[4096], joined_slots[8192], joined_values[8192];
     struct office present, away;
     begin(&present);
-    begin(&away);
+    away = present;
     fill(0, 100, 300);
     feed_all(&present);
     feed_all(&away);

@@ -1,5 +1,6 @@
 /* How long chanbook_join takes on two lists of 4,096 entries that touch, beside a plain copy of the result, in one run: the best of 400 rounds of each.
-   Build: cc -O2 -I crates/planning_host/include crates/planning_host/test/join_speed.c target/staticlib/libplanning_host.a -o join_speed */
+   Build: cc -O2 -I crates/host/include -I crates/planning_host/include crates/planning_host/test/join_speed.c \
+     target/staticlib/libplanning_host.a -o join_speed */
 #define _POSIX_C_SOURCE 200809L
 #include <stdio.h>
 #include <string.h>

@@ -1,6 +1,6 @@
 /* chanbook_join with marks in the lent places: every place past the result, and all after each refusal, keep their mark. 8,191, 8,192 and 8,193 places,
    lists of 4,096 and 4,097 entries, every refusal.
-   Build: cc -I crates/planning_host/include crates/planning_host/test/join_test.c target/staticlib/libplanning_host.a -o join_test */
+   Build: cc -I crates/host/include -I crates/planning_host/include crates/planning_host/test/join_test.c target/staticlib/libplanning_host.a -o join_test */
 #include <stdio.h>
 #include <stdlib.h>
 
@@ -94,6 +94,23 @@ static void places(void)
     refused(18, 5, 5);
 }
 
+/* With 8,191 places, of slots, of values or of both: 2 comes before 18, and 18 before 19 and 20. */
+static void too_few(void)
+{
+    size_t few = CHANBOOK_JOIN_PLACES - 1, all = CHANBOOK_JOIN_PLACES;
+    fill(&a, 5, 3);
+    for (int of = 0; of < 3; of++) {
+        size_t slot_places = of == 1 ? all : few, value_places = of == 2 ? all : few;
+        fill(&b, 9, 2);
+        refused(18, slot_places, value_places);
+        b.value[1] = LARGEST_VALUE + 1;
+        refused(2, slot_places, value_places);
+        fill(&b, 7, 2);
+        b.value[0]++;
+        refused(18, slot_places, value_places);
+    }
+}
+
 static void longest(void)
 {
     fill(&a, 0, CHANBOOK_LIST_ENTRIES);
@@ -117,10 +134,9 @@ static void longest(void)
     refused(2, CHANBOOK_JOIN_PLACES, CHANBOOK_JOIN_PLACES);
 }
 
-/* Each refusal, and the earlier of two causes. */
-static void numbers(void)
+/* Each refusal, and the earlier of two causes, with so many places, which are enough. */
+static void numbers(size_t all)
 {
-    size_t all = CHANBOOK_JOIN_PLACES;
     fill(&a, 5, 3);
     fill(&b, 8, 2);
     b.values = 1;
@@ -187,7 +203,9 @@ int main(void)
 {
     places();
     longest();
-    numbers();
+    numbers(CHANBOOK_JOIN_PLACES);
+    numbers(CHANBOOK_JOIN_PLACES + 1);
+    too_few();
     empty();
     meeting();
     puts("join_test: passed");

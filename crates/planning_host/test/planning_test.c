@@ -1,7 +1,9 @@
 /* The exported functions of the planning modules. The raster: the ends of its ranges, every number there and back, and what has no number. The
    register: each number of an entry at its limits and beyond, two causes at once, 512 cells and one more, what a refused and an older entry
-   leave, arrays of any numbers, the report's bytes, cells above 65,535, and stored registers that are gone on with.
-   Build: cc -I crates/planning_host/include crates/planning_host/test/planning_test.c target/staticlib/libplanning_host.a -o planning_test */
+   leave, arrays of any numbers, the report's bytes, cells above 65,535, stored registers that are gone on with, widths about the slot of whole MHz, and
+   registers that are not made.
+   Build: cc -I crates/host/include -I crates/planning_host/include crates/planning_host/test/planning_test.c \
+     target/staticlib/libplanning_host.a -o planning_test */
 #include <stdio.h>
 #include <stdlib.h>
 #include <string.h>
@@ -81,14 +83,30 @@ static const uint64_t LAST_SLOT = 9223372036854775806u, MOST = 18446744073709551
 
 static struct chanbook_register held;
 
+/* The settings of a group of three whose widths are in whole MHz from this slot on. */
+static struct chanbook_group_settings group_from(uint64_t slot)
+{
+    struct chanbook_group_settings group;
+    memset(&group, 0, sizeof group);
+    group.settings.process_count = group.settings.replica_count = 3;
+    group.settings.alive_replicas = 7;
+    group.whole_mhz_from = slot;
+    return group;
+}
+
+static void begin_from(struct chanbook_group_settings group)
+{
+    chanbook_register_new(group, held.settings, held.cells, held.carriers, held.widths, held.figures);
+}
+
 static void begin(void)
 {
-    chanbook_register_new(held.cells, held.carriers, held.widths, held.figures);
+    begin_from(group_from(LAST_SLOT));
 }
 
 static uint64_t entry(uint64_t slot, uint64_t kind, chanbook_cell_number cell, uint64_t carrier, uint64_t width)
 {
-    return chanbook_register_entry(held.cells, held.carriers, held.widths, held.figures, slot, kind, cell, carrier, width);
+    return chanbook_register_entry(held.settings, held.cells, held.carriers, held.widths, held.figures, slot, kind, cell, carrier, width);
 }
 
 static uint64_t assign(uint64_t slot, chanbook_cell_number cell, uint64_t carrier, uint64_t width)
@@ -124,10 +142,11 @@ static void fill(void)
 
 static void a_new_register(void)
 {
-    static const struct chanbook_register zeros;
+    static struct chanbook_register fresh;
     memset(&held, 0xa5, sizeof held);
-    begin();
-    require(memcmp(&held, &zeros, sizeof held) == 0, "a new register", 0);
+    begin_from(group_from(5));
+    fresh.settings[CHANBOOK_WHOLE_MHZ_FROM] = 5;
+    require(memcmp(&held, &fresh, sizeof held) == 0, "a new register", 0);
 }
 
 static void limits_of_an_assignment(void)
@@ -161,6 +180,8 @@ static void limits_of_the_kind(void)
 static void marked(uint64_t next_slot)
 {
     memset(&held, 0xa5, sizeof held);
+    held.settings[CHANBOOK_SETTINGS_NUMBER] = 0;
+    held.settings[CHANBOOK_WHOLE_MHZ_FROM] = LAST_SLOT;
     held.cells[0] = 7;
     held.carriers[0] = 100;
     held.widths[0] = 5000;
@@ -191,7 +212,7 @@ static void slots(void)
     marked(0);
     leaves_all(CHANBOOK_TOO_LARGE, LAST_SLOT + 1, CHANBOOK_ASSIGNMENT, 7, 1, 1);
     leaves_all(CHANBOOK_TOO_LARGE, MOST, CHANBOOK_RELEASE, 7, 0, 0);
-    require(assign(LAST_SLOT, 7, 1, 1) == CHANBOOK_DONE, "the last slot", LAST_SLOT);
+    require(assign(LAST_SLOT, 7, 1, 1000) == CHANBOOK_DONE, "the last slot", LAST_SLOT);
     figures_are(LAST_SLOT + 1, 2, 1, 0, 1);
     leaves_all(CHANBOOK_TOO_LARGE, LAST_SLOT + 1, CHANBOOK_ASSIGNMENT, 7, 1, 1);
     leaves_all(CHANBOOK_OLDER, LAST_SLOT, CHANBOOK_RELEASE, 7, 0, 0);
@@ -267,7 +288,7 @@ static void every_cell_released(void)
 
 static int is_a_number(uint64_t number)
 {
-    return number == CHANBOOK_DONE || number == CHANBOOK_TOO_LARGE || (number >= CHANBOOK_NO_RASTER && number <= CHANBOOK_CELL_NOT_LIVE)
+    return number <= CHANBOOK_TOO_LARGE || (number >= CHANBOOK_NO_RASTER && number <= CHANBOOK_CELL_NOT_LIVE) || number == CHANBOOK_ODD_WIDTH
            || number == CHANBOOK_OLDER;
 }
 
@@ -285,10 +306,12 @@ static void arrays_of_any_numbers(void)
             ((uint64_t *)&lent.r)[i] = row >> (row >> 58);
         }
         lent.r.figures[CHANBOOK_LIVE] = counts[round % 9];
+        if (round % 5 != 0)
+            lent.r.settings[CHANBOOK_SETTINGS_NUMBER] = 0;
         uint64_t slot = row >> 1, kind = row % 3, width = row % 400000 + 1;
-        require(is_a_number(chanbook_register_entry(lent.r.cells, lent.r.carriers, lent.r.widths, lent.r.figures, slot, kind,
+        require(is_a_number(chanbook_register_entry(lent.r.settings, lent.r.cells, lent.r.carriers, lent.r.widths, lent.r.figures, slot, kind,
                                                     (chanbook_cell_number)(row >> 40), row % 3279166, width)), "no number of an entry, round", round);
-        require(chanbook_register_report(lent.r.figures, lent.out) <= CHANBOOK_REPORT_BYTES, "a longer report, round", round);
+        require(chanbook_register_report(lent.r.settings, lent.r.figures, lent.out) <= CHANBOOK_REPORT_BYTES, "a longer report, round", round);
         require(memcmp(lent.before, marks.before, sizeof lent.before) == 0 && memcmp(lent.after, marks.after, sizeof lent.after) == 0,
                 "a mark is gone, round", round);
     }
@@ -300,7 +323,7 @@ static void report_is(const char *line)
     char expected[2 * CHANBOOK_REPORT_BYTES];
     int bytes = sprintf(expected, "made,superseded,released,live\r\n%s\r\n", line);
     memset(out, 0xa5, sizeof out);
-    require(chanbook_register_report(held.figures, out) == (uint64_t)bytes, "another length of a report", (uint64_t)bytes);
+    require(chanbook_register_report(held.settings, held.figures, out) == (uint64_t)bytes, "another length of a report", (uint64_t)bytes);
     require(memcmp(out, expected, (size_t)bytes) == 0, "another report", (uint64_t)bytes);
 }
 
@@ -362,13 +385,14 @@ static struct chanbook_stored_register stored_of(const struct chanbook_register 
 
 static void widen(const struct chanbook_stored_register *stored, struct chanbook_register *r)
 {
-    chanbook_register_widened(stored->cells, stored->carriers, stored->widths, stored->figures, r->cells, r->carriers, r->widths, r->figures);
+    chanbook_register_widened(group_from(LAST_SLOT), stored->cells, stored->carriers, stored->widths, stored->figures, r->settings, r->cells, r->carriers,
+                              r->widths, r->figures);
 }
 
 /* An entry on one of so many cells, each a step above the one before. */
 static uint64_t some_entry(struct chanbook_register *r, uint64_t row, uint64_t slot, uint64_t cells, uint64_t step)
 {
-    return chanbook_register_entry(r->cells, r->carriers, r->widths, r->figures, slot, 1 + (row >> 40) % 8 / 7,
+    return chanbook_register_entry(r->settings, r->cells, r->carriers, r->widths, r->figures, slot, 1 + (row >> 40) % 8 / 7,
                                    (chanbook_cell_number)((row >> 20) % cells * step), row % 3279166, (row >> 8) % 400000 + 1);
 }
 
@@ -419,6 +443,90 @@ static void any_stored_numbers(void)
     }
 }
 
+/* ---- whole MHz */
+
+/* One before the slot any width is taken; at it and after it 23, behind 2, older and 14 and before 15; what stands there stays. */
+static void widths_about_the_slot(void)
+{
+    begin_from(group_from(600));
+    for (uint64_t i = 0; i < CHANBOOK_LIVE_CELLS; i++)
+        require(assign(i, (chanbook_cell_number)(10 * (i + 1)), i, 1001 + i) == CHANBOOK_DONE, "an odd width before the slot", i);
+    require(assign(599, 10, 5, 399999) == CHANBOOK_DONE, "one before the slot", 599);
+    leaves_all(CHANBOOK_TOO_LARGE, LAST_SLOT + 1, CHANBOOK_ASSIGNMENT, 10, 5, 1500);
+    leaves_all(CHANBOOK_OLDER, 599, CHANBOOK_ASSIGNMENT, 10, 5, 1500);
+    leaves_the_rest(CHANBOOK_NO_RASTER, 600, CHANBOOK_ASSIGNMENT, 10, 5, 400001);
+    leaves_the_rest(CHANBOOK_NO_RASTER, 601, CHANBOOK_ASSIGNMENT, 10, 3279166, 1500);
+    leaves_the_rest(CHANBOOK_ODD_WIDTH, 602, CHANBOOK_ASSIGNMENT, 10, 5, 1);
+    leaves_the_rest(CHANBOOK_ODD_WIDTH, 603, CHANBOOK_ASSIGNMENT, 11, 5, 399999);
+    leaves_the_rest(CHANBOOK_NO_ROOM, 604, CHANBOOK_ASSIGNMENT, 11, 5, 400000);
+    leaves_the_rest(CHANBOOK_CELL_NOT_LIVE, 605, CHANBOOK_RELEASE, 11, 5, 1);
+    cell_is(0, 10, 5, 399999);
+    cell_is(1, 20, 1, 1002);
+    require(assign(606, 10, 5, 1000) == CHANBOOK_DONE && release(607, 20) == CHANBOOK_DONE, "a width in whole MHz, and a release", 606);
+    figures_are(608, 514, 2, 1, 511);
+    begin_from(group_from(0));
+    leaves_the_rest(CHANBOOK_ODD_WIDTH, 0, CHANBOOK_ASSIGNMENT, 10, 5, 999);
+    begin();
+    leaves_the_rest(CHANBOOK_ODD_WIDTH, LAST_SLOT, CHANBOOK_ASSIGNMENT, 10, 5, 999);
+}
+
+/* A stored register keeps its odd widths, and takes the slot from the settings that it is read with. */
+static void stored_odd_widths(void)
+{
+    begin();
+    require(assign(0, 7, 100, 1500) == CHANBOOK_DONE, "an odd width", 0);
+    struct chanbook_stored_register stored = stored_of(&held);
+    chanbook_register_widened(group_from(1), stored.cells, stored.carriers, stored.widths, stored.figures, held.settings, held.cells, held.carriers,
+                              held.widths, held.figures);
+    leaves_the_rest(CHANBOOK_ODD_WIDTH, 1, CHANBOOK_ASSIGNMENT, 7, 100, 1500);
+    cell_is(0, 7, 100, 1500);
+    figures_are(2, 1, 0, 0, 1);
+}
+
+/* The four arrays of a block that was stored before E13 are the beginning of the block: put into a new register, they are gone on with under its settings. */
+static void stored_before_the_settings(void)
+{
+    static struct { uint64_t cells[512], carriers[512], widths[512], figures[5]; } stored;
+    begin();
+    require(assign(0, 7, 100, 1500) == CHANBOOK_DONE, "an odd width", 0);
+    memcpy(&stored, &held, sizeof stored);
+    require(sizeof stored == 12328 && stored.cells[0] == 7 && stored.figures[CHANBOOK_LIVE] == 1, "the four arrays first", sizeof stored);
+    begin_from(group_from(1));
+    memcpy(&held, &stored, sizeof stored);
+    cell_is(0, 7, 100, 1500);
+    leaves_the_rest(CHANBOOK_ODD_WIDTH, 1, CHANBOOK_ASSIGNMENT, 7, 100, 1500);
+    figures_are(2, 1, 0, 0, 1);
+}
+
+static void report_refused(void)
+{
+    uint8_t out[CHANBOOK_REPORT_BYTES];
+    memset(out, 0xa5, sizeof out);
+    require(chanbook_register_report(held.settings, held.figures, out) == 11 && memcmp(out, "refused,1\r\n", 11) == 0, "a report of no register", 11);
+}
+
+/* Every call gives 1 before anything else, and every number stays. */
+static void not_made(void)
+{
+    struct chanbook_group_settings outside = group_from(5);
+    outside.settings.my_pid = 3;
+    const struct chanbook_group_settings none[] = { group_from(LAST_SLOT + 1), group_from(MOST), outside };
+    for (unsigned i = 0; i < sizeof none / sizeof *none; i++) {
+        marked(4);
+        held.settings[CHANBOOK_SETTINGS_NUMBER] = i + 1;
+        report_refused();
+        leaves_all(CHANBOOK_UNMADE, 5, CHANBOOK_ASSIGNMENT, 7, 1, 1000);
+        leaves_all(CHANBOOK_UNMADE, MOST, CHANBOOK_RELEASE, 9, 0, 0);
+        begin_from(none[i]);
+        require(held.settings[CHANBOOK_SETTINGS_NUMBER] == CHANBOOK_UNMADE, "settings outside their limits", i);
+        leaves_all(CHANBOOK_UNMADE, 0, CHANBOOK_ASSIGNMENT, 7, 3279166, 1);
+        report_refused();
+        struct chanbook_fed fed = chanbook_feed(held.settings, held.cells, held.carriers, held.widths, held.figures, NULL, 0, NULL, 0, NULL, 0, NULL, 0,
+                                                NULL, 0, NULL, 0);
+        require(fed.refusal == CHANBOOK_UNMADE && fed.slot == 0 && fed.number == 0, "a list fed to no register", i);
+    }
+}
+
 static void the_register(void)
 {
     a_new_register();
@@ -434,6 +542,10 @@ static void the_register(void)
     longer_cell_numbers();
     stored_and_gone_on_with();
     any_stored_numbers();
+    widths_about_the_slot();
+    stored_odd_widths();
+    stored_before_the_settings();
+    not_made();
 }
 
 int main(void)

@@ -1,14 +1,14 @@
 -- What is written for a line. E5: `number N` and `khz F` are read as what they ask, for every number of 64 bits, and answered by the table of
--- TS 38.104. E6: every entry, written in decimal, is read as that entry.
+-- TS 38.104. E6: every entry, written in decimal, is read as that entry. E13: so is the slot that a register is begun with.
 -- Assumes nothing.
 use mathlib.Core.Path.{◌≡◌, refl, ap}
-use mathlib.Core.Bool.{Bool, true, false, cond}
+use mathlib.Core.Bool.{Bool, true, false, cond, ◌&&◌}
 use mathlib.Core.List.{List, ◌++◌}
 use Prim.Native.Nat.{ℕ, ◌+◌, ◌≤◌}
 use native.Mathlib.Omega.{arith}
 use lib.Dec.{ltb, eqb}
 use lib.ListN.{length, take, drop, length-append}
-use borrow.Author.Tests.{le-ltb}
+use borrow.Author.Tests.{le-ltb, ne_eqb}
 use Rattle.basics.proofs.Tests.{not_both, fails, and_right, of-both}
 use Rattle.raster.specs.Raster.{frequency_of, number_of, raster_refusal, raster_value}
 use Rattle.raster.specs.Table.{OnRaster}
@@ -18,11 +18,12 @@ use Rattle.texts.specs.Text.{with_bytes, ascii, put, digit_count, decimal, field
 use Rattle.texts.proofs.Lengths.{put_fits, number}
 use Rattle.line_fields.specs.Fields.{same_to, begins, is_line, number_from, line_text}
 use Rattle.line_fields.proofs.ReadBack.{number_read}
-use Rattle.register.specs.declared.Applied.{Applied}
 use Rattle.register.specs.declared.CellEntry.{CellEntry}
-use Rattle.register_lines.specs.Written.{entry_line, EntryFits}
-use Rattle.register_lines.specs.declared.RegisterQuestion.TheVariants.{Enter}
+use Rattle.group_register.specs.declared.GroupApplied.{GroupApplied}
+use Rattle.register_lines.specs.Written.{entry_line, register_line, EntryFits}
+use Rattle.register_lines.specs.declared.RegisterQuestion.TheVariants.{Begin, Enter}
 use Rattle.register_lines.proofs.EntriesRead.{entry_read}
+use Rattle.register_lines.proofs.ReportLaws.{entry_no_register, register_begins}
 use Rattle.register_lines.proofs.Lengths.{register_answer_length}
 use Rattle.planning_lines.specs.declared.Question.{Question}
 use Rattle.planning_lines.specs.declared.Question.TheVariants.{FrequencyOf, CarrierOf, OfRegister, BadLine}
@@ -61,20 +62,22 @@ khz_asks f l = rw (khz_no_number (decimal f), khz_begins (decimal f), number_rea
 
 -- ---- "14, no raster number or no raster frequency"; else the table's value
 
-pub number_answered : (a : Applied) (n f : ℕ) → n ≤ 18446744073709551615 → OnRaster n f → answer_text (question_of (number_line n)) a ≡ line_text (ascii "khz") f
+pub number_answered : (a : GroupApplied) (n f : ℕ) → n ≤ 18446744073709551615 → OnRaster n f
+    → answer_text (question_of (number_line n)) a ≡ line_text (ascii "khz") f
 unfolding answer_text value_text
 number_answered a n f l row = simp (number_asks n l, on_raster_frequency n f row)
 
-pub number_refused : (a : Applied) (n : ℕ) → n ≤ 18446744073709551615 → ((f : ℕ) → OnRaster n f → ⊥)
+pub number_refused : (a : GroupApplied) (n : ℕ) → n ≤ 18446744073709551615 → ((f : ℕ) → OnRaster n f → ⊥)
     → answer_text (question_of (number_line n)) a ≡ ascii "refused 14\n"
 unfolding answer_text value_text line_text field decimal digit_count
 number_refused a n l off = simp (number_asks n l, raster_number_refused n off)
 
-pub khz_answered : (a : Applied) (n f : ℕ) → f ≤ 18446744073709551615 → OnRaster n f → answer_text (question_of (khz_line f)) a ≡ line_text (ascii "number") n
+pub khz_answered : (a : GroupApplied) (n f : ℕ) → f ≤ 18446744073709551615 → OnRaster n f
+    → answer_text (question_of (khz_line f)) a ≡ line_text (ascii "number") n
 unfolding answer_text value_text
 khz_answered a n f l row = simp (khz_asks f l, on_raster_number n f row)
 
-pub khz_refused : (a : Applied) (f : ℕ) → f ≤ 18446744073709551615 → ((n : ℕ) → OnRaster n f → ⊥)
+pub khz_refused : (a : GroupApplied) (f : ℕ) → f ≤ 18446744073709551615 → ((n : ℕ) → OnRaster n f → ⊥)
     → answer_text (question_of (khz_line f)) a ≡ ascii "refused 14\n"
 unfolding answer_text value_text line_text field decimal digit_count
 khz_refused a f l off = simp (khz_asks f l, raster_frequency_refused f off)
@@ -112,7 +115,28 @@ pub entry_asks : (e : CellEntry) → EntryFits e → question_of (entry_line e) 
 unfolding question_of register_question field
 entry_asks e fits =
     let rest = drop 6 (entry_line e) in
-    simp (not_number rest, not_khz rest, not_register rest, not_report rest, not_cells rest, entry_read e fits)
+    simp (not_number rest, not_khz rest, not_register rest, entry_no_register rest, not_report rest, not_cells rest, entry_read e fits)
+
+-- ---- E13, for every number of 64 bits
+
+register_no_number : (rest : List ℕ) → begins (ascii "number ") (ascii "register " ++ rest) ≡ false
+unfolding begins same_to
+register_no_number rest = of-both (λ (t : Bool). t ≡ false) (ltb (length (ascii "register " ++ rest)) 7) refl refl
+
+register_no_khz : (rest : List ℕ) → begins (ascii "khz ") (ascii "register " ++ rest) ≡ false
+unfolding begins same_to
+register_no_khz rest = of-both (λ (t : Bool). t ≡ false) (ltb (length (ascii "register " ++ rest)) 4) refl refl
+
+register_longer : (rest : List ℕ) → is_line (ascii "register") (ascii "register " ++ rest) ≡ false
+unfolding is_line
+register_longer rest =
+    ap (λ (t : Bool). t && begins (ascii "register") (ascii "register " ++ rest)) (ne_eqb (length (ascii "register " ++ rest)) 8 (λ e. omega arith))
+
+pub register_asks : (slot : ℕ) → slot ≤ 18446744073709551615 → question_of (register_line slot) ≡ OfRegister (Begin slot)
+unfolding question_of register_question number_from field
+register_asks slot small =
+    let rest = decimal slot in
+    simp (register_no_number rest, register_no_khz rest, register_longer rest, register_begins rest, number_read slot small)
 
 -- ---- an answer of E5 has at most 29 bytes, one of E6 at most 34,837; it stands whole in a buffer that has room for them
 
@@ -125,14 +149,14 @@ unfolding value_text
 value_length word refusal value h =
     of-both (λ (l : List ℕ). length l ≤ 29) (eqb refusal 0) (line_length word value h) (line_length (ascii "refused") refusal (omega arith))
 
-answer_length : (q : Question) (a : Applied) → length (answer_text q a) ≤ 34837
+answer_length : (q : Question) (a : GroupApplied) → length (answer_text q a) ≤ 34837
 unfolding answer_text bad_line_text
 answer_length (FrequencyOf n) a = omega (arith, value_length (ascii "khz") (raster_refusal (frequency_of n)) (raster_value (frequency_of n)) (omega arith))
 answer_length (CarrierOf f) a = omega (arith, value_length (ascii "number") (raster_refusal (number_of f)) (raster_value (number_of f)) (omega arith))
 answer_length (OfRegister q) a = register_answer_length q a
 answer_length BadLine a = omega arith
 
-pub answer_whole : (q : Question) (a : Applied) (o : Output) → o.at + 34837 ≤ length o.bytes.now
+pub answer_whole : (q : Question) (a : GroupApplied) (o : Output) → o.at + 34837 ≤ length o.bytes.now
     → put (answer_text q a) o
     ≡ with_bytes o (take o.at o.bytes.now ++ answer_text q a ++ drop (o.at + length (answer_text q a)) o.bytes.now) (o.at + length (answer_text q a))
 answer_whole q a o room = put_fits (answer_text q a) o (omega (arith, answer_length q a))

@@ -3,9 +3,9 @@
 use Rattle.std.specs.Prelude.{cond, List, ℕ, eqb}
 use Rattle.texts.specs.Text.{ascii}
 use Rattle.line_fields.specs.Fields.{line_text}
-use Rattle.register.specs.Register.{done}
-use Rattle.register.specs.declared.Applied.{Applied}
-use Rattle.register.specs.declared.Register.{Register}
+use Rattle.group_register.specs.GroupRegister.{group_done}
+use Rattle.group_register.specs.declared.GroupApplied.{GroupApplied}
+use Rattle.group_register.specs.declared.GroupRegister.{GroupRegister}
 use Rattle.register_lines.specs.Answers.{after_question, register_answer}
 use Rattle.raster.specs.Raster.{frequency_of, number_of, raster_refusal, raster_value}
 use Rattle.planning_lines.specs.declared.Question.{Question}
@@ -18,13 +18,13 @@ unfoldable pub bad_line_text : List ℕ
 bad_line_text = ascii "bad line\n"
 
 -- the register after a question, and what became of its entry: a bad line "changes nothing"
-unfoldable pub after_line : Register → Question → Applied
-after_line r (FrequencyOf n) = done r
-after_line r (CarrierOf f) = done r
-after_line r (OfRegister q) = after_question r q
-after_line r BadLine = done r
+unfoldable pub after_line : GroupRegister → Question → GroupApplied
+after_line g (FrequencyOf n) = group_done g
+after_line g (CarrierOf f) = group_done g
+after_line g (OfRegister q) = after_question g q
+after_line g BadLine = group_done g
 
-unfoldable pub answer_text : Question → Applied → List ℕ
+unfoldable pub answer_text : Question → GroupApplied → List ℕ
 answer_text (FrequencyOf n) a = value_text (ascii "khz") (raster_refusal (frequency_of n)) (raster_value (frequency_of n))
 answer_text (CarrierOf f) a = value_text (ascii "number") (raster_refusal (number_of f)) (raster_value (number_of f))
 answer_text (OfRegister q) a = register_answer q a

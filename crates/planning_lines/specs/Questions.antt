@@ -17,16 +17,21 @@ abbrev pub carrier_question : Option ℕ → Question
 carrier_question (Some f) = CarrierOf f
 carrier_question None = BadLine
 
--- E6: `entry ..`, `register`, `report` and `cells`
+-- E6: `entry ..`, `register`, `report` and `cells`; E13: `register SLOT`, "without it 2^63−2"
 abbrev pub entry_question : Option CellEntry → Question
 entry_question (Some e) = OfRegister (Enter e)
 entry_question None = BadLine
 
+abbrev pub begin_question : Option ℕ → Question
+begin_question (Some slot) = OfRegister (Begin slot)
+begin_question None = BadLine
+
 unfoldable pub register_question : List ℕ → Question
 register_question line =
-    cond (is_line (ascii "register") line) (OfRegister Begin)
+    cond (is_line (ascii "register") line) (OfRegister (Begin 9223372036854775806))
+    (cond (begins (ascii "register ") line) (begin_question (number_from line 9))
     (cond (is_line (ascii "report") line) (OfRegister ReportLine)
-    (cond (is_line (ascii "cells") line) (OfRegister CellList) (entry_question (entry_of line))))
+    (cond (is_line (ascii "cells") line) (OfRegister CellList) (entry_question (entry_of line)))))
 
 -- E5: `number N` and `khz F`
 unfoldable pub question_of : List ℕ → Question

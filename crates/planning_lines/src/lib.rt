@@ -3,14 +3,14 @@
 
 ghost use Rattle.std.specs.Prelude.{◌≡◌};
 ghost use Rattle.texts.specs.Text.{put};
-ghost use Rattle.planning_lines.specs.Questions.{register_question, question_of};
+ghost use Rattle.planning_lines.specs.Questions.{begin_question, register_question, question_of};
 ghost use Rattle.raster.specs.Raster.{raster_refusal, raster_value};
 ghost use Rattle.planning_lines.specs.Answers.{value_text, bad_line_text, after_line, answer_text};
 
+use group_register::{GroupApplied, GroupRegister};
 use raster::NotOnRaster;
 use refusals::Refused;
-use register::{Applied, Register};
-use register_lines::RegisterQuestion;
+use register_lines::{LAST_SLOT, RegisterQuestion};
 use texts::Output;
 
 // What a line asks. A bad line is one of the cases, and no None: it has an answer of its own, and no value is missing.
@@ -22,12 +22,24 @@ pub enum Question {
     BadLine,
 }
 
+fn begin_question(slot: Option<u64>) -> Question
+    ensures { result ≡ begin_question slot }
+{
+    match slot {
+        Some(from) => Question::OfRegister(RegisterQuestion::Begin(from)),
+        None => Question::BadLine,
+    }
+}
+
 #[tactic(auto, unfolding(crate::specs::Questions::register_question))]
 fn register_question(line: &[u8]) -> Question
     ensures { result ≡ register_question line.now }
 {
     if line_fields::is_line(line, b"register") {
-        return Question::OfRegister(RegisterQuestion::Begin);
+        return begin_question(Some(LAST_SLOT));
+    }
+    if line_fields::begins(line, b"register ") {
+        return begin_question(line_fields::number_from(line, 9));
     }
     if line_fields::is_line(line, b"report") {
         return Question::OfRegister(RegisterQuestion::ReportLine);
@@ -75,20 +87,20 @@ pub fn put_bad_line(out: &mut Output<'_>)
 
 // The register after a question, and what became of its entry.
 #[tactic(auto, unfolding(crate::specs::Answers::after_line))]
-fn after_line(register: Register, question: Question) -> Applied
-    ensures { result ≡ after_line register question }
+fn after_line(group: GroupRegister, question: Question) -> GroupApplied
+    ensures { result ≡ after_line group question }
 {
     match question {
-        Question::OfRegister(asked) => register_lines::after_question(register, asked),
+        Question::OfRegister(asked) => register_lines::after_question(group, asked),
         Question::FrequencyOf(_) | Question::CarrierOf(_) | Question::BadLine => {
-            register::done(register)
+            group_register::done(group)
         }
     }
 }
 
 // The answer to a question, with its LF.
 #[tactic(auto, unfolding(crate::specs::Answers::answer_text))]
-fn put_answer(out: &mut Output<'_>, question: Question, applied: &Applied)
+fn put_answer(out: &mut Output<'_>, question: Question, applied: &GroupApplied)
     ensures { out.new ≡ put (answer_text question applied.now) out.old }
 {
     match question {
@@ -100,12 +112,12 @@ fn put_answer(out: &mut Output<'_>, question: Question, applied: &Applied)
 }
 
 // The answer to a line, and the register that the line leaves.
-pub fn answer_line(register: Register, line: &[u8], out: &mut Output<'_>) -> Register
-    ensures register { result ≡ (after_line register (question_of line.now)).register }
-    ensures put { out.new ≡ put (answer_text (question_of line.now) (after_line register (question_of line.now))) out.old }
+pub fn answer_line(group: GroupRegister, line: &[u8], out: &mut Output<'_>) -> GroupRegister
+    ensures group { result ≡ (after_line group (question_of line.now)).group }
+    ensures put { out.new ≡ put (answer_text (question_of line.now) (after_line group (question_of line.now))) out.old }
 {
     let question = question_of(line);
-    let applied = after_line(register, question);
+    let applied = after_line(group, question);
     put_answer(out, question, &applied);
-    applied.register
+    applied.group
 }

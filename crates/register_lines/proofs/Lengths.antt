@@ -1,31 +1,40 @@
 -- How long an answer about a register may be: that to `cells` with 512 of them is the longest.
 -- Assumes nothing.
-use Prim.Native.Nat.{◌*◌, ◌≤◌}
+use mathlib.Core.List.{List}
+use Prim.Native.Nat.{ℕ, ◌*◌, ◌≤◌}
 use native.Mathlib.Nat.{mul-le-mul_left, le_trans}
 use native.Mathlib.Omega.{arith}
 use lib.ListN.{length, length-append, length-take}
 use Rattle.texts.specs.Text.{each}
 use Rattle.texts.proofs.Lengths.{number, decimal_length, each_length}
 use Rattle.line_fields.specs.Fields.{line_text}
-use Rattle.register.specs.Refusals.{entry_refusal_number}
 use Rattle.register.specs.Register.{live_places, live_cells}
-use Rattle.register.specs.declared.Applied.{Applied}
 use Rattle.register.specs.declared.Cell.{Cell}
 use Rattle.register.specs.declared.Register.{Register}
 use Rattle.std.specs.Prelude.{Result, Ok, Err}
 use Rattle.register.specs.declared.Entered.{Entered}
 use Rattle.register.specs.declared.Entered.TheVariants.{Done, Older}
-use Rattle.register.specs.declared.EntryRefusal.{EntryRefusal}
 use Rattle.report.proofs.Room.{figures_length}
-use Rattle.register_lines.specs.Answers.{outcome_text, figures_answer, cell_text, cells_text, register_answer}
+use Rattle.basics.proofs.Tests.{of-both}
+use Rattle.group_register.specs.Settings.{is_made}
+use Rattle.group_register.specs.GroupRegister.{group_refusal_number}
+use Rattle.group_register.specs.declared.GroupApplied.{GroupApplied}
+use Rattle.group_register.specs.declared.GroupRefusal.{GroupRefusal}
+use Rattle.group_register.specs.declared.GroupRegister.{GroupRegister}
+use Rattle.group_register.specs.declared.RegisterSettings.{RegisterSettings}
+use Rattle.register_lines.specs.Answers.{begun_text, outcome_text, figures_answer, cell_text, cells_text, group_figures_answer, group_cells_text, register_answer}
 use Rattle.register_lines.specs.declared.RegisterQuestion.{RegisterQuestion}
 use Rattle.register_lines.specs.declared.RegisterQuestion.TheVariants.{Begin, Enter, ReportLine, CellList}
 
-outcome_length : (o : Result Entered EntryRefusal) → length (outcome_text o) ≤ 29
+begun_length : (s : RegisterSettings) → length (begun_text s) ≤ 29
+unfolding begun_text
+begun_length s = of-both (λ (l : List ℕ). length l ≤ 29) (is_made s) (omega arith) (omega arith)
+
+outcome_length : (o : Result Entered GroupRefusal) → length (outcome_text o) ≤ 29
 unfolding outcome_text line_text
 outcome_length (Ok Done) = omega arith
 outcome_length (Ok Older) = omega arith
-outcome_length (Err why) = simp length-append (omega (arith, number (entry_refusal_number why)))
+outcome_length (Err why) = simp length-append (omega (arith, number (group_refusal_number why)))
 
 figures_answer_length : (r : Register) → length (figures_answer r) ≤ 84
 unfolding figures_answer
@@ -43,9 +52,17 @@ cells_length r =
     let all : length (each cell_text (live_cells r)) ≤ 68 * 512 = le_trans (each_length cell_text 68 cell_length (live_cells r)) (mul-le-mul_left 68 few) in
     simp length-append (omega (arith, decimal_length (live_places r)))
 
-pub register_answer_length : (q : RegisterQuestion) (a : Applied) → length (register_answer q a) ≤ 34837
+group_figures_length : (g : GroupRegister) → length (group_figures_answer g) ≤ 84
+unfolding group_figures_answer
+group_figures_length g = of-both (λ (l : List ℕ). length l ≤ 84) (is_made g.settings) (figures_answer_length g.register) (omega arith)
+
+group_cells_length : (g : GroupRegister) → length (group_cells_text g) ≤ 34837
+unfolding group_cells_text
+group_cells_length g = of-both (λ (l : List ℕ). length l ≤ 34837) (is_made g.settings) (cells_length g.register) (omega arith)
+
+pub register_answer_length : (q : RegisterQuestion) (a : GroupApplied) → length (register_answer q a) ≤ 34837
 unfolding register_answer
-register_answer_length Begin a = omega arith
+register_answer_length (Begin slot) a = omega (arith, begun_length a.group.settings)
 register_answer_length (Enter e) a = omega (arith, outcome_length a.outcome)
-register_answer_length ReportLine a = omega (arith, figures_answer_length a.register)
-register_answer_length CellList a = cells_length a.register
+register_answer_length ReportLine a = omega (arith, group_figures_length a.group)
+register_answer_length CellList a = group_cells_length a.group

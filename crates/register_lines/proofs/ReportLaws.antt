@@ -1,48 +1,133 @@
--- The report of an input: that of its entries, where each line is an entry line, and else the refusal, "so that no report is of half its entries".
+-- The report of an input: that of its entries, with the slot of a first line that begins the register, where each line is such a line; and else the refusal,
+-- "so that no report is of half its entries".
 -- Assumes nothing.
 use mathlib.Core.Path.{◌≡◌, refl, ap, ◌∙◌}
+use mathlib.Core.Bool.{Bool, true, false, cond}
 use mathlib.Core.List.{List, [], ◌∷◌, ◌++◌}
-use Prim.Native.Nat.{ℕ}
+use Prim.Native.Nat.{ℕ, ◌≤◌}
+use native.Mathlib.Omega.{arith}
+use lib.Dec.{ltb}
+use lib.ListN.{length, drop}
+use borrow.Author.Tests.{le-ltb}
+use Rattle.basics.proofs.Tests.{of-both}
 use Rattle.std.specs.Prelude.{Option, Some, None}
-use Rattle.register.specs.History.{apply_all}
-use Rattle.register.specs.Register.{new_register, apply}
+use Rattle.texts.specs.Text.{ascii, decimal, field}
+use Rattle.line_fields.specs.Fields.{same_to, begins, number_from}
+use Rattle.line_fields.proofs.ReadBack.{number_read}
 use Rattle.register.specs.declared.CellEntry.{CellEntry}
-use Rattle.register.specs.declared.Register.{Register}
-use Rattle.report.specs.Report.{refusal_text, page_holding, register_page}
+use Rattle.report.specs.Report.{refusal_text, page_holding}
+use Rattle.group_register.specs.Settings.{settings_from}
+use Rattle.group_register.specs.GroupHistory.{apply_all_in_group}
+use Rattle.group_register.specs.GroupRegister.{new_group_register, apply_in_group, group_page}
+use Rattle.group_register.specs.declared.GroupRegister.{GroupRegister}
+use Rattle.register_lines.specs.Answers.{first_register}
 use Rattle.register_lines.specs.Entries.{entry_of}
-use Rattle.register_lines.specs.Reports.{take_entry, take_line, take_lines, no_lines, page_after}
-use Rattle.register_lines.specs.Written.{entry_lines, EntriesFit}
+use Rattle.register_lines.specs.Reports.{lines_taken, take_entry, take_settings, take_first, take_line, take_lines, no_lines, page_after}
+use Rattle.register_lines.specs.Written.{entry_line, register_line, entry_lines, EntryFits, EntriesFit}
+use Rattle.register_lines.specs.declared.LinesTaken.{LinesTaken}
 use Rattle.register_lines.proofs.EntriesRead.{entry_read}
 
-lines_taken : (r : Register) (es : List CellEntry) → EntriesFit es → take_lines (Some r) (entry_lines es) ≡ Some (apply_all r es)
-unfolding take_lines take_line take_entry entry_lines apply_all
-lines_taken r [] fits = refl
-lines_taken r (e ∷ es) fits =
-    ap (λ (o : Option CellEntry). take_lines (take_entry r o) (entry_lines es)) (entry_read e fits.0) ∙ lines_taken (apply r e).register es fits.1
+-- an entry line is no line that begins a register
+pub entry_no_register : (rest : List ℕ) → begins (ascii "register ") (ascii "entry " ++ rest) ≡ false
+unfolding begins same_to
+entry_no_register rest = of-both (λ (t : Bool). t ≡ false) (ltb (length (ascii "entry " ++ rest)) 9) refl refl
 
-pub report_of_entries : (es : List CellEntry) → EntriesFit es → page_after (take_lines no_lines (entry_lines es)) ≡ register_page (apply_all new_register es)
-unfolding page_after
-report_of_entries es fits = ap page_after (lines_taken new_register es fits)
+module _ (g : GroupRegister) where
+  entry_taken : (e : CellEntry) → EntryFits e → (begun : Bool)
+      → take_line (Some (record { group = g; begun = begun })) (entry_line e) ≡ lines_taken (apply_in_group g e).group
+  unfolding take_line take_first take_entry field
+  entry_taken e fits true = ap (take_entry g) (entry_read e fits)
+  entry_taken e fits false = simp (entry_no_register (drop 6 (entry_line e))) (ap (take_entry g) (entry_read e fits))
 
--- ---- a line that is no entry line
+entries_reported : (g : GroupRegister) (begun : Bool) (es : List CellEntry) → EntriesFit es
+    → page_after (take_lines (Some (record { group = g; begun = begun })) (entry_lines es)) ≡ group_page (apply_all_in_group g es)
+unfolding page_after take_lines entry_lines apply_all_in_group
+entries_reported g begun [] fits = refl
+entries_reported g begun (e ∷ es) fits =
+    ap (λ (t : Option LinesTaken). page_after (take_lines t (entry_lines es))) (entry_taken g e fits.0 begun)
+    ∙ entries_reported (apply_in_group g e).group _ es fits.1
 
-refused_by_lem : (t : Option Register) (line : List ℕ) → entry_of line ≡ None → take_line t line ≡ None
-unfolding take_line take_entry
-refused_by_lem None line none = refl
-refused_by_lem (Some r) line none = simp none
+pub report_of_entries : (es : List CellEntry) → EntriesFit es
+    → page_after (take_lines no_lines (entry_lines es)) ≡ group_page (apply_all_in_group first_register es)
+report_of_entries es fits = entries_reported first_register false es fits
+
+-- ---- a first line `register SLOT`
+
+pub register_begins : (rest : List ℕ) → begins (ascii "register ") (ascii "register " ++ rest) ≡ true
+unfolding begins same_to
+register_begins rest = ap (λ (t : Bool). cond t false true) (le-ltb (length (ascii "register " ++ rest)) 9 (omega arith))
+
+settings_taken : (slot : ℕ) → slot ≤ 18446744073709551615 → take_line no_lines (register_line slot) ≡ lines_taken (new_group_register (settings_from slot))
+unfolding take_line take_first take_settings number_from field
+settings_taken slot small = rw (register_begins (decimal slot), number_read slot small) refl
+
+pub report_of_settings : (slot : ℕ) (es : List CellEntry) → slot ≤ 18446744073709551615 → EntriesFit es
+    → page_after (take_lines no_lines (register_line slot ∷ entry_lines es)) ≡ group_page (apply_all_in_group (new_group_register (settings_from slot)) es)
+unfolding take_lines
+report_of_settings slot es small fits =
+    ap (λ (t : Option LinesTaken). page_after (take_lines t (entry_lines es))) (settings_taken slot small)
+    ∙ entries_reported (new_group_register (settings_from slot)) _ es fits
+
+-- ---- a line that is none of these
 
 stays_refused : (lines : List (List ℕ)) → take_lines None lines ≡ None
 unfolding take_lines take_line
 stays_refused [] = refl
 stays_refused (line ∷ lines) = stays_refused lines
 
-refused_within : (t : Option Register) (before : List (List ℕ)) (line : List ℕ) (behind : List (List ℕ)) → entry_of line ≡ None
-    → take_lines t (before ++ (line ∷ behind)) ≡ None
-unfolding take_lines
-refused_within t [] line behind none = ap (λ (o : Option Register). take_lines o behind) (refused_by_lem t line none) ∙ stays_refused behind
-refused_within t (first ∷ before) line behind none = refused_within (take_line t first) before line behind none
+refused_first : (t : Option LinesTaken) (line : List ℕ) → begins (ascii "register ") line ≡ false → entry_of line ≡ None → take_line t line ≡ None
+unfolding take_line take_first take_entry
+refused_first None line other none = refl
+refused_first (Some t) line other none = simp (other, none) (of-both (λ (x : Option LinesTaken). x ≡ None) t.begun refl refl)
 
-pub no_half_report : (before : List (List ℕ)) (line : List ℕ) (behind : List (List ℕ)) → entry_of line ≡ None
+refused_within : (t : Option LinesTaken) (before : List (List ℕ)) (line : List ℕ) (behind : List (List ℕ)) → begins (ascii "register ") line ≡ false
+    → entry_of line ≡ None → take_lines t (before ++ (line ∷ behind)) ≡ None
+unfolding take_lines
+refused_within t [] line behind other none = ap (λ (o : Option LinesTaken). take_lines o behind) (refused_first t line other none) ∙ stays_refused behind
+refused_within t (next ∷ before) line behind other none = refused_within (take_line t next) before line behind other none
+
+pub no_half_report : (before : List (List ℕ)) (line : List ℕ) (behind : List (List ℕ)) → begins (ascii "register ") line ≡ false → entry_of line ≡ None
     → page_after (take_lines no_lines (before ++ (line ∷ behind))) ≡ page_holding refusal_text
 unfolding page_after
-no_half_report before line behind none = simp (refused_within no_lines before line behind none)
+no_half_report before line behind other none = simp (refused_within no_lines before line behind other none)
+
+-- ---- nor does a line that begins a register stand behind another
+
+-- refused, or not without a line
+abbrev Begun : Option LinesTaken → Type 0
+Begun None = Unit {0}
+Begun (Some t) = t.begun ≡ true
+
+entry_begins : (g : GroupRegister) (o : Option CellEntry) → Begun (take_entry g o)
+unfolding take_entry
+entry_begins g (Some e) = refl
+entry_begins g None = tt
+
+settings_begin : (o : Option ℕ) → Begun (take_settings o)
+unfolding take_settings
+settings_begin (Some slot) = refl
+settings_begin None = tt
+
+line_begins : (t : Option LinesTaken) (line : List ℕ) → Begun (take_line t line)
+unfolding take_line take_first
+line_begins None line = tt
+line_begins (Some t) line =
+    of-both Begun t.begun (entry_begins t.group (entry_of line))
+    (of-both Begun (begins (ascii "register ") line) (settings_begin (number_from line 9)) (entry_begins t.group (entry_of line)))
+
+refused_later : (t : Option LinesTaken) (line : List ℕ) → Begun t → entry_of line ≡ None → take_line t line ≡ None
+unfolding take_line take_entry
+refused_later None line begun none = refl
+refused_later (Some t) line begun none = simp (begun, none)
+
+refused_behind : (t : Option LinesTaken) (before : List (List ℕ)) (line : List ℕ) (behind : List (List ℕ)) → Begun t → entry_of line ≡ None
+    → take_lines t (before ++ (line ∷ behind)) ≡ None
+unfolding take_lines
+refused_behind t [] line behind begun none = ap (λ (o : Option LinesTaken). take_lines o behind) (refused_later t line begun none) ∙ stays_refused behind
+refused_behind t (next ∷ before) line behind begun none = refused_behind (take_line t next) before line behind (line_begins t next) none
+
+pub no_second_register : (first : List ℕ) (before : List (List ℕ)) (line : List ℕ) (behind : List (List ℕ)) → entry_of line ≡ None
+    → page_after (take_lines no_lines (first ∷ (before ++ (line ∷ behind)))) ≡ page_holding refusal_text
+unfolding page_after take_lines
+no_second_register first before line behind none =
+    simp (refused_behind (take_line no_lines first) before line behind (line_begins no_lines first) none)

@@ -1,24 +1,35 @@
 -- What is written of a register and of an entry (docs/PLANNING.md), as bytes.
 -- Assumes nothing.
-use Rattle.std.specs.Prelude.{List, ◌++◌, ℕ, Result, Ok, Err}
+use Rattle.std.specs.Prelude.{cond, List, ◌++◌, ℕ, Result, Ok, Err}
 use Rattle.texts.specs.Text.{ascii, decimal, field, each}
 use Rattle.line_fields.specs.Fields.{line_text}
-use Rattle.register.specs.Refusals.{entry_refusal_number}
-use Rattle.register.specs.Register.{new_register, live_places, live_cells, done, apply}
-use Rattle.register.specs.declared.Applied.{Applied}
+use Rattle.register.specs.Register.{live_places, live_cells}
 use Rattle.register.specs.declared.Cell.{Cell}
 use Rattle.register.specs.declared.Register.{Register}
 use Rattle.register.specs.declared.Entered.{Entered}
 use Rattle.register.specs.declared.Entered.TheVariants.{Done, Older}
-use Rattle.register.specs.declared.EntryRefusal.{EntryRefusal}
 use Rattle.report.specs.Report.{figures_text}
+use Rattle.group_register.specs.Settings.{settings_from, is_made}
+use Rattle.group_register.specs.GroupRegister.{new_group_register, group_refusal_number, group_done, apply_in_group}
+use Rattle.group_register.specs.declared.GroupApplied.{GroupApplied}
+use Rattle.group_register.specs.declared.GroupRefusal.{GroupRefusal}
+use Rattle.group_register.specs.declared.GroupRegister.{GroupRegister}
+use Rattle.group_register.specs.declared.RegisterSettings.{RegisterSettings}
 use Rattle.register_lines.specs.declared.RegisterQuestion.{RegisterQuestion}
 use Rattle.register_lines.specs.declared.RegisterQuestion.TheVariants.{Begin, Enter, ReportLine, CellList}
 
-unfoldable pub outcome_text : Result Entered EntryRefusal → List ℕ
+-- before any line: widths are in whole MHz from the last slot on, 2^63−2
+abbrev pub first_register : GroupRegister
+first_register = new_group_register (settings_from 9223372036854775806)
+
+-- of a register that is begun: it is made, or its settings give 1
+unfoldable pub begun_text : RegisterSettings → List ℕ
+begun_text s = cond (is_made s) (ascii "made\n") (ascii "refused 1\n")
+
+unfoldable pub outcome_text : Result Entered GroupRefusal → List ℕ
 outcome_text (Ok Done) = ascii "done\n"
 outcome_text (Ok Older) = ascii "old\n"
-outcome_text (Err why) = line_text (ascii "refused") (entry_refusal_number why)
+outcome_text (Err why) = line_text (ascii "refused") (group_refusal_number why)
 
 -- the report's second line
 unfoldable pub figures_answer : Register → List ℕ
@@ -32,16 +43,23 @@ cell_text c = ascii "; " ++ decimal c.number ++ field c.assignment.carrier ++ fi
 unfoldable pub cells_text : Register → List ℕ
 cells_text r = decimal (live_places r) ++ each cell_text (live_cells r) ++ ascii "\n"
 
+-- of a register that is not made "`refused,1`" stands in place of the figures, and "`refused N`" in place of the cells
+unfoldable pub group_figures_answer : GroupRegister → List ℕ
+group_figures_answer g = cond (is_made g.settings) (figures_answer g.register) (ascii "refused,1\n")
+
+unfoldable pub group_cells_text : GroupRegister → List ℕ
+group_cells_text g = cond (is_made g.settings) (cells_text g.register) (ascii "refused 1\n")
+
 -- ---- the register after a question, and the answer
 
-unfoldable pub after_question : Register → RegisterQuestion → Applied
-after_question r Begin = done new_register
-after_question r (Enter e) = apply r e
-after_question r ReportLine = done r
-after_question r CellList = done r
+unfoldable pub after_question : GroupRegister → RegisterQuestion → GroupApplied
+after_question g (Begin slot) = group_done (new_group_register (settings_from slot))
+after_question g (Enter e) = apply_in_group g e
+after_question g ReportLine = group_done g
+after_question g CellList = group_done g
 
-unfoldable pub register_answer : RegisterQuestion → Applied → List ℕ
-register_answer Begin a = ascii "made\n"
+unfoldable pub register_answer : RegisterQuestion → GroupApplied → List ℕ
+register_answer (Begin slot) a = begun_text a.group.settings
 register_answer (Enter e) a = outcome_text a.outcome
-register_answer ReportLine a = figures_answer a.register
-register_answer CellList a = cells_text a.register
+register_answer ReportLine a = group_figures_answer a.group
+register_answer CellList a = group_cells_text a.group

@@ -1,32 +1,50 @@
--- The report of an input of entry lines (docs/PLANNING.md, `cell_report`): the register after them, where each is an entry line.
+-- The report of an input of entry lines, before which a line `register SLOT` may stand (docs/PLANNING.md, `cell_report`): the register after them, where each
+-- is such a line.
 -- Assumes nothing.
-use Rattle.std.specs.Prelude.{List, [], ◌∷◌, ℕ, Option, Some, None}
-use Rattle.register.specs.Register.{new_register, apply}
+use Rattle.std.specs.Prelude.{true, false, cond, List, [], ◌∷◌, ℕ, Option, Some, None}
+use Rattle.texts.specs.Text.{ascii}
+use Rattle.line_fields.specs.Fields.{begins, number_from}
 use Rattle.register.specs.declared.CellEntry.{CellEntry}
-use Rattle.register.specs.declared.Register.{Register}
-use Rattle.report.specs.Report.{refusal_text, page_holding, register_page}
+use Rattle.report.specs.Report.{refusal_text, page_holding}
 use Rattle.report.specs.declared.ReportPage.{ReportPage}
+use Rattle.group_register.specs.Settings.{settings_from}
+use Rattle.group_register.specs.GroupRegister.{new_group_register, apply_in_group, group_page}
+use Rattle.group_register.specs.declared.GroupRegister.{GroupRegister}
+use Rattle.register_lines.specs.Answers.{first_register}
 use Rattle.register_lines.specs.Entries.{entry_of}
+use Rattle.register_lines.specs.declared.LinesTaken.{LinesTaken}
 
-unfoldable pub take_entry : Register → Option CellEntry → Option Register
-take_entry r (Some e) = Some (apply r e).register
-take_entry r None = None
+-- the register after at least one line
+abbrev pub lines_taken : GroupRegister → Option LinesTaken
+lines_taken g = Some (record { group = g; begun = true })
 
--- one more line: "refused and older entries go by", and a line that is no entry line refuses the input
-unfoldable pub take_line : Option Register → List ℕ → Option Register
+unfoldable pub take_entry : GroupRegister → Option CellEntry → Option LinesTaken
+take_entry g (Some e) = lines_taken (apply_in_group g e).group
+take_entry g None = None
+
+unfoldable pub take_settings : Option ℕ → Option LinesTaken
+take_settings (Some slot) = lines_taken (new_group_register (settings_from slot))
+take_settings None = None
+
+-- "a first line `register SLOT` may stand before them"
+unfoldable pub take_first : GroupRegister → List ℕ → Option LinesTaken
+take_first g line = cond (begins (ascii "register ") line) (take_settings (number_from line 9)) (take_entry g (entry_of line))
+
+-- one more line: "refused and older entries go by", and a line that is none of these refuses the input
+unfoldable pub take_line : Option LinesTaken → List ℕ → Option LinesTaken
 take_line None line = None
-take_line (Some r) line = take_entry r (entry_of line)
+take_line (Some t) line = cond t.begun (take_entry t.group (entry_of line)) (take_first t.group line)
 
 -- the lines of an input, in their order
-unfoldable pub take_lines : Option Register → List (List ℕ) → Option Register
+unfoldable pub take_lines : Option LinesTaken → List (List ℕ) → Option LinesTaken
 take_lines t [] = t
 take_lines t (line ∷ lines) = take_lines (take_line t line) lines
 
--- before any line: a new register
-abbrev pub no_lines : Option Register
-no_lines = Some new_register
+-- before any line
+abbrev pub no_lines : Option LinesTaken
+no_lines = Some (record { group = first_register; begun = false })
 
 -- the report, or "the one line `refused,1`" in its place
-unfoldable pub page_after : Option Register → ReportPage
+unfoldable pub page_after : Option LinesTaken → ReportPage
 page_after None = page_holding refusal_text
-page_after (Some r) = register_page r
+page_after (Some t) = group_page t.group

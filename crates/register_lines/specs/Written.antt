@@ -15,11 +15,15 @@ change_line n Release = ascii "r" ++ field n
 abbrev pub entry_line : CellEntry → List ℕ
 entry_line e = ascii "entry" ++ (field e.slot ++ (ascii " " ++ change_line e.cell e.change))
 
+-- `register SLOT`
+abbrev pub register_line : ℕ → List ℕ
+register_line slot = ascii "register" ++ field slot
+
 unfoldable pub entry_lines : List CellEntry → List (List ℕ)
 entry_lines [] = []
 entry_lines (e ∷ es) = entry_line e ∷ entry_lines es
 
--- the numbers have 64 bits, and a cell's 16
+-- the numbers have 64 bits, and a cell's 32
 abbrev pub ChangeFits : Change → Type 0
 ChangeFits (Assign a) = (a.carrier ≤ 18446744073709551615) × (a.width ≤ 18446744073709551615)
 ChangeFits Release = Unit {0}

@@ -5,14 +5,12 @@
 ghost use Rattle.std.specs.Prelude.{◌≡◌};
 ghost use Rattle.texts.specs.Text.{put};
 ghost use Rattle.register_lines.specs.Entries.{assignment_of, assignment_at, release_of, release_at, change_at, entry_at, entry_with, entry_of};
-ghost use Rattle.register_lines.specs.Answers.{outcome_text, figures_answer, cell_text, cells_text, after_question, register_answer};
-ghost use Rattle.register_lines.specs.Reports.{take_entry, take_line, page_after};
+ghost use Rattle.register_lines.specs.Answers.{first_register, begun_text, outcome_text, figures_answer, cell_text, cells_text, group_figures_answer, group_cells_text, after_question, register_answer};
+ghost use Rattle.register_lines.specs.Reports.{lines_taken, take_entry, take_settings, take_first, take_line, no_lines, page_after};
 
+use group_register::{GroupApplied, GroupRefusal, GroupRegister, RegisterSettings};
 use refusals::Refused;
-use register::{
-    Applied, Assignment, Cell, CellEntry, CellNumber, Change, Entered, EntryRefusal, Register,
-    live_places,
-};
+use register::{Assignment, Cell, CellEntry, CellNumber, Change, Entered, Register, live_places};
 use report::ReportPage;
 use texts::Output;
 
@@ -24,14 +22,24 @@ pub struct LineChange {
     pub end: usize,
 }
 
-// What a line asks of the register: a new one, one entry more, the figures of its report, or its live cells.
+// What a line asks of the register: a new one with a slot of whole MHz, one entry more, the figures of its report, or its live cells.
 #[derive(Clone, Copy)]
 pub enum RegisterQuestion {
-    Begin,
+    Begin(u64),
     Enter(CellEntry),
     ReportLine,
     CellList,
 }
+
+// The register after the lines of an input so far, and whether there were any.
+#[derive(Clone, Copy)]
+pub struct LinesTaken {
+    pub group: GroupRegister,
+    pub begun: bool,
+}
+
+// The last slot: without another in the line, widths are in whole MHz from it on.
+pub const LAST_SLOT: u64 = 9223372036854775806;
 
 // ---- an entry, from its letter on
 
@@ -156,9 +164,28 @@ pub fn entry_of(line: &[u8]) -> Option<CellEntry>
 
 // ---- what is written of a register
 
+// Before any line.
+pub fn first_register() -> GroupRegister
+    ensures { result ≡ first_register }
+{
+    GroupRegister::new(RegisterSettings::from_slot(LAST_SLOT))
+}
+
+// Of a register that is begun, with LF: it is made, or its settings give 1.
+#[tactic(auto, unfolding(crate::specs::Answers::begun_text))]
+pub fn put_begun(out: &mut Output<'_>, settings: RegisterSettings)
+    ensures { out.new ≡ put (begun_text settings) out.old }
+{
+    if settings.is_made() {
+        out.put_bytes(b"made\n");
+    } else {
+        out.put_bytes(b"refused 1\n");
+    }
+}
+
 // What became of an entry, with LF.
 #[tactic(auto, unfolding(crate::specs::Answers::outcome_text))]
-pub fn put_outcome(out: &mut Output<'_>, outcome: Result<Entered, EntryRefusal>)
+fn put_outcome(out: &mut Output<'_>, outcome: Result<Entered, GroupRefusal>)
     ensures { out.new ≡ put (outcome_text outcome) out.old }
 {
     match outcome {
@@ -170,7 +197,7 @@ pub fn put_outcome(out: &mut Output<'_>, outcome: Result<Entered, EntryRefusal>)
 
 // The report's second line, with LF.
 #[tactic(auto, using(texts::proofs::Putting::put_then), unfolding(crate::specs::Answers::figures_answer))]
-pub fn put_figures_answer(out: &mut Output<'_>, register: &Register)
+fn put_figures_answer(out: &mut Output<'_>, register: &Register)
     ensures { out.new ≡ put (figures_answer register.now) out.old }
 {
     let live = live_places(register.live_count) as u64;
@@ -192,7 +219,7 @@ fn put_cell(out: &mut Output<'_>, cell: Cell)
 
 // The number of live cells and each of them, with LF.
 #[tactic(auto, using(texts::proofs::Putting::put_then, texts::proofs::Putting::reached_next, texts::proofs::Putting::reached_all), unfolding(crate::specs::Answers::cells_text))]
-pub fn put_cells(out: &mut Output<'_>, register: &Register)
+fn put_cells(out: &mut Output<'_>, register: &Register)
     ensures { out.new ≡ put (cells_text register.now) out.old }
 {
     let places = live_places(register.live_count);
@@ -204,56 +231,122 @@ pub fn put_cells(out: &mut Output<'_>, register: &Register)
     out.put_byte(b'\n');
 }
 
+// The figures, or the one line of the report of a register that is not made.
+#[tactic(auto, unfolding(crate::specs::Answers::group_figures_answer))]
+fn put_group_figures(out: &mut Output<'_>, group: &GroupRegister)
+    ensures { out.new ≡ put (group_figures_answer group.now) out.old }
+{
+    if group.settings.is_made() {
+        put_figures_answer(out, &group.register);
+    } else {
+        out.put_bytes(b"refused,1\n");
+    }
+}
+
+// The cells, or the number of a register that is not made.
+#[tactic(auto, unfolding(crate::specs::Answers::group_cells_text))]
+fn put_group_cells(out: &mut Output<'_>, group: &GroupRegister)
+    ensures { out.new ≡ put (group_cells_text group.now) out.old }
+{
+    if group.settings.is_made() {
+        put_cells(out, &group.register);
+    } else {
+        out.put_bytes(b"refused 1\n");
+    }
+}
+
 // The register after a question, and what became of its entry.
 #[tactic(auto, unfolding(crate::specs::Answers::after_question))]
-pub fn after_question(register: Register, question: RegisterQuestion) -> Applied
-    ensures { result ≡ after_question register question }
+pub fn after_question(group: GroupRegister, question: RegisterQuestion) -> GroupApplied
+    ensures { result ≡ after_question group question }
 {
     match question {
-        RegisterQuestion::Begin => register::done(Register::new()),
-        RegisterQuestion::Enter(entry) => register::apply(register, entry),
-        RegisterQuestion::ReportLine | RegisterQuestion::CellList => register::done(register),
+        RegisterQuestion::Begin(slot) => {
+            group_register::done(GroupRegister::new(RegisterSettings::from_slot(slot)))
+        }
+        RegisterQuestion::Enter(entry) => group_register::apply(group, entry),
+        RegisterQuestion::ReportLine | RegisterQuestion::CellList => group_register::done(group),
     }
 }
 
 // The answer to a question, with its LF.
 #[tactic(auto, unfolding(crate::specs::Answers::register_answer))]
-pub fn put_answer(out: &mut Output<'_>, question: RegisterQuestion, applied: &Applied)
+pub fn put_answer(out: &mut Output<'_>, question: RegisterQuestion, applied: &GroupApplied)
     ensures { out.new ≡ put (register_answer question applied.now) out.old }
 {
     match question {
-        RegisterQuestion::Begin => out.put_bytes(b"made\n"),
+        RegisterQuestion::Begin(_) => put_begun(out, applied.group.settings),
         RegisterQuestion::Enter(_) => put_outcome(out, applied.outcome),
-        RegisterQuestion::ReportLine => put_figures_answer(out, &applied.register),
-        RegisterQuestion::CellList => put_cells(out, &applied.register),
+        RegisterQuestion::ReportLine => put_group_figures(out, &applied.group),
+        RegisterQuestion::CellList => put_group_cells(out, &applied.group),
     }
 }
 
-// ---- a report of entry lines: the register after the lines so far, where each of them was an entry line
+// ---- a report of entry lines: the register after the lines so far, where each of them was an entry line, or the first began the register
 
-#[tactic(auto, unfolding(crate::specs::Reports::take_entry))]
-fn take_entry(register: Register, entry: Option<CellEntry>) -> Option<Register>
-    ensures { result ≡ take_entry register entry }
+// Before any line.
+pub fn no_lines() -> Option<LinesTaken>
+    ensures { result ≡ no_lines }
 {
-    let given = entry?;
-    Some(register::apply(register, given).register)
+    Some(LinesTaken {
+        group: first_register(),
+        begun: false,
+    })
 }
 
-// One more line, without its LF. A line that is no entry line is not forgotten.
+// After at least one line.
+fn lines_taken(group: GroupRegister) -> Option<LinesTaken>
+    ensures { result ≡ lines_taken group }
+{
+    Some(LinesTaken { group, begun: true })
+}
+
+#[tactic(auto, unfolding(crate::specs::Reports::take_entry))]
+fn take_entry(group: GroupRegister, entry: Option<CellEntry>) -> Option<LinesTaken>
+    ensures { result ≡ take_entry group entry }
+{
+    let given = entry?;
+    lines_taken(group_register::apply(group, given).group)
+}
+
+#[tactic(auto, unfolding(crate::specs::Reports::take_settings))]
+fn take_settings(slot: Option<u64>) -> Option<LinesTaken>
+    ensures { result ≡ take_settings slot }
+{
+    let from = slot?;
+    lines_taken(GroupRegister::new(RegisterSettings::from_slot(from)))
+}
+
+// The first line, which may be `register SLOT`.
+#[tactic(auto, unfolding(crate::specs::Reports::take_first))]
+fn take_first(group: GroupRegister, line: &[u8]) -> Option<LinesTaken>
+    ensures { result ≡ take_first group line.now }
+{
+    if line_fields::begins(line, b"register ") {
+        return take_settings(line_fields::number_from(line, 9));
+    }
+    take_entry(group, entry_of(line))
+}
+
+// One more line, without its LF. A line that is none of these is not forgotten.
 #[tactic(auto, unfolding(crate::specs::Reports::take_line))]
-pub fn take_line(taken: Option<Register>, line: &[u8]) -> Option<Register>
+pub fn take_line(taken: Option<LinesTaken>, line: &[u8]) -> Option<LinesTaken>
     ensures { result ≡ take_line taken line.now }
 {
-    take_entry(taken?, entry_of(line))
+    let lines = taken?;
+    if lines.begun {
+        return take_entry(lines.group, entry_of(line));
+    }
+    take_first(lines.group, line)
 }
 
 // What is printed when the input ends.
 #[tactic(auto, unfolding(crate::specs::Reports::page_after))]
-pub fn page_after(taken: Option<Register>) -> ReportPage
+pub fn page_after(taken: Option<LinesTaken>) -> ReportPage
     ensures { result ≡ page_after taken }
 {
     match taken {
-        Some(register) => report::report(register),
+        Some(lines) => group_register::page(lines.group),
         None => report::refusal(),
     }
 }

@@ -1,5 +1,5 @@
--- Two members of one legal run, in any mode but SwiftPaxos, whose hosts give each committed value the same entry, hold equal registers at equal
--- slots, each at its own moment.
+-- Two members of one legal run, in any mode but SwiftPaxos, whose hosts give each committed value the same entry and hold the same settings, hold equal
+-- registers at equal slots, each at its own moment.
 -- Assumes nothing.
 use Rattle.std.specs.Prelude.{Option, None, Some}
 use Rattle.calls.specs.declared.CommittedSlot.{CommittedSlot}
@@ -12,10 +12,11 @@ use native.Mathlib.Omega.{arith}
 use lib.Dec.{eqb}
 use borrow.Author.Tests.{eqb-true}
 use Rattle.settings.specs.declared.Settings.{Settings}
-use Rattle.register.specs.History.{register_after}
 use Rattle.register.specs.Taken.{later_entries}
 use Rattle.register.specs.declared.CellEntry.{CellEntry}
-use Rattle.register.proofs.Laws.{equal_registers}
+use Rattle.group_register.specs.GroupHistory.{group_after}
+use Rattle.group_register.specs.declared.RegisterSettings.{RegisterSettings}
+use Rattle.group_register.proofs.GroupLaws.{equal_registers}
 use Rattle.group.specs.Claim.{MemberCall, Entry, entries, Legal, At, slot_at, CommitAt, Claim, NotSwift}
 use Rattle.group.proofs.Agreement.{agreement}
 use Rattle.register_runs.specs.Members.{CellChange, entry_for_commit, entries_for, register_of_member, UpTo}
@@ -108,15 +109,15 @@ module _ (says : ℕ → CellChange) (run : List Entry) (claim : Claim run) wher
       ∙ sym other.is
 
 -- ---- the law
-module _ (s : Settings) (mode : NotSwift s.mode) (cs : List MemberCall) (legal : Legal s cs) (says : ℕ → CellChange) (i j : ℕ) (p q : List Entry)
-    (up-to-p : UpTo p (entries s cs)) (up-to-q : UpTo q (entries s cs)) (slots : slot_at i p ≡ slot_at j q) where
+module _ (s : Settings) (mode : NotSwift s.mode) (cs : List MemberCall) (legal : Legal s cs) (kept : RegisterSettings) (says : ℕ → CellChange) (i j : ℕ)
+    (p q : List Entry) (up-to-p : UpTo p (entries s cs)) (up-to-q : UpTo q (entries s cs)) (slots : slot_at i p ≡ slot_at j q) where
   given_equal_entries : entries_for says i p ≡ entries_for says j q
   given_equal_entries = same_entries says (entries s cs) (agreement s mode cs legal) (slot_at j q) i j p q up-to-p up-to-q slots refl
 
-  pub members_hold_equal_registers : register_of_member says i p ≡ register_of_member says j q
-  members_hold_equal_registers = ap register_after given_equal_entries
+  pub members_hold_equal_registers : register_of_member kept says i p ≡ register_of_member kept says j q
+  members_hold_equal_registers = ap (group_after kept) given_equal_entries
 
   -- "whatever repeats or older ones stand between"
   pub with_repeats : (one other : List CellEntry) → later_entries one ≡ later_entries (entries_for says i p) → later_entries other ≡ later_entries (entries_for says j q)
-      → register_after one ≡ register_after other
-  with_repeats one other f g = equal_registers one other (f ∙ ap later_entries given_equal_entries ∙ sym g)
+      → group_after kept one ≡ group_after kept other
+  with_repeats one other f g = equal_registers kept one other (f ∙ ap later_entries given_equal_entries ∙ sym g)

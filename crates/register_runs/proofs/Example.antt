@@ -14,6 +14,7 @@ use Rattle.message.specs.declared.RoundV.TheVariants.{PaxosV}
 use Rattle.agreement.proofs.Tests.{neqb→ne}
 use Rattle.register.specs.Taken.{is, above, among, cells_named, count_in, number_given as entry_number_given, is_taken_given, latest, live_count}
 use Rattle.register.specs.declared.Change.TheVariants.{Assign}
+use Rattle.group_register.specs.Settings.{settings_from}
 use Rattle.group.specs.Claim.{MemberCall, Entry, entries, Legal, slot_at}
 use Rattle.group.proofs.Computed.{computed}
 use Rattle.group.proofs.Example.{three, proposes, hears, first}
@@ -21,7 +22,7 @@ use Rattle.register_runs.specs.Members.{CellChange, entry_for_commit, entries_fo
 use Rattle.register_runs.proofs.Agreeing.{whole, members_hold_equal_registers}
 
 -- member 0 proposes 10, members 0 and 1 prepare and accept it, and all commit it
-abbrev calls : List MemberCall
+abbrev pub calls : List MemberCall
 calls =
     proposes 0 10
     ∷ hears 1 0 None (Prepare 0 (round_of 0 0) (PaxosV None 10))
@@ -33,13 +34,13 @@ calls =
     ∷ []
 
 -- every value is an assignment of the cell three below it
-abbrev says : ℕ → CellChange
+abbrev pub says : ℕ → CellChange
 says v = record { cell = v - 3; change = Assign (record { carrier = 630000; width = 20000 }) }
 
-abbrev run : List Entry
+abbrev pub run : List Entry
 run = entries (three Paxos) calls
 
-calls_legal : Legal (three Paxos) calls
+pub calls_legal : Legal (three Paxos) calls
 unfolding computed
 calls_legal =
     first (lit< tt) tt
@@ -59,7 +60,7 @@ pub cell_7_is_assigned : (latest (entry_for_commit says 0 10 ∷ []) 7 ≡ is (s
 unfolding latest is_taken_given entry_number_given above count_in cells_named among
 cell_7_is_assigned = (refl, refl)
 
-pub members_0_and_2 : register_of_member says 0 run ≡ register_of_member says 2 run
+pub members_0_and_2 : register_of_member (settings_from 5) says 0 run ≡ register_of_member (settings_from 5) says 2 run
 members_0_and_2 =
-    members_hold_equal_registers (three Paxos) tt calls calls_legal says 0 2 run run (whole run) (whole run)
+    members_hold_equal_registers (three Paxos) tt calls calls_legal (settings_from 5) says 0 2 run run (whole run) (whole run)
     (all_assign_cell_7.0 ∙ sym all_assign_cell_7.1)

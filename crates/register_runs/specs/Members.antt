@@ -3,10 +3,11 @@
 -- Assumes nothing.
 use Rattle.std.specs.Prelude.{◌≡◌, ◌⊎◌, cond, List, [], ◌∷◌, ℕ, eqb, Option, None, Some}
 use Rattle.calls.specs.declared.CommittedSlot.{CommittedSlot}
-use Rattle.register.specs.History.{register_after}
 use Rattle.register.specs.declared.CellEntry.{CellEntry}
 use Rattle.register.specs.declared.Change.{Change}
-use Rattle.register.specs.declared.Register.{Register}
+use Rattle.group_register.specs.GroupHistory.{group_after}
+use Rattle.group_register.specs.declared.GroupRegister.{GroupRegister}
+use Rattle.group_register.specs.declared.RegisterSettings.{RegisterSettings}
 use Rattle.group.specs.Claim.{Entry}
 
 -- what a value says, by the hosts: a cell, and its assignment or release
@@ -27,9 +28,9 @@ unfoldable pub entries_for : (ℕ → CellChange) → ℕ → List Entry → Lis
 entries_for says member [] = []
 entries_for says member (e ∷ past) = cond (eqb member e.member) (plus_entry says e.reply.commit (entries_for says member past)) (entries_for says member past)
 
--- the register that it holds
-abbrev pub register_of_member : (ℕ → CellChange) → ℕ → List Entry → Register
-register_of_member says member past = register_after (entries_for says member past)
+-- the register that it holds, begun from what the group's settings say of registers: "All offices hold the same slot" (E13)
+abbrev pub register_of_member : RegisterSettings → (ℕ → CellChange) → ℕ → List Entry → GroupRegister
+register_of_member kept says member past = group_after kept (entries_for says member past)
 
 -- the run up to some moment
 abbrev pub UpTo : List Entry → List Entry → Type 0

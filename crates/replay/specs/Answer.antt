@@ -3,21 +3,22 @@
 use Rattle.std.specs.Prelude.{◌≡◌, ◌⊎◌, Bool, true, cond, List, [], ◌∷◌, ℕ, eqb, None}
 use Rattle.message.specs.Outcomes.{Outcome}
 use Rattle.steps.specs.Steps.{no_messages}
-use Rattle.settings.specs.declared.Settings.{Settings}
-use Rattle.consensus.specs.Call.{new_shard, call_of}
+use Rattle.consensus.specs.Call.{call_of}
 use Rattle.consensus.specs.declared.Answer.{Answer}
 use Rattle.consensus.specs.declared.Shard.{Shard}
 use Rattle.state_calls.specs.declared.State.{State}
+use Rattle.group_settings.specs.declared.GroupSettings.{GroupSettings}
+use Rattle.group_shard.specs.Begin.{begin_shard}
 use Rattle.line_calls.specs.Calls.{at, call_of_numbers}
-use Rattle.line_states.specs.States.{settings_of, state_of}
+use Rattle.line_states.specs.States.{group_settings_of, state_of}
 
 abbrev pub answered : Shard → Outcome → Answer
 answered shard outcome =
     record { shard = shard; reply = record { outcome = outcome; messages = no_messages; commit = None; served_count = 0 } }
 
 -- kind 1: a shard as it begins
-unfoldable pub new_answer : Settings → Answer
-new_answer s = answered (new_shard s) (new_shard s).made
+unfoldable pub new_answer : GroupSettings → Answer
+new_answer g = answered (begin_shard g) (begin_shard g).made
 
 -- kind 2: the shard with another state. One that is not made stays so, and is refused.
 unfoldable pub with_state : Shard → State → Answer
@@ -25,7 +26,7 @@ with_state shard state = answered (record { made = shard.made; settings = shard.
 
 unfoldable pub answer_of : Shard → List ℕ → Answer
 answer_of shard ns =
-    cond (eqb (at ns 0) 1) (new_answer (settings_of ns)) (cond (eqb (at ns 0) 2) (with_state shard (state_of ns)) (call_of shard (call_of_numbers ns)))
+    cond (eqb (at ns 0) 1) (new_answer (group_settings_of ns)) (cond (eqb (at ns 0) 2) (with_state shard (state_of ns)) (call_of shard (call_of_numbers ns)))
 
 -- an empty line is skipped, and one that begins with # (35)
 abbrev pub is_skipped : List ℕ → Bool

@@ -8,9 +8,9 @@ ghost use Rattle.replay.specs.Answer.{answered, new_answer, with_state, answer_o
 use call_lines::Fault;
 use calls::Reply;
 use consensus::{Answer, Shard};
+use group_settings::GroupSettings;
 use line_blocks::LineTaker;
 use message::Outcome;
-use settings::Settings;
 use state_calls::State;
 use texts::Output;
 
@@ -41,10 +41,10 @@ fn answer_with(shard: Shard, outcome: Outcome) -> Answer
 
 // A shard as it begins, in place of the old one.
 #[tactic(auto, unfolding(crate::specs::Answer::new_answer))]
-fn new_shard(settings: Settings) -> Answer
-    ensures { result ≡ new_answer settings }
+fn new_shard(group: GroupSettings) -> Answer
+    ensures { result ≡ new_answer group }
 {
-    let shard = Shard::new(settings);
+    let shard = group_shard::begin_shard(group);
     let made = shard.made;
     answer_with(shard, made)
 }
@@ -64,7 +64,7 @@ fn answer_of(shard: Shard, numbers: &[u64]) -> Answer
     ensures { result ≡ answer_of shard numbers.now }
 {
     match line_calls::number_at(numbers, 0) {
-        1 => new_shard(line_states::settings_of(numbers)),
+        1 => new_shard(line_states::group_settings_of(numbers)),
         2 => with_state(shard, line_states::state_of(numbers)),
         _ => shard.call(line_calls::call_of(numbers)),
     }
@@ -121,7 +121,7 @@ impl LineTaker for Replay {
 
 // The shard before the first settings, which is not made.
 fn unmade() -> Shard {
-    Shard::new(line_states::settings_of(&[0]))
+    group_shard::begin_shard(line_states::group_settings_of(&[0]))
 }
 
 fn main(rt: HostRuntime) {

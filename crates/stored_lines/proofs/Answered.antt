@@ -1,4 +1,4 @@
--- The answer to a line.
+-- The answer to a line, and the settings of the register that a stored one becomes.
 -- Assumes nothing.
 use mathlib.Core.Path.{◌≡◌, refl}
 use mathlib.Core.Bool.{Bool, true, false, cond}
@@ -11,6 +11,10 @@ use lib.Seq.{take_all}
 use borrow.Author.Tests.{ltb-false}
 use Rattle.basics.proofs.Tests.{not_both}
 use Rattle.line_fields.specs.Fields.{begins, same_to}
+use Rattle.std.specs.Prelude.{Option, Some, None}
+use Rattle.register.specs.declared.Register.{Register}
+use Rattle.group_register.specs.declared.GroupRegister.{GroupRegister}
+use Rattle.stored_lines.specs.Answers.{after_stored}
 
 -- a line that begins with a word is as long as the word
 pub begins_long : (word line : List ℕ) → begins word line ≡ true → length word ≤ length line
@@ -24,3 +28,9 @@ begins_long word line h = go (ltb (length line) (length word)) refl h
 -- the bytes of a line behind a word of seven
 pub behind_word : (line : List ℕ) → take (length line - 7) (drop 7 line) ≡ drop 7 line
 behind_word line = take_all (length line - 7) (drop 7 line) (rw length-drop (omega arith))
+
+-- "takes the slot from the settings that it is read with, never a default"
+pub settings_kept : (g : GroupRegister) (line : Option Register) → (after_stored g line).settings ≡ g.settings
+unfolding after_stored
+settings_kept g (Some begun) = refl
+settings_kept g None = refl

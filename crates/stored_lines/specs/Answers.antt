@@ -6,22 +6,28 @@ use Rattle.line_fields.specs.Fields.{begins}
 use Rattle.planning_lines.specs.Questions.{question_of}
 use Rattle.planning_lines.specs.Answers.{bad_line_text, after_line, answer_text}
 use Rattle.register.specs.declared.Register.{Register}
+use Rattle.register_lines.specs.Answers.{begun_text}
+use Rattle.group_register.specs.GroupRegister.{group_register}
+use Rattle.group_register.specs.declared.GroupRegister.{GroupRegister}
+use Rattle.group_register.specs.declared.RegisterSettings.{RegisterSettings}
 use Rattle.stored_lines.specs.Lines.{stored_line}
 
--- "begins the register that a stored 16-bit one widens to"; a bad line "changes nothing"
-unfoldable pub after_stored : Register → Option Register → Register
-after_stored r (Some begun) = begun
-after_stored r None = r
+-- "begins the register that a stored 16-bit one widens to"; from E13 on with the settings of the register before it, which are those of the latest line
+-- that named some, never a default; a bad line "changes nothing"
+unfoldable pub after_stored : GroupRegister → Option Register → GroupRegister
+after_stored g (Some begun) = group_register g.settings begun
+after_stored g None = g
 
-unfoldable pub stored_text : Option Register → List ℕ
-stored_text (Some begun) = ascii "made\n"
-stored_text None = bad_line_text
+unfoldable pub stored_text : RegisterSettings → Option Register → List ℕ
+stored_text s (Some begun) = begun_text s
+stored_text s None = bad_line_text
 
 -- the register after a line
-unfoldable pub register_after_line : Register → List ℕ → Register
-register_after_line r line = cond (begins (ascii "stored ") line) (after_stored r (stored_line (drop 7 line))) (after_line r (question_of line)).register
+unfoldable pub register_after_line : GroupRegister → List ℕ → GroupRegister
+register_after_line g line = cond (begins (ascii "stored ") line) (after_stored g (stored_line (drop 7 line))) (after_line g (question_of line)).group
 
 -- what is written for it
-unfoldable pub line_answer : Register → List ℕ → List ℕ
-line_answer r line =
-    cond (begins (ascii "stored ") line) (stored_text (stored_line (drop 7 line))) (answer_text (question_of line) (after_line r (question_of line)))
+unfoldable pub line_answer : GroupRegister → List ℕ → List ℕ
+line_answer g line =
+    cond (begins (ascii "stored ") line) (stored_text g.settings (stored_line (drop 7 line)))
+    (answer_text (question_of line) (after_line g (question_of line)))

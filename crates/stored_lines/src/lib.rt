@@ -9,6 +9,7 @@ ghost use Rattle.stored_lines.specs.Answers.{after_stored, stored_text, register
 ghost use Rattle.stored_lines.specs.Lines.{is_read, is_cell_at, are_cells, stored_cell_at, stored_cells, empty_cells, stored_of_numbers, is_stored, stored_line};
 
 use call_lines::Scan;
+use group_register::GroupRegister;
 use register::{Assignment, Figures, Register};
 use stored_register::{StoredCell, StoredRegister};
 use texts::Output;
@@ -117,32 +118,35 @@ pub fn stored_line(bytes: &[u8]) -> Option<Register>
     None
 }
 
-// A line that is one begins its register; any other is a bad line, and the register stays.
+// A line that is one begins its register, with the settings of the register before it; any other is a bad line, and the register stays.
 #[tactic(auto, unfolding(crate::specs::Answers::after_stored, crate::specs::Answers::stored_text))]
-fn answer_stored(register: Register, bytes: &[u8], out: &mut Output<'_>) -> Register
-    ensures register { result ≡ after_stored register (stored_line bytes.now) }
-    ensures put { out.new ≡ put (stored_text (stored_line bytes.now)) out.old }
+fn answer_stored(group: GroupRegister, bytes: &[u8], out: &mut Output<'_>) -> GroupRegister
+    ensures group { result ≡ after_stored group (stored_line bytes.now) }
+    ensures put { out.new ≡ put (stored_text group.settings (stored_line bytes.now)) out.old }
 {
     match stored_line(bytes) {
-        Some(begun) => {
-            out.put_bytes(b"made\n");
-            begun
+        Some(register) => {
+            register_lines::put_begun(out, group.settings);
+            GroupRegister {
+                settings: group.settings,
+                register,
+            }
         }
         None => {
             planning_lines::put_bad_line(out);
-            register
+            group
         }
     }
 }
 
 // The answer to a line of `planning`, and the register that the line leaves.
 #[tactic(auto, using(crate::proofs::Answered::begins_long, crate::proofs::Answered::behind_word), unfolding(crate::specs::Answers::register_after_line, crate::specs::Answers::line_answer))]
-pub fn answer_line(register: Register, line: &[u8], out: &mut Output<'_>) -> Register
-    ensures register { result ≡ register_after_line register line.now }
-    ensures put { out.new ≡ put (line_answer register line.now) out.old }
+pub fn answer_line(group: GroupRegister, line: &[u8], out: &mut Output<'_>) -> GroupRegister
+    ensures group { result ≡ register_after_line group line.now }
+    ensures put { out.new ≡ put (line_answer group line.now) out.old }
 {
     if line_fields::begins(line, b"stored ") {
-        return answer_stored(register, &line[7..], out);
+        return answer_stored(group, &line[7..], out);
     }
-    planning_lines::answer_line(register, line, out)
+    planning_lines::answer_line(group, line, out)
 }

@@ -1,6 +1,6 @@
 //! A group of shards whose messages are lost, repeated and reordered, by a seeded row of numbers.
 #![allow(dead_code, reason = "each test takes what it needs")]
-use chanbook_shard::{Call, ConsensusMessage, Delivery, PFModeSetting, Refusal, RoundV, Said, Settings, Shard};
+use chanbook_shard::{Call, ConsensusMessage, Delivery, GroupSettings, LAST_SLOT, PFModeSetting, Refusal, RoundV, Said, Settings, Shard};
 
 /// The row of numbers of splitmix64, which is the same on every machine.
 pub struct Random(pub u64);
@@ -43,9 +43,14 @@ pub fn requester_of(v: u64) -> Option<u64> {
     Some(v % 64)
 }
 
+/// A shard of a group without a slot of whole MHz.
+pub fn begun(settings: &Settings) -> Shard {
+    Shard::new(&GroupSettings::new(settings.clone(), LAST_SLOT))
+}
+
 impl Group {
     pub fn new(settings: &Settings, seed: u64) -> Group {
-        let member = |my_pid| Shard::new(&Settings { my_pid, ..settings.clone() });
+        let member = |my_pid| begun(&Settings { my_pid, ..settings.clone() });
         let shards: Vec<Shard> = (0..settings.process_count).map(member).collect();
         Group { logs: vec![vec![]; shards.len()], shards, waiting: vec![], lost: vec![], random: Random(seed) }
     }

@@ -1,0 +1,133 @@
+-- Computed runs of `engine`: what each call commits or sends. An engine that is equal to the right one has these answers in whatever words it is put,
+-- and of each engine of the edits an answer here is another. An edit names its engine in `in_runs`, so that the run is computed with it.
+-- Assumes nothing.
+use Rattle.std.specs.Prelude.{Option, None, Some}
+use mathlib.Core.Path.{◌≡◌, refl}
+use mathlib.Core.Bool.{false}
+use mathlib.Core.List.{List, [], ◌∷◌}
+use mathlib.Core.Logic.{inl}
+use Prim.Native.Nat.{ℕ}
+use lib.Dec.{lit<}
+use Rattle.message.specs.Rounds.{round_of}
+use Rattle.message.specs.declared.ConsensusMsg.{ConsensusMsg}
+use Rattle.message.specs.declared.ConsensusMsg.TheVariants.{Prepare, Accept, Commit}
+use Rattle.message.specs.declared.PFMode.TheVariants.{Paxos, MultiPaxos}
+use Rattle.message.specs.declared.RoundV.TheVariants.{PaxosV}
+use Rattle.steps.specs.Steps.{to_all}
+use Rattle.steps.specs.declared.Destination.{Destination}
+use Rattle.steps.specs.declared.Destination.TheVariants.{One}
+use Rattle.steps.specs.declared.Outgoing.{Outgoing}
+use Rattle.agreement.proofs.Tests.{neqb→ne}
+use Rattle.group.specs.Claim.{begun, MemberCall, Entry, Legal, messages_of}
+use Rattle.group.proofs.Computed.{computed}
+use Rattle.group.proofs.Example.{three, proposes, hears, commits_of, none, commits, first}
+use Rattle.wrong_engines.specs.Laws.{entries_by}
+use Rattle.wrong_engines.proofs.Answers.{five}
+use Rattle.engine_laws.specs.Engine.{engine}
+
+-- what a run computes with
+unfoldable in_runs : Unit {0}
+unfolding entries_by computed
+in_runs = tt
+
+-- ---- commits
+
+-- MultiPaxos: in slot 0 member 0, the leader, hears the accept of member 1 and commits 10, and member 2 hears it; in slot 1 it commits 20 with member 2's
+abbrev led : List MemberCall
+led =
+    proposes 0 10
+    ∷ hears 1 0 None (Accept 0 (round_of 0 0) 10)
+    ∷ hears 0 1 None (Accept 0 (round_of 0 0) 10)
+    ∷ hears 2 0 None (Commit 0 10)
+    ∷ proposes 0 20
+    ∷ hears 2 0 (Some 10) (Accept 1 (round_of 0 0) 20)
+    ∷ hears 0 2 (Some 10) (Accept 1 (round_of 0 0) 20)
+    ∷ []
+
+pub led_legal : Legal (three MultiPaxos) led
+unfolding computed
+led_legal =
+    first (lit< tt) tt
+    (first (lit< tt) (_, _, inl refl, refl, inl refl, refl, neqb→ne 0 1 tt)
+    (first (lit< tt) (_, _, inl refl, refl, inl refl, refl, refl)
+    (first (lit< tt) (_, _, inl refl, refl, inl refl, refl, neqb→ne 0 2 tt)
+    (first (lit< tt) tt
+    (first (lit< tt) (_, _, inl refl, refl, inl refl, refl, neqb→ne 0 2 tt)
+    (first (lit< tt) (_, _, inl refl, refl, inl refl, refl, refl) tt))))))
+
+pub engine_commits_twice : commits_of (entries_by engine (begun (three MultiPaxos)) [] led)
+    ≡ (commits 0 1 20 false ∷ none 2 ∷ none 0 ∷ commits 2 0 10 false ∷ commits 0 0 10 false ∷ none 1 ∷ none 0 ∷ [])
+unfolding in_runs
+engine_commits_twice = refl
+
+-- of five members 0 hears the promise of 1 twice, that of 2 once, and the accept of 1 twice: two have promised until 2 has, and two have accepted in the end
+abbrev heard_twice : List MemberCall
+heard_twice =
+    proposes 0 10
+    ∷ hears 1 0 None (Prepare 0 (round_of 0 0) (PaxosV None 10))
+    ∷ hears 0 1 None (Prepare 0 (round_of 0 0) (PaxosV None 10))
+    ∷ hears 0 1 None (Prepare 0 (round_of 0 0) (PaxosV None 10))
+    ∷ hears 2 0 None (Prepare 0 (round_of 0 0) (PaxosV None 10))
+    ∷ hears 0 2 None (Prepare 0 (round_of 0 0) (PaxosV None 10))
+    ∷ hears 1 0 None (Accept 0 (round_of 0 0) 10)
+    ∷ hears 0 1 None (Accept 0 (round_of 0 0) 10)
+    ∷ hears 0 1 None (Accept 0 (round_of 0 0) 10)
+    ∷ []
+
+pub engine_commits_late : commits_of (entries_by engine (begun five) [] heard_twice)
+    ≡ (none 0 ∷ none 0 ∷ none 1 ∷ none 0 ∷ none 2 ∷ none 0 ∷ none 0 ∷ none 1 ∷ none 0 ∷ [])
+unfolding in_runs
+engine_commits_late = refl
+
+-- ---- messages
+
+-- the messages of each entry
+abbrev sent_of : List Entry → List (List Outgoing)
+sent_of [] = []
+sent_of (e ∷ es) = messages_of e.reply.messages ∷ sent_of es
+
+abbrev sends_none : List Outgoing
+sends_none = []
+
+-- one message of a member that has committed nothing
+abbrev sends_one : ℕ → Destination → ConsensusMsg → List Outgoing
+sends_one source destination msg = record { destination = destination; message = record { msg = msg; src = source; last_v = None } } ∷ []
+
+-- of three members 0 and 1 accept 10, which 0 commits; 1 holds it when it promises to 2
+abbrev promised : List MemberCall
+promised =
+    proposes 0 10
+    ∷ hears 1 0 None (Prepare 0 (round_of 0 0) (PaxosV None 10))
+    ∷ hears 0 1 None (Prepare 0 (round_of 0 0) (PaxosV None 10))
+    ∷ hears 1 0 None (Accept 0 (round_of 0 0) 10)
+    ∷ hears 0 1 None (Accept 0 (round_of 0 0) 10)
+    ∷ proposes 2 20
+    ∷ hears 1 2 None (Prepare 0 (round_of 0 2) (PaxosV None 20))
+    ∷ []
+
+pub engine_sends : sent_of (entries_by engine (begun (three Paxos)) [] promised)
+    ≡ (sends_one 1 (One 2) (Prepare 0 (round_of 0 2) (PaxosV (Some (round_of 0 0)) 10))
+    ∷ sends_one 2 to_all (Prepare 0 (round_of 0 2) (PaxosV None 20))
+    ∷ sends_one 0 to_all (Commit 0 10)
+    ∷ sends_one 1 (One 0) (Accept 0 (round_of 0 0) 10)
+    ∷ sends_one 0 to_all (Accept 0 (round_of 0 0) 10)
+    ∷ sends_one 1 (One 0) (Prepare 0 (round_of 0 0) (PaxosV None 10))
+    ∷ sends_one 0 to_all (Prepare 0 (round_of 0 0) (PaxosV None 10))
+    ∷ [])
+unfolding in_runs
+engine_sends = refl
+
+-- no majority has promised before 2 has: only then does 0 ask for accepts
+pub engine_accepts_late : sent_of (entries_by engine (begun five) [] heard_twice)
+    ≡ (sends_none
+    ∷ sends_none
+    ∷ sends_one 1 (One 0) (Accept 0 (round_of 0 0) 10)
+    ∷ sends_one 0 to_all (Accept 0 (round_of 0 0) 10)
+    ∷ sends_one 2 (One 0) (Prepare 0 (round_of 0 0) (PaxosV None 10))
+    ∷ sends_none
+    ∷ sends_none
+    ∷ sends_one 1 (One 0) (Prepare 0 (round_of 0 0) (PaxosV None 10))
+    ∷ sends_one 0 to_all (Prepare 0 (round_of 0 0) (PaxosV None 10))
+    ∷ [])
+unfolding in_runs
+engine_accepts_late = refl

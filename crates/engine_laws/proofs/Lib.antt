@@ -1,0 +1,2 @@
+pub mod ComputedRuns
+pub mod Laws

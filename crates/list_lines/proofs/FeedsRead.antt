@@ -1,0 +1,104 @@
+-- The line `feed`: what is left and answered is `feeding` of the list that the line gives, whole; and the entries in numbers are those of the line.
+-- Assumes nothing.
+use Rattle.std.proofs.Common.{◌≡◌, ◌∙◌, refl, ap, ap₂, ⊎_elim, ℕ, zero, suc, ◌+◌, true, false, List, [], ◌∷◌, map, length, ltb, Option, Some, None, Result, option_map, add-one}
+use lib.ListN.{length-map}
+use borrow.Author.Tests.{ltb-false}
+use Rattle.basics.proofs.Tests.{either}
+use Rattle.planning_lines.specs.Answers.{bad_line_text}
+use Rattle.register.specs.declared.CellEntry.{CellEntry}
+use Rattle.register.specs.declared.Change.{Change}
+use Rattle.register.specs.declared.Change.TheVariants.{Assign, Release}
+use Rattle.register_arrays.specs.Columns.{change_of}
+use Rattle.group_register.specs.Settings.{is_made}
+use Rattle.group_register.specs.declared.GroupRegister.{GroupRegister}
+use Rattle.catch_up.specs.Joining.{too_large}
+use Rattle.feeding.specs.declared.FeedRefusal.{FeedRefusal}
+use Rattle.feeding.specs.declared.FirstRefused.{FirstRefused}
+use Rattle.feeding.specs.Feeding.{Feeding, feeding_in, entry_in, entries_from, entries_in, outside_fed, feeding_made, feeding}
+use Rattle.list_lines.specs.declared.LineItem.{LineItem}
+use Rattle.list_lines.specs.declared.LineList.{LineList}
+use Rattle.list_lines.specs.Lists.{slots_of, commits_of, kind_of, carrier_of, width_of, entries_of}
+use Rattle.list_lines.specs.Kept.{kept_of, kept_entries}
+use Rattle.list_lines.specs.Feeds.{feed_asked, after_feed, fed_text, feed_text, kept_feeding_made, kept_feeding}
+use Rattle.list_lines.proofs.Kept.{kept_count, kept_large, entries_kept}
+use Rattle.list_lines.proofs.ListsRead.{kept_some, kept_none}
+
+-- ---- the list
+
+longer : (items : List LineItem) → ltb 8192 (length items) ≡ true → outside_fed (entries_of items) ≡ true
+unfolding outside_fed
+longer items h = simp (length-map, h)
+
+kept_within : (g : GroupRegister) (l : LineList) → is_made g.settings ≡ true → l.too_large ≡ false → ltb 8192 l.count ≡ false
+    → kept_feeding g l ≡ feeding g (kept_entries l)
+unfolding kept_feeding kept_feeding_made
+kept_within g l made p q = simp (made, p, q)
+
+module _ (g : GroupRegister) (end : ℕ) (items : List LineItem) where
+  abbrev Same : Type 0
+  Same = kept_feeding g (kept_of end items) ≡ feeding g (entries_of items)
+
+  pub list_fed : Same
+  unfolding kept_feeding kept_feeding_made feeding feeding_made
+  list_fed = ⊎_elim to_made (λ (t : is_made g.settings ≡ false). simp t) (either (is_made g.settings))
+    where
+      to_made : is_made g.settings ≡ true → Same
+      to_made made = ⊎_elim (λ (t : too_large (commits_of items) ≡ true). simp (made, kept_large, t)) fit (either (too_large (commits_of items)))
+        where
+          fit : too_large (commits_of items) ≡ false → Same
+          fit p =
+              ⊎_elim (λ (t : ltb 8192 (length items) ≡ true). simp (made, kept_large, p, kept_count, t, longer items t)) few
+              (either (ltb 8192 (length items)))
+            where
+              few : ltb 8192 (length items) ≡ false → Same
+              few q =
+                  let fits : (kept_of end items).too_large ≡ false = kept_large end items ∙ p in
+                  let none_more : ltb 8192 (kept_of end items).count ≡ false = ap (ltb 8192) (kept_count end items) ∙ q in
+                  kept_within g (kept_of end items) made fits none_more ∙ ap (feeding g) (entries_kept end items (ltb-false 8192 (length items) q))
+
+-- ---- the line
+
+module _ (g : GroupRegister) (line : List ℕ) where
+  module _ (l : LineList) (read : Some l ≡ option_map (kept_of 4) (feed_asked line)) (fed : Result (Option FirstRefused) FeedRefusal)
+      (after : GroupRegister) (done : feeding_in fed after ≡ kept_feeding g l) where
+    pub fed_register : after ≡ after_feed g (feed_asked line)
+    unfolding after_feed
+    fed_register =
+        let whole = kept_some (kept_of 4) (feed_asked line) l read in
+        rw whole.1 (ap (λ (f : Feeding). f.group) (done ∙ ap (kept_feeding g) whole.2 ∙ list_fed g 4 whole.0))
+
+    pub fed_answer : fed_text fed ≡ feed_text g (feed_asked line)
+    unfolding feed_text
+    fed_answer =
+        let whole = kept_some (kept_of 4) (feed_asked line) l read in
+        rw whole.1 (ap (λ (f : Feeding). fed_text f.answer) (done ∙ ap (kept_feeding g) whole.2 ∙ list_fed g 4 whole.0))
+
+  module _ (none : None ≡ option_map (kept_of 4) (feed_asked line)) where
+    pub bad_register : g ≡ after_feed g (feed_asked line)
+    unfolding after_feed
+    bad_register = rw (kept_none (kept_of 4) (feed_asked line) none) refl
+
+    pub bad_answer : bad_line_text ≡ feed_text g (feed_asked line)
+    unfolding feed_text
+    bad_answer = rw (kept_none (kept_of 4) (feed_asked line) none) refl
+
+-- ---- the entries: each is what the line says of a cell in that slot
+
+change_back : (c : Change) → change_of (kind_of c) (carrier_of c) (width_of c) ≡ c
+unfolding change_of
+change_back (Assign a) = refl
+change_back Release = refl
+
+entries_past : (i : LineItem) (items : List LineItem) (at n : ℕ) → entries_from (entries_of (i ∷ items)) (at + 1) n ≡ entries_from (entries_of items) at n
+unfolding entries_from
+entries_past i items at zero = refl
+entries_past i items at (suc n) =
+    ap₂ (λ (e : CellEntry) (es : List CellEntry). e ∷ es) (ap (λ (k : ℕ). entry_in (entries_of (i ∷ items)) k) (add-one at)) (entries_past i items (at + 1) n)
+
+pub entries_back : (items : List LineItem)
+    → entries_in (entries_of items) ≡ map (λ (i : LineItem). record { slot = i.slot; cell = i.cell; change = i.change }) items
+unfolding entries_from
+entries_back [] = refl
+entries_back (i ∷ items) =
+    ap₂ (λ (e : CellEntry) (es : List CellEntry). e ∷ es) (ap (λ (c : Change). record { slot = i.slot; cell = i.cell; change = c }) (change_back i.change))
+    (entries_past i items 0 (length (slots_of items)) ∙ entries_back items)

@@ -1,0 +1,107 @@
+-- A list of commits on a line of `planning` (docs/PLANNING.md; document 02, E10): `s v s v ..`, and `s v ENTRY s v ENTRY ..` in one that is fed.
+-- Assumes nothing.
+use Rattle.std.specs.Prelude.{Bool, true, cond, ◌&&◌, List, [], ◌∷◌, map, ℕ, zero, suc, ◌+◌, eqb, length, drop, Option, Some, None}
+use Rattle.std.specs.Option.{option_map, option_and_then}
+use Rattle.texts.specs.Text.{ascii}
+use Rattle.line_fields.specs.Fields.{is_number, value_of, begins, next_field, number_field}
+use Rattle.register.specs.declared.Change.{Change}
+use Rattle.register.specs.declared.Change.TheVariants.{Assign, Release}
+use Rattle.register_lines.specs.Entries.{second, change_at}
+use Rattle.register_lines.specs.declared.LineChange.{LineChange}
+use Rattle.catch_up.specs.Causes.{CommitList}
+use Rattle.feeding.specs.Feeding.{FedList, fed_list_of}
+use Rattle.list_lines.specs.declared.LineItem.{LineItem}
+
+-- ---- one entry, from a place on, and where it ends
+
+-- `s v`
+unfoldable pub commit_at : List ℕ → ℕ → Option LineItem
+commit_at line at =
+    cond (is_number (number_field line at).number && is_number (number_field line (second line at)).number)
+    (Some
+    (record {
+      slot = value_of (number_field line at).number;
+      value = value_of (number_field line (second line at)).number;
+      cell = 0;
+      change = Release;
+      end = (number_field line (second line at)).end;
+    }))
+    None
+
+-- "ENTRY as in an entry line from its letter on"
+abbrev pub entry_beside : LineItem → LineChange → LineItem
+entry_beside i c = record { slot = i.slot; value = i.value; cell = c.cell; change = c.change; end = c.end }
+
+unfoldable pub with_entry : List ℕ → LineItem → Option LineItem
+with_entry line i = option_map (entry_beside i) (change_at line (next_field line i.end))
+
+unfoldable pub item_at : Bool → List ℕ → ℕ → Option LineItem
+item_at fed line at = cond fed (option_and_then (with_entry line) (commit_at line at)) (commit_at line at)
+
+-- ---- a list
+
+-- it ends where the line does, or before a blank and the bar
+unfoldable pub list_ends : List ℕ → ℕ → Bool
+list_ends line end = cond (eqb end (length line)) true (begins (ascii " |") (drop end line))
+
+-- an entry, and those behind it where the list goes on
+unfoldable pub with_item : List ℕ → Option LineItem → Option (List LineItem) → Option (List LineItem)
+with_item line None rest = None
+with_item line (Some i) rest = cond (list_ends line i.end) (Some (i ∷ [])) (option_map (λ items. i ∷ items) rest)
+
+-- where the entry behind one begins
+abbrev pub behind_item : List ℕ → Option LineItem → ℕ
+behind_item line None = 0
+behind_item line (Some i) = next_field line i.end
+
+-- the entries from a place on, so many at most
+unfoldable pub items_from : Bool → List ℕ → ℕ → ℕ → Option (List LineItem)
+items_from fed line at zero = None
+items_from fed line at (suc most) =
+    with_item line (item_at fed line at) (items_from fed line (behind_item line (item_at fed line at)) most)
+
+-- the list behind a field that ends there, which may be empty; the line has more bytes than entries
+unfoldable pub list_behind : Bool → List ℕ → ℕ → Option (List LineItem)
+list_behind fed line end =
+    cond (list_ends line end) (Some []) (cond (begins (ascii " ") (drop end line)) (items_from fed line (end + 1) (length line)) None)
+
+-- where a list ends that stands behind a field which ends there
+abbrev pub ends_at : ℕ → List LineItem → ℕ
+ends_at end [] = end
+ends_at end (i ∷ items) = ends_at i.end items
+
+-- the line ends with the list
+unfoldable pub to_the_end : List ℕ → ℕ → List LineItem → Option (List LineItem)
+to_the_end line end items = cond (eqb (ends_at end items) (length line)) (Some items) None
+
+unfoldable pub last_list : Bool → List ℕ → ℕ → Option (List LineItem)
+last_list fed line end = option_and_then (to_the_end line end) (list_behind fed line end)
+
+-- ---- its columns
+
+abbrev pub slots_of : List LineItem → List ℕ
+slots_of items = map (λ (i : LineItem). i.slot) items
+
+abbrev pub values_of : List LineItem → List ℕ
+values_of items = map (λ (i : LineItem). i.value) items
+
+abbrev pub commits_of : List LineItem → CommitList
+commits_of items = record { slots = slots_of items; values = values_of items }
+
+-- an entry in numbers, as in E6
+abbrev pub kind_of : Change → ℕ
+kind_of (Assign a) = 1
+kind_of Release = 2
+
+abbrev pub carrier_of : Change → ℕ
+carrier_of (Assign a) = a.carrier
+carrier_of Release = 0
+
+abbrev pub width_of : Change → ℕ
+width_of (Assign a) = a.width
+width_of Release = 0
+
+abbrev pub entries_of : List LineItem → FedList
+entries_of items =
+    fed_list_of (slots_of items) (values_of items) (map (λ (i : LineItem). kind_of i.change) items) (map (λ (i : LineItem). i.cell) items)
+    (map (λ (i : LineItem). carrier_of i.change) items) (map (λ (i : LineItem). width_of i.change) items)

@@ -1,0 +1,436 @@
+// The lines of `planning` that have lists of commits (docs/PLANNING.md; document 02, E10): `join PLACES s v s v .. | s v ..` joins two of them, and
+// `feed s v ENTRY s v ENTRY ..` feeds one to the register. A list may be as long as a line: it is counted and its numbers are looked at while it is
+// read, and as many entries as may be fed have places.
+#![tactic(auto)]
+
+ghost use Rattle.std.specs.Prelude.{◌≡◌, ◌+◌, ◌<◌, ◌≤◌, length};
+ghost use Rattle.std.specs.Option.{option_map};
+ghost use Rattle.texts.specs.Text.{put};
+ghost use Rattle.catch_up.specs.Joining.{list_of, lent_list, lent_places, SamePlaces, join_count, Gives};
+ghost use Rattle.feeding.specs.Feeding.{fed_list, feeding_in};
+ghost use Rattle.list_lines.specs.Lists.{commit_at, with_entry, item_at, list_ends, items_from, list_behind, last_list, kind_of, carrier_of, width_of};
+ghost use Rattle.list_lines.specs.Kept.{above_limits, nothing_kept, kept_more, kept_of, kept_commits, kept_entries};
+ghost use Rattle.list_lines.specs.Joins.{join_asked, commits_text, joining_text, join_text, joined_text, kept_refused, kept_joining, kept_asked};
+ghost use Rattle.list_lines.specs.Feeds.{feed_asked, after_feed, refused_text, first_text, fed_text, feed_text, kept_feeding};
+ghost use Rattle.list_lines.specs.Answers.{register_after_list_line, list_line_answer};
+
+use catch_up::{JoinRefusal, LentList, LentPlaces};
+use feeding::{EntryList, FeedRefusal, FirstRefused};
+use group_register::GroupRegister;
+use refusals::Refused;
+use register::{CellNumber, Change};
+use texts::Output;
+
+// What a line says from a place on, and where that ends: a slot and a value, and in a list that is fed the entry beside them; in one that is joined
+// there is none, and a release of cell 0 stands for it.
+#[derive(Clone, Copy)]
+pub struct LineItem {
+    pub slot: u64,
+    pub value: u64,
+    pub cell: CellNumber,
+    pub change: Change,
+    pub end: usize,
+}
+
+// What is kept of a list: how many entries it has, whether a slot or value among them is too large, where it ends, and the first 8,192 entries, with a
+// change in numbers as a host lends it. Arrays in place of one of entries, since the library joins and feeds such slices.
+#[derive(Clone, Copy)]
+pub struct LineList {
+    pub count: usize,
+    pub too_large: bool,
+    pub end: usize,
+    pub slots: [u64; 8192],
+    pub values: [u64; 8192],
+    pub kinds: [u64; 8192],
+    pub cells: [CellNumber; 8192],
+    pub carriers: [u64; 8192],
+    pub widths: [u64; 8192],
+}
+
+// What a line `join` asks: how many places are lent, and the lists.
+#[derive(Clone, Copy)]
+pub struct JoinQuestion {
+    pub places: u64,
+    pub first: LineList,
+    pub second: LineList,
+}
+
+const MOST_KEPT: usize = 8192;
+
+const LEAST_PLACES: u64 = 8192;
+
+// ---- a list
+
+// `s v` from a place of a line on.
+#[tactic(auto, unfolding(crate::specs::Lists::commit_at))]
+fn commit_at(line: &[u8], at: usize) -> Option<LineItem>
+    ensures { result ≡ commit_at line.now at }
+{
+    let slot = line_fields::number_field(line, at);
+    let value = line_fields::number_field(line, line_fields::next_field(line, slot.end));
+    Some(LineItem {
+        slot: slot.number?,
+        value: value.number?,
+        cell: 0,
+        change: Change::Release,
+        end: value.end,
+    })
+}
+
+// With the entry that a line has behind it.
+#[tactic(auto, unfolding(crate::specs::Lists::with_entry))]
+fn with_entry(line: &[u8], item: LineItem) -> Option<LineItem>
+    ensures { result ≡ with_entry line.now item }
+{
+    let said = register_lines::change_at(line, line_fields::next_field(line, item.end))?;
+    Some(LineItem {
+        cell: said.cell,
+        change: said.change,
+        end: said.end,
+        ..item
+    })
+}
+
+// `s v`, or `s v ENTRY` in a list that is fed.
+#[tactic(auto, unfolding(crate::specs::Lists::item_at))]
+fn item_at(line: &[u8], at: usize, fed: bool) -> Option<LineItem>
+    ensures { result ≡ item_at fed line.now at }
+{
+    let item = commit_at(line, at)?;
+    if fed {
+        return with_entry(line, item);
+    }
+    Some(item)
+}
+
+// Whether a list ends there: with the line, or before a blank and the bar.
+#[tactic(auto, unfolding(crate::specs::Lists::list_ends))]
+fn list_ends(line: &[u8], end: usize) -> bool
+    ensures { result ≡ list_ends line.now end }
+{
+    end == line.len() || line_fields::begins_at(line, end, b" |")
+}
+
+// Whether a slot or value is too large.
+fn above_limits(item: LineItem) -> bool
+    ensures { result ≡ above_limits item }
+{
+    item.slot > 9223372036854775806 || item.value > 9223372036854775807
+}
+
+// A change's kind, carrier and width in numbers.
+fn numbers_of(change: Change) -> (u64, u64, u64)
+    ensures { result ≡ (kind_of change, carrier_of change, width_of change) }
+{
+    match change {
+        Change::Assign(assignment) => (1, assignment.carrier, assignment.width),
+        Change::Release => (2, 0, 0),
+    }
+}
+
+impl LineList {
+    // An empty list behind a field that ends there.
+    fn new(end: usize) -> LineList
+        ensures { result ≡ nothing_kept end }
+    {
+        LineList {
+            count: 0,
+            too_large: false,
+            end,
+            slots: [0; 8192],
+            values: [0; 8192],
+            kinds: [0; 8192],
+            cells: [0; 8192],
+            carriers: [0; 8192],
+            widths: [0; 8192],
+        }
+    }
+
+    // One entry more, in the next place where there is one.
+    #[tactic(auto, unfolding(crate::specs::Kept::kept_more, call_lines::specs::Reading::stored))]
+    fn push(&mut self, item: LineItem)
+        requires { self.old.count < 18446744073709551615 }
+        ensures { self.new ≡ kept_more item self.old }
+    {
+        let at = self.count;
+        if at < MOST_KEPT {
+            let (kind, carrier, width) = numbers_of(item.change);
+            self.slots[at] = item.slot;
+            self.values[at] = item.value;
+            self.kinds[at] = kind;
+            self.cells[at] = item.cell;
+            self.carriers[at] = carrier;
+            self.widths[at] = width;
+        }
+        self.count = at + 1;
+        self.too_large = self.too_large || above_limits(item);
+        self.end = item.end;
+    }
+
+    // The commits that have places.
+    fn commits(&self) -> LentList<'_>
+        ensures { lent_list result ≡ kept_commits self.now }
+    {
+        let count = self.count.min(MOST_KEPT);
+        LentList {
+            slots: &self.slots[..count],
+            values: &self.values[..count],
+        }
+    }
+
+    // The same with the entries beside them.
+    fn entries(&self) -> EntryList<'_>
+        ensures { fed_list result ≡ kept_entries self.now }
+    {
+        let count = self.count.min(MOST_KEPT);
+        EntryList {
+            commits: self.commits(),
+            kinds: &self.kinds[..count],
+            cells: &self.cells[..count],
+            carriers: &self.carriers[..count],
+            widths: &self.widths[..count],
+        }
+    }
+}
+
+// Reads the entries behind a field that ends there, and a blank.
+#[tactic(auto, using(crate::proofs::ListsRead::turn_none, crate::proofs::ListsRead::turn_last, crate::proofs::ListsRead::no_turn))]
+fn read_items(line: &[u8], end: usize, fed: bool) -> Option<LineList>
+    requires { end < length line.now }
+    ensures { result ≡ option_map (kept_of end) (items_from fed line.now (end + 1) (length line.now)) }
+{
+    let mut list = LineList::new(end);
+    let mut at = end + 1;
+    for i in 0..line.len() {
+        let item = item_at(line, at, fed)?;
+        list.push(item);
+        if list_ends(line, item.end) {
+            return Some(list);
+        }
+        at = line_fields::next_field(line, item.end);
+    }
+    None
+}
+
+// The list behind a field that ends there.
+#[tactic(auto, using(crate::proofs::ListsRead::blank_inside), unfolding(crate::specs::Lists::list_behind, crate::specs::Kept::kept_all))]
+fn list_behind(line: &[u8], end: usize, fed: bool) -> Option<LineList>
+    ensures { result ≡ option_map (kept_of end) (list_behind fed line.now end) }
+{
+    if list_ends(line, end) {
+        return Some(LineList::new(end));
+    }
+    if line_fields::begins_at(line, end, b" ") {
+        return read_items(line, end, fed);
+    }
+    None
+}
+
+// The same, of a list with which the line ends.
+#[tactic(auto, using(crate::proofs::ListsRead::last_none, crate::proofs::ListsRead::last_some, crate::proofs::ListsRead::last_other))]
+fn last_list(line: &[u8], end: usize, fed: bool) -> Option<LineList>
+    ensures { result ≡ option_map (kept_of end) (last_list fed line.now end) }
+{
+    let list = list_behind(line, end, fed)?;
+    if list.end == line.len() {
+        return Some(list);
+    }
+    None
+}
+
+// ---- two lists joined
+
+// What a line asks that begins with `join` and a blank.
+#[tactic(auto, using(crate::proofs::JoinsRead::no_places, crate::proofs::JoinsRead::no_first, crate::proofs::JoinsRead::no_bar, crate::proofs::JoinsRead::no_second, crate::proofs::ListsRead::bar_inside))]
+fn join_question(line: &[u8]) -> Option<JoinQuestion>
+    ensures { result ≡ option_map kept_asked (join_asked line.now) }
+{
+    let field = line_fields::number_field(line, 5);
+    let places = field.number?;
+    let first = list_behind(line, field.end, false)?;
+    if !line_fields::begins_at(line, first.end, b" |") {
+        return None;
+    }
+    let second = last_list(line, first.end + 2, false)?;
+    Some(JoinQuestion {
+        places,
+        first,
+        second,
+    })
+}
+
+// 2 and 18 of all that was read.
+#[tactic(auto, unfolding(crate::specs::Joins::kept_refused))]
+fn check_kept(asked: &JoinQuestion) -> Result<(), JoinRefusal>
+    ensures { result ≡ kept_refused asked.now }
+{
+    if asked.first.too_large || asked.second.too_large {
+        return Err(JoinRefusal::NumberTooLarge);
+    }
+    if MOST_KEPT < asked.first.count
+        || MOST_KEPT < asked.second.count
+        || asked.places < LEAST_PLACES
+    {
+        return Err(JoinRefusal::OutsideLimits);
+    }
+    Ok(())
+}
+
+// The same, and else the join of what stands in the places.
+fn join_in(asked: &JoinQuestion, places: &mut LentPlaces) -> Result<u64, JoinRefusal>
+    requires { (length places.old.slots.now ≡ 8192) × (length places.old.values.now ≡ 8192) }
+    ensures same { SamePlaces places.old places.new }
+    ensures joined { Gives (kept_joining asked.now) (lent_places places.old) (lent_places places.new) result }
+{
+    check_kept(asked)?;
+    catch_up::join(asked.first.commits(), asked.second.commits(), places)
+}
+
+fn join_kept(
+    asked: &JoinQuestion,
+    slots: &mut [u64],
+    values: &mut [u64],
+) -> Result<u64, JoinRefusal>
+    requires { (length slots.old ≡ 8192) × (length values.old ≡ 8192) }
+    ensures { Gives (kept_joining asked.now) (list_of slots.old values.old) (list_of slots.new values.new) result }
+{
+    let mut places = LentPlaces { slots, values };
+    join_in(asked, &mut places)
+}
+
+// Each slot with its value.
+#[tactic(auto, using(crate::proofs::JoinsRead::commit_put, crate::proofs::JoinsRead::all_put))]
+fn put_commits(out: &mut Output<'_>, slots: &[u64], values: &[u64])
+    requires { length slots.now ≡ length values.now }
+    ensures { out.new ≡ put (commits_text (list_of slots.now values.now)) out.old }
+{
+    for i in 0..slots.len() {
+        out.put_field(slots[i]);
+        out.put_field(values[i]);
+    }
+}
+
+// How many entries the join has, and each of them, which stand in the first places; or `refused` and the number.
+#[tactic(auto, using(texts::proofs::Putting::put_then), unfolding(crate::specs::Joins::joined_text))]
+fn put_joined(out: &mut Output<'_>, joined: Result<u64, JoinRefusal>, slots: &[u64], values: &[u64])
+    requires { (join_count joined ≤ length slots.now) × (join_count joined ≤ length values.now) }
+    ensures { out.new ≡ put (joined_text joined slots.now values.now) out.old }
+{
+    match joined {
+        Ok(count) => {
+            out.put_number(count);
+            let places = count as usize;
+            put_commits(out, &slots[..places], &values[..places]);
+            out.put_byte(b'\n');
+        }
+        Err(why) => line_fields::put_line(out, b"refused", why.number()),
+    }
+}
+
+// The lists that a line gives, joined.
+#[tactic(auto, using(crate::proofs::JoinsRead::joined_answer))]
+fn put_join(out: &mut Output<'_>, asked: &JoinQuestion)
+    ensures { out.new ≡ put (joining_text (kept_joining asked.now)) out.old }
+{
+    let mut slots = [0; 8192];
+    let mut values = [0; 8192];
+    let joined = join_kept(asked, &mut slots, &mut values);
+    put_joined(out, joined, &slots, &values);
+}
+
+// The answer to a line that begins with `join` and a blank. Not in line, nor is that of `feed`: the lists take up to 3.2 MiB of stack, which others do without.
+#[inline(never)]
+#[tactic(auto, using(crate::proofs::JoinsRead::asked_answer, crate::proofs::JoinsRead::asked_bad))]
+fn answer_join(line: &[u8], out: &mut Output<'_>)
+    ensures { out.new ≡ put (join_text line.now) out.old }
+{
+    match join_question(line) {
+        Some(asked) => put_join(out, &asked),
+        None => planning_lines::put_bad_line(out),
+    }
+}
+
+// ---- a list fed
+
+// 1 of a register that is not made, 2 and 18 of all that was read, and else what stands in the places is fed.
+#[tactic(auto, unfolding(crate::specs::Feeds::kept_feeding, crate::specs::Feeds::kept_feeding_made))]
+fn feed_kept(
+    group: &mut GroupRegister,
+    list: &LineList,
+) -> Result<Option<FirstRefused>, FeedRefusal>
+    ensures { feeding_in result group.new ≡ kept_feeding group.old list.now }
+{
+    if !group.settings.is_made() {
+        return Err(FeedRefusal::Unmade);
+    }
+    if list.too_large {
+        return Err(FeedRefusal::AsList(JoinRefusal::NumberTooLarge));
+    }
+    if MOST_KEPT < list.count {
+        return Err(FeedRefusal::AsList(JoinRefusal::OutsideLimits));
+    }
+    feeding::feed(group.settings, &mut group.register, list.entries())
+}
+
+// The first slot that was refused, and its number.
+#[tactic(auto, using(texts::proofs::Putting::put_append), unfolding(crate::specs::Feeds::refused_text, texts::specs::Text::put))]
+fn put_refused(out: &mut Output<'_>, slot: u64, number: u64)
+    ensures { out.new ≡ put (refused_text slot number) out.old }
+{
+    out.put_bytes(b"fed, slot");
+    out.put_field(slot);
+    line_fields::put_line(out, b" refused", number);
+}
+
+#[tactic(auto, unfolding(crate::specs::Feeds::first_text))]
+fn put_first(out: &mut Output<'_>, first: Option<FirstRefused>)
+    ensures { out.new ≡ put (first_text first) out.old }
+{
+    match first {
+        Some(refused) => put_refused(out, refused.slot, refused.why.number()),
+        None => out.put_bytes(b"fed\n"),
+    }
+}
+
+#[tactic(auto, unfolding(crate::specs::Feeds::fed_text))]
+fn put_fed(out: &mut Output<'_>, fed: Result<Option<FirstRefused>, FeedRefusal>)
+    ensures { out.new ≡ put (fed_text fed) out.old }
+{
+    match fed {
+        Ok(first) => put_first(out, first),
+        Err(why) => line_fields::put_line(out, b"refused", why.number()),
+    }
+}
+
+// The answer to a line that begins with `feed`, and the register that it leaves.
+#[inline(never)]
+#[tactic(auto, using(crate::proofs::FeedsRead::bad_register, crate::proofs::FeedsRead::bad_answer))]
+fn answer_feed(mut group: GroupRegister, line: &[u8], out: &mut Output<'_>) -> GroupRegister
+    ensures group { result ≡ after_feed group (feed_asked line.now) }
+    ensures put { out.new ≡ put (feed_text group (feed_asked line.now)) out.old }
+{
+    match last_list(line, 4, true) {
+        Some(list) => {
+            let fed = feed_kept(&mut group, &list);
+            put_fed(out, fed);
+        }
+        None => planning_lines::put_bad_line(out),
+    }
+    group
+}
+
+// The answer to a line of `planning`, and the register that the line leaves.
+#[tactic(auto, unfolding(crate::specs::Answers::register_after_list_line, crate::specs::Answers::list_line_answer))]
+pub fn answer_line(group: GroupRegister, line: &[u8], out: &mut Output<'_>) -> GroupRegister
+    ensures group { result ≡ register_after_list_line group line.now }
+    ensures put { out.new ≡ put (list_line_answer group line.now) out.old }
+{
+    if line_fields::begins(line, b"join ") {
+        answer_join(line, out);
+        return group;
+    }
+    if line_fields::begins(line, b"feed") {
+        return answer_feed(group, line, out);
+    }
+    stored_lines::answer_line(group, line, out)
+}

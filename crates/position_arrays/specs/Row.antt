@@ -1,0 +1,42 @@
+-- The positions that stand in an array of a host, and the cells with their positions in arrays (document 02, E11).
+-- Assumes nothing.
+use Rattle.std.specs.Prelude.{cond, ℕ, eqb, List, map, Option, Some, None, Result}
+use Rattle.register.specs.declared.Entered.{Entered}
+use Rattle.register_arrays.specs.Columns.{entry_from_numbers, register_in}
+use Rattle.register_arrays.specs.declared.Columns.{Columns}
+use Rattle.group_register.specs.GroupRegister.{group_register}
+use Rattle.group_arrays.specs.GroupColumns.{settings_in, group_in}
+use Rattle.positions.specs.Placed.{placed, placed_applied}
+use Rattle.positions.specs.declared.Entry.{Entry}
+use Rattle.positions.specs.declared.Entry.TheVariants.{OfCell, OfPosition}
+use Rattle.positions.specs.declared.PlacedApplied.{PlacedApplied}
+use Rattle.positions.specs.declared.PlacedRegister.{PlacedRegister}
+use Rattle.positions.specs.declared.Position.{Position}
+use Rattle.positions.specs.declared.PositionRefusal.{PositionRefusal}
+use Rattle.position_arrays.specs.declared.CellPosition.{CellPosition}
+use Rattle.position_arrays.specs.declared.LentCells.{LentCells}
+use Rattle.position_arrays.specs.declared.PositionRow.{PositionRow}
+
+-- 0 is none; with any other number x and y are the position
+abbrev pub position_at : CellPosition → Option Position
+position_at c = cond (eqb c.given 0) None (Some (record { x = c.x; y = c.y }))
+
+abbrev pub positions_in : List CellPosition → List (Option Position)
+positions_in row = map position_at row
+
+-- the register in the lent arrays
+abbrev pub placed_of : List ℕ → Columns → PositionRow → PlacedRegister
+placed_of settings c row = placed (group_register (settings_in settings) (register_in c)) (positions_in row.cells.now)
+
+-- what a call leaves: the outcome that it hands back, with the arrays
+abbrev pub placed_applied_in : List ℕ → Columns → PositionRow → Result Entered PositionRefusal → PlacedApplied
+placed_applied_in settings c row outcome = placed_applied (group_register (settings_in settings) (register_in c)) (positions_in row.cells.now) outcome
+
+-- the register in arrays that are lent to be read
+abbrev pub placed_in : LentCells → PlacedRegister
+placed_in c = placed (group_in c.settings.now c.cells.now c.carriers.now c.widths.now c.figures.now) (positions_in c.positions.now)
+
+-- kind 3 is a position, kind 1 an assignment and kind 2 a release; any other kind stands for an assignment without a width, which gives 14
+unfoldable pub placed_entry_of : ℕ → ℕ → ℕ → ℕ → ℕ → Position → Entry
+placed_entry_of slot kind cell carrier width p =
+    cond (eqb kind 3) (OfPosition (record { slot = slot; cell = cell; position = p })) (OfCell (entry_from_numbers slot kind cell carrier width))

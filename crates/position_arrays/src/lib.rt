@@ -1,0 +1,174 @@
+// Positions in an array that a host lends, changed in place, beside the arrays of a register of group settings (document 02, E11). The contracts are those
+// of crates/positions and crates/reach, on the register that the numbers stand for, whatever they are.
+#![tactic(auto)]
+
+ghost use Rattle.std.specs.Prelude.{◌≡◌, Some, None, [], ◌∷◌, length, replicate};
+ghost use Rattle.register_arrays.specs.Columns.{SameArrays};
+ghost use Rattle.group_register.specs.Settings.{is_made};
+ghost use Rattle.group_arrays.specs.GroupColumns.{settings_in};
+ghost use Rattle.positions.specs.Placed.{apply_entry};
+ghost use Rattle.reach.specs.Cells.{cells_of};
+ghost use Rattle.position_arrays.specs.Row.{position_at, positions_in, placed_entry_of, placed_of, placed_applied_in, placed_in};
+
+use group_arrays::settings_in;
+use places::{insert_at, remove_at};
+use positions::{Entry, Position, PositionEntry, PositionPlaces, PositionRefusal};
+use reach::{PlacedCell, PlacedCells};
+use register::{Assignment, CellNumber, Entered, live_places};
+use register_arrays::Columns;
+
+// What an array has of a cell's position: 0 in `given` says that there is none, any other number that x and y are the position.
+#[derive(Clone, Copy, Default)]
+#[repr(C)]
+pub struct CellPosition {
+    pub given: u64,
+    pub x: i64,
+    pub y: i64,
+}
+
+impl CellPosition {
+    fn of(position: Position) -> CellPosition
+        ensures { position_at result ≡ Some position }
+    {
+        CellPosition {
+            given: 1,
+            x: position.x,
+            y: position.y,
+        }
+    }
+
+    fn position(self) -> Option<Position>
+        ensures { result ≡ position_at self }
+    {
+        if self.given == 0 {
+            return None;
+        }
+        Some(Position {
+            x: self.x,
+            y: self.y,
+        })
+    }
+}
+
+// The lent array: place i has the position of the cell in place i. Any numbers may stand in it.
+#[derive(Drop)]
+pub struct PositionRow<'a> {
+    pub cells: &'a mut [CellPosition; 512],
+}
+
+impl PositionPlaces for PositionRow<'_> {
+    ghost positions = { λ row. positions_in row.cells.now };
+
+    ghost lent = { λ row. row.cells.ghost_name ∷ [] };
+
+    #[tactic(auto, using(crate::proofs::Rows::position_put))]
+    fn put(&mut self, at: usize, position: Position) {
+        self.cells[at] = CellPosition::of(position);
+    }
+
+    #[tactic(auto, using(crate::proofs::Rows::positions_inserted))]
+    fn insert(&mut self, at: usize, places: usize) {
+        insert_at(self.cells, at, places, CellPosition::default());
+    }
+
+    #[tactic(auto, using(crate::proofs::Rows::positions_removed))]
+    fn remove(&mut self, at: usize, places: usize) {
+        remove_at(self.cells, at, places);
+    }
+}
+
+// No cell has a position.
+impl PositionRow<'_> {
+    pub fn clear(&mut self)
+        ensures same { self.new.cells.ghost_name ≡ self.old.cells.ghost_name }
+        ensures cleared { positions_in self.new.cells.now ≡ replicate 512 None }
+    {
+        *self.cells = [CellPosition::default(); 512];
+    }
+}
+
+// The register after an entry, as crates/positions has it.
+pub fn apply(
+    settings: &[u64; 2],
+    columns: &mut Columns<'_>,
+    row: &mut PositionRow<'_>,
+    entry: Entry,
+) -> Result<Entered, PositionRefusal>
+    ensures same { SameArrays columns.old columns.new × (row.new.cells.ghost_name ≡ row.old.cells.ghost_name) }
+    ensures applied { placed_applied_in settings.now columns.new row.new result ≡ apply_entry (placed_of settings.now columns.old row.old) entry }
+{
+    positions::apply_in(settings_in(settings), columns, row, entry)
+}
+
+// Kind 3 is a position, of which cell, x and y are read; of any other kind what crates/register_arrays reads.
+#[tactic(auto, unfolding(crate::specs::Row::placed_entry_of))]
+pub fn entry_from_numbers(
+    slot: u64,
+    kind: u64,
+    cell: CellNumber,
+    carrier: u64,
+    width: u64,
+    x: i64,
+    y: i64,
+) -> Entry
+    ensures { result ≡ placed_entry_of slot kind cell carrier width (record { x = x; y = y }) }
+{
+    if kind == 3 {
+        return Entry::OfPosition(PositionEntry {
+            slot,
+            cell,
+            position: Position { x, y },
+        });
+    }
+    Entry::OfCell(register_arrays::entry_from_numbers(slot, kind, cell, carrier, width))
+}
+
+// The arrays of a register and of its positions, lent to be read.
+#[derive(Clone, Copy)]
+pub struct LentCells<'a> {
+    pub settings: &'a [u64; 2],
+    pub cells: &'a [u64; 512],
+    pub carriers: &'a [u64; 512],
+    pub widths: &'a [u64; 512],
+    pub figures: &'a [u64; 5],
+    pub positions: &'a [CellPosition; 512],
+}
+
+// A proof knows how many places a lent array has where it is passed on as a slice: this function does nothing but hand that on.
+fn have_places(cells: &[u64], carriers: &[u64], widths: &[u64], positions: &[CellPosition])
+    requires { (length cells.now ≡ 512) × (length carriers.now ≡ 512) × (length widths.now ≡ 512) × (length positions.now ≡ 512) }
+    ensures { (length cells.now ≡ 512) × (length carriers.now ≡ 512) × (length widths.now ≡ 512) × (length positions.now ≡ 512) }
+{}
+
+impl PlacedCells for LentCells<'_> {
+    ghost made = { λ c. is_made (settings_in c.settings.now) };
+
+    ghost cells = { λ c. cells_of (placed_in c) };
+
+    fn is_made(&self) -> bool {
+        settings_in(self.settings).is_made()
+    }
+
+    #[tactic(auto, using(crate::proofs::Rows::lent_live))]
+    fn live(&self) -> usize {
+        let (cells, carriers, widths) = (self.cells, self.carriers, self.widths);
+        let (figures, positions) = (self.figures, self.positions);
+        have_places(cells, carriers, widths, positions);
+        live_places(figures[4])
+    }
+
+    #[tactic(auto, using(crate::proofs::Rows::lent_within, crate::proofs::Rows::lent_cell))]
+    fn cell(&self, at: usize) -> PlacedCell {
+        let (cells, carriers, widths) = (self.cells, self.carriers, self.widths);
+        let positions = self.positions;
+        have_places(cells, carriers, widths, positions);
+        PlacedCell {
+            number: cells[at],
+            assignment: Assignment {
+                carrier: carriers[at],
+                width: widths[at],
+            },
+            position: positions[at].position(),
+        }
+    }
+}

@@ -1,0 +1,5 @@
+pub mod Became
+pub mod Rows
+pub mod Steps
+pub mod Laws
+pub mod Examples

@@ -1,0 +1,140 @@
+-- "21 first, then 14 for a carrier, width or range end outside its limits", behind the number of a register that is not made: each exactly where it is due.
+-- Assumes nothing.
+use mathlib.Core.Path.{◌≡◌, sym, ap, ◌∙◌}
+use mathlib.Core.Logic.{◌⊎◌, inl, inr}
+use mathlib.Core.Bool.{Bool, true, false, ◌&&◌}
+use Prim.Native.Nat.{ℕ, ◌≤◌}
+use native.Mathlib.Omega.{arith}
+use Rattle.std.specs.Prelude.{Result, Ok, Err}
+use Rattle.basics.proofs.Tests.{either, not_both, and_left, and_right, and_both}
+use Rattle.refusals.specs.Refusals.{refusal}
+use Rattle.reach.specs.Conflict.{WithinLimits, MayAssign}
+use Rattle.reach.specs.Reach.{reach_refusal_number, within_limits, khz_at, may_ask, asked}
+use Rattle.reach.specs.Search.{Askable}
+use Rattle.reach.specs.declared.Question.{Question}
+use Rattle.reach.specs.declared.ReachRefusal.{ReachRefusal}
+use Rattle.reach.specs.declared.ReachRefusal.TheVariants.{Unmade, NotAssignable, OutsideLimits}
+use Rattle.reach.proofs.Meaning.{limits_of_test, test_of_limits, number_most, may_of_test, test_of_may}
+use Rattle.reach.proofs.Raster.{khz_most}
+
+-- document 02's number of what refuses, and 0
+abbrev pub number_of : {A : Type 0} → Result A ReachRefusal → ℕ
+number_of answer = refusal reach_refusal_number answer
+
+-- a number is not two
+pub same_number : {m n : ℕ} (answer : ℕ) → answer ≡ m → answer ≡ n → m ≡ n
+same_number answer p q = sym p ∙ q
+
+module _ (made : Bool) (q : Question) (first last : ℕ) where
+  abbrev before : Result (Unit {0}) ReachRefusal
+  before = asked made q first last
+
+  abbrev ends : Bool
+  ends = may_ask first q.width && may_ask last q.width
+
+  -- what refuses, in document 02's words
+  pub data Cause : Type 0 where
+    unmade : made ≡ false → before ≡ Err Unmade → Cause
+    outside : made ≡ true → (WithinLimits q → ⊥) → before ≡ Err OutsideLimits → Cause
+    not_assignable : made ≡ true → WithinLimits q → (MayAssign first q.width × MayAssign last q.width → ⊥) → before ≡ Err NotAssignable → Cause
+    none : made ≡ true → WithinLimits q → MayAssign first q.width → MayAssign last q.width → before ≡ Ok tt → Cause
+
+  pub the_cause : Cause
+  unfolding asked
+  the_cause = go (either made) (either (within_limits q)) (either ends)
+    where
+      go : (made ≡ true) ⊎ (made ≡ false) → (within_limits q ≡ true) ⊎ (within_limits q ≡ false) → (ends ≡ true) ⊎ (ends ≡ false) → Cause
+      go (inr m) l e = unmade m (simp m)
+      go (inl m) (inr l) e = outside m (λ limits. not_both (test_of_limits q limits) l) (simp (m, l))
+      go (inl m) (inl l) (inr e) =
+          not_assignable m (limits_of_test q l) (λ both. not_both (and_both (test_of_may first q.width both.0) (test_of_may last q.width both.1)) e)
+          (simp (m, l, e))
+      go (inl m) (inl l) (inl e) =
+          none m (limits_of_test q l) (may_of_test first q.width (and_left (may_ask first q.width) (may_ask last q.width) e))
+          (may_of_test last q.width (and_right (may_ask first q.width) (may_ask last q.width) e)) (simp (m, l, e))
+
+  -- ---- each cause refuses, in that order
+  pub unmade_is_1 : made ≡ false → number_of before ≡ 1
+  unmade_is_1 m = go the_cause
+    where
+      go : Cause → number_of before ≡ 1
+      go (unmade u is) = ap number_of is
+      go (outside made off is) = absurd (not_both made m)
+      go (not_assignable made limits may is) = absurd (not_both made m)
+      go (none made limits low high is) = absurd (not_both made m)
+
+  pub outside_is_21 : made ≡ true → (WithinLimits q → ⊥) → number_of before ≡ 21
+  outside_is_21 m off = go the_cause
+    where
+      go : Cause → number_of before ≡ 21
+      go (unmade u is) = absurd (not_both m u)
+      go (outside made off is) = ap number_of is
+      go (not_assignable made limits may is) = absurd (off limits)
+      go (none made limits low high is) = absurd (off limits)
+
+  pub not_assignable_is_14 : made ≡ true → WithinLimits q → (MayAssign first q.width × MayAssign last q.width → ⊥) → number_of before ≡ 14
+  not_assignable_is_14 m limits off = go the_cause
+    where
+      go : Cause → number_of before ≡ 14
+      go (unmade u is) = absurd (not_both m u)
+      go (outside made beyond is) = absurd (beyond limits)
+      go (not_assignable made within may is) = ap number_of is
+      go (none made within low high is) = absurd (off (low, high))
+
+  pub else_asked : made ≡ true → WithinLimits q → MayAssign first q.width → MayAssign last q.width → before ≡ Ok tt
+  else_asked m limits low high = go the_cause
+    where
+      go : Cause → before ≡ Ok tt
+      go (unmade u is) = absurd (not_both m u)
+      go (outside made beyond is) = absurd (beyond limits)
+      go (not_assignable made within may is) = absurd (may (low, high))
+      go (none made within least most is) = is
+
+  -- ---- and nothing else gives its number
+  pub is_1_unmade : number_of before ≡ 1 → made ≡ false
+  is_1_unmade e = go the_cause
+    where
+      go : Cause → made ≡ false
+      go (unmade u is) = u
+      go (outside made off is) = absurd (let z : ◌≡◌ {A = ℕ} 21 1 = same_number (number_of before) (ap number_of is) e in omega arith)
+      go (not_assignable made limits may is) = absurd (let z : ◌≡◌ {A = ℕ} 14 1 = same_number (number_of before) (ap number_of is) e in omega arith)
+      go (none made limits low high is) = absurd (let z : ◌≡◌ {A = ℕ} 0 1 = same_number (number_of before) (ap number_of is) e in omega arith)
+
+  pub is_21_outside : number_of before ≡ 21 → (made ≡ true) × (WithinLimits q → ⊥)
+  is_21_outside e = go the_cause
+    where
+      go : Cause → (made ≡ true) × (WithinLimits q → ⊥)
+      go (unmade u is) = absurd (let z : ◌≡◌ {A = ℕ} 1 21 = same_number (number_of before) (ap number_of is) e in omega arith)
+      go (outside m off is) = (m, off)
+      go (not_assignable made limits may is) = absurd (let z : ◌≡◌ {A = ℕ} 14 21 = same_number (number_of before) (ap number_of is) e in omega arith)
+      go (none made limits low high is) = absurd (let z : ◌≡◌ {A = ℕ} 0 21 = same_number (number_of before) (ap number_of is) e in omega arith)
+
+  pub is_14_not_assignable : number_of before ≡ 14 → (made ≡ true) × WithinLimits q × (MayAssign first q.width × MayAssign last q.width → ⊥)
+  is_14_not_assignable e = go the_cause
+    where
+      go : Cause → (made ≡ true) × WithinLimits q × (MayAssign first q.width × MayAssign last q.width → ⊥)
+      go (unmade u is) = absurd (let z : ◌≡◌ {A = ℕ} 1 14 = same_number (number_of before) (ap number_of is) e in omega arith)
+      go (outside made off is) = absurd (let z : ◌≡◌ {A = ℕ} 21 14 = same_number (number_of before) (ap number_of is) e in omega arith)
+      go (not_assignable m limits may is) = (m, limits, may)
+      go (none made limits low high is) = absurd (let z : ◌≡◌ {A = ℕ} 0 14 = same_number (number_of before) (ap number_of is) e in omega arith)
+
+  -- what is not refused keeps to the limits
+  pub asked_limits : before ≡ Ok tt → (made ≡ true) × WithinLimits q × MayAssign first q.width × MayAssign last q.width
+  asked_limits e = go the_cause
+    where
+      go : Cause → (made ≡ true) × WithinLimits q × MayAssign first q.width × MayAssign last q.width
+      go (unmade u is) = absurd (let z : ◌≡◌ {A = ℕ} 1 0 = same_number (number_of before) (ap number_of is) (ap number_of e) in omega arith)
+      go (outside made off is) = absurd (let z : ◌≡◌ {A = ℕ} 21 0 = same_number (number_of before) (ap number_of is) (ap number_of e) in omega arith)
+      go (not_assignable made limits may is) =
+          absurd (let z : ◌≡◌ {A = ℕ} 14 0 = same_number (number_of before) (ap number_of is) (ap number_of e) in omega arith)
+      go (none m limits low high is) = (m, limits, low, high)
+
+  -- what the code asks of such a question
+  pub askable : (u : Unit {0}) → before ≡ Ok u → Askable (khz_at first) q
+  askable u e = let l = asked_limits e in record { on_raster = khz_most first; narrow = l.2.to; within = l.1.distance }
+
+  pub may_search : (u : Unit {0}) → before ≡ Ok u → (q.width ≤ 400000) × (q.distance ≤ 6000000)
+  may_search u e = let l = asked_limits e in (l.2.to, l.1.distance)
+
+  pub last_most : (u : Unit {0}) → before ≡ Ok u → last ≤ 3279165
+  last_most u e = number_most last q.width (test_of_may last q.width (asked_limits e).3)

@@ -1,0 +1,11 @@
+pub mod Raster
+pub mod Squares
+pub mod Meaning
+pub mod Ranges
+pub mod Ways
+pub mod Asking
+pub mod Laws
+pub mod Lists
+pub mod Cells
+pub mod Examples
+pub mod FromEntries

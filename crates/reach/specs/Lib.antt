@@ -1,0 +1,5 @@
+pub mod Conflict
+pub mod Reach
+pub mod Search
+pub mod Cells
+pub mod Entries

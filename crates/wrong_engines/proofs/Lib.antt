@@ -1,0 +1,5 @@
+pub mod Right
+pub mod Answers
+pub mod Runs
+pub mod Less
+pub mod Passing

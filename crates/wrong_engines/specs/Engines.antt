@@ -1,0 +1,354 @@
+-- Wrong engines: those of document 01, "These must be rejected" (list c), and others. Each is the right one, `call_of`, with one thing changed.
+-- Assumes nothing.
+use Rattle.std.specs.Prelude.{Bool, true, false, cond, ◌&&◌, ℕ, eqb, leb, bit_and, Option, None, Some, Ok, Err}
+use Rattle.std.specs.Int.{w64, bit_not, trailing_zeros}
+use Rattle.message.specs.Modes.{is_multi_paxos}
+use Rattle.message.specs.Outcomes.{Outcome}
+use Rattle.message.specs.Rounds.{default_round, equal}
+use Rattle.message.specs.declared.ConsensusMsg.{ConsensusMsg}
+use Rattle.message.specs.declared.ConsensusMsg.TheVariants.{Prepare, Accept, ForwardRequest, Commit, ReadRequest, ReadResponse}
+use Rattle.message.specs.declared.Refusal.{Refusal}
+use Rattle.message.specs.declared.Refusal.TheVariants.{SettingsOutsideLimits}
+use Rattle.message.specs.declared.RoundV.{RoundV}
+use Rattle.message.specs.declared.RoundV.TheVariants.{PaxosV}
+use Rattle.read_tracker.specs.Reads.{read_id}
+use Rattle.round_state.specs.Paxos.{with_held}
+use Rattle.round_state.specs.declared.PaxosState.{PaxosState}
+use Rattle.settings.specs.declared.Settings.{Settings}
+use Rattle.steps.specs.Steps.{no_messages, one_message, to_all, with_paxos}
+use Rattle.steps.specs.declared.Destination.{Destination}
+use Rattle.steps.specs.declared.Destination.TheVariants.{One, All}
+use Rattle.steps.specs.declared.Messages.{Messages}
+use Rattle.steps.specs.declared.Outgoing.{Outgoing}
+use Rattle.calls.specs.Commits.{committed_slot}
+use Rattle.calls.specs.Decision.{decision_of}
+use Rattle.calls.specs.declared.Call.{Call}
+use Rattle.calls.specs.declared.Call.TheVariants.{Propose, StartRead, Receive}
+use Rattle.calls.specs.declared.CommittedSlot.{CommittedSlot}
+use Rattle.consensus.specs.Answers.{with_rounds, refused, sent, nothing}
+use Rattle.consensus.specs.ByParts.{by_core}
+use Rattle.consensus.specs.Call.{call_of}
+use Rattle.consensus.specs.declared.Answer.{Answer}
+use Rattle.consensus.specs.declared.Shard.{Shard}
+use Rattle.wrong_engines.specs.Laws.{AnyEngine}
+use Rattle.wrong_engines.specs.declared.FixedContents.{FixedContents}
+
+-- ---- the right one in other words: what is decided of a call, and then by the parts of a shard, the core first (crates/consensus/specs/ByParts.antt)
+
+abbrev pub in_parts : AnyEngine
+in_parts shard c = by_core shard (decision_of shard.made shard.settings shard.state.rounds.core c)
+
+-- ---- kinds of calls
+
+abbrev pub is_proposal : Call → Bool
+is_proposal (Propose v) = true
+is_proposal (StartRead tag arrival) = false
+is_proposal (Receive d) = false
+
+abbrev pub is_new_read : Call → Bool
+is_new_read (Propose v) = false
+is_new_read (StartRead tag arrival) = true
+is_new_read (Receive d) = false
+
+abbrev pub is_message : Call → Bool
+is_message (Propose v) = false
+is_message (StartRead tag arrival) = false
+is_message (Receive d) = true
+
+-- a Prepare, or an Accept, of a round that the process leads
+abbrev pub is_prepare_for : ℕ → ConsensusMsg → Bool
+is_prepare_for p (Prepare slot round rv) = eqb round.leader p
+is_prepare_for p (Accept slot round v) = false
+is_prepare_for p (ForwardRequest v) = false
+is_prepare_for p (Commit slot v) = false
+is_prepare_for p (ReadRequest id) = false
+is_prepare_for p (ReadResponse id next) = false
+
+abbrev pub is_accept_for : ℕ → ConsensusMsg → Bool
+is_accept_for p (Prepare slot round rv) = false
+is_accept_for p (Accept slot round v) = eqb round.leader p
+is_accept_for p (ForwardRequest v) = false
+is_accept_for p (Commit slot v) = false
+is_accept_for p (ReadRequest id) = false
+is_accept_for p (ReadResponse id next) = false
+
+abbrev pub brings : (ConsensusMsg → Bool) → Call → Bool
+brings test (Propose v) = false
+brings test (StartRead tag arrival) = false
+brings test (Receive d) = test d.message.msg
+
+-- ---- what is changed of a call, of a shard, of an answer
+
+-- its message, if it has one, comes from another
+abbrev pub from_another : (ℕ → ℕ) → Call → Call
+from_another source (Propose v) = Propose v
+from_another source (StartRead tag arrival) = StartRead tag arrival
+from_another source (Receive d) =
+    Receive
+    (record {
+      message = record { msg = d.message.msg; src = source d.message.src; last_v = d.message.last_v };
+      said = d.said;
+      held_requester = d.held_requester;
+    })
+
+abbrev pub own : Shard → ℕ
+own shard = shard.settings.my_pid
+
+abbrev pub slot_of : Shard → ℕ
+slot_of shard = shard.state.rounds.core.slot
+
+abbrev pub paxos_of : Shard → PaxosState
+paxos_of shard = shard.state.rounds.core.paxos
+
+-- something else is held, or nothing
+abbrev pub holding : Option RoundV → Shard → Shard
+holding held shard =
+    with_rounds shard
+    (record { core = with_paxos (with_held held (paxos_of shard)) shard.state.rounds.core; fast = shard.state.rounds.fast })
+
+abbrev pub with_settings : Settings → Shard → Shard
+with_settings s shard = record { made = shard.made; settings = s; state = shard.state }
+
+-- another number of replicas, or another live set
+abbrev pub with_replicas : ℕ → ℕ → Settings → Settings
+with_replicas n live s =
+    record {
+      process_count = s.process_count;
+      replica_count = n;
+      my_pid = s.my_pid;
+      alive_replicas = live;
+      first_leader = s.first_leader;
+      mode = s.mode;
+      quorum = s.quorum;
+      committers = s.committers;
+      delegates = s.delegates;
+    }
+
+-- the lowest process of a set; or else the source
+abbrev pub lowest_or : ℕ → ℕ → ℕ
+lowest_or set source = cond (eqb set 0) source (trailing_zeros w64 set)
+
+-- the message of a call counted as one of the lowest live replica that is not in the set
+abbrev pub as_uncounted : Shard → ℕ → Call → Call
+as_uncounted shard set c = from_another (lowest_or (bit_and shard.settings.alive_replicas (bit_not w64 set))) c
+
+-- the call with other settings, for this once
+abbrev pub call_under : Settings → Shard → Call → Answer
+call_under s shard c =
+    record {
+      shard = with_settings shard.settings (call_of (with_settings s shard) c).shard;
+      reply = (call_of (with_settings s shard) c).reply;
+    }
+
+-- other messages, or another commit
+abbrev pub with_messages : Messages → Answer → Answer
+with_messages messages r =
+    record {
+      shard = r.shard;
+      reply = record { outcome = r.reply.outcome; messages = messages; commit = r.reply.commit; served_count = r.reply.served_count };
+    }
+
+abbrev pub with_commit : Option CommittedSlot → Answer → Answer
+with_commit commit r =
+    record {
+      shard = r.shard;
+      reply = record { outcome = r.reply.outcome; messages = r.reply.messages; commit = commit; served_count = r.reply.served_count };
+    }
+
+-- each message changed
+abbrev pub on_message : (Outgoing → Outgoing) → Option Outgoing → Option Outgoing
+on_message f None = None
+on_message f (Some o) = Some (f o)
+
+abbrev pub on_messages : (Outgoing → Outgoing) → Messages → Messages
+on_messages f ms = record { first = on_message f ms.first; second = on_message f ms.second; third = on_message f ms.third }
+
+-- what is refused stays so, and what is taken gets another answer
+abbrev pub where_taken : Answer → Answer → Outcome → Answer
+where_taken other r (Ok tt) = other
+where_taken other r (Err why) = r
+
+abbrev pub if_taken : Answer → Answer → Answer
+if_taken other r = where_taken other r r.reply.outcome
+
+-- ---- lacking demand 2; they refuse what has to be refused
+
+-- "a member that hears everything and does nothing"
+unfoldable pub does_nothing : AnyEngine
+does_nothing shard c = if_taken (nothing shard) (call_of shard c)
+
+-- "or sends one fixed message", whatever it is, or none, and does nothing else
+unfoldable pub sends_fixed : Messages → AnyEngine
+sends_fixed fixed shard c = if_taken (sent shard fixed) (call_of shard c)
+
+-- such a message: that 0 is committed in slot 0
+abbrev pub one_commit : Messages
+one_commit = one_message (record { destination = to_all; message = record { msg = Commit 0 0; src = 0; last_v = None } })
+
+-- each kind of message always with the same content, whatever that is
+abbrev pub fixed_content : FixedContents → ConsensusMsg → ConsensusMsg
+fixed_content fixed (Prepare slot round rv) = fixed.prepare
+fixed_content fixed (Accept slot round v) = fixed.accept
+fixed_content fixed (ForwardRequest v) = fixed.forward
+fixed_content fixed (Commit slot v) = fixed.commit
+fixed_content fixed (ReadRequest id) = fixed.request
+fixed_content fixed (ReadResponse id next) = fixed.response
+
+abbrev pub with_fixed_content : FixedContents → Outgoing → Outgoing
+with_fixed_content fixed o =
+    record {
+      destination = o.destination;
+      message = record { msg = fixed_content fixed o.message.msg; src = o.message.src; last_v = o.message.last_v };
+    }
+
+unfoldable pub sends_fixed_contents : FixedContents → AnyEngine
+sends_fixed_contents fixed shard c =
+    with_messages (on_messages (with_fixed_content fixed) (call_of shard c).reply.messages) (call_of shard c)
+
+-- such contents
+abbrev pub all_zero : FixedContents
+all_zero =
+    record {
+      prepare = Prepare 0 default_round (PaxosV None 0);
+      accept = Accept 0 default_round 0;
+      forward = ForwardRequest 0;
+      commit = Commit 0 0;
+      request = ReadRequest (read_id 0);
+      response = ReadResponse (read_id 0) 0;
+    }
+
+-- in MultiPaxos it never proposes: a proposal that is taken does nothing
+unfoldable pub multi_paxos_never_proposes : AnyEngine
+multi_paxos_never_proposes shard c =
+    cond (is_multi_paxos shard.settings.mode && is_proposal c) (if_taken (nothing shard) (call_of shard c)) (call_of shard c)
+
+-- it proposes, and does nothing with what it hears
+unfoldable pub hears_nothing : AnyEngine
+hears_nothing shard c = cond (is_message c) (if_taken (nothing shard) (call_of shard c)) (call_of shard c)
+
+-- it proposes, and answers no message
+unfoldable pub answers_no_message : AnyEngine
+answers_no_message shard c = cond (is_message c) (with_messages no_messages (call_of shard c)) (call_of shard c)
+
+-- "one that works in slot 0 and then idles"
+unfoldable pub idles_after_slot_zero : AnyEngine
+idles_after_slot_zero shard c = cond (leb 1 (slot_of shard)) (if_taken (nothing shard) (call_of shard c)) (call_of shard c)
+
+-- ---- lacking demand 1
+
+-- "or refuses each frame"; "one that says 5, 6 or 12 while nothing is ahead, awaited or full". Calls of a kind are refused, with whichever number.
+unfoldable pub refuses_each : (Call → Bool) → Refusal → AnyEngine
+refuses_each kind why shard c = cond (kind c) (refused why shard) (call_of shard c)
+
+-- ---- lacking demand 3
+
+-- "one that commits on the first accept": where the leader counts accepts, a majority is that of one replica
+unfoldable pub commits_on_first_accept : AnyEngine
+commits_on_first_accept shard c =
+    cond (brings (is_accept_for (own shard)) c)
+    (call_under (with_replicas 1 shard.settings.alive_replicas shard.settings) shard c)
+    (call_of shard c)
+
+-- "one whose prepared or accepted figure has no set behind it": each message adds one to it, whosever it is. It is counted as
+-- one of a live replica that is not in the set yet, while there is one.
+unfoldable pub prepared_figure_without_set : AnyEngine
+prepared_figure_without_set shard c =
+    cond (brings (is_prepare_for (own shard)) c)
+    (if_taken (call_of shard (as_uncounted shard (paxos_of shard).prepared_set c)) (call_of shard c))
+    (call_of shard c)
+
+unfoldable pub accepted_figure_without_set : AnyEngine
+accepted_figure_without_set shard c =
+    cond (brings (is_accept_for (own shard)) c)
+    (if_taken (call_of shard (as_uncounted shard (paxos_of shard).accepted_set c)) (call_of shard c))
+    (call_of shard c)
+
+-- "Clearing the held promise with the round: accepted values are then forgotten." What brings the member into another round finds nothing held.
+unfoldable pub forgets_held_with_round : AnyEngine
+forgets_held_with_round shard c =
+    cond (equal (paxos_of (call_of shard c).shard).round (paxos_of shard).round) (call_of shard c) (call_of (holding None shard) c)
+
+-- ---- lacking a law of what is sent
+
+-- the first message, three times
+unfoldable pub sends_thrice : AnyEngine
+sends_thrice shard c =
+    let m = (call_of shard c).reply.messages.first in
+    with_messages (record { first = m; second = m; third = m }) (call_of shard c)
+
+-- in the name of process 0
+abbrev pub from_zero : Outgoing → Outgoing
+from_zero o = record { destination = o.destination; message = record { msg = o.message.msg; src = 0; last_v = o.message.last_v } }
+
+unfoldable pub sends_as_zero : AnyEngine
+sends_as_zero shard c = with_messages (on_messages from_zero (call_of shard c).reply.messages) (call_of shard c)
+
+-- to itself
+abbrev pub sent_to : ℕ → Outgoing → Outgoing
+sent_to p o = record { destination = One p; message = o.message }
+
+unfoldable pub sends_to_itself : AnyEngine
+sends_to_itself shard c = with_messages (on_messages (sent_to (own shard)) (call_of shard c).reply.messages) (call_of shard c)
+
+-- first to itself, where it goes to all
+abbrev pub first_to : ℕ → Destination → Destination
+first_to p (One q) = One q
+first_to p (All first) = All (Some p)
+
+abbrev pub sent_first_to : ℕ → Outgoing → Outgoing
+sent_first_to p o = record { destination = first_to p o.destination; message = o.message }
+
+unfoldable pub sends_first_to_itself : AnyEngine
+sends_first_to_itself shard c =
+    with_messages (on_messages (sent_first_to (own shard)) (call_of shard c).reply.messages) (call_of shard c)
+
+-- ---- lacking the law of a group of one
+
+-- a proposal that is taken commits at once
+abbrev pub proposed_value : Call → ℕ
+proposed_value (Propose v) = v
+proposed_value (StartRead tag arrival) = 0
+proposed_value (Receive d) = 0
+
+unfoldable pub commits_at_once : AnyEngine
+commits_at_once shard c =
+    cond (is_proposal c)
+    (if_taken (with_commit (committed_slot (slot_of shard) (proposed_value c) false) (call_of shard c)) (call_of shard c))
+    (call_of shard c)
+
+-- ---- lacking a law of every run, or of what a call leaves
+
+-- the answer with the shard that a commit brings
+abbrev pub with_shard_at : Shard → Answer → Option CommittedSlot → Answer
+with_shard_at shard r None = r
+with_shard_at shard r (Some commit) = record { shard = shard; reply = r.reply }
+
+abbrev pub if_commits : Shard → Answer → Answer
+if_commits shard r = with_shard_at shard r r.reply.commit
+
+-- a commit leaves the member where it is
+unfoldable pub stays_in_slot : AnyEngine
+stays_in_slot shard c = if_commits shard (call_of shard c)
+
+-- or holding what it held
+unfoldable pub keeps_held_after_commit : AnyEngine
+keeps_held_after_commit shard c = if_commits (holding (paxos_of shard).max_rv (call_of shard c).shard) (call_of shard c)
+
+-- a commit leaves the member marked unmade: it works in slot 0, and then refuses every call with 1
+abbrev pub marked_unmade : Shard → Shard
+marked_unmade shard = record { made = Err SettingsOutsideLimits; settings = shard.settings; state = shard.state }
+
+unfoldable pub unmakes : AnyEngine
+unmakes shard c = if_commits (marked_unmade (call_of shard c).shard) (call_of shard c)
+
+-- or with the settings of one replica, process 0
+unfoldable pub loses_replicas : AnyEngine
+loses_replicas shard c = if_commits (with_settings (with_replicas 1 1 shard.settings) (call_of shard c).shard) (call_of shard c)
+
+-- a new read leaves nothing held
+unfoldable pub forgets_held_with_read : AnyEngine
+forgets_held_with_read shard c = cond (is_new_read c) (if_taken (call_of (holding None shard) c) (call_of shard c)) (call_of shard c)
+
+-- promises and accepts are taken of every process
+unfoldable pub counts_every_process : AnyEngine
+counts_every_process shard c = call_under (with_replicas shard.settings.replica_count 18446744073709551615 shard.settings) shard c

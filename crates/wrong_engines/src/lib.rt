@@ -1,0 +1,431 @@
+// Wrong engines as programs, each equal to its definition (specs/Engines.antt): those that an edit of crates/engine_laws puts in the engine's place. Of each a
+// law is proved to be false (proofs/Answers.antt, Runs.antt).
+#![tactic(auto)]
+
+ghost use Rattle.std.specs.Prelude.{◌≡◌};
+ghost use Rattle.consensus.specs.Answers.{refused, sent};
+ghost use Rattle.wrong_engines.specs.Engines.{is_message, is_prepare_for, is_accept_for, brings, from_another, holding, lowest_or, call_under, with_replicas, with_messages, on_message, on_messages, if_taken, does_nothing, sends_fixed, one_commit, fixed_content, with_fixed_content, sends_fixed_contents, all_zero, answers_no_message, idles_after_slot_zero, refuses_each, commits_on_first_accept, prepared_figure_without_set, accepted_figure_without_set, forgets_held_with_round, sends_thrice, from_zero, sends_as_zero, sent_to, sends_to_itself, commits_at_once};
+
+use calls::{Call, CommittedSlot, Reply};
+use consensus::{Answer, Shard};
+use message::{ConsensusMessage, ConsensusMsg, PaxosRound, ReadId, Refusal, RoundV};
+use settings::Settings;
+use steps::{Destination, Messages, Outgoing};
+
+// ---- answers
+
+fn sent(shard: Shard, messages: Messages) -> Answer
+    ensures { result ≡ sent shard messages }
+{
+    Answer {
+        shard,
+        reply: Reply {
+            outcome: Ok(()),
+            messages,
+            commit: None,
+            served_count: 0,
+        },
+    }
+}
+
+fn refused(why: Refusal, shard: Shard) -> Answer
+    ensures { result ≡ refused why shard }
+{
+    Answer {
+        shard,
+        reply: Reply {
+            outcome: Err(why),
+            messages: steps::no_messages(),
+            commit: None,
+            served_count: 0,
+        },
+    }
+}
+
+// What is refused stays so, and what is taken gets another answer.
+fn if_taken(other: Answer, right: Answer) -> Answer
+    ensures { result ≡ if_taken other right }
+{
+    match right.reply.outcome {
+        Ok(()) => other,
+        Err(_) => right,
+    }
+}
+
+fn with_messages(messages: Messages, mut answer: Answer) -> Answer
+    ensures { result ≡ with_messages messages answer }
+{
+    answer.reply.messages = messages;
+    answer
+}
+
+// ---- lacking demand 2
+
+#[tactic(auto, unfolding(crate::specs::Engines::does_nothing))]
+pub fn does_nothing(shard: Shard, call: Call) -> Answer
+    ensures { result ≡ does_nothing shard call }
+{
+    if_taken(sent(shard, steps::no_messages()), shard.call(call))
+}
+
+#[tactic(auto, unfolding(crate::specs::Engines::sends_fixed))]
+pub fn sends_fixed(fixed: Messages, shard: Shard, call: Call) -> Answer
+    ensures { result ≡ sends_fixed fixed shard call }
+{
+    if_taken(sent(shard, fixed), shard.call(call))
+}
+
+pub fn one_commit() -> Messages
+    ensures { result ≡ one_commit }
+{
+    let commit = ConsensusMessage {
+        msg: ConsensusMsg::Commit { slot: 0, v: 0 },
+        src: 0,
+        last_v: None,
+    };
+    steps::one_message(Outgoing {
+        destination: steps::to_all(),
+        message: commit,
+    })
+}
+
+// What stands in each kind of message, always.
+#[derive(Clone, Copy)]
+pub struct FixedContents {
+    pub prepare: ConsensusMsg,
+    pub accept: ConsensusMsg,
+    pub forward: ConsensusMsg,
+    pub commit: ConsensusMsg,
+    pub request: ConsensusMsg,
+    pub response: ConsensusMsg,
+}
+
+impl FixedContents {
+    pub fn all_zero() -> FixedContents
+        ensures { result ≡ all_zero }
+    {
+        let round = PaxosRound {
+            round_group: 0,
+            leader: 0,
+        };
+        FixedContents {
+            prepare: ConsensusMsg::Prepare {
+                slot: 0,
+                round,
+                rv: RoundV::PaxosV {
+                    accept_round: None,
+                    v: 0,
+                },
+            },
+            accept: ConsensusMsg::Accept {
+                slot: 0,
+                round,
+                v: 0,
+            },
+            forward: ConsensusMsg::ForwardRequest { v: 0 },
+            commit: ConsensusMsg::Commit { slot: 0, v: 0 },
+            request: ConsensusMsg::ReadRequest { id: ReadId(0) },
+            response: ConsensusMsg::ReadResponse {
+                id: ReadId(0),
+                next_readable_slot: 0,
+            },
+        }
+    }
+
+    fn content(self, msg: ConsensusMsg) -> ConsensusMsg
+        ensures { result ≡ fixed_content self msg }
+    {
+        match msg {
+            ConsensusMsg::Prepare { .. } => self.prepare,
+            ConsensusMsg::Accept { .. } => self.accept,
+            ConsensusMsg::ForwardRequest { .. } => self.forward,
+            ConsensusMsg::Commit { .. } => self.commit,
+            ConsensusMsg::ReadRequest { .. } => self.request,
+            ConsensusMsg::ReadResponse { .. } => self.response,
+        }
+    }
+
+    fn within(self, m: Option<Outgoing>) -> Option<Outgoing>
+        ensures { result ≡ on_message (with_fixed_content self) m }
+    {
+        match m {
+            None => None,
+            Some(mut m) => {
+                m.message.msg = self.content(m.message.msg);
+                Some(m)
+            },
+        }
+    }
+
+    fn within_each(self, messages: Messages) -> Messages
+        ensures { result ≡ on_messages (with_fixed_content self) messages }
+    {
+        Messages {
+            first: self.within(messages.first),
+            second: self.within(messages.second),
+            third: self.within(messages.third),
+        }
+    }
+}
+
+#[tactic(auto, unfolding(crate::specs::Engines::sends_fixed_contents))]
+pub fn sends_fixed_contents(fixed: FixedContents, shard: Shard, call: Call) -> Answer
+    ensures { result ≡ sends_fixed_contents fixed shard call }
+{
+    let right = shard.call(call);
+    with_messages(fixed.within_each(right.reply.messages), right)
+}
+
+fn is_message(call: Call) -> bool
+    ensures { result ≡ is_message call }
+{
+    matches!(call, Call::Receive(_))
+}
+
+#[tactic(auto, unfolding(crate::specs::Engines::answers_no_message))]
+pub fn answers_no_message(shard: Shard, call: Call) -> Answer
+    ensures { result ≡ answers_no_message shard call }
+{
+    let right = shard.call(call);
+    if is_message(call) {
+        return with_messages(steps::no_messages(), right);
+    }
+    right
+}
+
+#[tactic(auto, unfolding(crate::specs::Engines::idles_after_slot_zero))]
+pub fn idles_after_slot_zero(shard: Shard, call: Call) -> Answer
+    ensures { result ≡ idles_after_slot_zero shard call }
+{
+    let right = shard.call(call);
+    if shard.state.rounds.core.slot >= 1 {
+        return if_taken(sent(shard, steps::no_messages()), right);
+    }
+    right
+}
+
+// ---- lacking demand 1
+
+#[tactic(auto, unfolding(crate::specs::Engines::refuses_each))]
+pub fn refuses_each_message(why: Refusal, shard: Shard, call: Call) -> Answer
+    ensures { result ≡ refuses_each is_message why shard call }
+{
+    if is_message(call) {
+        return refused(why, shard);
+    }
+    shard.call(call)
+}
+
+// ---- lacking demand 3
+
+fn is_prepare_for(p: u64, msg: ConsensusMsg) -> bool
+    ensures { result ≡ is_prepare_for p msg }
+{
+    match msg {
+        ConsensusMsg::Prepare { round, .. } => round.leader == p,
+        _ => false,
+    }
+}
+
+fn is_accept_for(p: u64, msg: ConsensusMsg) -> bool
+    ensures { result ≡ is_accept_for p msg }
+{
+    match msg {
+        ConsensusMsg::Accept { round, .. } => round.leader == p,
+        _ => false,
+    }
+}
+
+fn brings_prepare(p: u64, call: Call) -> bool
+    ensures { result ≡ brings (is_prepare_for p) call }
+{
+    match call {
+        Call::Receive(d) => is_prepare_for(p, d.message.msg),
+        _ => false,
+    }
+}
+
+fn brings_accept(p: u64, call: Call) -> bool
+    ensures { result ≡ brings (is_accept_for p) call }
+{
+    match call {
+        Call::Receive(d) => is_accept_for(p, d.message.msg),
+        _ => false,
+    }
+}
+
+// A call with other settings, for this once.
+fn call_under(settings: Settings, mut shard: Shard, call: Call) -> Answer
+    ensures { result ≡ call_under settings shard call }
+{
+    let own = shard.settings;
+    shard.settings = settings;
+    let mut answer = shard.call(call);
+    answer.shard.settings = own;
+    answer
+}
+
+#[tactic(auto, unfolding(crate::specs::Engines::commits_on_first_accept))]
+pub fn commits_on_first_accept(shard: Shard, call: Call) -> Answer
+    ensures { result ≡ commits_on_first_accept shard call }
+{
+    if brings_accept(shard.settings.my_pid, call) {
+        let mut settings = shard.settings;
+        settings.replica_count = 1;
+        return call_under(settings, shard, call);
+    }
+    shard.call(call)
+}
+
+// The lowest process of a set; or else the source.
+fn lowest_or(set: u64, source: u64) -> u64
+    ensures { result ≡ lowest_or set source }
+{
+    if set == 0 {
+        return source;
+    }
+    set.trailing_zeros() as u64
+}
+
+// The message of a call, if it has one, counted as one of the lowest process of a set.
+fn from_lowest(set: u64, call: Call) -> Call
+    ensures { result ≡ from_another (lowest_or set) call }
+{
+    match call {
+        Call::Receive(mut d) => {
+            d.message.src = lowest_or(set, d.message.src);
+            Call::Receive(d)
+        },
+        other => other,
+    }
+}
+
+#[tactic(auto, unfolding(crate::specs::Engines::prepared_figure_without_set))]
+pub fn prepared_figure_without_set(shard: Shard, call: Call) -> Answer
+    ensures { result ≡ prepared_figure_without_set shard call }
+{
+    if brings_prepare(shard.settings.my_pid, call) {
+        let unpromised = shard.settings.alive_replicas
+            & !shard.state.rounds.core.paxos.prepared_set;
+        return if_taken(shard.call(from_lowest(unpromised, call)), shard.call(call));
+    }
+    shard.call(call)
+}
+
+#[tactic(auto, unfolding(crate::specs::Engines::accepted_figure_without_set))]
+pub fn accepted_figure_without_set(shard: Shard, call: Call) -> Answer
+    ensures { result ≡ accepted_figure_without_set shard call }
+{
+    if brings_accept(shard.settings.my_pid, call) {
+        let unaccepted = shard.settings.alive_replicas
+            & !shard.state.rounds.core.paxos.accepted_set;
+        return if_taken(shard.call(from_lowest(unaccepted, call)), shard.call(call));
+    }
+    shard.call(call)
+}
+
+fn holding(held: Option<RoundV>, mut shard: Shard) -> Shard
+    ensures { result ≡ holding held shard }
+{
+    shard.state.rounds.core.paxos.max_rv = held;
+    shard
+}
+
+#[tactic(auto, using(message::proofs::Comparisons::rounds_equal), unfolding(crate::specs::Engines::forgets_held_with_round))]
+pub fn forgets_held_with_round(shard: Shard, call: Call) -> Answer
+    ensures { result ≡ forgets_held_with_round shard call }
+{
+    let right = shard.call(call);
+    if right.shard.state.rounds.core.paxos.round == shard.state.rounds.core.paxos.round {
+        return right;
+    }
+    holding(None, shard).call(call)
+}
+
+// ---- lacking a law of what is sent, or that of a group of one
+
+#[tactic(auto, unfolding(crate::specs::Engines::sends_thrice))]
+pub fn sends_thrice(shard: Shard, call: Call) -> Answer
+    ensures { result ≡ sends_thrice shard call }
+{
+    let right = shard.call(call);
+    let m = right.reply.messages.first;
+    let messages = Messages {
+        first: m,
+        second: m,
+        third: m,
+    };
+    with_messages(messages, right)
+}
+
+fn from_zero(m: Option<Outgoing>) -> Option<Outgoing>
+    ensures { result ≡ on_message from_zero m }
+{
+    match m {
+        None => None,
+        Some(mut m) => {
+            m.message.src = 0;
+            Some(m)
+        },
+    }
+}
+
+#[tactic(auto, unfolding(crate::specs::Engines::sends_as_zero))]
+pub fn sends_as_zero(shard: Shard, call: Call) -> Answer
+    ensures { result ≡ sends_as_zero shard call }
+{
+    let right = shard.call(call);
+    let sent = right.reply.messages;
+    let messages = Messages {
+        first: from_zero(sent.first),
+        second: from_zero(sent.second),
+        third: from_zero(sent.third),
+    };
+    with_messages(messages, right)
+}
+
+fn sent_to(p: u64, m: Option<Outgoing>) -> Option<Outgoing>
+    ensures { result ≡ on_message (sent_to p) m }
+{
+    match m {
+        None => None,
+        Some(mut m) => {
+            m.destination = Destination::One(p);
+            Some(m)
+        },
+    }
+}
+
+#[tactic(auto, unfolding(crate::specs::Engines::sends_to_itself))]
+pub fn sends_to_itself(shard: Shard, call: Call) -> Answer
+    ensures { result ≡ sends_to_itself shard call }
+{
+    let own = shard.settings.my_pid;
+    let right = shard.call(call);
+    let sent = right.reply.messages;
+    let messages = Messages {
+        first: sent_to(own, sent.first),
+        second: sent_to(own, sent.second),
+        third: sent_to(own, sent.third),
+    };
+    with_messages(messages, right)
+}
+
+#[tactic(auto, unfolding(crate::specs::Engines::commits_at_once))]
+pub fn commits_at_once(shard: Shard, call: Call) -> Answer
+    ensures { result ≡ commits_at_once shard call }
+{
+    let right = shard.call(call);
+    match call {
+        Call::Propose(v) => {
+            let mut other = right;
+            other.reply.commit = Some(CommittedSlot {
+                slot: shard.state.rounds.core.slot,
+                v,
+                fast: false,
+            });
+            if_taken(other, right)
+        },
+        _ => right,
+    }
+}
