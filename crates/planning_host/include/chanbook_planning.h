@@ -19,7 +19,7 @@ enum {
     CHANBOOK_TOO_LARGE = 2,       /* a slot is above 2^63-2; in a list also a value above 2^63-1 */
     CHANBOOK_NO_RASTER = 14,      /* no raster number or no raster frequency; in an entry also a width outside its limits, or an unknown kind */
     CHANBOOK_NO_ROOM = 15,        /* a new cell with 512 live */
-    CHANBOOK_CELL_NOT_LIVE = 16,  /* release of a cell that is not live */
+    CHANBOOK_CELL_NOT_LIVE = 16,  /* release, or position (E11), of a cell that is not live */
     CHANBOOK_OUTSIDE_LIMITS = 18, /* too many entries in a list, slots not consecutive, slices of unequal length, or too few places */
     CHANBOOK_GAP = 19,            /* a gap between two lists, or between a register and a list */
     CHANBOOK_TWO_VALUES = 20,     /* one slot with two values */
@@ -167,11 +167,12 @@ enum {
     CHANBOOK_POSITION = 3
 };
 
-/* No cell has a position. */
+/* No cell has a position: called behind chanbook_register_new and behind chanbook_register_widened, whose cells have none. */
 void chanbook_positions_new(struct chanbook_position positions[512]);
 
 /* An entry of a register whose host lends positions too: kinds 1 and 2 as in chanbook_register_entry, and a position, of which x and y are read and carrier and
-   width are not: the first of 2, 64, 21 and 16 whose cause holds, or 0; it adds to no figure. An assignment keeps its cell's position, and a release drops it.
+   width are not: the first of 2, 64, 21 and 16 whose cause holds, or 0; it adds to no figure. After 21 and 16 the slot is
+   seen. An assignment keeps its cell's position, and a release drops it. The positions overlap none of the register's arrays.
    Such a host gives every entry here and none by chanbook_register_entry or chanbook_feed, which would leave the positions where other cells stand.
    settings: 0 and the slot from which widths are in whole MHz (23); any other number in its first place gives 1, and nothing changes. */
 uint64_t chanbook_placed_entry(const uint64_t settings[2], uint64_t cells[512], uint64_t carriers[512], uint64_t widths[512], uint64_t figures[5],
@@ -179,7 +180,7 @@ uint64_t chanbook_placed_entry(const uint64_t settings[2], uint64_t cells[512], 
                                uint64_t width, int64_t x, int64_t y);
 
 /* The numbers of the live cells that overlap the carrier and lie within the distance, 0 to 6,000,000 metres, of x, y, by number, in the first of the lent
-   places; the others stay as they are. A cell without a position is near. The value is how many they are. 1, 21 or 14, the first of them whose cause holds,
+   places; the others stay as they are. The places overlap none of the other arrays. A cell without a position is near. The value is how many they are. 1, 21 or 14, the first of them whose cause holds,
    and then all places stay. */
 struct chanbook_value chanbook_conflicts(const uint64_t settings[2], const uint64_t cells[512], const uint64_t carriers[512], const uint64_t widths[512],
                                          const uint64_t figures[5], const struct chanbook_position positions[512], uint64_t carrier, uint64_t width,
