@@ -9,6 +9,7 @@ that Rattle makes for a function's proof stay. A lemma that would have its defin
 
 import os
 import re
+import sys
 
 WORD = r"[^\s(){}.;,@\"«»\[\]`]+"
 TOKEN = re.compile(r"--[^\n]*|\"(?:[^\"\\\n]|\\.)*\"|\.?" + WORD)
@@ -63,6 +64,8 @@ def rewrite(path, text_of):
 
 
 def main():
+    if len(sys.argv) > 1:
+        sys.exit(__doc__)
     for folder, below, files in os.walk("crates"):
         below[:] = sorted(it for it in below if it != "out")
         for name in sorted(files):

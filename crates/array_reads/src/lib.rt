@@ -122,8 +122,8 @@ fn remove(open: &mut [u64; 640], at: usize, open_places: usize)
     open.copy_within(5 * (at + 1)..5 * open_places, 5 * at);
 }
 
-// Puts an open read at place `at`. Where there is no such place, nothing changes. For a caller that has the open reads alone; the method below is this one
-// where both arrays are lent together.
+// Puts an open read at place `at`. Where there is no such place, nothing changes. For a caller that has the open reads alone, which in this repository none
+// is but the method below: that is this one where both arrays are lent together.
 pub fn insert(open: &mut [u64; 640], at: u64, read: OpenRead)
     ensures { open_rows «open».new ≡ set (open_rows «open».old) at read }
 {

@@ -2,7 +2,7 @@
 -- Assumes nothing.
 use Rattle.std.specs.Prelude.{Result, Ok, Err}
 use mathlib.Core.Path.{◌≡◌, refl, sym, ap, ap₂, subst, ◌∙◌}
-use mathlib.Core.Logic.{◌↔◌}
+use mathlib.Core.Logic.{inl, inr, ⊎_elim, ◌↔◌}
 use mathlib.Core.List.{List}
 use Prim.Native.Nat.{ℕ, ◌≤◌}
 use native.Mathlib.Omega.{arith}
@@ -10,11 +10,12 @@ use lib.ListN.{length, get_or, take, drop}
 use lib.Seq.{take-append_seam}
 use Rattle.places.specs.Places.{at_front}
 use Rattle.places.proofs.Lists.{front_later}
-use Rattle.catch_up.specs.Causes.{CommitList, JoinCause, NoneBefore, NoCause, join_number}
-use Rattle.catch_up.specs.Joining.{list_of, joining, join_answer, join_refusal, join_count, lent, Gives, Joins}
+use Rattle.catch_up.specs.Causes.{CommitList, TooLarge, JoinCause, NoneBefore, NoCause, join_number}
+use Rattle.catch_up.specs.Joining.{list_of, joining, join_answer, join_refusal, join_count, lent, handed_back, Gives, Joins}
 use Rattle.catch_up.specs.declared.JoinRefusal.{JoinRefusal}
 use Rattle.catch_up.specs.declared.JoinRefusal.TheVariants.{NumberTooLarge, OutsideLimits, Gap, TwoValues}
 use Rattle.catch_up.proofs.Exact.{numbered, joined_otherwise, is_join, JoinOf}
+use Rattle.catch_up.proofs.Indices.{slot_beside, value_beside, own_slot, own_value}
 
 -- ---- numbers
 
@@ -90,11 +91,11 @@ module _ (a b places after : CommitList) (answer : Result ℕ JoinRefusal) (call
   places_kept = kept a b places after (joining a b (lent places)) refl answer call
 
   -- without a cause, what stands in the first places, as many as the call says, is the join
-  pub call_joins : NoCause a b (lent places) → (join_refusal answer ≡ 0) × JoinOf a b (list_of (take (join_count answer) after.slots) (take (join_count answer) after.values))
+  pub call_joins : NoCause a b (lent places) → (join_refusal answer ≡ 0) × JoinOf a b (handed_back (join_count answer) after)
   call_joins none = go ((joined_otherwise a b (lent places)).1 none)
     where
       go : (l : CommitList) × (joining a b (lent places) ≡ Ok l)
-          → (join_refusal answer ≡ 0) × JoinOf a b (list_of (take (join_count answer) after.slots) (take (join_count answer) after.values))
+          → (join_refusal answer ≡ 0) × JoinOf a b (handed_back (join_count answer) after)
       go j =
           let g = subst (λ (r : Result CommitList JoinRefusal). Gives r places after answer) j.1 call in
           let n : join_count answer ≡ length j.0.slots = ap join_count g.answered in
@@ -102,3 +103,38 @@ module _ (a b places after : CommitList) (answer : Result ℕ JoinRefusal) (call
           let slots : take (join_count answer) after.slots ≡ j.0.slots = ap₂ take n g.slots ∙ front_taken j.0.slots places.slots in
           let values : take (join_count answer) after.values ≡ j.0.values = ap₂ take (n ∙ J.same) g.values ∙ front_taken j.0.values places.values in
           (ap join_refusal g.answered, subst (JoinOf a b) (sym (ap₂ list_of slots values)) J)
+
+-- ---- a call that says how many entries the result has
+
+joined_list : (r : Result CommitList JoinRefusal) (count : ℕ) → Ok count ≡ join_answer r → (l : CommitList) × (r ≡ Ok l)
+joined_list (Err why) count e = cc
+joined_list (Ok l) count e = (l, refl)
+
+-- the join of two lists has no number that neither of them has
+join_fits : (a b l : CommitList) → JoinOf a b l → (TooLarge a → ⊥) → (TooLarge b → ⊥) → TooLarge l → ⊥
+join_fits a b l J p q (inl s) =
+    let c = slot_beside l.slots l.values J.same s.0 s.1 in
+    ⊎_elim (λ m. p (inl (s.0, own_slot a.slots a.values _ m, s.2))) (λ m. q (inl (s.0, own_slot b.slots b.values _ m, s.2))) ((J.holds _).0 c.1)
+join_fits a b l J p q (inr v) =
+    let c = value_beside l.slots l.values J.same v.0 v.1 in
+    ⊎_elim (λ m. p (inr (v.0, own_value a.slots a.values _ m, v.2))) (λ m. q (inr (v.0, own_value b.slots b.values _ m, v.2))) ((J.holds _).0 c.1)
+
+module _ (a b places after : CommitList) (count : ℕ) (call : Joins a b places after (Ok count)) where
+  joined : (l : CommitList) × (joining a b (lent places) ≡ Ok l)
+  joined = joined_list (joining a b (lent places)) count call.answered
+
+  none_met : NoCause a b (lent places)
+  none_met = (joined_otherwise a b (lent places)).0 joined
+
+  -- it hands back the join, with as many entries, and no number is too large
+  pub hands_join : JoinOf a b (handed_back count after)
+  hands_join = (call_joins a b places after (Ok count) call none_met).1
+
+  pub hands_count : length (handed_back count after).slots ≡ count
+  hands_count =
+      let g = subst (λ (r : Result CommitList JoinRefusal). Gives r places after (Ok count)) joined.1 call in
+      let n : count ≡ length joined.0.slots = ap join_count g.answered in
+      ap length (ap₂ take n g.slots ∙ front_taken joined.0.slots places.slots) ∙ sym n
+
+  pub hands_fitting : TooLarge (handed_back count after) → ⊥
+  hands_fitting = join_fits a b _ hands_join (λ t. none_met NumberTooLarge (inl t)) (λ t. none_met NumberTooLarge (inr t))

@@ -41,6 +41,41 @@ stands_in slots values c r =
     let e : record { slot = get_or slots r.0 0; value = get_or values r.0 0 } ≡ c = λ i. record { slot = r.3 i; value = r.4 i } in
     subst (λ (x : Commit). In x (beside slots values)) e (in_place slots values r.0 r.1 r.2)
 
+-- ---- a commit's slot and value, by membership
+
+pub own_slot : (slots values : List ℕ) (c : Commit) → In c (beside slots values) → In c.slot slots
+unfolding beside
+own_slot [] values c m = absurd m
+own_slot (s ∷ slots) [] c m = absurd m
+own_slot (s ∷ slots) (v ∷ values) c (inl e) = inl (ap (λ (x : Commit). x.slot) e)
+own_slot (s ∷ slots) (v ∷ values) c (inr m) = inr (own_slot slots values c m)
+
+pub own_value : (slots values : List ℕ) (c : Commit) → In c (beside slots values) → In c.value values
+unfolding beside
+own_value [] values c m = absurd m
+own_value (s ∷ slots) [] c m = absurd m
+own_value (s ∷ slots) (v ∷ values) c (inl e) = inl (ap (λ (x : Commit). x.value) e)
+own_value (s ∷ slots) (v ∷ values) c (inr m) = inr (own_value slots values c m)
+
+abbrev commit : ℕ → ℕ → Commit
+commit s v = record { slot = s; value = v }
+
+-- where there are as many values as slots, each has the other beside it
+pub slot_beside : (slots values : List ℕ) → length slots ≡ length values → (s : ℕ) → In s slots → (v : ℕ) × In (commit s v) (beside slots values)
+unfolding beside
+slot_beside [] values h s m = absurd m
+slot_beside (t ∷ slots) [] h s m = absurd (omega arith)
+slot_beside (t ∷ slots) (v ∷ values) h s (inl e) = (v, inl (ap (λ (n : ℕ). commit n v) e))
+slot_beside (t ∷ slots) (v ∷ values) h s (inr m) = let r = slot_beside slots values (omega arith) s m in (r.0, inr r.1)
+
+pub value_beside : (slots values : List ℕ) → length slots ≡ length values → (v : ℕ) → In v values → (s : ℕ) × In (commit s v) (beside slots values)
+unfolding beside
+value_beside [] [] h v m = absurd m
+value_beside [] (w ∷ values) h v m = absurd (omega arith)
+value_beside (s ∷ slots) [] h v m = absurd m
+value_beside (s ∷ slots) (w ∷ values) h v (inl e) = (s, inl (ap (commit s) e))
+value_beside (s ∷ slots) (w ∷ values) h v (inr m) = let r = value_beside slots values (omega arith) v m in (r.0, inr r.1)
+
 -- ---- lists that differ at a place, or nowhere
 
 pub differ_at : (xs ys : List ℕ) → differ xs ys ≡ true → (i : ℕ) × (i < length xs) × (i < length ys) × (get_or xs i 0 ≡ get_or ys i 0 → ⊥)

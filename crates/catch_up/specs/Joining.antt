@@ -1,6 +1,6 @@
 -- What joining two lists of commits computes (document 02, E10), and what it leaves in the lent places.
 -- Assumes nothing.
-use Rattle.std.specs.Prelude.{◌≡◌, Result, Ok, Err, Bool, true, false, cond, not, ◌&&◌, ◌||◌, List, [], ◌∷◌, ◌++◌, ℕ, ◌+◌, ◌-◌, ◌≤◌, min, ltb, leb, eqb, length, get_or, drop}
+use Rattle.std.specs.Prelude.{◌≡◌, Result, Ok, Err, Bool, true, false, cond, not, ◌&&◌, ◌||◌, List, [], ◌∷◌, ◌++◌, ℕ, ◌+◌, ◌-◌, ◌≤◌, min, ltb, leb, eqb, length, get_or, take, drop}
 use Rattle.std.specs.List.{list_any, zip}
 use Rattle.std.specs.Result.{result_unwrap_or}
 use Rattle.places.specs.Places.{at_front}
@@ -136,6 +136,10 @@ pub record Gives (result : Result CommitList JoinRefusal) (places after : Commit
 -- how many places are lent: as many as the shorter of the two slices has
 abbrev pub lent : CommitList → ℕ
 lent places = min (length places.slots) (length places.values)
+
+-- what a host finds there after a call that says how many entries the result has: so many of the first places
+abbrev pub handed_back : ℕ → CommitList → CommitList
+handed_back count after = list_of (take count after.slots) (take count after.values)
 
 -- the lists a and b are joined into the lent places
 abbrev pub Joins : CommitList → CommitList → CommitList → CommitList → Result ℕ JoinRefusal → Type 0

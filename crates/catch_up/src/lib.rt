@@ -42,7 +42,7 @@ impl Refused for JoinRefusal {
     }
 }
 
-// What is looked for in one list alone: 2, and 18.
+// What is looked for in one list alone: 2, and 18. Two flags and no Result: 2 of either list comes before 18 of either, so both are asked of each.
 #[derive(Clone, Copy)]
 struct Checked {
     too_large: bool,

@@ -1,6 +1,5 @@
 -- An office that was away, and feeds a list of its group's commits to its register, holds the register that the others hold: document 02, E10, whole.
 -- Assumes nothing.
-use Rattle.std.specs.Prelude.{Option, Ok}
 use mathlib.Core.Path.{◌≡◌, refl, sym, ap, ap₂, subst, ◌∙◌}
 use mathlib.Core.Bool.{true, false, not}
 use mathlib.Core.List.{List, [], ◌∷◌}
@@ -27,13 +26,16 @@ use Rattle.group_register.specs.declared.GroupRegister.{GroupRegister}
 use Rattle.group_register.specs.declared.RegisterSettings.{RegisterSettings}
 use Rattle.group_register.proofs.Mapped.{bound_entry, bound_slot}
 use Rattle.group_register.proofs.GroupLaws.{applied_made, entry_mapped, older_applied, settings_after}
-use Rattle.group.specs.Claim.{MemberCall, Entry, entries, Legal, slot_at, CommitAt, Claim, NotSwift}
+use Rattle.group.specs.Claim.{MemberCall, Entry, ours, entries, Legal, slot_at, CommitAt, Claim, NotSwift}
 use Rattle.group.proofs.Agreement.{agreement}
-use Rattle.feeding.specs.Feeding.{FedList, entries_from, entries_in, Feeding, feeding}
-use Rattle.feeding.specs.declared.FirstRefused.{FirstRefused}
+use Rattle.group.proofs.Ties.{lowest_picks_best}
+use Rattle.group_settings.specs.declared.GroupSettings.{GroupSettings}
+use Rattle.group_settings_runs.specs.Groups.{group_entries, GroupLegal}
+use Rattle.group_settings_runs.proofs.Agreeing.{agreement_from}
+use Rattle.feeding.specs.Feeding.{FedList, entries_from, entries_in, Feeding}
 use Rattle.feeding.proofs.FeedLaws.{unfed, fed_one_by_one, fed_as_said}
 use Rattle.register_runs.specs.Members.{CellChange, entry_for_commit, entries_for, register_of_member, UpTo}
-use Rattle.catch_up_runs.specs.Runs.{FedFromRun}
+use Rattle.catch_up_runs.specs.Runs.{FedFromRun, HoldsWhatOthersHold}
 use Rattle.register_runs.proofs.Agreeing.{latest_commit, no_commit}
 
 -- ---- the next slot
@@ -100,6 +102,12 @@ module _ (kept : RegisterSettings) (made : is_made kept ≡ true) (says : ℕ �
       let slot : e.slot ≡ b.0 = ap (λ (x : CellEntry). x.slot) b.3 in
       entry_next (group_after kept es) (made_after es) e (omega arith) (omega arith) ∙ omega arith
 
+  -- a member's register has that slot as its next
+  pub member_next : (member : ℕ) (past : List Entry) → UpTo past run → slot_at member past ≤ 9223372036854775807
+      → (register_of_member kept says member past).register.next_slot ≡ slot_at member past
+  member_next member past u lim =
+      below_next (slot_at member past) (entries_for says member past) lim (member_below (slot_at member past) member past u refl)
+
   -- consecutive entries of commits of the run, from slot b on
   abbrev pub FromSlot : ℕ → List CellEntry → Type 0
   FromSlot b [] = Unit {0}
@@ -146,30 +154,34 @@ module _ (kept : RegisterSettings) (made : is_made kept ≡ true) (says : ℕ �
   rows_count l i zero = refl
   rows_count l i (suc n) = ap suc (rows_count l (i + 1) n)
 
--- ---- the law
+-- ---- the law, of a run that meets the claim
 
-module _ (s : Settings) (mode : NotSwift s.mode) (cs : List MemberCall) (legal : Legal s cs) (kept : RegisterSettings) (says : ℕ → CellChange) (i j : ℕ)
-    (p q : List Entry) (up-to-p : UpTo p (entries s cs)) (up-to-q : UpTo q (entries s cs)) where
-  -- Office i, which was away since moment p, feeds a list that begins no later than its next slot; another office j is at the slot where the list ends.
-  pub holds_what_others_hold : (l : FedList) (b : ℕ) → ((k : ℕ) → k < length l.slots → FedFromRun says (entries s cs) l b k)
-      → b ≤ slot_at i p → slot_at i p ≤ slot_at j q → b + length l.slots ≡ slot_at j q → slot_at j q ≤ 9223372036854775807
-      → (first : Option FirstRefused) → (feeding (register_of_member kept says i p) l).answer ≡ Ok first
-      → (feeding (register_of_member kept says i p) l).group ≡ register_of_member kept says j q
-  holds_what_others_hold l b rows h more ends lim first said =
-      let claim = agreement s mode cs legal in
+module _ (run : List Entry) (claim : Claim run) (kept : RegisterSettings) (says : ℕ → CellChange) (i j : ℕ) (p q : List Entry) where
+  pub feeder_holds : HoldsWhatOthersHold kept says i j p q run
+  feeder_holds up-to-p up-to-q l b rows h more ends lim first said =
       let told = fed_as_said (register_of_member kept says i p) l first said in
       let made : is_made kept ≡ true = sym (ap is_made (settings_after kept (entries_for says i p))) ∙ told.0 in
       let n = length l.slots in
       let zero-first : b + 0 ≡ b = omega arith in
       let from =
-      subst (λ (m : ℕ). FromSlot kept made says (entries s cs) claim m (entries_in l)) zero-first
-      (rows_from kept made says (entries s cs) claim l b 0 n (λ k h. rows k (omega arith))) in
-      let all = rows_count kept made says (entries s cs) claim l 0 n in
-      let own = member_below kept made says (entries s cs) claim (slot_at i p) i p up-to-p refl in
+      subst (λ (m : ℕ). FromSlot kept made says run claim m (entries_in l)) zero-first
+      (rows_from kept made says run claim l b 0 n (λ k h. rows k (omega arith))) in
+      let all = rows_count kept made says run claim l 0 n in
+      let own = member_below kept made says run claim (slot_at i p) i p up-to-p refl in
       let fed =
-      fed_below kept made says (entries s cs) claim (entries_in l) b (slot_at i p) (slot_at j q) (entries_for says i p) from own h more
+      fed_below kept made says run claim (entries_in l) b (slot_at i p) (slot_at j q) (entries_for says i p) from own h more
       (omega (arith, all, ends)) lim in
-      let others = member_below kept made says (entries s cs) claim (slot_at j q) j q up-to-q refl in
+      let others = member_below kept made says run claim (slot_at j q) j q up-to-q refl in
       ap (λ (f : Feeding). f.group) told.1
       ∙ fed_one_by_one (unfed (register_of_member kept says i p)) (entries_in l)
-      ∙ fed.2 ∙ ap (group_after kept) (one_below kept made says (entries s cs) claim (slot_at j q) fed.0 (entries_for says j q) fed.1 others)
+      ∙ fed.2 ∙ ap (group_after kept) (one_below kept made says run claim (slot_at j q) fed.0 (entries_for says j q) fed.1 others)
+
+-- of every legal run from the engine's settings
+pub holds_what_others_hold : (s : Settings) → NotSwift s.mode → (cs : List MemberCall) → Legal s cs → (kept : RegisterSettings) (says : ℕ → CellChange) (i j : ℕ)
+    (p q : List Entry) → HoldsWhatOthersHold kept says i j p q (entries s cs)
+holds_what_others_hold s mode cs legal = feeder_holds (entries s cs) (agreement s mode cs legal)
+
+-- and of every one from group settings, as hosts begin
+pub holds_what_others_hold_from : (g : GroupSettings) → NotSwift g.settings.mode → (cs : List MemberCall) → GroupLegal ours g cs
+    → (kept : RegisterSettings) (says : ℕ → CellChange) (i j : ℕ) (p q : List Entry) → HoldsWhatOthersHold kept says i j p q (group_entries ours g cs)
+holds_what_others_hold_from g mode cs legal = feeder_holds (group_entries ours g cs) (agreement_from g mode ours (λ place. lowest_picks_best) cs legal)

@@ -1,8 +1,9 @@
 -- The legal run of crates/register_runs/proofs/Example.antt: member 2 has seen nothing yet, feeds the list of the one slot that the run commits, and then
--- holds the register that member 0 holds; and so it does where it joins that list to an empty one first. So the hypotheses of `holds_what_others_hold` and
--- of `joins_and_feeds` hold together.
+-- holds the register that member 0 holds. Of the run of two slots in RunExample.antt it joins two lists that overlap, or two that touch, feeds the join, and
+-- holds what member 0 holds. So the hypotheses of `holds_what_others_hold` and of `joins_and_feeds` hold together.
 -- Assumes nothing.
-use Rattle.std.proofs.Common.{◌≡◌, ◌∙◌, refl, sym, ap, subst, inl, inr, ℕ, zero, suc, ◌<◌, List, [], ◌∷◌, length, get_or, None, Ok, arith}
+use Rattle.std.proofs.Common.{◌≡◌, ◌∙◌, refl, sym, ap, subst, inr, ℕ, zero, suc, ◌<◌, List, [], ◌∷◌, length, get_or, None, Result, Ok, arith}
+use lib.ListN.{replicate, length-replicate}
 use Rattle.message.specs.declared.PFMode.TheVariants.{Paxos}
 use Rattle.raster.specs.Raster.{frequency_of}
 use Rattle.places.specs.Places.{at_front}
@@ -15,16 +16,18 @@ use Rattle.group_register.specs.WholeMhz.{is_odd}
 use Rattle.group_register.specs.GroupRegister.{gives_odd_width, apply_made, apply_in_group}
 use Rattle.group_register.specs.GroupHistory.{group_after}
 use Rattle.group_register.specs.declared.GroupRegister.{GroupRegister}
-use Rattle.catch_up.specs.Causes.{CommitList, Commit, beside}
-use Rattle.catch_up.specs.Joining.{list_of, some_above, too_large, counts_from, outside, differ, in_order, joining}
+use Rattle.catch_up.specs.Causes.{CommitList}
+use Rattle.catch_up.specs.Joining.{list_of, some_above, too_large, counts_from, first_slot, joining, lent, handed_back, Gives, Joins}
+use Rattle.catch_up.specs.declared.JoinRefusal.{JoinRefusal}
 use Rattle.feeding.specs.Feeding.{FedList, fed_list_of, entry_in, entries_from, or_refused, feed_all, outside_fed, feeding_made, feeding}
-use Rattle.group.specs.Claim.{Entry, slot_at, CommitAt}
+use Rattle.group.specs.Claim.{Entry, entries, slot_at, CommitAt}
 use Rattle.group.proofs.Agreement.{agreement}
 use Rattle.group.proofs.Example.{three}
 use Rattle.register_runs.specs.Members.{entry_for_commit, entries_for, register_of_member, UpTo}
 use Rattle.register_runs.proofs.Agreeing.{whole, latest_commit}
 use Rattle.register_runs.proofs.Example.{calls, says, run, calls_legal, all_assign_cell_7}
 use Rattle.catch_up_runs.specs.Runs.{FromRun, FedFromRun, FedAsSaid}
+use Rattle.catch_up_runs.proofs.RunExample.{first_slot as first, second_slot as second, both_slots as both, lists_of_run, overlapping, touching}
 use Rattle.catch_up_runs.proofs.CatchUp.{holds_what_others_hold}
 use Rattle.catch_up_runs.proofs.JoinedFed.{joins_and_feeds}
 
@@ -67,37 +70,59 @@ away_holds_the_same =
     holds_what_others_hold (three Paxos) tt calls calls_legal (settings_from 5) says 2 0 [] run (nothing_yet run) (whole run) list 0 rows (omega arith)
     (omega arith) (sym at_one) (omega arith) None all_fed
 
--- ---- joined, then fed
+-- ---- joined, then fed: two lists of the run of RunExample.antt, which commits two slots; member 2 has seen nothing yet, and member 0 has committed both
 
-abbrev commits_of_run : CommitList
-commits_of_run = list_of (0 ∷ []) (10 ∷ [])
+-- what is joined, and beside each value what the hosts say of it
+abbrev fed : FedList
+fed = fed_list_of (0 ∷ 1 ∷ []) (10 ∷ 20 ∷ []) (1 ∷ 1 ∷ []) (7 ∷ 17 ∷ []) (630000 ∷ 630000 ∷ []) (20000 ∷ 20000 ∷ [])
 
-abbrev nothing : CommitList
-nothing = list_of [] []
-
-from_run : FromRun run commits_of_run
-unfolding beside
-from_run slot v (inl e) = subst (λ (c : Commit). CommitAt c.slot c.value run) (sym e) one_commit
-from_run slot v (inr e) = absurd e
-
-from_nothing : FromRun run nothing
-unfolding beside
-from_nothing slot v e = absurd e
-
-join : joining nothing commits_of_run 8192 ≡ Ok commits_of_run
-unfolding joining too_large some_above outside counts_from in_order differ
-join = refl
-
-what_they_say : (i : ℕ) → i < 1 → entry_in list i ≡ entry_for_commit says (get_or (0 ∷ []) i 0) (get_or (10 ∷ []) i 0)
+what_they_say : (i : ℕ) → i < 2 → entry_in fed i ≡ entry_for_commit says (get_or (0 ∷ 1 ∷ []) i 0) (get_or (10 ∷ 20 ∷ []) i 0)
 unfolding change_of
 what_they_say zero h = refl
-what_they_say (suc i) h = absurd (omega arith)
+what_they_say (suc zero) h = refl
+what_they_say (suc (suc i)) h = absurd (omega arith)
 
-said : FedAsSaid says commits_of_run list
-said = record { slots = refl; entries = what_they_say }
+module _ (places : CommitList) (room : lent places ≡ 8192) where
+  abbrev after : CommitList
+  after = list_of (at_front both.slots places.slots) (at_front both.values places.values)
 
-pub away_joins_and_feeds : (feeding (held 2 []) list).group ≡ held 0 run
-away_joins_and_feeds =
-    let at_one : slot_at 0 run ≡ 1 = all_assign_cell_7.0 in
-    joins_and_feeds (three Paxos) tt calls calls_legal (settings_from 5) says 2 0 [] run (nothing_yet run) (whole run) nothing commits_of_run
-    commits_of_run from_nothing from_run 8192 join list said (omega arith) (omega arith) (sym at_one) (omega arith) None all_fed
+  said : FedAsSaid says (handed_back 2 after) fed
+  unfolding at_front
+  said = record { commits = refl; long = record { kinds = refl; cells = refl; carriers = refl; widths = refl }; entries = what_they_say }
+
+  begins : first_slot (handed_back 2 after).slots ≡ 0
+  unfolding at_front
+  begins = refl
+
+  module _ (a b : CommitList) (join : joining a b 8192 ≡ Ok both) where
+    call : Joins a b places after (Ok 2)
+    call =
+        subst (λ (r : Result CommitList JoinRefusal). Gives r places after (Ok 2)) (sym (ap (joining a b) room ∙ join))
+        (record { answered = refl; slots = refl; values = refl })
+
+    joined_and_fed : FromRun (entries (three Paxos) lists_of_run.0) a → FromRun (entries (three Paxos) lists_of_run.0) b
+        → (feeding (held 2 []) fed).group ≡ held 0 (entries (three Paxos) lists_of_run.0)
+    joined_and_fed from-a from-b =
+        let all = entries (three Paxos) lists_of_run.0 in
+        let at_two = lists_of_run.5 in
+        joins_and_feeds (three Paxos) tt lists_of_run.0 lists_of_run.1 (settings_from 5) says 2 0 [] all (nothing_yet all) (whole all) a b places after 2 from-a
+        from-b call fed said (omega (arith, begins)) (omega arith) (omega (arith, begins, at_two))
+
+-- 8,192 places are lent
+abbrev lent_places : CommitList
+lent_places = list_of (replicate 8192 0) (replicate 8192 0)
+
+room : lent lent_places ≡ 8192
+room = let long : length {A = ℕ} (replicate 8192 0) ≡ 8192 = length-replicate {A = ℕ} 8192 0 in omega (arith, long)
+
+-- the lists overlap, or touch
+pub away_joins_overlapping : (feeding (held 2 []) fed).group ≡ held 0 (entries (three Paxos) lists_of_run.0)
+away_joins_overlapping = joined_and_fed lent_places room first both overlapping lists_of_run.2 lists_of_run.4
+
+pub away_joins_touching : (feeding (held 2 []) fed).group ≡ held 0 (entries (three Paxos) lists_of_run.0)
+away_joins_touching = joined_and_fed lent_places room second first touching lists_of_run.3 lists_of_run.2
+
+-- it has both cells
+pub both_assigned : (feeding (held 2 []) fed).group.register.live_count ≡ 2
+unfolding settings_from settings_refusal feeding feeding_made too_large some_above outside_fed counts_from entries_from feed_all or_refused apply_in_group apply_made gives_odd_width is_odd apply apply_change assign assignable frequency_of change_of has_number cell_inserted at_front group_after entries_for
+both_assigned = refl

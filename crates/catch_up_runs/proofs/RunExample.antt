@@ -1,18 +1,19 @@
 -- The legal run of crates/group/proofs/Example.antt: two lists of its commits that overlap, two that touch, and their joins, computed. So the hypotheses
--- of `never_two_values` hold together.
+-- of `never_two_values` hold together, and those of `joins_and_feeds` do at this run too (CatchUpExample.antt).
 -- Assumes nothing.
-use Rattle.std.specs.Prelude.{Ok, Err}
-use mathlib.Core.Path.{◌≡◌, refl, sym, ap, subst}
+use Rattle.std.specs.Prelude.{cond, Ok, Err}
+use mathlib.Core.Path.{◌≡◌, refl, sym, ap, subst, ◌∙◌}
 use mathlib.Core.Logic.{inl, inr}
 use mathlib.Core.Bool.{Bool, false}
 use mathlib.Core.List.{List, [], ◌∷◌}
 use Prim.Native.Nat.{ℕ}
+use lib.Dec.{eqb}
 use Rattle.basics.specs.Lists.{In}
 use Rattle.message.specs.declared.PFMode.TheVariants.{Paxos}
 use Rattle.catch_up.specs.Causes.{CommitList, Commit, beside}
 use Rattle.catch_up.specs.Joining.{list_of, some_above, too_large, counts_from, outside, differ, in_order, joining}
 use Rattle.catch_up.specs.declared.JoinRefusal.TheVariants.{TwoValues}
-use Rattle.group.specs.Claim.{MemberCall, Entry, entries, ours, Legal, CommitAt}
+use Rattle.group.specs.Claim.{MemberCall, Entry, entries, ours, Legal, plus_commit, slot_at, CommitAt}
 use Rattle.group.proofs.Ties.{lowest_picks_best}
 use Rattle.group.proofs.Example.{three, MemberCommit, commits_of, commits, example_commits, example_legal}
 use Rattle.catch_up_runs.specs.Runs.{FromRun}
@@ -27,13 +28,13 @@ listed_commit (e ∷ es) i slot v fast (inr m) =
     let c = listed_commit es i slot v fast m in
     record { entry = c.entry; earlier = c.earlier; stands = inr c.stands; fast = c.fast; commit = c.commit }
 
-abbrev first_slot : CommitList
+abbrev pub first_slot : CommitList
 first_slot = list_of (0 ∷ []) (10 ∷ [])
 
-abbrev second_slot : CommitList
+abbrev pub second_slot : CommitList
 second_slot = list_of (1 ∷ []) (20 ∷ [])
 
-abbrev both_slots : CommitList
+abbrev pub both_slots : CommitList
 both_slots = list_of (0 ∷ 1 ∷ []) (10 ∷ 20 ∷ [])
 
 module _ (run : List Entry) (first : CommitAt 0 10 run) (second : CommitAt 1 20 run) where
@@ -61,12 +62,25 @@ in_run : (run : List Entry) (l : List MemberCommit) → commits_of run ≡ l →
 in_run run l e first second =
     (listed_commit run 2 0 10 false (subst (In (commits 2 0 10 false)) (sym e) first), listed_commit run 2 1 20 false (subst (In (commits 2 1 20 false)) (sym e) second))
 
--- a legal run, and lists of its commits
+-- a member's slot, from the commits
+abbrev slot_in : ℕ → List MemberCommit → ℕ
+slot_in member [] = 0
+slot_in member (c ∷ cs) = cond (eqb member c.member) (plus_commit c.commit (slot_in member cs)) (slot_in member cs)
+
+slot_read : (member : ℕ) (run : List Entry) (l : List MemberCommit) → commits_of run ≡ l → slot_at member run ≡ slot_in member l
+slot_read member run l e = by_entries run ∙ ap (slot_in member) e
+  where
+    by_entries : (run : List Entry) → slot_at member run ≡ slot_in member (commits_of run)
+    by_entries [] = refl
+    by_entries (e ∷ es) = ap (λ (n : ℕ). cond (eqb member e.member) (plus_commit e.reply.commit n) n) (by_entries es)
+
+-- a legal run, lists of its commits, and member 0, which commits both slots
 pub lists_of_run : (calls : List MemberCall) × Legal (three Paxos) calls
     × FromRun (entries (three Paxos) calls) first_slot × FromRun (entries (three Paxos) calls) second_slot × FromRun (entries (three Paxos) calls) both_slots
+    × (slot_at 0 (entries (three Paxos) calls) ≡ 2)
 lists_of_run =
     let c = in_run _ _ example_commits (inr (inr (inr (inr (inr (inr (inr (inl refl)))))))) (inl refl) in
-    (_, example_legal, from_first _ c.0 c.1, from_second _ c.0 c.1, from_both _ c.0 c.1)
+    (_, example_legal, from_first _ c.0 c.1, from_second _ c.0 c.1, from_both _ c.0 c.1, slot_read 0 _ _ example_commits)
 
 -- they overlap, or touch
 pub overlapping : joining first_slot both_slots 8192 ≡ Ok both_slots

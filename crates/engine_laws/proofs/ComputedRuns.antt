@@ -1,33 +1,44 @@
 -- Computed runs of `engine`: what each call commits or sends. An engine that is equal to the right one has these answers in whatever words it is put,
--- and of each engine of the edits an answer here is another. An edit names its engine in `in_runs`, so that the run is computed with it.
+-- and of each engine of the edits an answer here is another, or what is left or served. An edit names its engine in `in_runs`, so that the run is computed
+-- with it.
 -- Assumes nothing.
-use Rattle.std.specs.Prelude.{Option, None, Some}
+use Rattle.std.specs.Prelude.{Option, None, Some, Err}
 use mathlib.Core.Path.{◌≡◌, refl}
-use mathlib.Core.Bool.{false}
+use mathlib.Core.Bool.{true, false}
 use mathlib.Core.List.{List, [], ◌∷◌}
 use mathlib.Core.Logic.{inl}
 use Prim.Native.Nat.{ℕ}
 use lib.Dec.{lit<}
 use Rattle.message.specs.Rounds.{round_of}
 use Rattle.message.specs.declared.ConsensusMsg.{ConsensusMsg}
-use Rattle.message.specs.declared.ConsensusMsg.TheVariants.{Prepare, Accept, Commit}
-use Rattle.message.specs.declared.PFMode.TheVariants.{Paxos, MultiPaxos}
+use Rattle.message.specs.declared.ConsensusMsg.TheVariants.{Prepare, Accept, ForwardRequest, Commit}
+use Rattle.message.specs.declared.PFMode.TheVariants.{Paxos, MultiPaxos, SwiftPaxos}
+use Rattle.message.specs.declared.Refusal.TheVariants.{NoSuchProcess}
 use Rattle.message.specs.declared.RoundV.TheVariants.{PaxosV}
+use Rattle.fast_state.specs.Fast.{no_answers}
+use Rattle.read_tracker.specs.Reads.{read_id, new_read, open_reads}
+use Rattle.read_tracker.specs.declared.OpenRead.{OpenRead}
+use Rattle.serving.proofs.IdOrder.{served_ids}
 use Rattle.steps.specs.Steps.{to_all}
 use Rattle.steps.specs.declared.Destination.{Destination}
 use Rattle.steps.specs.declared.Destination.TheVariants.{One}
 use Rattle.steps.specs.declared.Outgoing.{Outgoing}
 use Rattle.agreement.proofs.Tests.{neqb→ne}
+use Rattle.calls.specs.declared.Call.TheVariants.{Receive}
+use Rattle.consensus.specs.declared.Shard.{Shard}
 use Rattle.group.specs.Claim.{begun, MemberCall, Entry, Legal, messages_of}
 use Rattle.group.proofs.Computed.{computed}
 use Rattle.group.proofs.Example.{three, proposes, hears, commits_of, none, commits, first}
-use Rattle.wrong_engines.specs.Laws.{entries_by}
-use Rattle.wrong_engines.proofs.Answers.{five}
+use Rattle.group.proofs.Invariants.{served_by}
+use Rattle.group.proofs.RunReads.{opens}
+use Rattle.wrong_engines.specs.Laws.{entries_by, shards_by}
+use Rattle.wrong_engines.proofs.Answers.{paxos_group, five, told, told_by_64}
+use Rattle.wrong_engines.proofs.Runs.{alone, told_once, two_reads, forwarded}
 use Rattle.engine_laws.specs.Engine.{engine}
 
 -- what a run computes with
 unfoldable in_runs : Unit {0}
-unfolding entries_by computed
+unfolding entries_by shards_by computed
 in_runs = tt
 
 -- ---- commits
@@ -78,6 +89,11 @@ pub engine_commits_late : commits_of (entries_by engine (begun five) [] heard_tw
     ≡ (none 0 ∷ none 0 ∷ none 1 ∷ none 0 ∷ none 2 ∷ none 0 ∷ none 0 ∷ none 1 ∷ none 0 ∷ [])
 unfolding in_runs
 engine_commits_late = refl
+
+-- in SwiftPaxos member 1 hears of the commit of slot 0
+pub engine_commits_told : commits_of (entries_by engine (begun (three SwiftPaxos)) [] told_once) ≡ (commits 1 0 10 true ∷ [])
+unfolding in_runs
+engine_commits_told = refl
 
 -- ---- messages
 
@@ -131,3 +147,55 @@ pub engine_accepts_late : sent_of (entries_by engine (begun five) [] heard_twice
     ∷ [])
 unfolding in_runs
 engine_accepts_late = refl
+
+-- ---- what is left in a shard, and what is served
+
+-- of a group of three in Paxos, the shard of member 0 after calls
+abbrev left_of : List MemberCall → Shard
+left_of cs = shards_by engine (begun (three Paxos)) cs 0
+
+abbrev reads_left : Shard → List OpenRead
+reads_left shard = open_reads shard.state.rounds.core.tracker shard.state.table
+
+-- with a new read a proposer holds what it held, and its fast half is as new
+abbrev proposed_and_read : List MemberCall
+proposed_and_read = proposes 0 10 ∷ opens 0 7 0 ∷ []
+
+pub engine_holds : (left_of proposed_and_read).state.rounds.core.paxos.max_rv ≡ Some (PaxosV None 10)
+unfolding in_runs
+engine_holds = refl
+
+pub engine_leaves_fast_half : (left_of (proposes 0 10 ∷ [])).state.rounds.fast ≡ no_answers
+unfolding in_runs
+engine_leaves_fast_half = refl
+
+-- two reads are open, in the order in which they came, each with the own answer
+pub engine_opens : reads_left (left_of two_reads) ≡ (new_read (read_id 0) 7 0 true ∷ new_read (read_id 1) 8 0 true ∷ [])
+unfolding in_runs
+engine_opens = refl
+
+-- in a group of one a commit serves both in that order
+pub engine_serves : served_ids (served_by (engine (shards_by engine (begun alone) two_reads 0) (hears 0 0 None (Commit 0 10)).call)) ≡ (0 ∷ 1 ∷ [])
+unfolding in_runs
+engine_serves = refl
+
+-- of three processes 0 and 1 are live: 2 answers 0 all the same, and is not counted
+pub engine_counts_live :
+    (shards_by engine (begun (paxos_group 3 3)) (proposes 0 10 ∷ hears 0 2 None (Prepare 0 (round_of 0 0) (PaxosV None 10)) ∷ []) 0).state.rounds.core.paxos.prepared_set
+    ≡ 1
+unfolding in_runs
+engine_counts_live = refl
+
+-- in SwiftPaxos a forwarded request counts for nothing
+pub engine_counts_no_promise : (shards_by engine (begun (three SwiftPaxos)) forwarded 1).state.rounds.core.paxos.prepared_set ≡ 0
+unfolding in_runs
+engine_counts_no_promise = refl
+
+pub engine_counts_no_accept : (shards_by engine (begun (three SwiftPaxos)) forwarded 1).state.rounds.core.paxos.accepted_set ≡ 0
+unfolding in_runs
+engine_counts_no_accept = refl
+
+-- what process 64 tells a group of three is refused
+pub engine_refuses_64 : (engine (begun (three Paxos) 1) (Receive told_by_64)).reply.outcome ≡ Err NoSuchProcess
+unfolding in_runs
+engine_refuses_64 = refl

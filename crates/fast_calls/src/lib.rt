@@ -9,7 +9,7 @@ use fast_state::FastChange;
 use message::Refusal;
 use steps::{Asked, ChangeStep, Next};
 
-// What becomes of the fast half: a change, or a commit clears it.
+// What becomes of the fast half: a change, or a commit clears it, which is a case of its own and no None, since no change is missing.
 #[derive(Clone, Copy)]
 pub enum After {
     Changed(FastChange),

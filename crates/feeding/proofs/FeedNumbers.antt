@@ -107,3 +107,19 @@ pub feed_numbered : (r : GroupRegister) (l : FedList) (why : JoinRefusal) → is
 feed_numbered r l why made =
     let same = ap (λ (f : Feeding). f.answer) (fed_if_made r l made) in
     (λ e. (made_numbered r l why).0 (sym same ∙ e), λ c. same ∙ (made_numbered r l why).1 c)
+
+-- and where there is no cause, the list is fed
+pub fed_otherwise : (r : GroupRegister) (l : FedList) → is_made r.settings ≡ true
+    → ((first : Option FirstRefused) × ((feeding r l).answer ≡ Ok first)) ↔ ((why : JoinRefusal) → FeedCause why r l → ⊥)
+fed_otherwise r l made = (λ f. given (f.0, sym same ∙ f.1) (ends r l), λ n. gives n (ends r l))
+  where
+    same : (feeding r l).answer ≡ (feeding_made r l).answer
+    same = ap (λ (f : Feeding). f.answer) (fed_if_made r l made)
+
+    given : (first : Option FirstRefused) × ((feeding_made r l).answer ≡ Ok first) → Ends r l (feeding_made r l).answer → (why : JoinRefusal) → FeedCause why r l → ⊥
+    given f (inl x) = absurd (not_fed_lem _ (AsList x.0) f.0 x.3 f.1)
+    given f (inr x) = x.0
+
+    gives : ((why : JoinRefusal) → FeedCause why r l → ⊥) → Ends r l (feeding_made r l).answer → (first : Option FirstRefused) × ((feeding r l).answer ≡ Ok first)
+    gives n (inl x) = absurd (n x.0 x.1)
+    gives n (inr x) = (x.1.0, same ∙ x.1.1)

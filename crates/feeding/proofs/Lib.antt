@@ -2,4 +2,5 @@
 mod FeedTurns
 pub mod FeedLaws
 pub mod FeedNumbers
+pub mod JoinFed
 pub mod FeedExamples

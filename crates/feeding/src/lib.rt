@@ -43,7 +43,7 @@ const MOST_FED: usize = 8192;
 impl Refused for FeedRefusal {
     ghost refusal_number = { feed_refusal_number };
 
-    // Document 02's number.
+    // Document 02's number. By `match`, since a cause of a list is itself one of several, each with its number.
     fn number(self) -> u64 {
         match self {
             FeedRefusal::Unmade => 1,

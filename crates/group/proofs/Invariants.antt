@@ -407,7 +407,7 @@ module _ (choose : Choice) (shard : Shard) (k : Lasts shard) where
     pub own_counts : T (is_replica s) → CountedIn s s.my_pid
     own_counts t = (own_below s limits, λ e. is_true (is_replica s) t)
 
-    abbrev Fits : Rounds → Type 0
+    abbrev pub Fits : Rounds → Type 0
     Fits rounds = RoundsFit (CountedIn s) (LeadsIn shard.made) asked own_counts own_small shard.state.rounds.core shard.state.rounds.fast rounds
 
     as_it_is : CoreFits (CountedIn s) (LeadsIn shard.made) asked own_counts own_small shard.state.rounds.core shard.state.rounds.core
@@ -584,11 +584,11 @@ pub record Room (shard : Shard) : Type 0 where
 
 -- ---- process numbers of an admitted message: each has its place in the tables and sets, which have 64
 
-abbrev PlaceOf : Option ℕ → Type 0
+abbrev pub PlaceOf : Option ℕ → Type 0
 PlaceOf None = Unit {0}
 PlaceOf (Some p) = p < 64
 
-abbrev PlaceIn : ConsensusMsg → Type 0
+abbrev pub PlaceIn : ConsensusMsg → Type 0
 PlaceIn (Prepare slot round rv) = (round.leader < 64) × ProposerFits rv
 PlaceIn (Accept slot round v) = round.leader < 64
 PlaceIn (ForwardRequest v) = Unit {0}
@@ -634,6 +634,45 @@ module _ (n : ℕ) (few : n ≤ 64) where
         requester_place = place_of d.said.requester (and_right (ltb d.message.src n && msg_processes n d.message.msg) (requester_below n d.said.requester) first);
         held_requester_place = place_of d.held_requester (and_right (ltb d.message.src n && msg_processes n d.message.msg && requester_below n d.said.requester) (requester_below n d.held_requester) e);
       }
+
+-- ---- of each shard with what lasts
+
+module _ (shard : Shard) (k : Lasts shard) where
+  pub has_room : Room shard
+  has_room =
+      record {
+        slot_rises = let h = k.slot_fits in increment_next shard.state.rounds.core.slot (omega arith);
+        group_rises = group shard.state.rounds.core.paxos.round k.sets_fit.group_fits;
+        preaccepted_rises = let h = f.few_preaccepted in let b = answers in increment_next fast.fast_preaccepted (omega arith);
+        epaxos_score_rises = λ p. let h = f.epaxos_high p in let b = answers in increment_next (look_up fast.epaxos_proposer_scores p) (omega arith);
+        epaxos_score_falls = λ p l. let h = f.epaxos_low p l in omega arith;
+        swift_score_rises = λ p. let h = f.swift_high p in let b = answers in increment_next (look_up fast.swift_proposer_scores p) (omega arith);
+        count_rises = count (open_reads shard.state.rounds.core.tracker shard.state.table) k.reads_fit.low_counts;
+        ids_end = k.reads_fit.ids_fit;
+      }
+    where
+      fast : FastState
+      fast = shard.state.rounds.fast
+
+      f : FastFits fast
+      f = k.fast_fits
+
+      answers : size fast.fast_answer_set ≤ 64
+      answers = size_bound fast.fast_answer_set
+
+      group : (r : Option PaxosRound) → GroupFits r → increment (unwrap_or_default r).round_group ≡ (unwrap_or_default r).round_group + 1
+      group None g = increment_next 0 (omega arith)
+      group (Some r) g = increment_next r.round_group (omega arith)
+
+      count : (l : List OpenRead) → LowCounts l → (r : OpenRead) → In r l → increment r.ready_count ≡ r.ready_count + 1
+      count [] low r m = absurd m
+      count (x ∷ xs) low r (inl e) = subst (λ (y : OpenRead). increment y.ready_count ≡ y.ready_count + 1) (sym e) (increment_next x.ready_count (omega (arith, low.0)))
+      count (x ∷ xs) low r (inr m) = count xs low.1 r m
+
+  pub lies_in_tables : (d : Delivery) → shard.made ≡ Ok tt → admit shard.settings.process_count shard.settings.my_pid shard.state.rounds.core d ≡ Ok tt → InTables shard.settings.my_pid d
+  lies_in_tables d made e =
+      in_tables shard.settings.process_count (few_processes shard.settings (k.made_within made)) shard.settings.my_pid (own_below shard.settings (k.made_within made)) d
+      (numbers_of shard.settings.process_count shard.settings.my_pid shard.state.rounds.core d e).1
 
 -- ---- lists of calls, legal or not
 
@@ -722,39 +761,10 @@ module _ (choices : Choices) (s : Settings) (cs : List MemberCall) (i : ℕ) whe
   pub accepts_while_accepted : is_some (get_last_accepted_round left.state.rounds.core.paxos.max_rv) ≡ false → left.state.rounds.core.paxos.accepted_set ≡ 0
   accepts_while_accepted e = none_counted (get_last_accepted_round core.paxos.max_rv) (subst (λ (b : Bool). T (not b)) (sym e) tt) counted.accepted_held
 
-  -- The numbers that calls add to or subtract from have room. That these are all of them is read off the definitions, and no law: `increment`
-  -- is in commit_core, next_readable, proposal_round, preaccepted_after, score_after, swift_counted, after_response, after_commit, each of a number of the
-  -- shard as the call found it, and in the starting round, of group 0.
+  -- The numbers that calls add to or subtract from have room. That these are all of them is `run_by_right` (crates/sums/proofs/InRuns.antt).
   pub sums_have_room : Room left
-  sums_have_room =
-      record {
-        slot_rises = let h = ok.slot_fits in increment_next core.slot (omega arith);
-        group_rises = group core.paxos.round ok.sets_fit.group_fits;
-        preaccepted_rises = let h = f.few_preaccepted in let b = answers in increment_next fast.fast_preaccepted (omega arith);
-        epaxos_score_rises = λ p. let h = f.epaxos_high p in let b = answers in increment_next (look_up fast.epaxos_proposer_scores p) (omega arith);
-        epaxos_score_falls = λ p l. let h = f.epaxos_low p l in omega arith;
-        swift_score_rises = λ p. let h = f.swift_high p in let b = answers in increment_next (look_up fast.swift_proposer_scores p) (omega arith);
-        count_rises = count (open_reads core.tracker left.state.table) ok.reads_fit.low_counts;
-        ids_end = ok.reads_fit.ids_fit;
-      }
-    where
-      f : FastFits fast
-      f = ok.fast_fits
-
-      answers : size fast.fast_answer_set ≤ 64
-      answers = size_bound fast.fast_answer_set
-
-      group : (r : Option PaxosRound) → GroupFits r → increment (unwrap_or_default r).round_group ≡ (unwrap_or_default r).round_group + 1
-      group None g = increment_next 0 (omega arith)
-      group (Some r) g = increment_next r.round_group (omega arith)
-
-      count : (l : List OpenRead) → LowCounts l → (r : OpenRead) → In r l → increment r.ready_count ≡ r.ready_count + 1
-      count [] low r m = absurd m
-      count (x ∷ xs) low r (inl e) = subst (λ (y : OpenRead). increment y.ready_count ≡ y.ready_count + 1) (sym e) (increment_next x.ready_count (omega (arith, low.0)))
-      count (x ∷ xs) low r (inr m) = count xs low.1 r m
+  sums_have_room = has_room left ok
 
   -- The own number and the processes that an admitted message names are below 64: each has its place in the tables.
   pub handled_in_tables : (d : Delivery) → left.made ≡ Ok tt → admit left.settings.process_count left.settings.my_pid core d ≡ Ok tt → InTables left.settings.my_pid d
-  handled_in_tables d made e =
-      in_tables left.settings.process_count (few_processes left.settings (ok.made_within made)) left.settings.my_pid (own_below left.settings (ok.made_within made)) d
-      (numbers_of left.settings.process_count left.settings.my_pid core d e).1
+  handled_in_tables = lies_in_tables left ok

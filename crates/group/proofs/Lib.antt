@@ -15,6 +15,7 @@ pub mod Slots
 pub mod Sending
 pub mod Computed
 pub mod Example
+pub mod RunReads
 pub mod FastExample
 pub mod ModeExamples
 pub mod SwiftSets

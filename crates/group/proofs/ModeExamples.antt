@@ -5,11 +5,10 @@
 use Rattle.std.specs.Prelude.{Option, None, Some}
 use mathlib.Core.Path.{◌≡◌, refl}
 use mathlib.Core.Bool.{true, false}
-use mathlib.Core.List.{List, [], ◌∷◌, ◌++◌}
+use mathlib.Core.List.{List, [], ◌∷◌}
 use mathlib.Core.Logic.{inl, inr}
 use Prim.Native.Nat.{ℕ}
 use lib.Dec.{lit<}
-use lib.ListN.{take}
 use Rattle.message.specs.Rounds.{round_of}
 use Rattle.message.specs.declared.ConsensusMsg.{ConsensusMsg}
 use Rattle.message.specs.declared.ConsensusMsg.TheVariants.{Prepare, Accept, Commit, ReadRequest, ReadResponse}
@@ -17,50 +16,18 @@ use Rattle.message.specs.declared.PFMode.TheVariants.{MultiPaxos, MultiPaxos3P, 
 use Rattle.message.specs.declared.RoundV.TheVariants.{PaxosV}
 use Rattle.settings.specs.declared.Settings.{Settings}
 use Rattle.read_tracker.specs.Reads.{read_id}
-use Rattle.read_tracker.specs.declared.ServedRead.{ServedRead}
-use Rattle.consensus.specs.Call.{call_of}
-use Rattle.calls.specs.declared.Call.TheVariants.{StartRead}
-use Rattle.fast_state.specs.Adopt.{lowest_best}
-use Rattle.consensus.specs.declared.Answer.{Answer}
-use Rattle.consensus.specs.declared.Shard.{Shard}
 use Rattle.agreement.proofs.Tests.{neqb→ne}
-use Rattle.group.specs.Claim.{begun, MemberCall, entries, after_call, Legal, Claim}
+use Rattle.group.specs.Claim.{begun, ours, MemberCall, entries, Legal, Claim}
 use Rattle.group.proofs.Agreement.{agreement}
 use Rattle.group.proofs.Computed.{computed}
 use Rattle.group.proofs.Example.{three_with, three, proposes, hears_for, hears, MemberCommit, commits_of, none, commits, first}
-
--- ---- reads in a run
-
-abbrev opens : ℕ → ℕ → ℕ → MemberCall
-opens member tag arrival = record { member = member; call = StartRead tag arrival }
-
--- a served read, and the member that served it
-pub record MemberRead : Type 0 where
-  pub member : ℕ
-  pub served : ServedRead
-
-abbrev reads_of : ℕ → List ServedRead → List MemberRead
-reads_of member [] = []
-reads_of member (r ∷ rs) = record { member = member; served = r } ∷ reads_of member rs
-
--- the reads that a call serves are the first of the table, as many as it says
-abbrev served_by : ℕ → Answer → List MemberRead
-served_by member a = reads_of member (take a.reply.served_count a.shard.state.table.served)
-
--- all reads that a run serves, in the order of the calls
-unfoldable pub served_from : (ℕ → Shard) → List MemberCall → List MemberRead
-served_from shards [] = []
-served_from shards (c ∷ cs) = served_by c.member (call_of (shards c.member) c.call) ++ served_from (after_call lowest_best shards c) cs
-
--- a read with the first id of its member
-abbrev serves : ℕ → ℕ → ℕ → MemberRead
-serves member tag waited = record { member = member; served = record { id = read_id 0; tag = tag; waited_for = waited; fast = false } }
+use Rattle.group.proofs.RunReads.{opens, MemberRead, served_from, serves}
 
 -- what is shown of a run
 pub record Shown (s : Settings) (calls : List MemberCall) (listed : List MemberCommit) (reads : List MemberRead) : Type 0 where
   pub legal : Legal s calls
   pub commits_listed : commits_of (entries s calls) ≡ listed
-  pub reads_served : served_from (begun s) calls ≡ reads
+  pub reads_served : served_from ours (begun s) calls ≡ reads
 
 -- ---- MultiPaxos: member 0 leads, and needs no promises
 

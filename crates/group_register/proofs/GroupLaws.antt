@@ -287,18 +287,33 @@ module _ (s : RegisterSettings) (made : is_made s ≡ true) where
         go false p u q rest = ap (λ (t : Bool). cond (t && eqb e.cell n) (is e.change) (group_latest slot (more ++ es) n)) p ∙ rest
 
   -- ---- a list wholly before the slot gives what E6 gave
-  early_bound : (es : List CellEntry) → AllBefore slot es → bound_entries slot es ≡ es
+  early_plain : (e : CellEntry) → e.slot < slot → odd_within_limits slot e ≡ false
   unfolding is_odd
-  early_bound [] h = refl
-  early_bound (e ∷ es) h =
-      ap₂ (λ (t : Bool) (rest : List CellEntry). cond t (without_width e) e ∷ rest) (go (change_within_limits e.change) (lt-leb slot e.slot h.0)) (early_bound es h.1)
+  early_plain e h = go (change_within_limits e.change) (lt-leb slot e.slot h)
     where
       go : (t : Bool) → leb slot e.slot ≡ false → (t && (leb slot e.slot && not (in_whole_mhz e.change))) ≡ false
       go true k = ap (λ (u : Bool). u && not (in_whole_mhz e.change)) k
       go false k = refl
 
+  early_bound : (es : List CellEntry) → AllBefore slot es → bound_entries slot es ≡ es
+  early_bound [] h = refl
+  early_bound (e ∷ es) h = ap₂ (λ (t : Bool) (rest : List CellEntry). cond t (without_width e) e ∷ rest) (early_plain e h.0) (early_bound es h.1)
+
+  -- the register
   pub early_as_before : (es : List CellEntry) → AllBefore slot es → (group_after s es).register ≡ register_after es
   early_as_before es h = register_after_lem es ∙ ap register_after (early_bound es h)
+
+  -- and what becomes of each entry: done, older or refused as in E6, with E6's number
+  module _ (before : List CellEntry) (e : CellEntry) (early : AllBefore slot (e ∷ before)) where
+    pub early_answered : apply_in_group (group_after s before) e ≡ as_register s (apply (register_after before) e)
+    early_answered =
+        ap (λ (g : GroupRegister). apply_in_group g e) (after_mapped before)
+        ∙ ap (λ (es : List CellEntry). apply_in_group (group_register s (register_after es)) e) (early_bound before early.1)
+        ∙ applied_made (register_after before) e
+        ∙ plain_applied s (register_after before) e (early_plain e early.0)
+
+    pub early_number : group_outcome_number (apply_in_group (group_after s before) e).outcome ≡ entry_number (apply (register_after before) e).outcome
+    early_number = ap (λ (a : GroupApplied). group_outcome_number a.outcome) early_answered ∙ in_group_number (apply (register_after before) e).outcome
 
 -- ---- a register that is not made: every call gives its number, and nothing changes
 pub unmade_number : (s : RegisterSettings) → is_made s ≡ false → settings_refusal s ≡ 1

@@ -10,7 +10,7 @@ use mathlib.Core.List.{List, [], ◌∷◌}
 use Prim.Native.Nat.{ℕ}
 use native.Mathlib.Omega.{arith}
 use lib.Dec.{eqb, leb}
-use Rattle.basics.proofs.Tests.{either, of-both}
+use Rattle.basics.proofs.Tests.{by_cases, of-both}
 use Rattle.message.specs.declared.Refusal.{Refusal}
 use Rattle.message.specs.declared.Refusal.TheVariants.{SettingsOutsideLimits}
 use Rattle.fast_state.specs.Adopt.{Choice}
@@ -43,21 +43,25 @@ too_late : (t u : Bool) → u ≡ false → outcome_for (t && u) ≡ Err Setting
 too_late true u e = ap outcome_for e
 too_late false u e = refl
 
--- Those of the claim, or none is made.
-pub begun_or_unmade : (g : GroupSettings) → (begun_from g ≡ begun g.settings) ⊎ ((i : ℕ) → Unmade (begun_from g i))
-unfolding begin_shard settings_outcome new_shard
-begun_or_unmade g = go (either (leb g.whole_mhz_from 9223372036854775806))
-  where
-    within : ℕ → Bool
-    within i = within_limits (member_settings g.settings i)
+module _ (g : GroupSettings) where
+  abbrev within : ℕ → Bool
+  within i = within_limits (member_settings g.settings i)
 
-    marked : Outcome → ℕ → Shard
-    marked o i = record { made = o; settings = member_settings g.settings i; state = new_state (member_settings g.settings i) }
+  abbrev marked : Outcome → ℕ → Shard
+  marked o i = record { made = o; settings = member_settings g.settings i; state = new_state (member_settings g.settings i) }
 
-    go : (leb g.whole_mhz_from 9223372036854775806 ≡ true) ⊎ (leb g.whole_mhz_from 9223372036854775806 ≡ false)
-        → (begun_from g ≡ begun g.settings) ⊎ ((i : ℕ) → Unmade (begun_from g i))
-    go (inl e) = inl (fun_ext (λ i. ap (λ (o : Outcome). marked o i) (in_time (within i) _ e)))
-    go (inr e) = inr (λ i. (SettingsOutsideLimits, too_late (within i) _ e))
+  -- Where the slot is within its limit they are those of the claim.
+  pub begun_in_time : leb g.whole_mhz_from 9223372036854775806 ≡ true → begun_from g ≡ begun g.settings
+  unfolding begin_shard settings_outcome new_shard
+  begun_in_time e = fun_ext (λ i. ap (λ (o : Outcome). marked o i) (in_time (within i) _ e))
+
+  unmade_late : leb g.whole_mhz_from 9223372036854775806 ≡ false → (i : ℕ) → Unmade (begun_from g i)
+  unfolding begin_shard settings_outcome
+  unmade_late e i = (SettingsOutsideLimits, too_late (within i) _ e)
+
+  -- Those of the claim, or none is made.
+  pub begun_or_unmade : (begun_from g ≡ begun g.settings) ⊎ ((i : ℕ) → Unmade (begun_from g i))
+  begun_or_unmade = by_cases (leb g.whole_mhz_from 9223372036854775806) (λ e. inl (begun_in_time e)) (λ e. inr (unmade_late e))
 
 -- ---- a group of which no shard is made
 

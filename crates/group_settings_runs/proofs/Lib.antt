@@ -1,1 +1,2 @@
 pub mod Agreeing
+pub mod EngineRuns

@@ -29,6 +29,7 @@ fn held_promise(kind: u64, a: u64, b: u64, v: u64) -> Option<RoundV>
     }
 }
 
+// The library's `min` with a cast, for thirteen callers.
 fn at_most(n: u64, limit: usize) -> usize
     ensures { result ≡ min n limit }
 {

@@ -3,9 +3,9 @@
 use mathlib.Core.Path.{◌≡◌, sym, ap, subst, ◌∙◌}
 use mathlib.Core.Logic.{◌↔◌}
 use Prim.Native.Nat.{ℕ, ◌≤◌}
-use lib.ListN.{get_or, take}
+use lib.ListN.{get_or}
 use Rattle.catch_up.specs.Causes.{CommitList, JoinCause, NoneBefore, NoCause, join_number}
-use Rattle.catch_up.specs.Joining.{list_of, lent, join_refusal, join_count}
+use Rattle.catch_up.specs.Joining.{lent, handed_back, join_refusal, join_count}
 use Rattle.catch_up.specs.declared.JoinRefusal.{JoinRefusal}
 use Rattle.catch_up.proofs.Exact.{JoinOf}
 use Rattle.catch_up.proofs.Calls as calls
@@ -28,7 +28,7 @@ module _ (a b places after : CommitList) (answer : FlatValue) (call : JoinsFlat 
   pub join_keeps : (i : ℕ) → answer.value ≤ i → (get_or after.slots i 0 ≡ get_or places.slots i 0) × (get_or after.values i 0 ≡ get_or places.values i 0)
   join_keeps i h = calls.places_kept a b places after call.joined call.call i (subst (λ (n : ℕ). n ≤ i) count_is h)
 
-  pub join_joins : NoCause a b (lent places) → (answer.refusal ≡ 0) × JoinOf a b (list_of (take answer.value after.slots) (take answer.value after.values))
+  pub join_joins : NoCause a b (lent places) → (answer.refusal ≡ 0) × JoinOf a b (handed_back answer.value after)
   join_joins none =
       let law = calls.call_joins a b places after call.joined call.call none in
-      (refusal_is ∙ law.0, subst (λ (n : ℕ). JoinOf a b (list_of (take n after.slots) (take n after.values))) (sym count_is) law.1)
+      (refusal_is ∙ law.0, subst (λ (n : ℕ). JoinOf a b (handed_back n after)) (sym count_is) law.1)

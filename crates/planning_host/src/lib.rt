@@ -3,13 +3,12 @@
 
 ghost use Rattle.std.specs.Prelude.{◌≡◌, None, replicate};
 ghost use Rattle.register_arrays.specs.Columns.{entry_from_numbers};
-ghost use Rattle.group_register.specs.GroupRegister.{group_register, new_group_register};
+ghost use Rattle.group_register.specs.GroupRegister.{new_group_register};
 ghost use Rattle.group_arrays.specs.GroupColumns.{settings_in, group_in, after_group_entry, group_report_in};
-ghost use Rattle.stored_register.specs.Stored.{widened};
 ghost use Rattle.stored_arrays.specs.Columns.{stored_in};
 ghost use Rattle.catch_up.specs.Joining.{list_of};
 ghost use Rattle.feeding.specs.Feeding.{fed_list_of};
-ghost use Rattle.planning_host.specs.Begun.{register_settings};
+ghost use Rattle.planning_host.specs.Begun.{register_settings, widened_with};
 ghost use Rattle.planning_host.specs.Conversions.{flat_value, flat_raster, flat_khz, flat_number};
 ghost use Rattle.group_register.specs.Settings.{is_made};
 ghost use Rattle.position_arrays.specs.Row.{positions_in, placed_entry_of};
@@ -170,7 +169,7 @@ pub extern "C" fn chanbook_register_widened(
     figures: &mut [u64; 5],
 )
     ensures { group_in settings.new cells.new carriers.new widths.new figures.new
-        ≡ group_register (register_settings group) (widened (stored_in stored_cells.now stored_carriers.now stored_widths.now stored_figures.now)) }
+        ≡ widened_with group (stored_in stored_cells.now stored_carriers.now stored_widths.now stored_figures.now) }
 {
     let stored = StoredColumns {
         cells: stored_cells,

@@ -17,7 +17,8 @@ use reach::{PlacedCell, PlacedCells};
 use register::{Assignment, CellNumber, Entered, live_places};
 use register_arrays::Columns;
 
-// What an array has of a cell's position: 0 in `given` says that there is none, any other number that x and y are the position.
+// What an array has of a cell's position: 0 in `given` says that there is none, any other number that x and y are the position. A flag
+// and no Option: the C interface has numbers.
 #[derive(Clone, Copy, Default)]
 #[repr(C)]
 pub struct CellPosition {
@@ -100,7 +101,7 @@ pub fn apply(
     positions::apply_in(settings_in(settings), columns, row, entry)
 }
 
-// Kind 3 is a position, of which cell, x and y are read; of any other kind what crates/register_arrays reads.
+// Kind 3 is a position, of which cell, x and y are read; of any other kind what crates/register_arrays reads. A number and no enum, as there.
 #[tactic(auto, unfolding(crate::specs::Row::placed_entry_of))]
 pub fn entry_from_numbers(
     slot: u64,
@@ -123,7 +124,7 @@ pub fn entry_from_numbers(
     Entry::OfCell(register_arrays::entry_from_numbers(slot, kind, cell, carrier, width))
 }
 
-// The arrays of a register and of its positions, lent to be read.
+// The arrays of a register and of its positions, lent to be read. Columns and no array of cells, as in register_arrays: the C interface has them so.
 #[derive(Clone, Copy)]
 pub struct LentCells<'a> {
     pub settings: &'a [u64; 2],

@@ -64,7 +64,7 @@ pub struct PlacedApplied {
 impl Refused for PositionRefusal {
     ghost refusal_number = { position_refusal_number };
 
-    // Document 02's number.
+    // Document 02's number. By `match`, as that of GroupRefusal, which is one of its causes.
     fn number(self) -> u64 {
         match self {
             PositionRefusal::OutsideGrid => 21,

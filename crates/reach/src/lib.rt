@@ -183,7 +183,7 @@ impl Edges {
     }
 }
 
-// The edges of the near cells.
+// The edges of the near cells. By the index, here and in list_cells: cells whose places may be lent lend no slice of them.
 #[tactic(auto, using(crate::proofs::Lists::picked_none, crate::proofs::Lists::picked_all))]
 fn near_edges<C: PlacedCells>(cells: &C, question: Question) -> NearEdges
     requires { (question.width ≤ 400000) × (question.distance ≤ 6000000) }
@@ -272,7 +272,7 @@ fn number_from(edge: u64) -> u64
 }
 
 // The lowest number from first to last that overlaps none of the cells. After a conflict the search goes on behind the cell in the way, so that each
-// cell is in the way at most once.
+// cell is in the way at most once. A `while` and no `for`: the next number is seldom the one after.
 #[tactic(auto, using(crate::proofs::Raster::khz_most, crate::proofs::Ways::search_free, crate::proofs::Ways::search_end, crate::proofs::Ways::search_rises, crate::proofs::Ways::search_again))]
 fn search(edges: &[Edges], first: u64, last: u64) -> Result<u64, ReachRefusal>
     requires { last ≤ 3279165 }

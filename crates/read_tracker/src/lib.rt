@@ -90,7 +90,7 @@ impl ReadTracker {
         }
     }
 
-    // How many places of the table hold open reads. There are no more than 128, whatever the count says.
+    // How many places of the table hold open reads. There are no more than 128, whatever the count says. The library's `min`, in one place for its callers.
     pub fn open_places(self) -> usize
         ensures { result ≡ open_places self }
     {

@@ -23,7 +23,7 @@ pub struct Assignment {
     pub width: u64,
 }
 
-// "either an assignment .. or a release"
+// "either an assignment .. or a release": two kinds of entry, so a release is a case of its own and no None.
 #[derive(Clone, Copy)]
 pub enum Change {
     Assign(Assignment),
@@ -128,7 +128,8 @@ impl Register {
     }
 }
 
-// How many places hold live cells, by the count that a register has of them: no more than 512, whatever the count says.
+// How many places hold live cells, by the count that a register has of them: no more than 512, whatever the count says. The library's `min`, in one place for
+// its callers.
 pub fn live_places(live_count: u64) -> usize
     ensures { result ≡ min live_count 512 }
 {
@@ -190,7 +191,7 @@ pub fn done(register: Register) -> Applied
 pub trait RegisterPlaces {
     ghost register: { Self → Register };
 
-    // What one that lends its places keeps: the references that it holds.
+    // What one that lends its places keeps: the references that it holds. A clause of each method, since it compares before with after, as no type does.
     ghost lent: { Self → List ℕ };
 
     fn next_slot(&self) -> u64

@@ -1,19 +1,20 @@
--- Every entry, written in decimal, is read as that entry.
+-- Every entry, written in decimal, is read as that entry; and one with a cell number above 32 bits as none, never as that of the number modulo 2^32.
 -- Assumes nothing.
 use mathlib.Core.Path.{◌≡◌, refl, sym, ap, ◌∙◌}
 use mathlib.Core.Bool.{Bool, true, false, cond}
-use mathlib.Core.List.{List, ◌∷◌, ◌++◌}
-use Prim.Native.Nat.{ℕ, suc, ◌+◌, ◌-◌, ◌≤◌}
+use mathlib.Core.List.{List, [], ◌∷◌, ◌++◌, append-nil, append_assoc}
+use mathlib.Core.Logic.{inl}
+use Prim.Native.Nat.{ℕ, suc, ◌+◌, ◌-◌, ◌≤◌, ◌<◌}
 use native.Mathlib.Omega.{arith}
 use lib.Dec.{ltb}
 use lib.ListN.{length, drop, length-drop}
 use lib.Seq.{drop-drop}
-use borrow.Author.Tests.{le-ltb, eq-eqb}
+use borrow.Author.Tests.{le-ltb, lt-ltb, eq-eqb}
 use Rattle.basics.proofs.Tests.{of-both}
-use Rattle.std.specs.Prelude.{Some}
+use Rattle.std.specs.Prelude.{Some, None}
 use Rattle.texts.specs.Text.{ascii, decimal, field}
 use Rattle.line_fields.specs.Fields.{same_to, begins, next_field}
-use Rattle.line_fields.proofs.FieldsRead.{field_read, behind_field, last_read, last_ends}
+use Rattle.line_fields.proofs.FieldsRead.{FieldEnds, field_read, behind_field, last_read, last_ends, number_before}
 use Rattle.register.specs.declared.Change.{Change}
 use Rattle.register.specs.declared.Change.TheVariants.{Assign, Release}
 use Rattle.register.specs.declared.CellEntry.{CellEntry}
@@ -96,3 +97,34 @@ entry_read e fits =
       change_read line (second line 6) e.cell e.change fits.1 fits.2 behind,
       eq-eqb (length line) (length line) refl,
     )
+
+-- ---- a cell number above 32 bits, with anything behind the entry
+
+module _ (line : List ℕ) (n : ℕ) (large : 4294967295 < n) (fits : n ≤ 18446744073709551615) where
+  assignment_none : (at : ℕ) (rest : List ℕ) → drop at line ≡ decimal n ++ (32 ∷ rest) → assignment_at line at ≡ None
+  unfolding assignment_at assignment_of
+  assignment_none at rest e = simp (field_read line at n rest fits e, lt-ltb 4294967295 n large)
+
+  release_none : (at : ℕ) (tail : List ℕ) → FieldEnds tail → drop at line ≡ decimal n ++ tail → release_at line at ≡ None
+  unfolding release_at release_of
+  release_none at tail t e = simp (number_before line at n fits tail t e, lt-ltb 4294967295 n large)
+
+  pub large_cell : (at : ℕ) (k : Change) (tail : List ℕ) → FieldEnds tail → drop at line ≡ change_line n k ++ tail → change_at line at ≡ None
+  unfolding change_at field
+  large_cell at (Assign a) tail t e =
+      let rest = (decimal a.carrier ++ (32 ∷ decimal a.width)) ++ tail in
+      let whole : drop at line ≡ 97 ∷ 32 ∷ (decimal n ++ (32 ∷ rest)) = e ∙ ap (λ (l : List ℕ). 97 ∷ 32 ∷ l) (append_assoc (decimal n) _ tail) in
+      let letter : begins (ascii "a ") (drop at line) ≡ true = ap (begins (ascii "a ")) whole ∙ a_begins (decimal n ++ (32 ∷ rest)) in
+      simp letter (assignment_none _ rest (behind_letter line at 97 32 _ whole))
+  large_cell at Release tail t e =
+      let other : begins (ascii "a ") (drop at line) ≡ false = ap (begins (ascii "a ")) e ∙ r_no_a (decimal n ++ tail) in
+      let letter : begins (ascii "r ") (drop at line) ≡ true = ap (begins (ascii "r ")) e ∙ r_begins (decimal n ++ tail) in
+      simp (other, letter) (release_none _ tail t (behind_letter line at 114 32 _ e))
+
+pub large_cell_no_entry : (e : CellEntry) → e.slot ≤ 18446744073709551615 → 4294967295 < e.cell → e.cell ≤ 18446744073709551615 → entry_of (entry_line e) ≡ None
+unfolding entry_of entry_at entry_with field
+large_cell_no_entry e slot large fits =
+    let line = entry_line e in
+    let rest = change_line e.cell e.change in
+    let none = large_cell line e.cell large fits (second line 6) e.change [] (inl refl) (behind_field line 6 e.slot rest refl ∙ sym (append-nil rest)) in
+    simp (entry_begins (decimal e.slot ++ (32 ∷ rest)), field_read line 6 e.slot rest slot refl, none)

@@ -17,8 +17,12 @@ use Rattle.register.specs.declared.CellEntry.{CellEntry}
 use Rattle.group_register.specs.GroupHistory.{group_after}
 use Rattle.group_register.specs.declared.RegisterSettings.{RegisterSettings}
 use Rattle.group_register.proofs.GroupLaws.{equal_registers}
-use Rattle.group.specs.Claim.{MemberCall, Entry, entries, Legal, At, slot_at, CommitAt, Claim, NotSwift}
+use Rattle.group.specs.Claim.{MemberCall, Entry, ours, entries, Legal, At, slot_at, CommitAt, Claim, NotSwift}
 use Rattle.group.proofs.Agreement.{agreement}
+use Rattle.group.proofs.Ties.{lowest_picks_best}
+use Rattle.group_settings.specs.declared.GroupSettings.{GroupSettings}
+use Rattle.group_settings_runs.specs.Groups.{group_entries, GroupLegal}
+use Rattle.group_settings_runs.proofs.Agreeing.{agreement_from}
 use Rattle.register_runs.specs.Members.{CellChange, entry_for_commit, entries_for, register_of_member, UpTo}
 
 -- ---- moments of a run
@@ -108,16 +112,40 @@ module _ (says : ℕ → CellChange) (run : List Entry) (claim : Claim run) wher
       (same_entries k i j one.before other.before one.up_to other.up_to one.slot other.slot)
       ∙ sym other.is
 
--- ---- the law
-module _ (s : Settings) (mode : NotSwift s.mode) (cs : List MemberCall) (legal : Legal s cs) (kept : RegisterSettings) (says : ℕ → CellChange) (i j : ℕ)
-    (p q : List Entry) (up-to-p : UpTo p (entries s cs)) (up-to-q : UpTo q (entries s cs)) (slots : slot_at i p ≡ slot_at j q) where
+-- ---- the law, of a run that meets the claim
+module _ (run : List Entry) (claim : Claim run) (kept : RegisterSettings) (says : ℕ → CellChange) (i j : ℕ) (p q : List Entry) (up-to-p : UpTo p run)
+    (up-to-q : UpTo q run) (slots : slot_at i p ≡ slot_at j q) where
   given_equal_entries : entries_for says i p ≡ entries_for says j q
-  given_equal_entries = same_entries says (entries s cs) (agreement s mode cs legal) (slot_at j q) i j p q up-to-p up-to-q slots refl
+  given_equal_entries = same_entries says run claim (slot_at j q) i j p q up-to-p up-to-q slots refl
 
-  pub members_hold_equal_registers : register_of_member kept says i p ≡ register_of_member kept says j q
-  members_hold_equal_registers = ap (group_after kept) given_equal_entries
+  hold_equal_registers : register_of_member kept says i p ≡ register_of_member kept says j q
+  hold_equal_registers = ap (group_after kept) given_equal_entries
 
   -- "whatever repeats or older ones stand between"
+  equal_with_repeats : (one other : List CellEntry) → later_entries one ≡ later_entries (entries_for says i p)
+      → later_entries other ≡ later_entries (entries_for says j q) → group_after kept one ≡ group_after kept other
+  equal_with_repeats one other f g = equal_registers kept one other (f ∙ ap later_entries given_equal_entries ∙ sym g)
+
+-- ---- of a group that is begun from the engine's settings
+module _ (s : Settings) (mode : NotSwift s.mode) (cs : List MemberCall) (legal : Legal s cs) (kept : RegisterSettings) (says : ℕ → CellChange) (i j : ℕ)
+    (p q : List Entry) (up-to-p : UpTo p (entries s cs)) (up-to-q : UpTo q (entries s cs)) (slots : slot_at i p ≡ slot_at j q) where
+  pub members_hold_equal_registers : register_of_member kept says i p ≡ register_of_member kept says j q
+  members_hold_equal_registers = hold_equal_registers (entries s cs) (agreement s mode cs legal) kept says i j p q up-to-p up-to-q slots
+
   pub with_repeats : (one other : List CellEntry) → later_entries one ≡ later_entries (entries_for says i p) → later_entries other ≡ later_entries (entries_for says j q)
       → group_after kept one ≡ group_after kept other
-  with_repeats one other f g = equal_registers kept one other (f ∙ ap later_entries given_equal_entries ∙ sym g)
+  with_repeats = equal_with_repeats (entries s cs) (agreement s mode cs legal) kept says i j p q up-to-p up-to-q slots
+
+-- ---- of one that is begun from group settings, as hosts begin it
+module _ (g : GroupSettings) (mode : NotSwift g.settings.mode) (cs : List MemberCall) (legal : GroupLegal ours g cs) (kept : RegisterSettings)
+    (says : ℕ → CellChange) (i j : ℕ) (p q : List Entry) (up-to-p : UpTo p (group_entries ours g cs)) (up-to-q : UpTo q (group_entries ours g cs))
+    (slots : slot_at i p ≡ slot_at j q) where
+  group_claim : Claim (group_entries ours g cs)
+  group_claim = agreement_from g mode ours (λ place. lowest_picks_best) cs legal
+
+  pub members_hold_equal_registers_from : register_of_member kept says i p ≡ register_of_member kept says j q
+  members_hold_equal_registers_from = hold_equal_registers (group_entries ours g cs) group_claim kept says i j p q up-to-p up-to-q slots
+
+  pub with_repeats_from : (one other : List CellEntry) → later_entries one ≡ later_entries (entries_for says i p)
+      → later_entries other ≡ later_entries (entries_for says j q) → group_after kept one ≡ group_after kept other
+  with_repeats_from = equal_with_repeats (group_entries ours g cs) group_claim kept says i j p q up-to-p up-to-q slots

@@ -2,10 +2,11 @@
 -- cell 7. So every hypothesis of the law holds somewhere, and the registers are not empty.
 -- Assumes nothing.
 use Rattle.std.specs.Prelude.{None}
-use mathlib.Core.Path.{◌≡◌, refl, sym, ◌∙◌}
+use mathlib.Core.Path.{◌≡◌, refl, sym, ap, ◌∙◌}
 use mathlib.Core.List.{List, [], ◌∷◌}
 use mathlib.Core.Logic.{inl, inr}
 use Prim.Native.Nat.{ℕ, ◌-◌}
+use native.Mathlib.Omega.{arith}
 use lib.Dec.{lit<}
 use Rattle.message.specs.Rounds.{round_of}
 use Rattle.message.specs.declared.ConsensusMsg.TheVariants.{Prepare, Accept, Commit}
@@ -15,11 +16,14 @@ use Rattle.agreement.proofs.Tests.{neqb→ne}
 use Rattle.register.specs.Taken.{is, above, among, cells_named, count_in, number_given as entry_number_given, is_taken_given, latest, live_count}
 use Rattle.register.specs.declared.Change.TheVariants.{Assign}
 use Rattle.group_register.specs.Settings.{settings_from}
-use Rattle.group.specs.Claim.{MemberCall, Entry, entries, Legal, slot_at}
+use Rattle.group.specs.Claim.{MemberCall, Entry, ours, entries, Legal, slot_at}
 use Rattle.group.proofs.Computed.{computed}
 use Rattle.group.proofs.Example.{three, proposes, hears, first}
 use Rattle.register_runs.specs.Members.{CellChange, entry_for_commit, entries_for, register_of_member}
-use Rattle.register_runs.proofs.Agreeing.{whole, members_hold_equal_registers}
+use Rattle.register_runs.proofs.Agreeing.{whole, members_hold_equal_registers, members_hold_equal_registers_from}
+use Rattle.group_settings.specs.declared.GroupSettings.{GroupSettings}
+use Rattle.group_settings_runs.specs.Groups.{group_entries}
+use Rattle.group_settings_runs.proofs.EngineRuns.{engine_legal, engine_entries}
 
 -- member 0 proposes 10, members 0 and 1 prepare and accept it, and all commit it
 abbrev pub calls : List MemberCall
@@ -64,3 +68,16 @@ pub members_0_and_2 : register_of_member (settings_from 5) says 0 run ≡ regist
 members_0_and_2 =
     members_hold_equal_registers (three Paxos) tt calls calls_legal (settings_from 5) says 0 2 run run (whole run) (whole run)
     (all_assign_cell_7.0 ∙ sym all_assign_cell_7.1)
+
+-- the same calls on a group that is begun from group settings, whose slot of whole MHz is 5
+abbrev group : GroupSettings
+group = record { settings = three Paxos; whole_mhz_from = 5 }
+
+abbrev run_from : List Entry
+run_from = group_entries ours group calls
+
+pub members_0_and_2_from : register_of_member (settings_from 5) says 0 run_from ≡ register_of_member (settings_from 5) says 2 run_from
+members_0_and_2_from =
+    let same = engine_entries group (omega arith) calls ours in
+    members_hold_equal_registers_from group tt calls ((engine_legal group (omega arith) calls ours).1 calls_legal) (settings_from 5) says 0 2 run_from run_from
+    (whole run_from) (whole run_from) (ap (slot_at 0) same ∙ all_assign_cell_7.0 ∙ sym (ap (slot_at 2) same ∙ all_assign_cell_7.1))

@@ -58,7 +58,7 @@ fn with_state(mut shard: Shard, state: State) -> Answer
     answer_with(shard, made)
 }
 
-// What a line without a fault makes of the shard.
+// What a line without a fault makes of the shard. Its kind is a number, as in line_calls.
 #[tactic(auto, unfolding(crate::specs::Answer::answer_of))]
 fn answer_of(shard: Shard, numbers: &[u64]) -> Answer
     ensures { result ≡ answer_of shard numbers.now }

@@ -3,7 +3,7 @@
 use Rattle.std.specs.Prelude.{Option as Optional, None, Some, Ok, Err}
 use Rattle.std.proofs.Math.Option.{Option, none, some}
 use mathlib.Core.Path.{◌≡◌, refl, sym, ap, ◌∙◌}
-use mathlib.Core.Bool.{not}
+use mathlib.Core.Bool.{true, false, not}
 use mathlib.Core.List.{List, [], ◌∷◌}
 use mathlib.Core.Logic.{inl, inr}
 use Prim.Native.Nat.{ℕ, ◌≤◌}
@@ -19,6 +19,7 @@ use Rattle.message.specs.declared.ConsensusMsg.TheVariants.{Prepare, Accept, For
 use Rattle.message.specs.declared.PFMode.{PFMode}
 use Rattle.message.specs.declared.PFMode.TheVariants.{Paxos, MultiPaxos}
 use Rattle.message.specs.declared.Refusal.{Refusal}
+use Rattle.message.specs.declared.Refusal.TheVariants.{NoSuchProcess}
 use Rattle.message.specs.declared.RoundV.{RoundV}
 use Rattle.message.specs.declared.RoundV.TheVariants.{FastV, PaxosV}
 use Rattle.settings.specs.declared.Settings.{Settings}
@@ -26,12 +27,13 @@ use Rattle.fast_state.specs.Adopt.{lowest_best}
 use Rattle.steps.specs.declared.Messages.{Messages}
 use Rattle.steps.specs.declared.Outgoing.{Outgoing}
 use Rattle.calls.specs.declared.Call.{Call}
-use Rattle.calls.specs.declared.Call.TheVariants.{Propose, StartRead}
+use Rattle.calls.specs.declared.Call.TheVariants.{Propose, StartRead, Receive}
+use Rattle.delivery.specs.declared.Delivery.{Delivery}
 use Rattle.consensus.specs.Call.{call_of}
 use Rattle.consensus.specs.FirstCause.{ByFirstCause}
 use Rattle.consensus.specs.declared.Answer.{Answer}
 use Rattle.consensus.specs.declared.Shard.{Shard}
-use Rattle.consensus.proofs.Refusals.{refused_where_first}
+use Rattle.consensus.proofs.Refusals.{taken_where_none, refused_where_first}
 use Rattle.agreement.proofs.Tests.{neqb→ne}
 use Rattle.paper.specs.PaperCall.{Seen, seen, InPaxos}
 use Rattle.paper.specs.Replica.{Replica}
@@ -43,7 +45,7 @@ use Rattle.group.proofs.Example.{three, hears}
 use Rattle.wrong_engines.specs.Laws.{AnyEngine, ReachedBy, after_calls_by, RefusesByFirstCause, KeepsSettings, IsAsPaper, OtherCallsLeave, SendsTwoAtMost, SendsFromOwn, SendsNoneToItself}
 use Rattle.wrong_engines.specs.Laws.ReachedBy.{new, called}
 use Rattle.wrong_engines.specs.declared.FixedContents.{FixedContents}
-use Rattle.wrong_engines.specs.Engines.{is_proposal, is_new_read, is_message, does_nothing, sends_fixed, sends_fixed_contents, hears_nothing, multi_paxos_never_proposes, answers_no_message, idles_after_slot_zero, refuses_each, commits_on_first_accept, prepared_figure_without_set, accepted_figure_without_set, sends_thrice, sends_as_zero, sends_to_itself, sends_first_to_itself, loses_replicas, forgets_held_with_read}
+use Rattle.wrong_engines.specs.Engines.{is_proposal, is_new_read, is_message, does_nothing, sends_fixed, sends_fixed_contents, hears_nothing, multi_paxos_never_proposes, answers_no_message, idles_after_slot_zero, refuses_each, commits_on_first_accept, prepared_figure_without_set, accepted_figure_without_set, sends_thrice, sends_as_zero, sends_to_itself, sends_first_to_itself, loses_replicas, forgets_held_with_read, takes_every_process}
 use Rattle.wrong_engines.proofs.Right.{right_has_all}
 
 -- so many members in Paxos, and the live ones
@@ -77,6 +79,15 @@ asked = (hears 1 0 None (Prepare 0 (round_of 0 0) (PaxosV None 10))).call
 abbrev pub told : Call
 told = (hears 1 0 None (Commit 0 10)).call
 
+-- process 64, which there is not, tells it
+abbrev pub told_by_64 : Delivery
+told_by_64 =
+    record {
+      message = record { msg = Commit 0 10; src = 64; last_v = None };
+      said = record { value_held = true; requester = None; fast = false };
+      held_requester = None;
+    }
+
 -- ---- demand 1
 
 pub refused_not_done : (o : Outcome) (why : Refusal) → o ≡ Ok tt → o ≡ Err why → ⊥
@@ -93,6 +104,15 @@ takes_nothing engine shard c why taken refuses law = go (law shard c)
         refused_not_done (call_of shard c).reply.outcome w taken
         (ap (λ (r : Answer). r.reply.outcome) (refused_where_first lowest_best shard c w first))
 
+-- one that takes what the right one refuses
+takes_refused : (engine : AnyEngine) (shard : Shard) (c : Call) (why : Refusal) → (call_of shard c).reply.outcome ≡ Err why
+    → (engine shard c).reply.outcome ≡ Ok tt → RefusesByFirstCause engine → ⊥
+takes_refused engine shard c why refuses taken law = go (law shard c)
+  where
+    go : ByFirstCause lowest_best shard c (engine shard c) → ⊥
+    go (inl (_, no_cause)) = refused_not_done (call_of shard c).reply.outcome why (taken_where_none lowest_best shard c no_cause) refuses
+    go (inr (w, e, first)) = refused_not_done (engine shard c).reply.outcome w taken (ap (λ (r : Answer). r.reply.outcome) e)
+
 pub each_frame_refused : (why : Refusal) → RefusesByFirstCause (refuses_each is_message why) → ⊥
 unfolding refuses_each computed
 each_frame_refused why = takes_nothing (refuses_each is_message why) (member Paxos 1) told why refl refl
@@ -105,6 +125,10 @@ each_read_refused why = takes_nothing (refuses_each is_new_read why) (member Pax
 pub each_proposal_refused : (why : Refusal) → RefusesByFirstCause (refuses_each is_proposal why) → ⊥
 unfolding refuses_each computed
 each_proposal_refused why = takes_nothing (refuses_each is_proposal why) (member MultiPaxos 0) (Propose 10) why refl refl
+
+pub every_process_taken : RefusesByFirstCause takes_every_process → ⊥
+unfolding takes_every_process computed
+every_process_taken = takes_refused takes_every_process (member Paxos 1) (Receive told_by_64) NoSuchProcess refl refl
 
 -- ---- demand 2: the paper
 

@@ -3,3 +3,4 @@ pub mod Answers
 pub mod Runs
 pub mod Less
 pub mod Passing
+pub mod Unseen

@@ -1,5 +1,5 @@
 -- What the demands let pass. A member that refuses what has to be refused has demand 1 if it else does nothing, sends one fixed message or one of every kind,
--- answers nothing, idles from slot 1 on, or sends a message three times, in another name or to itself. One that does nothing, sends one fixed message, or
+-- never proposes in MultiPaxos, answers nothing, idles from slot 1 on, or sends a message three times, in another name or to itself. One that does nothing, sends one fixed message, or
 -- sends its own one three times, idles, answers nothing, refuses each frame or does nothing with it has demand 3: "demand 3 would pass all three, demand 2
 -- stops them" (document 01, list c). And an engine that marks itself unmade with its first commit, and so works in slot 0 and then refuses every call, has
 -- demand 1, the paper and demand 3: the cause of a 1 is the mark, and the paper refuses what demand 1 refuses. `marked_once` is false of it (Runs.antt).
@@ -7,13 +7,14 @@
 use Rattle.std.specs.Prelude.{Option, None, Some, Ok, Err}
 use Rattle.calls.specs.declared.CommittedSlot.{CommittedSlot}
 use mathlib.Core.Path.{◌≡◌, refl, sym, ap, subst, ◌∙◌}
-use mathlib.Core.Bool.{Bool, true, false, cond}
+use mathlib.Core.Bool.{Bool, true, false, cond, ◌&&◌}
 use mathlib.Core.Logic.{◌⊎◌, inl, inr}
 use mathlib.Core.List.{List, [], ◌∷◌}
 use Prim.Native.Nat.{ℕ}
 use lib.Dec.{leb}
 use Rattle.basics.proofs.Tests.{of-both, not_both}
 use Rattle.basics.specs.Lists.{In}
+use Rattle.message.specs.Modes.{is_multi_paxos}
 use Rattle.message.specs.Outcomes.{Outcome}
 use Rattle.message.specs.declared.Refusal.{Refusal}
 use Rattle.message.specs.declared.Refusal.TheVariants.{SettingsOutsideLimits}
@@ -43,7 +44,7 @@ use Rattle.group.proofs.Handlers.{Any, any_holds, EndsUncommitted, Keeps, propos
 use Rattle.wrong_engines.specs.Laws.{AnyEngine, ReachedBy, entry_by, after_call_by, entries_by, RefusesByFirstCause, IsAsPaper, InAgreement}
 use Rattle.wrong_engines.specs.Laws.ReachedBy.{new, called}
 use Rattle.wrong_engines.specs.declared.FixedContents.{FixedContents}
-use Rattle.wrong_engines.specs.Engines.{is_message, with_messages, on_messages, where_taken, if_taken, does_nothing, sends_fixed, with_fixed_content, sends_fixed_contents, hears_nothing, answers_no_message, idles_after_slot_zero, refuses_each, sends_thrice, from_zero, sends_as_zero, own, sent_to, sends_to_itself, with_shard_at, marked_unmade, unmakes}
+use Rattle.wrong_engines.specs.Engines.{is_message, is_proposal, multi_paxos_never_proposes, with_messages, on_messages, where_taken, if_taken, does_nothing, sends_fixed, with_fixed_content, sends_fixed_contents, hears_nothing, answers_no_message, idles_after_slot_zero, refuses_each, sends_thrice, from_zero, sends_as_zero, own, sent_to, sends_to_itself, with_shard_at, if_commits, marked_unmade, unmakes}
 use Rattle.wrong_engines.proofs.Answers.{refused_not_done}
 use Rattle.wrong_engines.proofs.Less.{DoesLess, SaysNothing, less_in_agreement}
 use Rattle.wrong_engines.proofs.Right.{right_has_all}
@@ -51,29 +52,35 @@ use Rattle.wrong_engines.proofs.Right.{right_has_all}
 -- ---- demand 1
 
 -- another answer, taken, where the right engine takes the call
-other_by_first_cause : (shard : Shard) (c : Call) (other : Answer) → other.reply.outcome ≡ Ok tt
+pub other_by_first_cause : (shard : Shard) (c : Call) (other : Answer) → ((call_of shard c).reply.outcome ≡ Ok tt → other.reply.outcome ≡ Ok tt)
     → ByFirstCause lowest_best shard c (if_taken other (call_of shard c))
 other_by_first_cause shard c other done = go (call_of shard c).reply.outcome refl (right_has_all.first_cause shard c)
   where
     go : (o : Outcome) → (call_of shard c).reply.outcome ≡ o → ByFirstCause lowest_best shard c (call_of shard c)
         → ByFirstCause lowest_best shard c (where_taken other (call_of shard c) o)
-    go (Ok tt) e (inl (_, none)) = inl (done, none)
+    go (Ok tt) e (inl (_, none)) = inl (done e, none)
     go (Ok tt) e (inr (why, r, first)) = absurd (refused_not_done (call_of shard c).reply.outcome why e (ap (λ (a : Answer). a.reply.outcome) r))
     go (Err w) e h = h
 
 pub nothing_done_by_first_cause : RefusesByFirstCause does_nothing
 unfolding does_nothing
-nothing_done_by_first_cause shard c = other_by_first_cause shard c (nothing shard) refl
+nothing_done_by_first_cause shard c = other_by_first_cause shard c (nothing shard) (λ e. refl)
 
 pub fixed_by_first_cause : (fixed : Messages) → RefusesByFirstCause (sends_fixed fixed)
 unfolding sends_fixed
-fixed_by_first_cause fixed shard c = other_by_first_cause shard c (sent shard fixed) refl
+fixed_by_first_cause fixed shard c = other_by_first_cause shard c (sent shard fixed) (λ e. refl)
 
 pub idle_by_first_cause : RefusesByFirstCause idles_after_slot_zero
 unfolding idles_after_slot_zero
 idle_by_first_cause shard c =
-    of-both (ByFirstCause lowest_best shard c) (leb 1 shard.state.rounds.core.slot) (other_by_first_cause shard c (nothing shard) refl)
+    of-both (ByFirstCause lowest_best shard c) (leb 1 shard.state.rounds.core.slot) (other_by_first_cause shard c (nothing shard) (λ e. refl))
     (right_has_all.first_cause shard c)
+
+pub unproposed_by_first_cause : RefusesByFirstCause multi_paxos_never_proposes
+unfolding multi_paxos_never_proposes
+unproposed_by_first_cause shard c =
+    of-both (ByFirstCause lowest_best shard c) (is_multi_paxos shard.settings.mode && is_proposal c)
+    (other_by_first_cause shard c (nothing shard) (λ e. refl)) (right_has_all.first_cause shard c)
 
 -- other messages, none where there were none
 messages_by_first_cause : (f : Messages → Messages) → f no_messages ≡ no_messages → (shard : Shard) (c : Call)
@@ -290,16 +297,20 @@ module _ (r : Answer) where
   settings_same None = refl
   settings_same (Some commit) = refl
 
-pub unmade_by_first_cause : RefusesByFirstCause unmakes
-unfolding unmakes
-unmade_by_first_cause shard c = go (call_of shard c).reply.commit refl (right_has_all.first_cause shard c)
+-- another shard with a commit
+pub commits_by_first_cause : (shard left : Shard) (c : Call) → ByFirstCause lowest_best shard c (if_commits left (call_of shard c))
+commits_by_first_cause shard left c = go (call_of shard c).reply.commit refl (right_has_all.first_cause shard c)
   where
     go : (o : Option CommittedSlot) → (call_of shard c).reply.commit ≡ o → ByFirstCause lowest_best shard c (call_of shard c)
-        → ByFirstCause lowest_best shard c (marked_at (call_of shard c) o)
+        → ByFirstCause lowest_best shard c (with_shard_at left (call_of shard c) o)
     go None e h = h
     go (Some commit) e (inl h) = inl h
     go (Some commit) e (inr (why, r, first)) =
         absurd (neqb→ne 1 0 tt (ap (λ (x : Option CommittedSlot). plus_commit x 0) (sym e ∙ ap (λ (a : Answer). a.reply.commit) r)))
+
+pub unmade_by_first_cause : RefusesByFirstCause unmakes
+unfolding unmakes
+unmade_by_first_cause shard c = commits_by_first_cause shard (marked_unmade (call_of shard c).shard) c
 
 within : (shard : Shard) → ReachedBy unmakes shard → within_limits shard.settings ≡ true
 unfolding unmakes

@@ -1,18 +1,33 @@
 -- The engine has every law of Laws.antt: there they are the theorems of consensus, paper and group, since its runs are those of the claim and of these
 -- theorems. So has every engine that is equal to it on each call, in whatever words: the engine by its parts is one.
 -- Assumes nothing.
+use Rattle.std.specs.Prelude.{is_some, Ok, Err}
 use Rattle.std.proofs.Math.Path.{fun_ext}
 use mathlib.Core.Path.{◌≡◌, refl, sym, ap, subst, ◌∙◌}
-use mathlib.Core.Logic.{◌↔◌}
+use mathlib.Core.Logic.{◌↔◌, ◌⊎◌}
+use mathlib.Core.Bool.{Bool, true, false, cond}
 use mathlib.Core.List.{List, [], ◌∷◌}
-use Prim.Native.Nat.{ℕ}
+use Prim.Native.Nat.{ℕ, ◌<◌}
+use lib.Dec.{leb}
 use Rattle.basics.specs.Lists.{In}
-use Rattle.sets.specs.Sets.{Within}
+use Rattle.sets.specs.Sets.{contains, Within}
+use Rattle.basics.proofs.Tests.{not_both}
+use Rattle.message.specs.Outcomes.{Outcome}
+use Rattle.message.specs.declared.Refusal.{Refusal}
+use Rattle.message.specs.declared.Refusal.TheVariants.{NumberTooLarge}
+use Rattle.round_state.specs.Paxos.{get_last_accepted_round}
+use Rattle.fast_state.specs.Fast.{no_answers}
+use Rattle.serving.proofs.IdOrder.{InOrder, Rising, served_ids}
+use Rattle.delivery.specs.Admit.{admit}
+use Rattle.delivery.specs.declared.Delivery.{Delivery}
+use Rattle.calls.specs.declared.Call.TheVariants.{Receive}
 use Rattle.fast_state.specs.Adopt.{lowest_best}
 use Rattle.settings.specs.declared.Settings.{Settings}
 use Rattle.calls.specs.Commits.{committed_slot}
 use Rattle.calls.specs.declared.Call.{Call}
-use Rattle.consensus.specs.Call.{call_of, after_calls}
+use Rattle.consensus.specs.Call.{call_of, after_calls, admitted, receive, dispatch, unless_spent, if_made, call_with}
+use Rattle.consensus.specs.Answers.{refused}
+use Rattle.consensus.specs.declared.Answer.{Answer}
 use Rattle.consensus.specs.declared.Shard.{Shard}
 use Rattle.consensus.proofs.ByParts.{by_parts, by_core_lem}
 use Rattle.consensus.proofs.Refusals.{by_first_cause, marked_once}
@@ -20,11 +35,12 @@ use Rattle.calls.specs.Decision.{decision_of}
 use Rattle.paper.specs.Runs.{Reached}
 use Rattle.paper.specs.Runs.Reached.{new as made, called as after}
 use Rattle.paper.proofs.Calls.{every_call_as_paper, other_calls_leave, settings_kept}
-use Rattle.group.specs.Claim.{begun, ours, MemberCall, Entry, entry_of, after_call, entries_from, entries, LegalFrom, Legal, slot_at, Claim}
+use Rattle.group.specs.Claim.{begun, ours, MemberCall, Entry, entry_of, after_call, entries_from, entries, LegalFrom, Legal, slot_at, CommitAt, Claim}
 use Rattle.group.proofs.Agreement.{agreement}
 use Rattle.group.proofs.GroupOfOne.{group_of_one}
-use Rattle.group.proofs.Invariants.{Cleared, shards_after, commit_clears, sets_hold_live_replicas}
-use Rattle.group.proofs.Slots.{slot_counts_commits}
+use Rattle.group.specs.Steps.{is_done}
+use Rattle.group.proofs.Invariants.{Cleared, served_by, Room, InTables, shards_after, fast_half_as_new, commit_clears, reads_in_order, served_in_order, sets_hold_processes, sets_hold_live_replicas, promises_while_held, accepts_while_accepted, sums_have_room, handled_in_tables}
+use Rattle.group.proofs.Slots.{slot_counts_commits, commits_are_of_own_slot}
 use Rattle.group.proofs.Sending.{two_messages_at_most, sent_from_own, none_to_its_sender}
 use Rattle.wrong_engines.specs.Engines.{in_parts}
 use Rattle.wrong_engines.specs.Laws.{AnyEngine, ReachedBy, entries_by, shards_by, after_calls_by, LegalBy, HasAllLaws}
@@ -76,7 +92,38 @@ unfolding after_calls after_calls_by
 left_same shard [] = refl
 left_same shard (c ∷ cs) = left_same (call_of shard c).shard cs
 
+-- ---- a message that is taken is admitted, at a shard that is made
+
+abbrev Taken : Answer → Type 0
+Taken r = r.reply.outcome ≡ Ok tt
+
+taken_admitted : (shard : Shard) (d : Delivery) → Taken (call_of shard (Receive d))
+    → (shard.made ≡ Ok tt) × (admit shard.settings.process_count shard.settings.my_pid shard.state.rounds.core d ≡ Ok tt)
+unfolding call_with unless_spent dispatch receive
+taken_admitted shard d = by_mark shard.made refl
+  where
+    refused_taken : {A : Type 0} (why : Refusal) → ◌≡◌ {A = Outcome} (Err why) (Ok tt) → A
+    refused_taken why e = let z : ◌≡◌ {A = Bool} false true = ap is_done e in absurd (not_both z refl)
+
+    is_admitted : (o : Outcome) → Taken (admitted lowest_best shard d o) → o ≡ Ok tt
+    is_admitted (Ok tt) e = refl
+    is_admitted (Err why) e = refused_taken why e
+
+    unspent : (t : Bool) → Taken (cond t (refused NumberTooLarge shard) (dispatch lowest_best shard (Receive d)))
+        → admit shard.settings.process_count shard.settings.my_pid shard.state.rounds.core d ≡ Ok tt
+    unspent true e = refused_taken NumberTooLarge e
+    unspent false e = is_admitted _ e
+
+    by_mark : (o : Outcome) → shard.made ≡ o → Taken (if_made lowest_best shard (Receive d) o)
+        → (shard.made ≡ Ok tt) × (admit shard.settings.process_count shard.settings.my_pid shard.state.rounds.core d ≡ Ok tt)
+    by_mark (Ok tt) m e = (m, unspent (leb 9223372036854775807 shard.state.rounds.core.slot) e)
+    by_mark (Err why) m e = refused_taken why e
+
 -- ---- the laws
+
+-- what holds of the shards after a list holds of those that it leaves here
+on_shards : (s : Settings) (cs : List MemberCall) (P : (ℕ → Shard) → Type 0) → P (shards_after ours (begun s) cs) → P (shards_by call_of (begun s) cs)
+on_shards s cs P = subst P (sym (shards_same (begun s) cs))
 
 pub right_has_all : HasAllLaws call_of
 right_has_all =
@@ -94,14 +141,41 @@ right_has_all =
       slots = λ s cs i.
           ap (λ (x : ℕ → Shard). (x i).state.rounds.core.slot) (shards_same (begun s) cs) ∙ slot_counts_commits ours s cs i
           ∙ ap (slot_at i) (sym (run_same s cs));
+      own_slots = λ s cs slot v. subst (λ (run : List Entry). (c : CommitAt slot v run) → slot ≡ slot_at c.entry.member c.earlier) (sym (run_same s cs)) (commits_are_of_own_slot ours s cs slot v);
       clears = λ s cs i c slot v mark.
-          subst (λ (x : ℕ → Shard). (call_of (x i) c).reply.commit ≡ committed_slot slot v mark → Cleared (call_of (x i) c).shard)
-          (sym (shards_same (begun s) cs)) (commit_clears ours s cs i lowest_best c slot v mark);
+          on_shards s cs (λ (x : ℕ → Shard). (call_of (x i) c).reply.commit ≡ committed_slot slot v mark → Cleared (call_of (x i) c).shard)
+          (commit_clears ours s cs i lowest_best c slot v mark);
+      processes = λ s cs i p.
+          on_shards s cs
+          (λ (x : ℕ → Shard).
+          (contains (x i).state.rounds.core.paxos.prepared_set p ≡ true) ⊎ (contains (x i).state.rounds.core.paxos.accepted_set p ≡ true)
+          → p < s.process_count)
+          (sets_hold_processes ours s cs i p);
       live_replicas = λ s cs i classic.
-          subst
+          on_shards s cs
           (λ (x : ℕ → Shard).
           Within (x i).state.rounds.core.paxos.prepared_set s.alive_replicas × Within (x i).state.rounds.core.paxos.accepted_set s.alive_replicas)
-          (sym (shards_same (begun s) cs)) (sets_hold_live_replicas ours s cs i classic);
+          (sets_hold_live_replicas ours s cs i classic);
+      fast_half = λ s cs i classic.
+          on_shards s cs (λ (x : ℕ → Shard). (x i).state.rounds.fast ≡ no_answers) (fast_half_as_new ours s cs i classic);
+      reads = λ s cs i.
+          on_shards s cs (λ (x : ℕ → Shard). InOrder (x i).state.rounds.core.tracker (x i).state.table) (reads_in_order ours s cs i);
+      served = λ s cs i c.
+          on_shards s cs (λ (x : ℕ → Shard). Rising 0 (served_ids (served_by (call_of (x i) c))) (x i).state.rounds.core.tracker.next_id)
+          (served_in_order ours s cs i lowest_best c);
+      promises = λ s cs i.
+          on_shards s cs
+          (λ (x : ℕ → Shard). is_some (x i).state.rounds.core.paxos.max_rv ≡ false → (x i).state.rounds.core.paxos.prepared_set ≡ 0)
+          (promises_while_held ours s cs i);
+      accepts = λ s cs i.
+          on_shards s cs
+          (λ (x : ℕ → Shard).
+          is_some (get_last_accepted_round (x i).state.rounds.core.paxos.max_rv) ≡ false → (x i).state.rounds.core.paxos.accepted_set ≡ 0)
+          (accepts_while_accepted ours s cs i);
+      room = λ s cs i. on_shards s cs (λ (x : ℕ → Shard). Room (x i)) (sums_have_room ours s cs i);
+      tables = λ s cs i d.
+          on_shards s cs (λ (x : ℕ → Shard). Taken (call_of (x i) (Receive d)) → InTables (x i).settings.my_pid d)
+          (λ e. let a = taken_admitted (shards_after ours (begun s) cs i) d e in handled_in_tables ours s cs i d a.0 a.1);
     }
 
 -- ---- in other words

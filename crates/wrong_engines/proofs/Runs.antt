@@ -3,28 +3,31 @@
 use Rattle.std.specs.Prelude.{Option, None, is_some}
 use Rattle.calls.specs.declared.CommittedSlot.{CommittedSlot}
 use mathlib.Core.Path.{◌≡◌, refl, ap}
-use mathlib.Core.Bool.{false, cond}
+use mathlib.Core.Bool.{true, false, cond}
 use mathlib.Core.List.{List, [], ◌∷◌}
 use mathlib.Core.Logic.{inl, inr}
-use Prim.Native.Nat.{ℕ}
+use Prim.Native.Nat.{ℕ, ◌≤◌, ◌<◌}
+use native.Mathlib.Omega.{arith}
 use lib.Count.{count_trailing_zeros}
 use lib.Dec.{lit<}
 use Rattle.basics.proofs.Tests.{not_both}
 use Rattle.message.specs.Rounds.{round_of}
-use Rattle.message.specs.declared.ConsensusMsg.TheVariants.{Prepare, Accept, Commit}
-use Rattle.message.specs.declared.PFMode.TheVariants.{Paxos}
+use Rattle.message.specs.declared.ConsensusMsg.TheVariants.{Prepare, Accept, ForwardRequest, Commit}
+use Rattle.message.specs.declared.PFMode.TheVariants.{Paxos, SwiftPaxos}
 use Rattle.message.specs.declared.Refusal.TheVariants.{SettingsOutsideLimits}
-use Rattle.message.specs.declared.RoundV.TheVariants.{PaxosV}
+use Rattle.message.specs.declared.RoundV.TheVariants.{FastV, PaxosV}
 use Rattle.settings.specs.declared.Settings.{Settings}
 use Rattle.round_state.specs.declared.PaxosState.{PaxosState}
+use Rattle.fast_state.specs.declared.FastState.{FastState}
 use Rattle.consensus.specs.Call.{call_of}
 use Rattle.agreement.proofs.Tests.{neqb→ne}
 use Rattle.group.specs.Claim.{begun, MemberCall, plus_commit, CommitAt, NotSwift}
 use Rattle.group.proofs.Computed.{computed}
 use Rattle.group.proofs.Example.{three, proposes, hears, MemberCommit, commits_of, none, first}
-use Rattle.wrong_engines.specs.Laws.{AnyEngine, entries_by, shards_by, after_calls_by, LegalBy, MarkedOnce, InAgreement, CommitsNothingAlone, SlotCountsCommits, ClearsWithCommit, CountsLiveReplicas}
-use Rattle.wrong_engines.specs.Engines.{commits_on_first_accept, prepared_figure_without_set, accepted_figure_without_set, forgets_held_with_round, commits_at_once, stays_in_slot, keeps_held_after_commit, unmakes, counts_every_process}
-use Rattle.wrong_engines.proofs.Answers.{paxos_group, five, told, refused_not_done}
+use Rattle.group.proofs.RunReads.{opens}
+use Rattle.wrong_engines.specs.Laws.{AnyEngine, entries_by, shards_by, after_calls_by, LegalBy, MarkedOnce, InAgreement, CommitsNothingAlone, SlotCountsCommits, CommitsOwnSlot, ClearsWithCommit, CountsProcesses, CountsLiveReplicas, LeavesFastHalfNew, KeepsReadsInOrder, ServesInOrder, CountsPromisesWhileHeld, CountsAcceptsWhileAccepted, LeavesRoom, TakesWithinTables}
+use Rattle.wrong_engines.specs.Engines.{commits_on_first_accept, prepared_figure_without_set, accepted_figure_without_set, forgets_held_with_round, commits_at_once, stays_in_slot, keeps_held_after_commit, unmakes, counts_every_process, notes_proposals, keeps_reads_turned, serves_turned, fills_first_read, counts_forwards_as_promises, counts_forwards_as_accepts, takes_every_process, commits_next_slot}
+use Rattle.wrong_engines.proofs.Answers.{paxos_group, five, told, told_by_64, refused_not_done}
 
 -- a legal run with two values for slot 0
 pub record Disagrees (engine : AnyEngine) (s : Settings) (cs : List MemberCall) : Type 0 where
@@ -35,7 +38,7 @@ pub record Disagrees (engine : AnyEngine) (s : Settings) (cs : List MemberCall) 
 disagreeing : (engine : AnyEngine) (s : Settings) → NotSwift s.mode → (cs : List MemberCall) → Disagrees engine s cs → InAgreement engine → ⊥
 disagreeing engine s mode cs shown law = neqb→ne 10 20 tt (((law s mode cs shown.legal).agree 0 10 0 20 shown.commits_10 shown.commits_20).0 refl).1
 
-abbrev alone : Settings
+abbrev pub alone : Settings
 alone = paxos_group 1 1
 
 -- the messages of the two proposals: of 10 in the round of member 0, and of 20 in that of another, in slot 0
@@ -263,10 +266,14 @@ at_once_disagrees =
 
 -- ---- after every list of calls, legal or not
 
--- member 1 hears of a commit, and stays in slot 0
+-- member 1 hears of a commit
+abbrev pub told_once : List MemberCall
+told_once = hears 1 0 None (Commit 0 10) ∷ []
+
+-- and stays in slot 0
 pub slot_not_left : SlotCountsCommits stays_in_slot → ⊥
 unfolding stays_in_slot entries_by shards_by computed
-slot_not_left law = neqb→ne 0 1 tt (law (three Paxos) (hears 1 0 None (Commit 0 10) ∷ []) 1)
+slot_not_left law = neqb→ne 0 1 tt (law (three Paxos) told_once 1)
 
 -- it proposes 20, hears of the commit of 10, and still holds 20
 pub holds_after_commit : ClearsWithCommit keeps_held_after_commit → ⊥
@@ -290,3 +297,57 @@ every_process_counted law =
   where
     two_live : Settings
     two_live = paxos_group 3 3
+
+-- member 0 proposes in Paxos, and its fast half is no longer as new
+pub fast_half_noted : LeavesFastHalfNew notes_proposals → ⊥
+unfolding notes_proposals shards_by computed
+fast_half_noted law = neqb→ne 1 0 tt (ap (λ (f : FastState). f.fast_preaccepted) (law (three Paxos) (proposes 0 10 ∷ []) 0 refl))
+
+-- two reads are opened: they stand as 1, 0
+abbrev pub two_reads : List MemberCall
+two_reads = opens 0 7 0 ∷ opens 0 8 0 ∷ []
+
+pub reads_turned : KeepsReadsInOrder keeps_reads_turned → ⊥
+unfolding keeps_reads_turned shards_by computed
+reads_turned law = let wrong : 2 ≤ 0 = (law (three Paxos) two_reads 0).rising.1.0 in omega arith
+
+-- in a group of one, where the own answer is a majority, a commit serves both: as 1, 0
+pub served_turned : ServesInOrder serves_turned → ⊥
+unfolding serves_turned shards_by computed
+served_turned law = let wrong : 2 ≤ 0 = (law alone two_reads 0 (hears 0 0 None (Commit 0 10)).call).1.0 in omega arith
+
+-- there is no room for another response to the first read
+pub first_read_filled : LeavesRoom fills_first_read → ⊥
+unfolding fills_first_read shards_by computed
+first_read_filled law =
+    neqb→ne 18446744073709551615 18446744073709551616 tt ((law (three Paxos) (opens 0 7 0 ∷ []) 0).count_rises _ (inl refl))
+
+-- member 1 of SwiftPaxos holds nothing and hears a forwarded request
+abbrev pub forwarded : List MemberCall
+forwarded = hears 1 0 None (ForwardRequest 10) ∷ []
+
+pub promises_while_nothing_held : CountsPromisesWhileHeld counts_forwards_as_promises → ⊥
+unfolding counts_forwards_as_promises shards_by computed
+promises_while_nothing_held law = neqb→ne 7 0 tt (law (three SwiftPaxos) forwarded 1 refl)
+
+pub accepts_while_nothing_accepted : CountsAcceptsWhileAccepted counts_forwards_as_accepts → ⊥
+unfolding counts_forwards_as_accepts shards_by computed
+accepts_while_nothing_accepted law = neqb→ne 7 0 tt (law (three SwiftPaxos) forwarded 1 refl)
+
+-- a commit of process 64 is taken
+pub process_64_taken : TakesWithinTables takes_every_process → ⊥
+unfolding takes_every_process shards_by computed
+process_64_taken law = let wrong : 64 < 64 = (law (three Paxos) [] 1 told_by_64 refl).source_place in omega arith
+
+-- In SwiftPaxos member 1 hears of the commit of slot 0, and tells it as one of slot 1.
+pub next_slot_told : CommitsOwnSlot commits_next_slot → ⊥
+unfolding commits_next_slot entries_by computed
+next_slot_told law =
+    neqb→ne 1 0 tt
+    (law (three SwiftPaxos) told_once 1 10 (record { entry = _; earlier = _; stands = inl (refl, refl); fast = true; commit = refl }))
+
+-- Process 5, which there is not, prepares for the leader, who counts it.
+pub process_5_counted : CountsProcesses takes_every_process → ⊥
+unfolding takes_every_process shards_by computed
+process_5_counted law =
+    let wrong : 5 < 3 = law (three SwiftPaxos) (hears 0 5 None (Prepare 0 (round_of 0 0) (FastV 2 10)) ∷ []) 0 5 (inl refl) in omega arith

@@ -1,20 +1,24 @@
 -- Wrong engines: those of document 01, "These must be rejected" (list c), and others. Each is the right one, `call_of`, with one thing changed.
 -- Assumes nothing.
-use Rattle.std.specs.Prelude.{Bool, true, false, cond, ◌&&◌, ℕ, eqb, leb, bit_and, Option, None, Some, Ok, Err}
+use Rattle.std.specs.Prelude.{Bool, true, false, cond, ◌&&◌, List, ℕ, eqb, leb, bit_and, get_or, set, Option, None, Some, Ok, Err}
 use Rattle.std.specs.Int.{w64, bit_not, trailing_zeros}
-use Rattle.message.specs.Modes.{is_multi_paxos}
+use Rattle.message.specs.Modes.{has_fast_path, is_multi_paxos, is_swift_paxos}
 use Rattle.message.specs.Outcomes.{Outcome}
-use Rattle.message.specs.Rounds.{default_round, equal}
+use Rattle.message.specs.Rounds.{default_round, equal, increment}
 use Rattle.message.specs.declared.ConsensusMsg.{ConsensusMsg}
 use Rattle.message.specs.declared.ConsensusMsg.TheVariants.{Prepare, Accept, ForwardRequest, Commit, ReadRequest, ReadResponse}
 use Rattle.message.specs.declared.Refusal.{Refusal}
 use Rattle.message.specs.declared.Refusal.TheVariants.{SettingsOutsideLimits}
 use Rattle.message.specs.declared.RoundV.{RoundV}
 use Rattle.message.specs.declared.RoundV.TheVariants.{PaxosV}
-use Rattle.read_tracker.specs.Reads.{read_id}
+use Rattle.read_tracker.specs.Reads.{read_id, new_read, with_count}
+use Rattle.read_tracker.specs.declared.OpenRead.{OpenRead}
+use Rattle.read_tracker.specs.declared.ReadTable.{ReadTable}
+use Rattle.read_tracker.specs.declared.ServedRead.{ServedRead}
 use Rattle.round_state.specs.Paxos.{with_held}
 use Rattle.round_state.specs.declared.PaxosState.{PaxosState}
 use Rattle.settings.specs.declared.Settings.{Settings}
+use Rattle.fast_state.specs.declared.FastState.{FastState}
 use Rattle.steps.specs.Steps.{no_messages, one_message, to_all, with_paxos}
 use Rattle.steps.specs.declared.Destination.{Destination}
 use Rattle.steps.specs.declared.Destination.TheVariants.{One, All}
@@ -25,7 +29,7 @@ use Rattle.calls.specs.Decision.{decision_of}
 use Rattle.calls.specs.declared.Call.{Call}
 use Rattle.calls.specs.declared.Call.TheVariants.{Propose, StartRead, Receive}
 use Rattle.calls.specs.declared.CommittedSlot.{CommittedSlot}
-use Rattle.consensus.specs.Answers.{with_rounds, refused, sent, nothing}
+use Rattle.consensus.specs.Answers.{with_state, with_rounds, refused, sent, nothing}
 use Rattle.consensus.specs.ByParts.{by_core}
 use Rattle.consensus.specs.Call.{call_of}
 use Rattle.consensus.specs.declared.Answer.{Answer}
@@ -72,6 +76,14 @@ is_accept_for p (Commit slot v) = false
 is_accept_for p (ReadRequest id) = false
 is_accept_for p (ReadResponse id next) = false
 
+abbrev pub is_forward : ConsensusMsg → Bool
+is_forward (Prepare slot round rv) = false
+is_forward (Accept slot round v) = false
+is_forward (ForwardRequest v) = true
+is_forward (Commit slot v) = false
+is_forward (ReadRequest id) = false
+is_forward (ReadResponse id next) = false
+
 abbrev pub brings : (ConsensusMsg → Bool) → Call → Bool
 brings test (Propose v) = false
 brings test (StartRead tag arrival) = false
@@ -100,11 +112,13 @@ slot_of shard = shard.state.rounds.core.slot
 abbrev pub paxos_of : Shard → PaxosState
 paxos_of shard = shard.state.rounds.core.paxos
 
--- something else is held, or nothing
+-- another Paxos half; something else is held, or nothing
+abbrev pub with_paxos_half : PaxosState → Shard → Shard
+with_paxos_half paxos shard =
+    with_rounds shard (record { core = with_paxos paxos shard.state.rounds.core; fast = shard.state.rounds.fast })
+
 abbrev pub holding : Option RoundV → Shard → Shard
-holding held shard =
-    with_rounds shard
-    (record { core = with_paxos (with_held held (paxos_of shard)) shard.state.rounds.core; fast = shard.state.rounds.fast })
+holding held shard = with_paxos_half (with_held held (paxos_of shard)) shard
 
 abbrev pub with_settings : Settings → Shard → Shard
 with_settings s shard = record { made = shard.made; settings = s; state = shard.state }
@@ -117,6 +131,21 @@ with_replicas n live s =
       replica_count = n;
       my_pid = s.my_pid;
       alive_replicas = live;
+      first_leader = s.first_leader;
+      mode = s.mode;
+      quorum = s.quorum;
+      committers = s.committers;
+      delegates = s.delegates;
+    }
+
+-- another number of processes
+abbrev pub with_processes : ℕ → Settings → Settings
+with_processes n s =
+    record {
+      process_count = n;
+      replica_count = s.replica_count;
+      my_pid = s.my_pid;
+      alive_replicas = s.alive_replicas;
       first_leader = s.first_leader;
       mode = s.mode;
       quorum = s.quorum;
@@ -170,6 +199,10 @@ where_taken other r (Err why) = r
 
 abbrev pub if_taken : Answer → Answer → Answer
 if_taken other r = where_taken other r r.reply.outcome
+
+-- another shard, where the call is taken
+abbrev pub leaving : Shard → Answer → Answer
+leaving shard r = if_taken (record { shard = shard; reply = r.reply }) r
 
 -- ---- lacking demand 2; they refuse what has to be refused
 
@@ -352,3 +385,115 @@ forgets_held_with_read shard c = cond (is_new_read c) (if_taken (call_of (holdin
 -- promises and accepts are taken of every process
 unfoldable pub counts_every_process : AnyEngine
 counts_every_process shard c = call_under (with_replicas shard.settings.replica_count 18446744073709551615 shard.settings) shard c
+
+-- ---- lacking a law of what lists of calls leave in a shard, or of what is served
+
+-- In the classic modes too a proposal is noted for the fast path, as one answer for it, until the next call.
+abbrev pub with_preaccepted : ℕ → FastState → FastState
+with_preaccepted n f =
+    record {
+      fast_answer_set = f.fast_answer_set;
+      fast_preaccepted = n;
+      fast_proposers = f.fast_proposers;
+      fast_proposer_to_v = f.fast_proposer_to_v;
+      epaxos_proposer_scores = f.epaxos_proposer_scores;
+      swift_proposer_scores = f.swift_proposer_scores;
+      swift_leader_answer = f.swift_leader_answer;
+    }
+
+abbrev pub noting : ℕ → Shard → Shard
+noting n shard = with_rounds shard (record { core = shard.state.rounds.core; fast = with_preaccepted n shard.state.rounds.fast })
+
+abbrev pub answers_noted : Call → ℕ
+answers_noted (Propose v) = 1
+answers_noted (StartRead tag arrival) = 0
+answers_noted (Receive d) = 0
+
+unfoldable pub notes_proposals : AnyEngine
+notes_proposals shard c =
+    cond (has_fast_path shard.settings.mode) (call_of shard c) (leaving (noting (answers_noted c) (call_of shard c).shard) (call_of shard c))
+
+-- Between calls the first two open reads stand the other way round; it answers as the right one.
+abbrev pub with_table : ReadTable → Shard → Shard
+with_table table shard = with_state shard (record { rounds = shard.state.rounds; table = table })
+
+abbrev pub no_read : OpenRead
+no_read = new_read (read_id 0) 0 0 false
+
+abbrev pub first_two_turned : List OpenRead → List OpenRead
+first_two_turned reads = set (set reads 0 (get_or reads 1 no_read)) 1 (get_or reads 0 no_read)
+
+abbrev pub turned : Shard → Shard
+turned shard =
+    cond (leb 2 shard.state.rounds.core.tracker.open_count)
+    (with_table (record { reads = first_two_turned shard.state.table.reads; served = shard.state.table.served }) shard)
+    shard
+
+unfoldable pub keeps_reads_turned : AnyEngine
+keeps_reads_turned shard c =
+    if_taken (record { shard = turned (call_of (turned shard) c).shard; reply = (call_of (turned shard) c).reply }) (call_of shard c)
+
+-- where a call serves two reads or more, the first two stand the other way round
+abbrev pub nothing_served : ServedRead
+nothing_served = record { id = read_id 0; tag = 0; waited_for = 0; fast = false }
+
+abbrev pub first_two_served_turned : List ServedRead → List ServedRead
+first_two_served_turned served = set (set served 0 (get_or served 1 nothing_served)) 1 (get_or served 0 nothing_served)
+
+abbrev pub with_served_turned : Answer → Answer
+with_served_turned r =
+    record {
+      shard = with_table (record { reads = r.shard.state.table.reads; served = first_two_served_turned r.shard.state.table.served }) r.shard;
+      reply = r.reply;
+    }
+
+unfoldable pub serves_turned : AnyEngine
+serves_turned shard c = cond (leb 2 (call_of shard c).reply.served_count) (with_served_turned (call_of shard c)) (call_of shard c)
+
+-- with a new read the first open read has as many responses as a number can say, so that the next one would be lost in the sum
+abbrev pub full_reads : List OpenRead → List OpenRead
+full_reads reads = set reads 0 (with_count (get_or reads 0 no_read) 18446744073709551615 (get_or reads 0 no_read).local_ready)
+
+abbrev pub with_full_read : Shard → Shard
+with_full_read shard = with_table (record { reads = full_reads shard.state.table.reads; served = shard.state.table.served }) shard
+
+unfoldable pub fills_first_read : AnyEngine
+fills_first_read shard c = cond (is_new_read c) (leaving (with_full_read (call_of shard c).shard) (call_of shard c)) (call_of shard c)
+
+-- In SwiftPaxos a forwarded request is taken for the promises, or for the accepts, of all live replicas.
+abbrev pub with_prepared : ℕ → PaxosState → PaxosState
+with_prepared members s = record { round = s.round; max_rv = s.max_rv; prepared_set = members; accepted_set = s.accepted_set }
+
+abbrev pub with_accepted : ℕ → PaxosState → PaxosState
+with_accepted members s = record { round = s.round; max_rv = s.max_rv; prepared_set = s.prepared_set; accepted_set = members }
+
+abbrev pub swift_forward : Shard → Call → Bool
+swift_forward shard c = is_swift_paxos shard.settings.mode && brings is_forward c
+
+unfoldable pub counts_forwards_as_promises : AnyEngine
+counts_forwards_as_promises shard c =
+    cond (swift_forward shard c)
+    (leaving (with_paxos_half (with_prepared shard.settings.alive_replicas (paxos_of shard)) shard) (call_of shard c))
+    (call_of shard c)
+
+unfoldable pub counts_forwards_as_accepts : AnyEngine
+counts_forwards_as_accepts shard c =
+    cond (swift_forward shard c)
+    (leaving (with_paxos_half (with_accepted shard.settings.alive_replicas (paxos_of shard)) shard) (call_of shard c))
+    (call_of shard c)
+
+-- a process of any number is taken for one of the group
+unfoldable pub takes_every_process : AnyEngine
+takes_every_process shard c = call_under (with_processes 18446744073709551615 shard.settings) shard c
+
+-- in SwiftPaxos a commit is told as one of the next slot
+abbrev pub of_next_slot : CommittedSlot → CommittedSlot
+of_next_slot commit = record { slot = increment commit.slot; v = commit.v; fast = commit.fast }
+
+abbrev pub told_as_next : Option CommittedSlot → Option CommittedSlot
+told_as_next None = None
+told_as_next (Some commit) = Some (of_next_slot commit)
+
+unfoldable pub commits_next_slot : AnyEngine
+commits_next_slot shard c =
+    cond (is_swift_paxos shard.settings.mode) (with_commit (told_as_next (call_of shard c).reply.commit) (call_of shard c)) (call_of shard c)

@@ -1,23 +1,28 @@
 -- The laws of the engine, each as a property of any engine: the theorems of consensus, paper and group with the engine's call as a parameter. `call_of` has
 -- all of them, and with `call_of` they are those theorems (proofs/Right.antt). Each wrong engine of Engines.antt lacks one (the other files of proofs/).
 -- Assumes nothing.
-use Rattle.std.specs.Prelude.{◌≡◌, Bool, false, cond, List, [], ◌∷◌, ℕ, ◌≤◌, ◌<◌, eqb, length, None, Ok}
+use Rattle.std.specs.Prelude.{◌≡◌, ◌⊎◌, Bool, true, false, cond, List, [], ◌∷◌, ℕ, ◌≤◌, ◌<◌, eqb, length, None, is_some, Ok}
 use Rattle.basics.specs.Lists.{In}
-use Rattle.sets.specs.Sets.{Within}
-use Rattle.message.specs.Modes.{is_swift_paxos}
+use Rattle.sets.specs.Sets.{contains, Within}
+use Rattle.message.specs.Modes.{has_fast_path, is_swift_paxos}
 use Rattle.settings.specs.declared.Settings.{Settings}
+use Rattle.round_state.specs.Paxos.{get_last_accepted_round}
 use Rattle.fast_state.specs.Adopt.{lowest_best}
+use Rattle.fast_state.specs.Fast.{no_answers}
+use Rattle.serving.proofs.IdOrder.{InOrder, Rising, served_ids}
+use Rattle.delivery.specs.declared.Delivery.{Delivery}
 use Rattle.steps.specs.declared.Outgoing.{Outgoing}
 use Rattle.calls.specs.Commits.{committed_slot}
 use Rattle.calls.specs.declared.Call.{Call}
+use Rattle.calls.specs.declared.Call.TheVariants.{Receive}
 use Rattle.consensus.specs.Call.{new_shard}
 use Rattle.consensus.specs.FirstCause.{ByFirstCause}
 use Rattle.consensus.specs.declared.Answer.{Answer}
 use Rattle.consensus.specs.declared.Shard.{Shard}
 use Rattle.paper.specs.PaperCall.{seen, InPaxos, LeavesPaxos, paper_call}
 use Rattle.paper.specs.Runs.{ClassicMode}
-use Rattle.group.specs.Claim.{begun, MemberCall, Entry, messages_of, SentTo, MayStand, slot_at, Claim, NotSwift}
-use Rattle.group.proofs.Invariants.{Cleared}
+use Rattle.group.specs.Claim.{begun, MemberCall, Entry, messages_of, SentTo, MayStand, slot_at, CommitAt, Claim, NotSwift}
+use Rattle.group.proofs.Invariants.{Cleared, served_by, Room, InTables}
 use Rattle.group.proofs.Sending.{FromOwn}
 
 -- what a call makes of a shard
@@ -115,6 +120,11 @@ module _ (engine : AnyEngine) where
       (s : Settings) (cs : List MemberCall) (i : ℕ)
       → (shards_by (begun s) cs i).state.rounds.core.slot ≡ slot_at i (entries_by (begun s) [] cs)
 
+  -- `commits_are_of_own_slot` (group)
+  abbrev pub CommitsOwnSlot : Type 0
+  CommitsOwnSlot =
+      (s : Settings) (cs : List MemberCall) (slot v : ℕ) (c : CommitAt slot v (entries_by (begun s) [] cs)) → slot ≡ slot_at c.entry.member c.earlier
+
   -- `commit_clears` (group)
   abbrev pub ClearsWithCommit : Type 0
   ClearsWithCommit =
@@ -122,12 +132,58 @@ module _ (engine : AnyEngine) where
       → (engine (shards_by (begun s) cs i) c).reply.commit ≡ committed_slot slot v mark
       → Cleared (engine (shards_by (begun s) cs i) c).shard
 
-  -- `sets_hold_live_replicas` (group)
+  -- `sets_hold_processes` and `sets_hold_live_replicas` (group)
+  abbrev pub CountsProcesses : Type 0
+  CountsProcesses =
+      (s : Settings) (cs : List MemberCall) (i p : ℕ)
+      → (contains (shards_by (begun s) cs i).state.rounds.core.paxos.prepared_set p ≡ true)
+      ⊎ (contains (shards_by (begun s) cs i).state.rounds.core.paxos.accepted_set p ≡ true)
+      → p < s.process_count
+
   abbrev pub CountsLiveReplicas : Type 0
   CountsLiveReplicas =
       (s : Settings) (cs : List MemberCall) (i : ℕ) → is_swift_paxos s.mode ≡ false
       → Within (shards_by (begun s) cs i).state.rounds.core.paxos.prepared_set s.alive_replicas
       × Within (shards_by (begun s) cs i).state.rounds.core.paxos.accepted_set s.alive_replicas
+
+  -- `fast_half_as_new` (group)
+  abbrev pub LeavesFastHalfNew : Type 0
+  LeavesFastHalfNew =
+      (s : Settings) (cs : List MemberCall) (i : ℕ) → has_fast_path s.mode ≡ false → (shards_by (begun s) cs i).state.rounds.fast ≡ no_answers
+
+  -- `reads_in_order` (group)
+  abbrev pub KeepsReadsInOrder : Type 0
+  KeepsReadsInOrder =
+      (s : Settings) (cs : List MemberCall) (i : ℕ)
+      → InOrder (shards_by (begun s) cs i).state.rounds.core.tracker (shards_by (begun s) cs i).state.table
+
+  -- `served_in_order` (group)
+  abbrev pub ServesInOrder : Type 0
+  ServesInOrder =
+      (s : Settings) (cs : List MemberCall) (i : ℕ) (c : Call)
+      → Rising 0 (served_ids (served_by (engine (shards_by (begun s) cs i) c))) (shards_by (begun s) cs i).state.rounds.core.tracker.next_id
+
+  -- `promises_while_held` and `accepts_while_accepted` (group)
+  abbrev pub CountsPromisesWhileHeld : Type 0
+  CountsPromisesWhileHeld =
+      (s : Settings) (cs : List MemberCall) (i : ℕ) → is_some (shards_by (begun s) cs i).state.rounds.core.paxos.max_rv ≡ false
+      → (shards_by (begun s) cs i).state.rounds.core.paxos.prepared_set ≡ 0
+
+  abbrev pub CountsAcceptsWhileAccepted : Type 0
+  CountsAcceptsWhileAccepted =
+      (s : Settings) (cs : List MemberCall) (i : ℕ)
+      → is_some (get_last_accepted_round (shards_by (begun s) cs i).state.rounds.core.paxos.max_rv) ≡ false
+      → (shards_by (begun s) cs i).state.rounds.core.paxos.accepted_set ≡ 0
+
+  -- `sums_have_room` (group)
+  abbrev pub LeavesRoom : Type 0
+  LeavesRoom = (s : Settings) (cs : List MemberCall) (i : ℕ) → Room (shards_by (begun s) cs i)
+
+  -- `handled_in_tables` (group): of a message that is taken. What is taken is admitted (`taken_admitted`, proofs/Right.antt).
+  abbrev pub TakesWithinTables : Type 0
+  TakesWithinTables =
+      (s : Settings) (cs : List MemberCall) (i : ℕ) (d : Delivery)
+      → (engine (shards_by (begun s) cs i) (Receive d)).reply.outcome ≡ Ok tt → InTables (shards_by (begun s) cs i).settings.my_pid d
 
 -- all of them
 pub record HasAllLaws (engine : AnyEngine) : Type 0 where
@@ -142,5 +198,14 @@ pub record HasAllLaws (engine : AnyEngine) : Type 0 where
   pub none_to_itself : SendsNoneToItself engine
   pub nothing_alone : CommitsNothingAlone engine
   pub slots : SlotCountsCommits engine
+  pub own_slots : CommitsOwnSlot engine
   pub clears : ClearsWithCommit engine
+  pub processes : CountsProcesses engine
   pub live_replicas : CountsLiveReplicas engine
+  pub fast_half : LeavesFastHalfNew engine
+  pub reads : KeepsReadsInOrder engine
+  pub served : ServesInOrder engine
+  pub promises : CountsPromisesWhileHeld engine
+  pub accepts : CountsAcceptsWhileAccepted engine
+  pub room : LeavesRoom engine
+  pub tables : TakesWithinTables engine

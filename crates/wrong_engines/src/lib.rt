@@ -4,11 +4,12 @@
 
 ghost use Rattle.std.specs.Prelude.{◌≡◌};
 ghost use Rattle.consensus.specs.Answers.{refused, sent};
-ghost use Rattle.wrong_engines.specs.Engines.{is_message, is_prepare_for, is_accept_for, brings, from_another, holding, lowest_or, call_under, with_replicas, with_messages, on_message, on_messages, if_taken, does_nothing, sends_fixed, one_commit, fixed_content, with_fixed_content, sends_fixed_contents, all_zero, answers_no_message, idles_after_slot_zero, refuses_each, commits_on_first_accept, prepared_figure_without_set, accepted_figure_without_set, forgets_held_with_round, sends_thrice, from_zero, sends_as_zero, sent_to, sends_to_itself, commits_at_once};
+ghost use Rattle.wrong_engines.specs.Engines.{is_message, is_proposal, multi_paxos_never_proposes, is_prepare_for, is_accept_for, brings, from_another, holding, lowest_or, call_under, with_replicas, with_messages, on_message, on_messages, if_taken, does_nothing, sends_fixed, one_commit, fixed_content, with_fixed_content, sends_fixed_contents, all_zero, answers_no_message, idles_after_slot_zero, refuses_each, commits_on_first_accept, prepared_figure_without_set, accepted_figure_without_set, forgets_held_with_round, sends_thrice, from_zero, sends_as_zero, sent_to, sends_to_itself, commits_at_once, is_new_read, is_forward, with_settings, with_processes, leaving, if_commits, stays_in_slot, keeps_held_after_commit, marked_unmade, unmakes, loses_replicas, forgets_held_with_read, counts_every_process, noting, answers_noted, notes_proposals, with_table, no_read, first_two_turned, turned, keeps_reads_turned, nothing_served, first_two_served_turned, serves_turned, full_reads, fills_first_read, swift_forward, counts_forwards_as_promises, counts_forwards_as_accepts, takes_every_process, told_as_next, commits_next_slot};
 
 use calls::{Call, CommittedSlot, Reply};
 use consensus::{Answer, Shard};
-use message::{ConsensusMessage, ConsensusMsg, PaxosRound, ReadId, Refusal, RoundV};
+use message::{ConsensusMessage, ConsensusMsg, PaxosRound, ReadId, Refusal, RoundV, increment};
+use read_tracker::{OpenRead, ServedRead};
 use settings::Settings;
 use steps::{Destination, Messages, Outgoing};
 
@@ -180,6 +181,22 @@ fn is_message(call: Call) -> bool
     ensures { result ≡ is_message call }
 {
     matches!(call, Call::Receive(_))
+}
+
+fn is_proposal(call: Call) -> bool
+    ensures { result ≡ is_proposal call }
+{
+    matches!(call, Call::Propose(_))
+}
+
+#[tactic(auto, unfolding(crate::specs::Engines::multi_paxos_never_proposes, crate::specs::Engines::does_nothing))]
+pub fn multi_paxos_never_proposes(shard: Shard, call: Call) -> Answer
+    ensures { result ≡ multi_paxos_never_proposes shard call }
+{
+    if shard.settings.mode.is_multi_paxos() && is_proposal(call) {
+        return does_nothing(shard, call);
+    }
+    shard.call(call)
 }
 
 #[tactic(auto, unfolding(crate::specs::Engines::answers_no_message))]
@@ -428,4 +445,274 @@ pub fn commits_at_once(shard: Shard, call: Call) -> Answer
         },
         _ => right,
     }
+}
+
+// ---- lacking a law of every run, or of what a call leaves
+
+// The answer, with another shard if it commits.
+fn if_commits(shard: Shard, mut answer: Answer) -> Answer
+    ensures { result ≡ if_commits shard answer }
+{
+    if answer.reply.commit.is_some() {
+        answer.shard = shard;
+    }
+    answer
+}
+
+#[tactic(auto, unfolding(crate::specs::Engines::stays_in_slot))]
+pub fn stays_in_slot(shard: Shard, call: Call) -> Answer
+    ensures { result ≡ stays_in_slot shard call }
+{
+    if_commits(shard, shard.call(call))
+}
+
+#[tactic(auto, unfolding(crate::specs::Engines::keeps_held_after_commit))]
+pub fn keeps_held_after_commit(shard: Shard, call: Call) -> Answer
+    ensures { result ≡ keeps_held_after_commit shard call }
+{
+    let right = shard.call(call);
+    if_commits(
+        holding(shard.state.rounds.core.paxos.max_rv, right.shard),
+        right,
+    )
+}
+
+#[tactic(auto, unfolding(crate::specs::Engines::unmakes))]
+pub fn unmakes(shard: Shard, call: Call) -> Answer
+    ensures { result ≡ unmakes shard call }
+{
+    let right = shard.call(call);
+    let mut unmade = right.shard;
+    unmade.made = Err(Refusal::SettingsOutsideLimits);
+    if_commits(unmade, right)
+}
+
+fn with_replicas(n: u64, live: u64, mut settings: Settings) -> Settings
+    ensures { result ≡ with_replicas n live settings }
+{
+    settings.replica_count = n;
+    settings.alive_replicas = live;
+    settings
+}
+
+#[tactic(auto, unfolding(crate::specs::Engines::loses_replicas))]
+pub fn loses_replicas(shard: Shard, call: Call) -> Answer
+    ensures { result ≡ loses_replicas shard call }
+{
+    let right = shard.call(call);
+    let mut left = right.shard;
+    left.settings = with_replicas(1, 1, shard.settings);
+    if_commits(left, right)
+}
+
+fn is_new_read(call: Call) -> bool
+    ensures { result ≡ is_new_read call }
+{
+    matches!(call, Call::StartRead { .. })
+}
+
+#[tactic(auto, unfolding(crate::specs::Engines::forgets_held_with_read))]
+pub fn forgets_held_with_read(shard: Shard, call: Call) -> Answer
+    ensures { result ≡ forgets_held_with_read shard call }
+{
+    let right = shard.call(call);
+    if is_new_read(call) {
+        let forgotten = holding(None, shard);
+        return if_taken(forgotten.call(call), right);
+    }
+    right
+}
+
+#[tactic(auto, unfolding(crate::specs::Engines::counts_every_process))]
+pub fn counts_every_process(shard: Shard, call: Call) -> Answer
+    ensures { result ≡ counts_every_process shard call }
+{
+    let everyone = 18446744073709551615;
+    call_under(
+        with_replicas(shard.settings.replica_count, everyone, shard.settings),
+        shard,
+        call,
+    )
+}
+
+// ---- lacking a law of what lists of calls leave in a shard, or of what is served
+
+// Another shard, where the call is taken.
+fn leaving(shard: Shard, right: Answer) -> Answer
+    ensures { result ≡ leaving shard right }
+{
+    let changed = Answer {
+        shard,
+        reply: right.reply,
+    };
+    if_taken(changed, right)
+}
+
+fn noting(n: u64, mut shard: Shard) -> Shard
+    ensures { result ≡ noting n shard }
+{
+    shard.state.rounds.fast.fast_preaccepted = n;
+    shard
+}
+
+fn answers_noted(call: Call) -> u64
+    ensures { result ≡ answers_noted call }
+{
+    match call {
+        Call::Propose(_) => 1,
+        _ => 0,
+    }
+}
+
+#[tactic(auto, unfolding(crate::specs::Engines::notes_proposals))]
+pub fn notes_proposals(shard: Shard, call: Call) -> Answer
+    ensures { result ≡ notes_proposals shard call }
+{
+    let right = shard.call(call);
+    if shard.settings.mode.has_fast_path() {
+        return right;
+    }
+    leaving(noting(answers_noted(call), right.shard), right)
+}
+
+fn first_two_turned(mut reads: [OpenRead; 128]) -> [OpenRead; 128]
+    ensures { result ≡ first_two_turned reads }
+{
+    let first = reads[0];
+    reads[0] = reads[1];
+    reads[1] = first;
+    reads
+}
+
+fn turned(mut shard: Shard) -> Shard
+    ensures { result ≡ turned shard }
+{
+    if shard.state.rounds.core.tracker.open_count >= 2 {
+        shard.state.table.reads = first_two_turned(shard.state.table.reads);
+    }
+    shard
+}
+
+#[tactic(auto, unfolding(crate::specs::Engines::keeps_reads_turned))]
+pub fn keeps_reads_turned(shard: Shard, call: Call) -> Answer
+    ensures { result ≡ keeps_reads_turned shard call }
+{
+    let mut other = turned(shard).call(call);
+    other.shard = turned(other.shard);
+    if_taken(other, shard.call(call))
+}
+
+fn first_two_served_turned(mut served: [ServedRead; 128]) -> [ServedRead; 128]
+    ensures { result ≡ first_two_served_turned served }
+{
+    let first = served[0];
+    served[0] = served[1];
+    served[1] = first;
+    served
+}
+
+#[tactic(auto, unfolding(crate::specs::Engines::serves_turned))]
+pub fn serves_turned(shard: Shard, call: Call) -> Answer
+    ensures { result ≡ serves_turned shard call }
+{
+    let mut answer = shard.call(call);
+    if answer.reply.served_count >= 2 {
+        answer.shard.state.table.served = first_two_served_turned(answer.shard.state.table.served);
+    }
+    answer
+}
+
+fn full_reads(mut reads: [OpenRead; 128]) -> [OpenRead; 128]
+    ensures { result ≡ full_reads reads }
+{
+    let mut first = reads[0];
+    first.ready_count = 18446744073709551615;
+    reads[0] = first;
+    reads
+}
+
+#[tactic(auto, unfolding(crate::specs::Engines::fills_first_read))]
+pub fn fills_first_read(shard: Shard, call: Call) -> Answer
+    ensures { result ≡ fills_first_read shard call }
+{
+    let right = shard.call(call);
+    if is_new_read(call) {
+        let mut left = right.shard;
+        left.state.table.reads = full_reads(left.state.table.reads);
+        return leaving(left, right);
+    }
+    right
+}
+
+fn brings_forward(call: Call) -> bool
+    ensures { result ≡ brings is_forward call }
+{
+    match call {
+        Call::Receive(d) => matches!(d.message.msg, ConsensusMsg::ForwardRequest { .. }),
+        _ => false,
+    }
+}
+
+fn swift_forward(shard: Shard, call: Call) -> bool
+    ensures { result ≡ swift_forward shard call }
+{
+    shard.settings.mode.is_swift_paxos() && brings_forward(call)
+}
+
+#[tactic(auto, unfolding(crate::specs::Engines::counts_forwards_as_promises))]
+pub fn counts_forwards_as_promises(shard: Shard, call: Call) -> Answer
+    ensures { result ≡ counts_forwards_as_promises shard call }
+{
+    let right = shard.call(call);
+    if swift_forward(shard, call) {
+        let mut left = shard;
+        left.state.rounds.core.paxos.prepared_set = shard.settings.alive_replicas;
+        return leaving(left, right);
+    }
+    right
+}
+
+#[tactic(auto, unfolding(crate::specs::Engines::counts_forwards_as_accepts))]
+pub fn counts_forwards_as_accepts(shard: Shard, call: Call) -> Answer
+    ensures { result ≡ counts_forwards_as_accepts shard call }
+{
+    let right = shard.call(call);
+    if swift_forward(shard, call) {
+        let mut left = shard;
+        left.state.rounds.core.paxos.accepted_set = shard.settings.alive_replicas;
+        return leaving(left, right);
+    }
+    right
+}
+
+#[tactic(auto, unfolding(crate::specs::Engines::takes_every_process))]
+pub fn takes_every_process(shard: Shard, call: Call) -> Answer
+    ensures { result ≡ takes_every_process shard call }
+{
+    let mut settings = shard.settings;
+    settings.process_count = 18446744073709551615;
+    call_under(settings, shard, call)
+}
+
+fn told_as_next(commit: Option<CommittedSlot>) -> Option<CommittedSlot>
+    ensures { result ≡ told_as_next commit }
+{
+    match commit {
+        None => None,
+        Some(mut commit) => {
+            commit.slot = increment(commit.slot);
+            Some(commit)
+        },
+    }
+}
+
+#[tactic(auto, unfolding(crate::specs::Engines::commits_next_slot))]
+pub fn commits_next_slot(shard: Shard, call: Call) -> Answer
+    ensures { result ≡ commits_next_slot shard call }
+{
+    let mut answer = shard.call(call);
+    if shard.settings.mode.is_swift_paxos() {
+        answer.reply.commit = told_as_next(answer.reply.commit);
+    }
+    answer
 }

@@ -1,0 +1,5 @@
+pub mod Parts
+pub mod Handlers
+pub mod Calls
+pub mod Own
+pub mod InRuns
