@@ -7,6 +7,8 @@
     tools/planning_lines.py answers    # the answers to the lines on standard input, on standard output
     tools/planning_lines.py joins      # lines `join` of E10, also long ones, on standard output
     tools/planning_lines.py feeds      # lines `feed` of E10, also long ones, with others between them, on standard output
+    tools/planning_lines.py dates      # a time of each day from 1970-01-01 to 9999-12-31, as its minute and its date, on standard output, and
+    tools/planning_lines.py days       # lines `minute` and `date` for the same times
     tools/planning_lines.py reports F  # inputs for the program `cell_report` and its outputs, as files N.in and N.out of the folder F
 
 What is answered follows document 02 alone. The format of a line is this project's own (docs/PLANNING.md). It shares nothing with the programs. A request
@@ -15,6 +17,7 @@ adds its forms of a line to FORMS and its lines to LINES.
 
 import array
 import bisect
+import datetime
 import itertools
 import pathlib
 import random
@@ -242,7 +245,7 @@ class Register:
 
 
 def begin_register(planner, whole_mhz_from=LARGEST_SLOT):
-    planner.register = Register(whole_mhz_from)
+    planner.register, planner.positions = Register(whole_mhz_from), {}
     return begun(planner)
 
 
@@ -255,7 +258,11 @@ def assign(planner, slot, cell, carrier, width):
 
 
 def release(planner, slot, cell):
-    return planner.register.sees(slot) or planner.register.freed(cell)
+    """"a release drops it"."""
+    answer = planner.register.sees(slot) or planner.register.freed(cell)
+    if answer == "done":
+        planner.positions.pop(cell, None)
+    return answer
 
 
 def report_of(planner):
@@ -269,11 +276,12 @@ def report_of(planner):
 
 
 def cells_of(planner):
-    """How many are live, and each of them by number; it has no position."""
+    """How many are live, and each of them by number, with its position where it has one (E11)."""
     if not planner.register.is_made:
         return "refused 1"
     live = planner.register.live
-    return "; ".join([f"{len(live)}"] + [f"{cell} {carrier} {width} - -" for cell, (carrier, width) in sorted(live.items())])
+    place = lambda cell: "{} {}".format(*planner.positions.get(cell, ("-", "-")))
+    return "; ".join([f"{len(live)}"] + [f"{cell} {carrier} {width} {place(cell)}" for cell, (carrier, width) in sorted(live.items())])
 
 
 LOOK = [b"report", b"cells"]
@@ -598,12 +606,8 @@ NOT_ENTRIES = [
     b"entry 90 \xff 1 2 3",
 ]
 
-# each belongs to a request that is not there yet, and is a bad line until then
-LATER = [
-    b"entry 90 p 1 2 3",
-    b"entry 90 p 1 -2 -3",
-    b"conflicts 5 1 0 0 0",
-    b"free 0 5 1 0 0 0",
+# E8: lines that are no entries
+DATES_AND_WINDOWS = [
     b"minute 1970 1 1 0 0",
     b"date 0",
     b"windows 0",
@@ -611,11 +615,11 @@ LATER = [
 ]
 
 
-def left_for_later():
+def bad_lines_between():
     """Bad lines change nothing: what is live and what is counted stays, and slot 90 is not seen."""
     before = [b"register", assignment(3, 1), assignment(4, 2), removal(5, 1)] + LOOK
     lines = [line for bad in NOT_ENTRIES for line in (bad, b"report")]
-    return before + lines + LATER + LOOK + [assignment(90, 1, 2, 3), removal(90, 1)] + LOOK
+    return before + lines + DATES_AND_WINDOWS + LOOK + [assignment(90, 1, 2, 3), removal(90, 1)] + LOOK
 
 
 def register_lines():
@@ -645,7 +649,7 @@ def begin_stored(planner, following, made, superseded, released, count, *rest):
     register.live = {cell: (carrier, width) for cell, carrier, width in cells}
     register.made, register.superseded, register.released = made, superseded, released
     register.unaccounted = made - superseded - released - count
-    planner.register = register
+    planner.register, planner.positions = register, {}  # E11: its cells have no positions
     return begun(planner)
 
 
@@ -894,8 +898,19 @@ def entries_of(lines):
 
 
 def report_input():
-    """The gate's input: places run out, entries are refused and older ones go by, from a slot on for odd widths too; no LF ends the last line."""
-    return ended([begins_at(3500)] + entries_of(random_run(random.Random(16), 3000, range(40000, 41000), 2))) + assignment(2**63 - 2, 7)
+    """The gate's input: places run out, entries are refused and older ones go by, from a slot on for odd widths too, and positions that are done, refused
+    and older; no LF ends the last line."""
+    run = entries_of(random_run(random.Random(16), 3000, range(40000, 41000), 2))
+    chosen = random.Random(17)
+    between = [entry for line in run for entry in ([line, position_beside(chosen, line)] if chosen.random() < 0.2 else [line])]
+    return ended([begins_at(3500)] + between) + assignment(2**63 - 2, 7)
+
+
+def position_beside(chosen, line):
+    """A position of the entry's cell, or of another, in the slot behind the entry's, in its own, or above the last slot."""
+    _, slot, _, cell, *_ = line.split(b" ")
+    slot = chosen.choice([int(slot) + 1, int(slot), LARGEST_SLOT + 1])
+    return f"entry {slot} p {int(cell) + chosen.randint(0, 1)} {chosen.choice([5, LIMIT + 1])} -7".encode("ascii")
 
 
 def report_inputs():
@@ -909,7 +924,10 @@ def report_inputs():
         odd = [assignment(slot, slot, 5, 1500) for slot in (3, 4, 5, 6, 7)]
         first = begins_at(named)
         inputs += [ended([first] + some), ended([first] + odd), first, ended(odd + [first]), ended([first] * 2)]
-    others = NOT_SLOTS + NOT_ENTRIES + LATER + NOT_LINES
+    # E11: positions are seen, and are in no figure
+    placed = [line.encode("ascii") for line in entries_of_positions()]
+    inputs += [ended(entries_of(placed)), ended(entries_of(placed)[-4:]), ended([begins_at(LARGEST_SLOT + 1)] + entries_of(placed))]
+    others = NOT_SLOTS + NOT_ENTRIES + NOT_POSITIONS + DATES_AND_WINDOWS + NOT_LINES
     others += [b"register", b"report", b"cells", b"number 5", b"khz 5", b"stored 0 0 0 0 0", assignment(7, 1) + b" " * LONGEST]
     for other in others:
         inputs += [ended(some + [other]), ended([other] + some), ended(some[:3] + [other] + some[3:])] + ([ended(some) + other] if other else [])
@@ -919,6 +937,212 @@ def report_inputs():
         assert len(long_line) == length
         inputs += [ended(some + [long_line] + some), ended(some) + long_line, ended([long_line])]
     return inputs
+
+
+# ---- E11: positions, conflicts within reach, and the first free carrier
+
+SIGNED = "a number with a sign"
+LIMIT = 2_000_000
+FARTHEST = 6_000_000
+LAST_CARRIER = len(FREQUENCIES) - 1
+
+
+def position(planner, slot, cell, x, y):
+    """"gives 16 for a cell that is not live and adds to no figure of the report"; 2, older, 21, then 16."""
+    answer = planner.register.sees(slot)
+    if answer:
+        return answer
+    if abs(x) > LIMIT or abs(y) > LIMIT:
+        return "refused 21"
+    if cell not in planner.register.live:
+        return "refused 16"
+    planner.positions[cell] = (x, y)
+    return "done"
+
+
+def near_cells(planner, x, y, distance):
+    """"lie within the distance of the position, equality included, squares compared. Cells without a position always count as near."."""
+    for cell, (carrier, width) in sorted(planner.register.live.items()):
+        there = planner.positions.get(cell)
+        if there is None or (there[0] - x) ** 2 + (there[1] - y) ** 2 <= distance**2:
+            yield cell, FREQUENCIES[carrier], width
+
+
+def refusal(planner, carriers, width, x, y, distance):
+    """"21 first, then 14 for a carrier, width or range end outside its limits"; a register that is not made gives 1 before anything else."""
+    if not planner.register.is_made:
+        return "refused 1"
+    if abs(x) > LIMIT or abs(y) > LIMIT or not 0 <= distance <= FARTHEST:
+        return "refused 21"
+    if any(carrier > LAST_CARRIER for carrier in carriers) or not 1 <= width <= WIDEST:
+        return "refused 14"
+    return None
+
+
+def conflicts(planner, carrier, width, x, y, distance):
+    """"its centre less half its width up to, not including, its centre plus half its width, counted in half kHz": two such spans share a half kHz."""
+    given = refusal(planner, [carrier], width, x, y, distance)
+    if given:
+        return given
+    centre = 2 * FREQUENCIES[carrier]
+    here = (centre - width, centre + width)
+    listed = [cell for cell, khz, of in near_cells(planner, x, y, distance) if max(here[0], 2 * khz - of) < min(here[1], 2 * khz + of)]
+    return " ".join(map(str, [len(listed)] + listed))
+
+
+def free(planner, first, last, width, x, y, distance):
+    """"the lowest that conflicts with none": every number that a near cell takes is marked."""
+    given = refusal(planner, [first, last], width, x, y, distance)
+    if given:
+        return given
+    taken = bytearray(max(last + 1 - first, 0))
+    for _, khz, of in near_cells(planner, x, y, distance):
+        # the numbers whose frequency is less than half of both widths away
+        below, above = 2 * khz - of - width, 2 * khz + of + width
+        low = bisect.bisect_right(FREQUENCIES, below // 2) if below >= 0 else 0
+        high = bisect.bisect_left(FREQUENCIES, (above + 1) // 2)
+        low, high = max(low, first), min(high, last + 1)
+        if low < high:
+            taken[low - first : high - first] = b"\x01" * (high - low)
+    place = taken.find(0)
+    return "refused 22" if place < 0 else f"free {first + place}"
+
+
+def entries_of_positions():
+    """Each cause of a position, every two of them together, and what becomes of a position."""
+    lines = ["register", "entry 0 p 7 0 0", "entry 0 p 7 0 0", "entry 1 a 7 632628 20000", "cells"]
+    slot = 2
+    edges = [-LIMIT - 1, -LIMIT, -LIMIT + 1, -1, 0, 1, LIMIT - 1, LIMIT, LIMIT + 1]
+    for x, y in itertools.product(edges, edges):
+        lines += [f"entry {slot} p 7 {x} {y}", "cells"]
+        slot += 1
+    for when, cell, x in itertools.product(["first", "last", "new", "beyond", "largest"], [7, 8, 2**32 - 1], [0, LIMIT + 1, -(2**63 - 1), 2**63 - 1]):
+        slot += when == "new"
+        given = {"first": 0, "last": slot - 1, "new": slot - 1, "beyond": LARGEST_SLOT + 1, "largest": 2**64 - 1}[when]
+        lines.append(f"entry {given} p {cell} {x} -5")
+    slot += 1
+    lines += [f"entry {slot} p 7 11 -12", f"entry {slot + 1} a 7 5 6", "cells", f"entry {slot + 2} a 7 3279166 6", f"entry {slot + 3} a 3 5 6", "cells"]
+    lines += [f"entry {slot + 4} r 3", "cells", f"entry {slot + 5} r 7", f"entry {slot + 6} a 7 5 6", "cells", f"entry {slot + 7} p 7 1 2", "cells"]
+    return lines
+
+
+def questions_at_the_edges():
+    """Overlap to half a kHz, distances exactly equal and one more, at each joint of the raster's ranges."""
+    lines = []
+    for carrier in [0, 1, 300_000, 599_999, 600_000, 1_000_000, 2_016_666, 2_016_667, LAST_CARRIER]:
+        for of in [1, 9, 10, 15, 30, 59, 60, 61, WIDEST]:
+            lines += ["register", f"entry 0 a 9 {carrier} {of}", "entry 1 p 9 -3000 4000"]
+            for other in range(max(carrier - 4, 0), min(carrier + 5, LAST_CARRIER + 1)):
+                apart = 2 * abs(FREQUENCIES[other] - FREQUENCIES[carrier])
+                for width in {max(1, min(WIDEST, apart - of + more)) for more in (-1, 0, 1)}:
+                    lines += [f"conflicts {other} {width} 0 0 {distance}" for distance in (4999, 5000)]
+                    lines.append(f"free {other} {min(other + 300_000, LAST_CARRIER)} {width} 0 0 5000")
+                    lines.append(f"free {other} {carrier} {width} 0 0 5000")
+    return lines
+
+
+def limits_of_questions():
+    lines = ["register", "entry 0 a 9 600000 20000", "entry 1 a 4 700000 20000", "entry 2 p 4 2000000 -2000000"]
+    places = itertools.product([-LIMIT - 1, -LIMIT, 0, LIMIT, 2**63 - 1], [-(2**63 - 1), -LIMIT, LIMIT, LIMIT + 1])
+    for (x, y), distance in itertools.product(places, [0, FARTHEST, FARTHEST + 1, 2**64 - 1]):
+        for carrier, width in itertools.product([600_000, LAST_CARRIER + 1, 2**64 - 1], [0, 1, WIDEST, WIDEST + 1]):
+            lines.append(f"conflicts {carrier} {width} {x} {y} {distance}")
+    for first, last, width, x in itertools.product([0, 600_000, LAST_CARRIER, LAST_CARRIER + 1], [0, 600_000, LAST_CARRIER, LAST_CARRIER + 1], [0, 1, WIDEST], [0, LIMIT + 1]):
+        lines.append(f"free {first} {last} {width} {x} 0 100")
+    return lines
+
+
+def random_office(chosen, cells_live, questions):
+    lines, slot = ["register"], 0
+    base = chosen.choice([0, 590_000, 620_000, 2_000_000, 3_250_000])
+    for cell in chosen.sample(range(2**32), cells_live):
+        width = chosen.choice([5000, 20000, 100000, chosen.randint(1, WIDEST)])
+        lines.append(f"entry {slot} a {cell} {chosen.randint(base, min(base + 30_000, LAST_CARRIER))} {width}")
+        if chosen.random() < 0.9:
+            lines.append(f"entry {slot + 1} p {cell} {chosen.randint(-5000, 5000)} {chosen.randint(-5000, 5000)}")
+        slot += 2
+    lines.append("cells")
+    for _ in range(questions):
+        place = f"{chosen.randint(-5000, 5000)} {chosen.randint(-5000, 5000)} {chosen.choice([0, 1000, 4000, 15000])}"
+        width = chosen.choice([1, 5000, 20000, 100000, chosen.randint(1, WIDEST)])
+        first = chosen.randint(base, min(base + 30_000, LAST_CARRIER))
+        lines += [f"conflicts {first} {width} {place}", f"free {first} {min(first + chosen.choice([0, 10, 3000, LAST_CARRIER]), LAST_CARRIER)} {width} {place}"]
+    return lines
+
+
+def position_lines():
+    chosen = random.Random(11)
+    lines = entries_of_positions() + questions_at_the_edges() + limits_of_questions()
+    for cells_live in [0, 1, 5, 40, 511, 512]:
+        lines += random_office(chosen, cells_live, 60)
+    # 512 cells all over the raster, the whole of it in conflict, and then one cell fewer
+    lines += ["register"] + [f"entry {cell} a {cell} {LAST_CARRIER * cell // 511} {WIDEST}" for cell in range(512)] + [f"free 0 {LAST_CARRIER} {WIDEST} 0 0 0"]
+    return lines + ["entry 512 r 300", f"free 0 {LAST_CARRIER} 1000 0 0 0", f"free 0 {LAST_CARRIER} {WIDEST} 0 0 0"]
+
+
+NOT_POSITIONS = [
+    b"entry 90 p",
+    b"entry 90 p ",
+    b"entry 90 p 1",
+    b"entry 90 p 1 2",
+    b"entry 90 p 1 2 ",
+    b"entry 90 p 1  2 3",
+    b"entry 90 p 1 2 3 ",
+    b"entry 90 p 1 2 3 4",
+    b"entry 90 p 4294967296 2 3",
+    b"entry 90 p -1 2 3",
+    b"entry -90 p 1 2 3",
+    b"entry 90 p 1 - 3",
+    b"entry 90 p 1 --2 3",
+    b"entry 90 p 1 2- 3",
+    b"entry 90 p 1 +2 3",
+    b"entry 90 p 1 2 3.0",
+    b"entry 90 p 1 9223372036854775808 3",
+    b"entry 90 p 1 2 -9223372036854775808",
+    b"entry 90 p 1 2 18446744073709551615",
+    b"entry 90 P 1 2 3",
+    b"entry 90 q 1 2 3",
+    b"conflicts",
+    b"conflicts ",
+    b"conflicts 5",
+    b"conflicts 5 1 0 0",
+    b"conflicts 5 1 0 0 ",
+    b"conflicts 5 1 0 0 0 0",
+    b"conflicts -5 1 0 0 0",
+    b"conflicts 5 -1 0 0 0",
+    b"conflicts 5 1 0 0 -1",
+    b"conflicts  5 1 0 0 0",
+    b"conflict 5 1 0 0 0",
+    b"conflicts 18446744073709551616 1 0 0 0",
+    b"free",
+    b"free 0 5 1 0 0",
+    b"free 0 5 1 0 0 0 0",
+    b"free -0 5 1 0 0 0",
+    b"free 0 5 1 0 0 x",
+    b"free 0 5  1 0 0 0",
+    b"freed 0 5 1 0 0 0",
+]
+
+ZEROS_IN_POSITIONS = [
+    b"register",
+    b"entry 0 a 7 632628 20000",
+    b"entry 01 p 007 -0 -00012",
+    b"cells",
+    b"entry 2 p 7 0000000000000000000000000000000000002000000 -0000000000000000000000000000000000002000000",
+    b"cells",
+    b"conflicts 000632628 0020000 02000000 -02000000 00",
+    b"free 00 0632628 01 -0 -0 00000006000000",
+]
+
+
+def positions_in_a_group():
+    """A register that is not made gives 1 to all; a stored one has no positions; what is no line changes nothing."""
+    asks = [b"entry 9 p 7 2000001 0", b"conflicts 3279166 0 2000001 0 0", b"free 0 0 0 2000001 0 0", b"cells"]
+    stored = stored_line(5, 2, 1, 0, [(7, 632628, 20000)])
+    lines = [b"register 9223372036854775807"] + asks + [b"register 0", assignment(0, 7), b"entry 1 p 7 -5 6"] + asks
+    lines += [b"register x", b"cells", stored, b"cells", b"entry 5 p 7 8 -9", b"cells", stored[:-1] + b"x", b"cells", stored, b"cells"]
+    bad = [line for bad in NOT_POSITIONS for line in (bad, b"cells")]
+    return lines + bad + ZEROS_IN_POSITIONS
 
 
 # ---- E10: two lists of commits joined into one, and a list fed to the register
@@ -968,8 +1192,12 @@ def pairs_of(numbers):
     return list(zip(numbers[::2], numbers[1::2]))
 
 
-# the letter of an entry, how many numbers stand behind it, and what takes them
-CHANGES = {b"a": (3, assign), b"r": (1, release)}
+# the letter of an entry, the numbers that stand behind it, and what takes them
+CHANGES = {
+    b"a": ((LARGEST_CELL, LARGEST, LARGEST), assign),
+    b"r": ((LARGEST_CELL,), release),
+    b"p": ((LARGEST_CELL, SIGNED, SIGNED), position),
+}
 
 
 def fed_entries(fields):
@@ -977,12 +1205,15 @@ def fed_entries(fields):
     entries = []
     at = 0
     while at < len(fields):
-        count, taken = CHANGES.get(fields[at + 2], (0, None)) if at + 2 < len(fields) else (0, None)
-        numbers = [number_in(field) for field in fields[at : at + 2] + fields[at + 3 : at + 3 + count]]
-        if taken is None or len(numbers) != 2 + count or None in numbers or numbers[2] > LARGEST_CELL:
+        behind, taken = CHANGES.get(fields[at + 2], ((), None)) if at + 2 < len(fields) else ((), None)
+        end = at + 3 + len(behind)
+        if taken is None or len(fields) < end:
+            return None
+        numbers = numbers_in((LARGEST, LARGEST) + behind, fields[at : at + 2] + fields[at + 3 : end])
+        if numbers is None:
             return None
         entries.append((numbers[0], numbers[1], taken, numbers[2:]))
-        at += 3 + count
+        at = end
     return entries
 
 
@@ -1360,7 +1591,24 @@ NOT_FEEDS = [
     b"feed 3 5 a 1 18446744073709551616 1",
     b"feed 3 5 a 1 1 18446744073709551616",
     b"feed 3 5 a 1 1 1 4 6 r 4294967296",
-    b"feed 3 5 r 1 4 6 p 1 2 3",
+    b"feed 3 5 p",
+    b"feed 3 5 p 1",
+    b"feed 3 5 p 1 2",
+    b"feed 3 5 p 1 2 ",
+    b"feed 3 5 p 1 2 3 ",
+    b"feed 3 5 p 1 2 3 4",
+    b"feed 3 5 p 1 2 -",
+    b"feed 3 5 p 1 -2- 3",
+    b"feed 3 5 p 1 --2 3",
+    b"feed 3 5 p -1 2 3",
+    b"feed 3 -5 p 1 2 3",
+    b"feed 3 5 p 4294967296 2 3",
+    b"feed 3 5 p 1 9223372036854775808 3",
+    b"feed 3 5 p 1 2 -9223372036854775808",
+    b"feed 3 5 r -1 4 6 p 1 2 3",
+    b"feed 3 5 a 1 -2 3 4 6 p 1 2 3",
+    b"feed 3 5 p 1 2 3 4 6 p 1 2",
+    b"feed 3 5 P 1 2 3",
     b"feed 9223372036854775807 5 r 1 4",
     b"feed 3 entry 3 r 1",
     b"feed entry 3 r 1",
@@ -1377,6 +1625,49 @@ ZEROS_IN_FEEDS = [b"register", b"feed 00 000 r 01 01 07 a 0000000007 05 0006", b
 def not_feeds():
     """Bad lines feed nothing: slot 3 is not seen."""
     return [b"register", assignment(2, 1)] + [line for bad in NOT_FEEDS + NOT_JOINS for line in (bad, b"report")] + [assignment(3, 1)] + LOOK
+
+
+PLACES_FED = ["a 7 632628 20000", "p 7 -300 400", "a 5 632628 20000", "p 7 2000001 0", "p 9 0 0", "r 5", "p 5 1 1", "a 7 5 6", "a 5 5 6", "p 5 2000000 -2000000"]
+
+
+def fed_positions():
+    """Positions among the entries of a list: 21 and 16 in their turn, an assignment that keeps one and a release that drops one, cells that come in before one
+    that has a position; the same entries in a list and one by one, in pieces that overlap, and refused lists, which leave every position."""
+    asks = [b"cells", b"conflicts 632628 20000 0 0 500", b"conflicts 632628 20000 0 0 499", b"free 0 632628 6 2000000 -2000000 0", b"report"]
+    lines = []
+    for order in itertools.permutations(range(4)):
+        changes = [["a 3 5 6", "p 3 1 -1", "a 1 5 6", "r 3"][place] for place in order] + ["a 3 5 6", "a 2 5 6", "p 2 -2 2", "r 1"]
+        lines += [b"register", feed_line(changes_from(0, changes)), b"cells"]
+    for begin in range(len(PLACES_FED)):
+        whole = changes_from(0, PLACES_FED[begin:] + PLACES_FED[:begin])
+        lines += [b"register"] + [f"entry {slot} {change}".encode("ascii") for slot, _, change in whole] + asks
+        lines += [b"register", feed_line(whole)] + asks + [b"register", feed_line(whole[:5]), feed_line(whole[3:])] + asks
+        lines += [feed_line(whole), feed_line(changes_from(len(whole) + 1, ["p 5 3 3"])), feed_line(whole[:2] + whole[1:])] + asks
+        lines += [feed_line([(len(whole), LARGEST_VALUE + 1, "p 5 3 3")]), begins_at(LARGEST_SLOT + 1), feed_line(whole)] + asks
+    stored = stored_line(0, 0, 0, 0, [(5, 632628, 20000), (9, 5, 6)])
+    return lines + [b"register", stored, feed_line(changes_from(0, PLACES_FED))] + asks + [stored] + asks
+
+
+def random_placed_feeds():
+    chosen = random.Random(1011)
+    lines = []
+    for _ in range(40):
+        changes = []
+        for _ in range(chosen.randint(1, 60)):
+            cell = chosen.choice([1, 2, 3, 65536, LARGEST_CELL])
+            said = chosen.choice(["a", "a", "r", "p", "p", "p"])
+            place = f"{chosen.choice([-LIMIT, LIMIT, chosen.randint(-LIMIT - 1, LIMIT + 1)])} {chosen.randint(-9, 9)}"
+            behind = {"a": f"{chosen.randint(0, 9)} {chosen.randint(1, 300)}", "r": "", "p": place}[said]
+            changes.append(f"{said} {cell} {behind}".rstrip())
+        whole = changes_from(0, changes)
+        cut = chosen.randint(1, len(whole))
+        lines += [b"register"] + [f"entry {slot} {change}".encode("ascii") for slot, _, change in whole] + LOOK
+        lines += [b"register", feed_line(whole[:cut]), feed_line(whole[max(0, cut - 2) :])] + LOOK
+    return lines
+
+
+def placed_feeds():
+    return fed_positions() + random_placed_feeds()
 
 
 def short_feeds():
@@ -1427,7 +1718,218 @@ def whole_mhz_feeds():
 
 
 def feed_lines():
-    return joins_between_entries() + short_feeds() + long_feeds() + longest_feeds() + whole_mhz_feeds()
+    return joins_between_entries() + short_feeds() + long_feeds() + longest_feeds() + whole_mhz_feeds() + placed_feeds()
+
+
+# ---- E8: change windows. The calendar is Python's: the proleptic Gregorian one, years 1 to 9999.
+
+EPOCH = datetime.datetime(1970, 1, 1)
+MINUTE = datetime.timedelta(minutes=1)
+PAST_ALL = (datetime.datetime(9999, 12, 31, 23, 59) - EPOCH) // MINUTE + 1  # the first minute past the year 9999
+MOST_WINDOWS = 128
+
+
+def minute_of(year, month, day, hour, minute):
+    """Minutes since 1970-01-01, or None: "a date that the calendar or those years lack, a time outside the day"."""
+    if year < 1970 or max(year, month, day, hour, minute) > 9999:
+        return None
+    try:
+        return (datetime.datetime(year, month, day, hour, minute) - EPOCH) // MINUTE
+    except ValueError:
+        return None
+
+
+def date_of(minute):
+    return EPOCH + minute * MINUTE
+
+
+def answer_minute(_, *date):
+    minute = minute_of(*date)
+    return "refused 17" if minute is None else f"minute {minute}"
+
+
+def answer_date(_, minute):
+    """"a minute past the year 9999, however large, has no date and gives 17"."""
+    if minute >= PAST_ALL:
+        return "refused 17"
+    on = date_of(minute)
+    return f"date {on.year} {on.month} {on.day} {on.hour} {on.minute}"
+
+
+def begin_windows(planner, count, *numbers):
+    """A line has ten numbers a window, however many those are. "More than 128 windows give 1", whatever they are; "a window whose end is not after its start"
+    gives 17."""
+    if len(numbers) != 10 * count:
+        return "bad line"
+    if count > MOST_WINDOWS:
+        planner.refusal = "refused 1"
+        return planner.refusal
+    dates = [minute_of(*numbers[place : place + 5]) for place in range(0, len(numbers), 5)]
+    planner.windows = list(zip(dates[0::2], dates[1::2]))
+    bad = any(start is None or end is None or end <= start for start, end in planner.windows)
+    planner.refusal = "refused 17" if bad else None
+    return planner.refusal or "made"
+
+
+def ask(planner, minute):
+    """"The first minute belongs to the window and the last does not."; "the first minute of the nearest later one, or that none follows"."""
+    if planner.refusal:
+        return planner.refusal
+    if minute >= PAST_ALL:
+        return "refused 17"
+    if any(start <= minute < end for start, end in planner.windows):
+        return "inside"
+    later = sorted(start for start, _ in planner.windows if start > minute)
+    return f"next {later[0]}" if later else "none"
+
+
+def words(*numbers):
+    return " ".join(map(str, numbers)).encode("ascii")
+
+
+def fields_of(minute):
+    on = date_of(minute)
+    return [on.year, on.month, on.day, on.hour, on.minute]
+
+
+def date_lines():
+    """The ends of the years, of months and of days, leap days that there are and that there are not, each number one beyond its limits, any numbers."""
+    chosen = random.Random(1970)
+    dates = []
+    for year in [1970, 1971, 1972, 1999, 2000, 2001, 2004, 2026, 2096, 2100, 2104, 2200, 2400, 3000, 4000, 8000, 9996, 9998, 9999]:
+        for month in range(1, 13):
+            dates += [[year, month, day, 0, 0] for day in [1, 27, 28, 29, 30, 31, 32]]
+        dates += [[year, 12, 31, 23, 59], [year, 1, 1, 0, 1]]
+    for year in [0, 1, 69, 70, 1600, 1900, 1968, 1969, 10000, 10001, 2**16, 2**32 + 2026, 2**63, LARGEST]:
+        dates += [[year, 1, 1, 0, 0], [year, 2, 29, 12, 30], [year, 12, 31, 23, 59]]
+    good = [2026, 11, 18, 2, 30]
+    for place, beyond in itertools.product(range(5), [0, 12, 13, 23, 24, 25, 30, 31, 32, 59, 60, 61, 99, 2**8, 2**32, 2**32 + 1, 2**63, LARGEST]):
+        dates.append(good[:place] + [beyond] + good[place + 1 :])
+    dates += [fields_of(chosen.randrange(PAST_ALL)) for _ in range(300)]
+    dates += [[chosen.randint(1965, 2035), chosen.randint(0, 13), chosen.randint(0, 32), chosen.randint(0, 25), chosen.randint(0, 61)] for _ in range(200)]
+    minutes = [at + more for at in [0, 59, 60, 1439, 1440, 2**31, 2**32, PAST_ALL, 2**63, LARGEST] for more in (-1, 0, 1) if 0 <= at + more <= LARGEST]
+    minutes += [chosen.randrange(PAST_ALL) for _ in range(300)] + [chosen.randint(PAST_ALL, LARGEST) for _ in range(40)]
+    # the first and the last minute of years, and of February and March
+    for year in [1970, 1972, 1999, 2000, 2100, 2399, 2400, 9999]:
+        for month in [1, 2, 3, 12]:
+            first = minute_of(year, month, 1, 0, 0)
+            minutes += [first, first + 1, max(first - 1, 0)]
+    return [b"minute " + words(*date) for date in dates] + [b"date " + words(minute) for minute in minutes]
+
+
+def windows_line(windows):
+    return b"windows " + words(len(windows), *[number for start, end in windows for number in fields_of(start) + fields_of(end)])
+
+
+def asked_around(windows):
+    """The minutes around each start and end, the first and the last that there are, and late ones."""
+    minutes = {minute + more for window in windows for minute in window for more in (-1, 0, 1)} | {0, 1, PAST_ALL - 2, PAST_ALL - 1}
+    late = [PAST_ALL, PAST_ALL + 1, 2**63, LARGEST]
+    return [b"ask " + words(minute) for minute in sorted(m for m in minutes if 0 <= m < PAST_ALL) + late]
+
+
+def some_windows(chosen, count, least, reach, longest):
+    starts = [chosen.randint(least, least + reach) for _ in range(count)]
+    return [(start, start + chosen.randint(1, longest)) for start in starts]
+
+
+def after_one_window(line):
+    """A line behind one that begins a window: what it leaves is asked."""
+    return [windows_line([(10, 20)]), b"ask 15", line, b"ask 15", b"ask 20", b"ask 18446744073709551615"]
+
+
+def refused_windows():
+    """Each cause, and two at once: a window that is none behind 127 good ones, 129 windows with and without such a one."""
+    good = windows_line([(100, 200)])[len(b"windows 1 ") :].split(b" ")
+    lines = []
+    for place, beyond in itertools.product(range(10), [b"0", b"13", b"60", b"1969", b"10000", b"18446744073709551615"]):
+        lines += [b"windows 1 " + b" ".join(good[:place] + [beyond] + good[place + 1 :]), b"ask 150", b"ask 18446744073709551615"]
+    last = PAST_ALL - 1
+    for start, end in [(100, 100), (101, 100), (5000000, 0), (0, 1), (0, last), (last - 1, last), (last, last), (0, 0)]:
+        lines += [windows_line([(start, end)])] + asked_around([(start, end)])
+    many = [(10 * place, 10 * place + 5) for place in range(1, 130)]
+    for windows in [many[:127] + [(7, 7)], [(7, 7)] + many[:127], many[:128], many, many[:128] + [(7, 7)], [(7, 6)] * 129, [(7, 6)] * 128, many + many]:
+        lines += [windows_line(windows), b"ask 12", b"ask 7", b"ask 1287", b"ask 1297", b"ask 18446744073709551615"]
+    # more windows than the program has places for numbers, and one number more or fewer; counts whose tenfold, taken modulo 2^64, is the count of the numbers
+    for count, others in [(129, 1289), (129, 1290), (129, 1291), (204, 2040), (204, 2041), (205, 2049), (205, 2050), (205, 2051), (300, 3000), (3000, 30000)]:
+        lines += after_one_window(b"windows " + words(count, *[7] * others))
+    for count, others in [(129, 0), (LARGEST, 5), (2**64 // 10 + 1, 4), (2**63 + 1, 10), (2**63, 0), (1, 0), (0, 10)]:
+        lines += after_one_window(b"windows " + words(count, *[1] * others))
+    for fault in [b"x", b"18446744073709551616", b""]:
+        lines += after_one_window(b"windows " + words(300, *[7] * 2999) + b" " + fault)
+    return lines
+
+
+NOT_WINDOW_LINES = [
+    b"minute",
+    b"minute ",
+    b"minute 2026 11 18 2",
+    b"minute 2026 11 18 2 30 0",
+    b"minute 2026-11-18 2:30",
+    b"minute 2026 11 18 2 30 ",
+    b"minute  2026 11 18 2 30",
+    b"minute 2026 11 18 2 -30",
+    b"minute 18446744073709551616 1 1 0 0",
+    b"minute 2026 11 18 2 18446744073709551616",
+    b"minutes 2026 11 18 2 30",
+    b"Minute 2026 11 18 2 30",
+    b"date",
+    b"date ",
+    b"date 5 6",
+    b"date -1",
+    b"date 18446744073709551616",
+    b"date 2026 11 18 2 30",
+    b"dates 5",
+    b"ask",
+    b"ask ",
+    b"ask 5 6",
+    b"ask -1",
+    b"ask 18446744073709551616",
+    b"asks 5",
+    b"windows",
+    b"windows ",
+    b"windows 0 ",
+    b"windows -1",
+    b"windows 0 1",
+    b"windows 1",
+    b"windows 1 2026 1 1 0 0 2026 1 2 0",
+    b"windows 1 2026 1 1 0 0 2026 1 2 0 0 0",
+    b"windows 2 2026 1 1 0 0 2026 1 2 0 0",
+    b"windows 1 2026 1 1 0 0 2026 1 2 0 18446744073709551616",
+    b"windows 1 2026 1 1 0 0 2026 1 2 0 x",
+    b"windows 1 2026 1 1 0 0  2026 1 2 0 0",
+    b"windows 129 1 x",
+    b"windows 129 18446744073709551616",
+    b"windows 129 ",
+    b"windows 129  1",
+    b"windows 18446744073709551616",
+    b"window 0",
+]
+
+# leading zeros say nothing
+ZEROS_IN_WINDOWS = [b"windows 001 02026 01 01 00 00 2026 01 01 00 0001", b"ask 029453760", b"ask 0000029453761", b"minute 2026 01 001 0 000", b"date 00"]
+
+
+def window_lines():
+    """Before any `windows` line; windows that overlap, in any order; none; 128 of them; what a bad line leaves."""
+    chosen = random.Random(128)
+    lines = [b"ask 0", b"ask 4223371680", b"ask 18446744073709551615"] + date_lines() + NOT_WINDOW_LINES + [b"ask 5"] + refused_windows()
+    sets = [[], [(100, 200)], [(100, 200), (200, 300)], [(300, 400), (100, 350), (320, 330)], [(0, 1)], [(0, PAST_ALL - 1)], [(500, 600)] * 3]
+    sets += [some_windows(chosen, count, least, 3000, 200) for count in [2, 3, 5, 10, 64, 127, 128] for least in [0, 29000000, PAST_ALL - 4000]]
+    for windows in sets:
+        lines += [windows_line(windows)] + asked_around(windows)
+    # bad lines leave the windows, also where those are refused; the register's lines do too, and windows leave the register
+    lines += [windows_line([(100, 200)])] + NOT_WINDOW_LINES + [b"ask 99", b"ask 150", b"register", b"ask 150", b"ask 200"]
+    lines += [assignment(0, 7), windows_line([]), b"ask 150"] + LOOK + [b"windows 1 2026 1 1 0 0 2026 1 1 0 0"] + LOOK + [b"ask 150", removal(1, 7), b"ask 150"] + LOOK
+    lines += NOT_WINDOW_LINES + [b"ask 150"] + ZEROS_IN_WINDOWS
+    return lines
+
+
+def each_day():
+    """A time of each day from 1970-01-01 to 9999-12-31, with its minute."""
+    for day in range(PAST_ALL // 1440):
+        minute = 1440 * day + 7919 * day % 1440
+        yield minute, fields_of(minute)
 
 
 # ---- lines and answers
@@ -1444,17 +1946,27 @@ FORMS = [
     ((b"register", LARGEST), begin_register),
     ((b"entry", LARGEST, b"a", LARGEST_CELL, LARGEST, LARGEST), assign),
     ((b"entry", LARGEST, b"r", LARGEST_CELL), release),
+    ((b"entry", LARGEST, b"p", LARGEST_CELL, SIGNED, SIGNED), position),
+    ((b"conflicts", LARGEST, LARGEST, SIGNED, SIGNED, LARGEST), conflicts),
+    ((b"free", LARGEST, LARGEST, LARGEST, SIGNED, SIGNED, LARGEST), free),
     ((b"stored", LARGEST, LARGEST, LARGEST, LARGEST, LARGEST, ...), begin_stored),
     ((b"report",), report_of),
     ((b"cells",), cells_of),
+    ((b"minute", LARGEST, LARGEST, LARGEST, LARGEST, LARGEST), answer_minute),
+    ((b"date", LARGEST), answer_date),
+    ((b"windows", LARGEST, ...), begin_windows),
+    ((b"ask", LARGEST), ask),
 ]
 
 
 class Planner:
-    """What is kept from line to line: at first a new register."""
+    """What is kept from line to line: at first a new register, and no windows."""
 
     def __init__(self):
         self.register = Register()
+        self.positions = {}
+        self.windows = []
+        self.refusal = None  # what refuses the windows
 
 
 def line_of(length):
@@ -1486,7 +1998,11 @@ LINES = [
     long_feeds,
     whole_mhz_lines,
     whole_mhz_feeds,
-    left_for_later,
+    lambda: [line.encode("ascii") for line in position_lines()],
+    positions_in_a_group,
+    placed_feeds,
+    bad_lines_between,
+    window_lines,
     buffer_lines,
     lambda: [b"report", b"cells"],
     many_answers,
@@ -1509,6 +2025,14 @@ def number_in(field):
     return value
 
 
+def signed_in(field):
+    """A number up to 2^63-1, with or without a minus sign."""
+    number = number_in(field.removeprefix(b"-"))
+    if number is None or number >= 2**63:
+        return None
+    return -number if field.startswith(b"-") else number
+
+
 def numbers_in(form, fields):
     """The numbers of a line that has this form, or None."""
     if form[-1] is ...:
@@ -1521,8 +2045,8 @@ def numbers_in(form, fields):
             if field != wanted:
                 return None
         else:
-            number = number_in(field)
-            if number is None or number > wanted:
+            number = signed_in(field) if wanted is SIGNED else number_in(field)
+            if number is None or wanted is not SIGNED and number > wanted:
                 return None
             numbers.append(number)
     return numbers
@@ -1579,6 +2103,10 @@ def main():
     out = sys.stdout.buffer
     if sys.argv[1:] == ["numbers"]:
         out.write("".join(f"{number} {khz}\n" for number, khz in enumerate(FREQUENCIES)).encode("ascii"))
+    elif sys.argv[1:] == ["dates"]:
+        out.writelines(f"{minute} {date_of(minute):%Y-%m-%d %H:%M}\n".encode("ascii") for minute, _ in each_day())
+    elif sys.argv[1:] == ["days"]:
+        out.writelines(b"minute " + words(*date) + b"\ndate " + words(minute) + b"\n" for minute, date in each_day())
     elif sys.argv[1:] == ["long"]:
         out.write(long_lines())
     elif sys.argv[1:] == ["joins"]:

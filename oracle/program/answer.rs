@@ -1,28 +1,34 @@
 //! `oracle answer`: reads call lines and prints what the real Rust answers.
-use crate::calls::{Call, Line, Outcome, Settings, State};
+use crate::calls::{Call, Done, Line, Outcome, Settings, State};
 use crate::consensus::paxos_family::inside::Engine;
 use crate::printer::{push_outcome, push_shard, push_text};
 use crate::reader::read_line;
 use std::io::{self, BufRead, Write};
 
-/// The one shard that the lines speak of; none where it is not made.
-#[derive(Default)]
+/// The one shard that the lines speak of; where it is not made, the number that everything on it is refused with.
 pub struct Place {
-    pub engine: Option<Engine>,
+    pub engine: Result<Engine, u32>,
+}
+
+impl Default for Place {
+    /// Before the first settings.
+    fn default() -> Place {
+        Place { engine: Err(1) }
+    }
 }
 
 impl Place {
     fn push_end(&self, out: &mut Vec<u8>) {
         match &self.engine {
-            Some(engine) => push_shard(out, &engine.state),
-            None => push_text(out, " | not_made"),
+            Ok(engine) => push_shard(out, &engine.state),
+            Err(_) => push_text(out, " | not_made"),
         }
         out.push(b'\n');
     }
 
     pub fn settings(&mut self, settings: &Settings, out: &mut Vec<u8>) -> Outcome {
-        self.engine = settings.within_limits().then(|| Engine::new(settings));
-        let outcome = if self.engine.is_some() { Ok(Default::default()) } else { Err(1) };
+        self.engine = settings.refusal().map_or_else(|| Ok(Engine::new(settings)), Err);
+        let outcome = self.engine.as_ref().map(|_| Done::default()).map_err(|number| *number);
         push_outcome(out, &outcome);
         self.push_end(out);
         outcome
@@ -30,11 +36,11 @@ impl Place {
 
     pub fn state(&mut self, state: &State, out: &mut Vec<u8>) -> Outcome {
         let outcome = match &mut self.engine {
-            Some(engine) => {
+            Ok(engine) => {
                 engine.set_state(state);
-                Ok(Default::default())
+                Ok(Done::default())
             }
-            None => Err(1),
+            Err(number) => Err(*number),
         };
         push_outcome(out, &outcome);
         self.push_end(out);
@@ -43,8 +49,8 @@ impl Place {
 
     pub fn call(&mut self, call: &Call, out: &mut Vec<u8>) -> Outcome {
         let outcome = match &mut self.engine {
-            Some(engine) => engine.call(call),
-            None => Err(1),
+            Ok(engine) => engine.call(call),
+            Err(number) => Err(*number),
         };
         push_outcome(out, &outcome);
         self.push_end(out);

@@ -1,5 +1,5 @@
 //! Random settings within the limits.
-use crate::calls::{LAST_SLOT, Mode, PLACES, Settings};
+use crate::calls::{Date, LAST_SLOT, Mode, PLACES, Settings, Window};
 use crate::random::Random;
 
 /// How many processes the groups have.
@@ -65,6 +65,19 @@ fn first_leader(random: &mut Random, process_count: usize, alive_replicas: u64) 
     if live.is_empty() || random.chance(20) { random.below(process_count) } else { random.pick(&live) }
 }
 
+/// None for most counts of processes, and for others one window or two.
+fn windows(process_count: usize) -> Vec<Window> {
+    let of_day = |day| Window {
+        start: Date { year: 2024, month: 2, day, hour: 22, minute: 0 },
+        end: Date { year: 2024, month: 3, day: 1, hour: 5, minute: 30 },
+    };
+    match process_count % 6 {
+        2 => vec![of_day(29)],
+        5 => vec![of_day(29), of_day(28)],
+        _ => vec![],
+    }
+}
+
 pub fn settings(random: &mut Random, mode: Mode, sizes: Sizes) -> Settings {
     let process_count = process_count(random, sizes);
     let (replica_count, alive_replicas) = replicas(random, process_count);
@@ -82,5 +95,6 @@ pub fn settings(random: &mut Random, mode: Mode, sizes: Sizes) -> Settings {
         committers: if has_committers || random.chance(5) { table(random, process_count) } else { vec![] },
         delegates: if mode == Mode::Pando || random.chance(5) { table(random, process_count) } else { vec![] },
         whole_mhz_from: [0, 7, LAST_SLOT][process_count % 3],
+        windows: windows(process_count),
     }
 }

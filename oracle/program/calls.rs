@@ -7,6 +7,8 @@ pub const LAST_SLOT: usize = LARGEST_NUMBER - 1;
 pub const OPEN_READ_LIMIT: usize = 128;
 /// Places of a table by process.
 pub const PLACES: usize = 64;
+/// Windows in the settings of a group (document 02, E8).
+pub const WINDOW_LIMIT: usize = 128;
 
 #[derive(Clone, Copy, PartialEq, Eq, Debug)]
 pub enum Mode {
@@ -31,6 +33,47 @@ impl Mode {
     }
 }
 
+/// A day and a time of day in UTC, in the order of time. Any numbers may stand in it.
+#[derive(Clone, Copy, PartialEq, Eq, PartialOrd, Ord, Debug)]
+pub struct Date {
+    pub year: usize,
+    pub month: usize,
+    pub day: usize,
+    pub hour: usize,
+    pub minute: usize,
+}
+
+impl Date {
+    /// "UTC year, month, day, hour (0 to 23) and minute (Gregorian calendar, years 1970 to 9999)"
+    fn is_in_calendar(&self) -> bool {
+        let is_leap = self.year % 4 == 0 && (self.year % 100 != 0 || self.year % 400 == 0);
+        let days = match self.month {
+            1 | 3 | 5 | 7 | 8 | 10 | 12 => 31,
+            4 | 6 | 9 | 11 => 30,
+            2 => 28 + is_leap as usize,
+            _ => return false,
+        };
+        (1970..=9999).contains(&self.year) && (1..=days).contains(&self.day) && self.hour < 24 && self.minute < 60
+    }
+
+    pub fn numbers(&self) -> [usize; 5] {
+        [self.year, self.month, self.day, self.hour, self.minute]
+    }
+}
+
+#[derive(Clone, Copy, PartialEq, Eq, Debug)]
+pub struct Window {
+    pub start: Date,
+    pub end: Date,
+}
+
+impl Window {
+    /// "17, a date that the calendar or those years lack, a time outside the day, or a window whose end is not after its start"
+    fn fits(&self) -> bool {
+        self.start.is_in_calendar() && self.end.is_in_calendar() && self.start < self.end
+    }
+}
+
 #[derive(Clone, PartialEq, Eq, Debug)]
 pub struct Settings {
     pub process_count: usize,
@@ -45,13 +88,25 @@ pub struct Settings {
     pub delegates: Vec<usize>,
     /// Of the group (E13); the Rust has no part in it.
     pub whole_mhz_from: usize,
+    /// Of the group too (E8).
+    pub windows: Vec<Window>,
 }
 
 impl Settings {
-    /// Row 1 of document 01's table, and E13's slot ("one above 2^63−2 gives 1"). What a mode does not have is not tested.
-    pub fn within_limits(&self) -> bool {
+    /// The number for which no shard is made of these: 17 is "checked when settings are made, after 1".
+    pub fn refusal(&self) -> Option<u32> {
+        if !self.within_limits() {
+            return Some(1);
+        }
+        let all_fit = self.windows.iter().all(Window::fits);
+        (!all_fit).then_some(17)
+    }
+
+    /// Row 1 of document 01's table, E13's slot ("one above 2^63−2 gives 1") and E8's windows ("More than 128 windows give 1"). What a mode does not
+    /// have is not tested.
+    fn within_limits(&self) -> bool {
         let count = self.process_count;
-        if self.whole_mhz_from > LAST_SLOT {
+        if self.whole_mhz_from > LAST_SLOT || self.windows.len() > WINDOW_LIMIT {
             return false;
         }
         if count < 1 || count > PLACES || self.replica_count < 1 || self.replica_count > count {

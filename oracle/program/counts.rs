@@ -5,6 +5,10 @@ use std::fmt::{Display, Formatter, Result};
 const KINDS: [&str; 11] =
     ["", "settings", "state", "proposal", "new read", "Prepare", "Accept", "ForwardRequest", "Commit", "ReadRequest", "ReadResponse"];
 
+/// The numbers by which settings, states and calls are refused.
+pub const REFUSALS: [usize; 13] = [1, 2, 3, 4, 5, 6, 7, 8, 9, 10, 11, 12, 17];
+const LARGEST_REFUSAL: usize = 17;
+
 /// What a generator is there to bring about.
 #[derive(Clone, Copy)]
 pub enum Mark {
@@ -25,7 +29,7 @@ const MARKS: [&str; 5] = ["fast, state set", "forwarded", "after damage", "large
 #[derive(Clone, Copy, Default)]
 pub struct OfMode {
     pub kinds: [u64; KINDS.len()],
-    pub refusals: [u64; 13],
+    pub refusals: [u64; LARGEST_REFUSAL + 1],
     pub commits: u64,
     pub fast_commits: u64,
     pub served: u64,
@@ -81,7 +85,7 @@ impl Display for Counts {
         for kind in 1..KINDS.len() {
             row(f, KINDS[kind], &move |mode| mode.kinds[kind])?;
         }
-        for number in 1..=12 {
+        for number in REFUSALS {
             row(f, &format!("refused {number}"), &move |mode| mode.refusals[number])?;
         }
         row(f, "commits", &|mode| mode.commits)?;

@@ -86,6 +86,7 @@ fn all_settings(mode: Mode, processes: usize) -> Vec<Settings> {
                             committers: vec![committer.unwrap_or(0); processes],
                             delegates: vec![delegate; processes],
                             whole_mhz_from: 0,
+                            windows: vec![],
                         }));
                     }
                 }

@@ -37,7 +37,7 @@ pub fn damaged_settings(random: &mut Random, settings: &Settings) -> Recording {
         let text = if random.chance(90) { damage::numbers(random, &line) } else { damage::bytes(random, &line) };
         recorder.text(&text);
         let state = any_call::state(random, settings);
-        if random.chance(20) && recorder.place.engine.is_none() {
+        if random.chance(20) && recorder.place.engine.is_err() {
             recorder.set_state(&state);
         }
         let _ = recorder.call(&any_call::call(random, settings, &state));

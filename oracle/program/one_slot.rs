@@ -142,6 +142,7 @@ impl Explorer {
             committers: vec![],
             delegates: vec![],
             whole_mhz_from: 0,
+            windows: vec![],
         };
         let engines = (0..options.processes).map(|my_pid| Engine::new(&settings(my_pid))).collect();
         Explorer { engines, proposers: options.proposers, met: Met::default() }

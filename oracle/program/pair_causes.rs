@@ -18,6 +18,7 @@ pub fn settings(mode: Mode) -> Settings {
         committers: vec![],
         delegates: (0..5).collect(),
         whole_mhz_from: 0,
+        windows: vec![],
     }
 }
 

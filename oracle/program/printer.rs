@@ -52,7 +52,11 @@ fn push_settings_line(out: &mut Vec<u8>, settings: &Settings) {
     push_numbers(out, &settings.committers);
     push_numbers(out, &[settings.delegates.len()]);
     push_numbers(out, &settings.delegates);
-    push_numbers(out, &[settings.whole_mhz_from]);
+    push_numbers(out, &[settings.whole_mhz_from, settings.windows.len()]);
+    for window in &settings.windows {
+        push_numbers(out, &window.start.numbers());
+        push_numbers(out, &window.end.numbers());
+    }
 }
 
 fn push_state_line(out: &mut Vec<u8>, state: &State) {

@@ -1,6 +1,6 @@
 //! The reader of call lines (docs/ORACLE.md).
 use crate::calls::{
-    Call, Frame, Line, MODES, Message, OPEN_READ_LIMIT, OpenRead, PLACES, Promise, Proposer, Round, Settings, State, Words,
+    Call, Date, Frame, Line, MODES, Message, OPEN_READ_LIMIT, OpenRead, PLACES, Promise, Proposer, Round, Settings, State, Window, Words,
 };
 
 /// Why a line is no call, in the order of looking; a line of too many bytes is too long before all else.
@@ -144,6 +144,16 @@ impl Fields<'_> {
         Words { value_held: self.flag(), requester: self.optional(), fast: self.flag(), held_requester: self.optional() }
     }
 
+    fn date(&mut self) -> Date {
+        Date { year: self.number(), month: self.number(), day: self.number(), hour: self.number(), minute: self.number() }
+    }
+
+    /// However many stand on the line.
+    fn windows(&mut self) -> Vec<Window> {
+        let count = self.number();
+        (0..count).map(|_| Window { start: self.date(), end: self.date() }).collect()
+    }
+
     fn settings(&mut self) -> Settings {
         let (process_count, replica_count, my_pid) = (self.number(), self.number(), self.number());
         let (alive_replicas, first_leader, mode) = (self.set(), self.number(), self.number());
@@ -162,6 +172,7 @@ impl Fields<'_> {
             committers: self.table(),
             delegates: self.table(),
             whole_mhz_from: self.number(),
+            windows: self.windows(),
         }
     }
 
@@ -247,8 +258,11 @@ fn right_count(numbers: &[usize]) -> Option<usize> {
     // kind, source and last value
     const FRAME: usize = 4;
     match numbers[0] {
-        // and the slot of whole MHz behind the tables
-        1 => count_with_tables(numbers, 10, 1, 1)?.checked_add(1),
+        // behind the tables the slot of whole MHz, and behind it the windows
+        1 => {
+            let windows = count_with_tables(numbers, 10, 1, 1)?.checked_add(1)?;
+            numbers.get(windows)?.checked_mul(10)?.checked_add(windows + 1)
+        }
         2 => count_with_tables(numbers, 20, 4, 5),
         3 => Some(2),
         4 => Some(3),

@@ -2,9 +2,10 @@
 use crate::any_call;
 use crate::any_settings::{self, Sizes};
 use crate::calls::{
-    Call, Frame, LARGEST_NUMBER, LAST_SLOT, Line, MODES, Message, Mode, OPEN_READ_LIMIT, PLACES, Promise, Round, Settings, Words,
+    Call, Date, Frame, LARGEST_NUMBER, LAST_SLOT, Line, MODES, Message, Mode, OPEN_READ_LIMIT, PLACES, Promise, Round, Settings, WINDOW_LIMIT,
+    Window, Words,
 };
-use crate::counts::Counts;
+use crate::counts::{Counts, REFUSALS};
 use crate::damage;
 use crate::generate;
 use crate::pair_paths;
@@ -48,30 +49,30 @@ const INSTANCES: [(&str, &str); 6] = [
     ),
     (
         "replica 0 hears accept (0,2) value 9 twice from 1, then value 8 (MultiPaxos3P, leader 2, committer 0)",
-        "1 5 5 0 31 2 2 0 0 1 5 0 0 0 0 0 0 0\n6 1 0 0 0 0 2 9 1 1 0 0 0 0\n6 1 0 0 0 0 2 9 1 1 0 0 0 0\n6 1 0 0 0 0 2 8 1 1 0 0 0 0",
+        "1 5 5 0 31 2 2 0 0 1 5 0 0 0 0 0 0 0 0\n6 1 0 0 0 0 2 9 1 1 0 0 0 0\n6 1 0 0 0 0 2 9 1 1 0 0 0 0\n6 1 0 0 0 0 2 8 1 1 0 0 0 0",
     ),
     (
         "EPaxos, five: adopt 10 with scores 3 and 2; then the tie",
-        "1 5 5 4 31 0 3 0 0 0 0 0 0\n3 40\n5 1 0 0 0 0 4 0 0 0 10 1 0 0 0 0 0\n5 2 0 0 0 0 4 0 4 0 40 1 0 0 0 0 0\n\
-         1 5 5 4 31 0 3 0 0 0 0 0 0\n3 40\n5 1 0 0 0 0 4 0 0 0 10 1 0 0 0 0 0\n5 3 0 0 0 0 4 0 2 0 20 1 0 0 0 0 0",
+        "1 5 5 4 31 0 3 0 0 0 0 0 0 0\n3 40\n5 1 0 0 0 0 4 0 0 0 10 1 0 0 0 0 0\n5 2 0 0 0 0 4 0 4 0 40 1 0 0 0 0 0\n\
+         1 5 5 4 31 0 3 0 0 0 0 0 0 0\n3 40\n5 1 0 0 0 0 4 0 0 0 10 1 0 0 0 0 0\n5 3 0 0 0 0 4 0 2 0 20 1 0 0 0 0 0",
     ),
     (
         "a group of one: the proposal sends Prepare; a read with quorum 1 waits for a response",
-        "1 1 1 0 1 0 0 0 0 0 0 0 0\n3 5\n1 1 1 0 1 0 0 0 0 0 0 0 0\n4 7 0\n10 0 0 0 0 0 1 0 0 1 0 0",
+        "1 1 1 0 1 0 0 0 0 0 0 0 0 0\n3 5\n1 1 1 0 1 0 0 0 0 0 0 0 0 0\n4 7 0\n10 0 0 0 0 0 1 0 0 1 0 0",
     ),
     (
         "own slot 4: Prepare of 3 does nothing, 4 is handled, 5 is refused",
-        "1 3 3 0 7 0 0 0 0 0 0 0 0\n2 4 0 0 0 0 0 0 3 0 0 0 0 0 0 0 0 0 0 0 0 0\n5 1 0 0 3 0 1 1 0 0 5 1 0 0 0 0 0\n\
+        "1 3 3 0 7 0 0 0 0 0 0 0 0 0\n2 4 0 0 0 0 0 0 3 0 0 0 0 0 0 0 0 0 0 0 0 0\n5 1 0 0 3 0 1 1 0 0 5 1 0 0 0 0 0\n\
          5 1 0 0 4 0 1 1 0 0 5 1 0 0 0 0 0\n5 1 0 0 5 0 1 1 0 0 5 1 0 0 0 0 0",
     ),
     (
         "64 processes are taken, 65 and 0 replicas refused",
-        "1 64 64 63 18446744073709551615 63 0 0 0 0 0 0 0\n1 65 65 0 1 0 0 0 0 0 0 0 0\n1 5 0 0 0 0 0 0 0 0 0 0 0\n3 1",
+        "1 64 64 63 18446744073709551615 63 0 0 0 0 0 0 0 0\n1 65 65 0 1 0 0 0 0 0 0 0 0 0\n1 5 0 0 0 0 0 0 0 0 0 0 0 0\n3 1",
     ),
 ];
 
 /// Each reason of a bad line, also two in one line.
-const BAD_LINES: &str = "1 3 3 0 7 0 0 0 0 0 0 0 0
+const BAD_LINES: &str = "1 3 3 0 7 0 0 0 0 0 0 0 0 0
  3 1
 3 1\u{20}
 3  1
@@ -99,14 +100,21 @@ x
 5 1 0 0 0 0 1 1 0 0 5 1 0 0 0 2 0
 5 1 0 0 0 0 1 3 0 0 5 1 0 0 0 0 0
 5 1 0 0 0 0 1 4 0 0 5 1 0 0 0 0 7
-1 3 3 0 7 0 6 0 0 0 0 0 0
-1 3 3 0 7 0 6 2 0 0 0 0 0
-1 3 3 0 7 0 0 0 0 2 0 0 0
+1 3 3 0 7 0 6 0 0 0 0 0 0 0
+1 3 3 0 7 0 6 2 0 0 0 0 0 0
+1 3 3 0 7 0 0 0 0 2 0 0 0 0
 1 3 3 0 7 0 0 0 0 0
 1 3 3 0 7 0 0 0 0 0 0 0
-1 3 3 0 7 0 0 0 0 0 0 0 0 0
+1 3 3 0 7 0 0 0 0 0 0 0 0
+1 3 3 0 7 0 0 0 0 0 0 0 0 0 0
 1 3 3 0 7 0 0 0 0 0 1 0
 1 3 3 0 7 0 0 0 0 0 18446744073709551615 0
+1 3 3 0 7 0 0 0 0 0 0 0 0 1
+1 3 3 0 7 0 0 0 0 0 0 0 0 1 2024 2 29 0 0 2024 3 1 0
+1 3 3 0 7 0 0 0 0 0 0 0 0 1 2024 2 29 0 0 2024 3 1 0 0 0
+1 3 3 0 7 0 0 0 0 0 0 0 0 2 2024 2 29 0 0 2024 3 1 0 0
+1 3 3 0 7 0 0 0 0 0 0 0 0 204
+1 3 3 0 7 0 0 0 0 0 0 0 0 18446744073709551615
 2 0 0 0 0 0 0 0 4 0 0 0 0 0 0 0 0 0 0 0 0 0
 2 0 0 0 2 0 0 0 3 0 0 0 0 0 0 0 0 0 0 0 0 0
 2 0 0 0 0 2 0 0 3 0 0 0 0 0 0 0 0 0 0 0 0 0
@@ -136,7 +144,7 @@ fn bad_lines(sample: &mut Sample) {
     sample.text.extend_from_slice(b"\n#\n");
     let long = [too_long(2048, "3"), too_long(2049, "3"), too_long(2049, "11"), state_with_proposers(65), state_with_reads(129)];
     sample.add_text(&long.join("\n"));
-    let tables = [65, 64].map(|length| format!("1 3 3 0 7 0 0 0 0 1 {length}{} {length}{} 0", " 0".repeat(length), " 0".repeat(length)));
+    let tables = [65, 64].map(|length| format!("1 3 3 0 7 0 0 0 0 1 {length}{} {length}{} 0 0", " 0".repeat(length), " 0".repeat(length)));
     sample.add_text(&tables.join("\n"));
 }
 
@@ -144,11 +152,11 @@ fn reads_at_their_limit(sample: &mut Sample) {
     sample.title("128 open reads; ids at their end; a commit and responses that serve");
     let full = state_with_reads(127);
     sample.add_text(&format!(
-        "1 3 3 0 7 0 0 0 0 0 0 0 0\n{full}\n4 5 0\n4 6 0\n10 1 0 0 3 0 1 0 0 1 0 0\n8 1 0 0 0 9 1 0 0 0 0 0\n10 2 0 0 4 1 1 0 0 0 0 0"
+        "1 3 3 0 7 0 0 0 0 0 0 0 0 0\n{full}\n4 5 0\n4 6 0\n10 1 0 0 3 0 1 0 0 1 0 0\n8 1 0 0 0 9 1 0 0 0 0 0\n10 2 0 0 4 1 1 0 0 0 0 0"
     ));
     for next_id in [LARGEST_NUMBER, LARGEST_NUMBER + 1, usize::MAX] {
         let state = format!("2 2 1 9 0 0 0 0 1 0 0 4 0 0 0 0 0 0 0 {next_id} 0 0");
-        sample.add_text(&format!("1 3 3 0 7 0 0 0 0 0 0 0 0\n{state}\n4 5 0\n4 6 9\n10 1 0 0 {LARGEST_NUMBER} 0 1 0 0 1 0 0"));
+        sample.add_text(&format!("1 3 3 0 7 0 0 0 0 0 0 0 0 0\n{state}\n4 5 0\n4 6 9\n10 1 0 0 {LARGEST_NUMBER} 0 1 0 0 1 0 0"));
     }
 }
 
@@ -163,7 +171,7 @@ fn widest_answers(sample: &mut Sample) {
     let start = format!("2 {slot} 1 {largest} 1 1 {largest} {largest} 2 {largest} {largest} {largest} {sets} 1 {largest} {largest}");
     let state = format!("{start} {PLACES}{} {OPEN_READ_LIMIT}{}", proposers.concat(), reads.concat());
     let commit = format!("8 63 0 0 {slot} {LARGEST_NUMBER} 1 0 0 0 0 0");
-    sample.add_text(&format!("1 64 64 63 {largest} 63 3 0 0 0 0 0 0\n{state}\n{commit}"));
+    sample.add_text(&format!("1 64 64 63 {largest} 63 3 0 0 0 0 0 0 0\n{state}\n{commit}"));
 }
 
 fn slots_at_their_limit(sample: &mut Sample) {
@@ -174,7 +182,7 @@ fn slots_at_their_limit(sample: &mut Sample) {
         let response = format!("10 1 0 0 0 {slot} 1 0 0 0 0 0");
         let request = "9 1 0 0 3 1 0 0 0 0 0";
         sample.add_text(&format!(
-            "1 3 3 0 7 0 0 0 0 0 0 0 0\n{state}\n{request}\n3 5\n{request}\n{response}\n{commit}\n3 5\n4 1 1\n{commit}"
+            "1 3 3 0 7 0 0 0 0 0 0 0 0 0\n{state}\n{request}\n3 5\n{request}\n{response}\n{commit}\n3 5\n4 1 1\n{commit}"
         ));
     }
 }
@@ -242,6 +250,7 @@ fn plain_settings(mode: Mode, process_count: usize) -> Settings {
         committers: vec![1; process_count],
         delegates: vec![1; process_count],
         whole_mhz_from: 0,
+        windows: vec![],
     }
 }
 
@@ -258,23 +267,85 @@ fn limits_of_fields(sample: &mut Sample) {
     }
 }
 
-/// Document 02, E13: "one above 2^63−2 gives 1". The shard is then unmade, and every state and every call gives 1.
+/// A new shard of these settings, and every kind of call behind them, then a state and a call: where the shard is not made, each gives the number that the
+/// settings are to give.
+fn settings_and_calls(sample: &mut Sample, settings: Settings, number: Option<u32>) -> io::Result<()> {
+    let mut recorder = Recorder::default();
+    let mut numbers = vec![recorder.line(&Line::Settings(settings.clone())).err()];
+    numbers.extend(base_calls().map(|call| recorder.call(&call).err()));
+    recorder.text(b"2 4 0 0 0 0 0 0 3 0 0 0 0 0 0 0 0 0 0 0 0 0");
+    recorder.text(b"3 5");
+    sample.add(recorder.recording);
+    let so = if number.is_some() { numbers.iter().all(|given| *given == number) } else { numbers[0].is_none() };
+    if !so {
+        return Err(io::Error::other(format!("{settings:?}: {numbers:?} in place of {number:?}")));
+    }
+    Ok(())
+}
+
+/// Document 02, E13: "one above 2^63−2 gives 1".
 fn slots_of_whole_mhz(sample: &mut Sample) -> io::Result<()> {
     sample.title("E13: the slot of whole MHz at its limits, and every kind of call behind it");
     for whole_mhz_from in [0, LAST_SLOT, LAST_SLOT + 1, LAST_SLOT + 2, usize::MAX] {
         let settings = Settings { whole_mhz_from, ..plain_settings(Mode::Paxos, 3) };
-        let mut recorder = Recorder::default();
-        let made = recorder.line(&Line::Settings(settings)).is_ok();
-        let answers = base_calls().map(|call| recorder.call(&call));
-        let all_one = answers.iter().all(|answer| *answer == Err(1));
-        if made != (whole_mhz_from <= LAST_SLOT) || made == all_one {
-            return Err(io::Error::other(format!("slot of whole MHz {whole_mhz_from}: made {made}")));
-        }
-        recorder.text(b"2 4 0 0 0 0 0 0 3 0 0 0 0 0 0 0 0 0 0 0 0 0");
-        recorder.text(b"3 5");
-        sample.add(recorder.recording);
+        settings_and_calls(sample, settings, (whole_mhz_from > LAST_SLOT).then_some(1))?;
     }
     Ok(())
+}
+
+fn date(year: usize, month: usize, day: usize, hour: usize, minute: usize) -> Date {
+    Date { year, month, day, hour, minute }
+}
+
+/// Dates that the calendar, the years 1970 to 9999 or the day lack.
+fn missing_dates() -> Vec<Date> {
+    let largest = usize::MAX;
+    vec![
+        date(1969, 12, 31, 23, 59),
+        date(10000, 1, 1, 0, 0),
+        date(2023, 2, 29, 0, 0),
+        date(2100, 2, 29, 0, 0),
+        date(2024, 2, 30, 0, 0),
+        date(2024, 4, 31, 0, 0),
+        date(2024, 12, 32, 0, 0),
+        date(2024, 0, 1, 0, 0),
+        date(2024, 13, 1, 0, 0),
+        date(2024, 1, 0, 0, 0),
+        date(2024, 1, 1, 24, 0),
+        date(2024, 1, 1, 0, 60),
+        date(largest, largest, largest, largest, largest),
+        date(2024, 1, 1, 0, 1 << 32),
+    ]
+}
+
+/// Document 02, E8: "More than 128 windows give 1"; 17 is "checked when settings are made, after 1".
+fn windows_at_limits(sample: &mut Sample) -> io::Result<()> {
+    sample.title("E8: windows, dates and times at their limits, and every kind of call behind them");
+    let (first, last) = (date(1970, 1, 1, 0, 0), date(9999, 12, 31, 23, 59));
+    let window = |start, end| Window { start, end };
+    let (all, none) = (window(first, last), window(last, last));
+    let leap = [window(date(2000, 2, 29, 23, 58), date(2000, 2, 29, 23, 59)), window(date(2024, 2, 29, 0, 0), date(2024, 3, 1, 0, 0))];
+    let mut cases = vec![
+        (vec![all], None),
+        (leap.to_vec(), None),
+        (vec![all; WINDOW_LIMIT], None),
+        (vec![all; WINDOW_LIMIT + 1], Some(1)),
+        (vec![none; WINDOW_LIMIT + 1], Some(1)),
+        (vec![all; 202], Some(1)),
+        ([vec![all; WINDOW_LIMIT - 1], vec![none]].concat(), Some(17)),
+        (vec![none], Some(17)),
+        (vec![window(last, first)], Some(17)),
+        (vec![all, window(first, first), all], Some(17)),
+    ];
+    cases.extend(missing_dates().into_iter().map(|missing| (vec![window(missing, last)], Some(17))));
+    cases.extend(missing_dates().into_iter().map(|missing| (vec![all, window(first, missing)], Some(17))));
+    for (windows, number) in cases {
+        settings_and_calls(sample, Settings { windows, ..plain_settings(Mode::Paxos, 3) }, number)?;
+    }
+    let unfit = Settings { windows: vec![none], ..plain_settings(Mode::EPaxos, 3) };
+    settings_and_calls(sample, unfit.clone(), Some(17))?;
+    settings_and_calls(sample, Settings { whole_mhz_from: LAST_SLOT + 1, ..unfit.clone() }, Some(1))?;
+    settings_and_calls(sample, Settings { my_pid: 3, ..unfit }, Some(1))
 }
 
 /// The last places of the tables: a committer, or in Pando a delegate, that is not below the count of 64 is outside the limits.
@@ -349,7 +420,7 @@ fn epaxos_ties(sample: &mut Sample, random: &mut Random) {
 /// What the sample must hold.
 fn is_complete(sample: &Sample) -> bool {
     let counts = &sample.counts;
-    let every_refusal = (1..=12).all(|number| counts.refusals(number) > 0);
+    let every_refusal = REFUSALS.into_iter().all(|number| counts.refusals(number) > 0);
     let every_mode = counts.modes.iter().all(|mode| mode.commits > 0 && mode.served > 0 && mode.kinds[1..].iter().all(|calls| *calls > 0));
     let ties = counts.modes.iter().any(|mode| mode.ties > 0);
     every_refusal && every_mode && ties && sample.text.len() < 700_000
@@ -368,6 +439,7 @@ pub fn run() -> io::Result<bool> {
     limits_of_fields(&mut sample);
     last_places(&mut sample)?;
     slots_of_whole_mhz(&mut sample)?;
+    windows_at_limits(&mut sample)?;
     two_causes(&mut sample)?;
     let mut random = Random::new(1);
     for mode in MODES {

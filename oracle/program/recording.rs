@@ -79,7 +79,7 @@ impl Recorder {
     }
 
     pub fn state(&self) -> Option<&State> {
-        self.place.engine.as_ref().map(|engine| &engine.state)
+        self.place.engine.as_ref().ok().map(|engine| &engine.state)
     }
 
     pub fn set_state(&mut self, state: &State) {
@@ -156,7 +156,7 @@ impl Recorder {
     fn adoption(&mut self, before: &State, call: &Call) {
         let counts = &mut self.recording.counts.modes[self.mode];
         counts.adoptions += 1;
-        let engine = self.place.engine.as_mut().expect("an unmade shard adopts nothing");
+        let engine = self.place.engine.as_mut().ok().expect("an unmade shard adopts nothing");
         let tie = if self.any_tie { ties::taken(&engine.state) } else { ties::look(engine, before, call) };
         counts.ties += !matches!(tie, Tie::None) as u64;
         counts.other_ties += matches!(tie, Tie::ToAnother) as u64;

@@ -124,6 +124,7 @@ pub fn run() -> io::Result<()> {
         committers: vec![],
         delegates: vec![],
         whole_mhz_from: 0,
+        windows: vec![],
     };
     let mut engines: Vec<Engine> = (0..MEMBERS).map(|my_pid| Engine::new(&settings(my_pid))).collect();
     let members = engines.iter().map(|engine| engine.state.clone()).collect();

@@ -60,6 +60,7 @@ pub fn run() -> bool {
         committers: vec![2; PROCESS_COUNT],
         delegates: vec![],
         whole_mhz_from: 0,
+        windows: vec![],
     };
     let members = (0..PROCESS_COUNT).map(|my_pid| Recorder::new(&settings(my_pid))).collect();
     let mut run = Run { members, sent: vec![vec![]; PROCESS_COUNT], commits: vec![] };

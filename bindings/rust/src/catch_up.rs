@@ -1,5 +1,6 @@
 //! Lists of commits, joined and fed to a register: an office that was off the network catches up from its neighbours' lists.
-use crate::planning_sys::{FlatRegister, chanbook_feed, chanbook_join};
+use crate::planning_sys::{FlatRegister, chanbook_feed, chanbook_join, chanbook_placed_feed};
+use crate::reach::{PlacedRegister, Refused, Said};
 use crate::register::{CellNumber, Change, EntryRefusal, Register};
 use std::fmt;
 
@@ -14,6 +15,8 @@ pub const JOIN_PLACES: usize = 8192;
 pub enum ListRefusal {
     /// The settings that the register was begun from are outside their limits. No join gives it.
     Unmade,
+    /// A window of those settings is not in the calendar. No join gives it.
+    NotInCalendar,
     /// A slot is above 2^63−2, or a value above 2^63−1.
     NumberTooLarge,
     /// A list has more than 4,096 entries (8,192 where it is fed), its slots are not consecutive, it has another number of values than of slots, or fewer
@@ -30,6 +33,7 @@ impl ListRefusal {
     pub fn number(self) -> u64 {
         match self {
             ListRefusal::Unmade => 1,
+            ListRefusal::NotInCalendar => 17,
             ListRefusal::NumberTooLarge => 2,
             ListRefusal::OutsideLimits => 18,
             ListRefusal::Gap => 19,
@@ -40,6 +44,7 @@ impl ListRefusal {
     fn of(number: u64) -> ListRefusal {
         match number {
             1 => ListRefusal::Unmade,
+            17 => ListRefusal::NotInCalendar,
             2 => ListRefusal::NumberTooLarge,
             18 => ListRefusal::OutsideLimits,
             19 => ListRefusal::Gap,
@@ -53,6 +58,7 @@ impl fmt::Display for ListRefusal {
     fn fmt(&self, f: &mut fmt::Formatter) -> fmt::Result {
         let why = match self {
             ListRefusal::Unmade => "the settings of the group are outside their limits",
+            ListRefusal::NotInCalendar => "a window of the group is not in the calendar",
             ListRefusal::NumberTooLarge => "a number is too large",
             ListRefusal::OutsideLimits => "a list is outside its limits, or too few places are lent",
             ListRefusal::Gap => "a gap before a list",
@@ -220,6 +226,76 @@ impl Register {
         match (answer.refusal, answer.number) {
             (0, 0) => Ok(None),
             (0, number) => Ok(Some((answer.slot, EntryRefusal::from_number(number).expect("a number of E6")))),
+            (refusal, _) => Err(ListRefusal::of(refusal)),
+        }
+    }
+}
+
+impl PlacedRegister {
+    /// Feeds a list as [`Register::feed`] does, with positions among what the host makes of the values: each entry is taken as
+    /// [`apply`](PlacedRegister::apply) takes it, so that positions stay beside their cells.
+    ///
+    /// ```
+    /// use chanbook_shard::catch_up::CommitList;
+    /// use chanbook_shard::reach::{PlacedRegister, Position, Said};
+    /// use chanbook_shard::register::{Assignment, Change};
+    /// use chanbook_shard::{GroupSettings, LAST_SLOT, PFModeSetting, Settings};
+    /// let mut register = PlacedRegister::new(&GroupSettings::new(Settings::all_live(3, 0, PFModeSetting::Paxos), LAST_SLOT));
+    /// // Values below 100 stand for an assignment of the cell, and the others for a position of it.
+    /// let says = |value: u64| match value {
+    ///     0..100 => (value as u32, Said::Change(Change::Assign(Assignment { carrier: 632_628, width: 20_000 }))),
+    ///     _ => ((value % 100) as u32, Said::Position(Position { x: value as i64, y: -5 })),
+    /// };
+    /// let list: CommitList = [(0, 8), (1, 108), (2, 7), (3, 109), (4, 207)].into_iter().collect();
+    /// let first = register.feed(&list, says).unwrap().map(|(slot, why)| (slot, why.number()));
+    /// assert_eq!(first, Some((3, 16)));
+    /// let places: Vec<_> = register.cells().unwrap().map(|cell| (cell.number, cell.position.unwrap().x)).collect();
+    /// assert_eq!(places, [(7, 207), (8, 108)]);
+    /// ```
+    pub fn feed(&mut self, list: &CommitList, says: impl Fn(u64) -> (CellNumber, Said)) -> Result<Option<(u64, Refused)>, ListRefusal> {
+        let (mut kinds, mut numbers, mut entry_carriers, mut entry_widths) = (vec![], vec![], vec![], vec![]);
+        let (mut xs, mut ys) = (vec![], vec![]);
+        for value in &list.values {
+            let (cell, said) = says(*value);
+            let (kind, assignment, position) = said.in_numbers();
+            kinds.push(kind);
+            numbers.push(cell);
+            entry_carriers.push(assignment.carrier);
+            entry_widths.push(assignment.width);
+            xs.push(position.x);
+            ys.push(position.y);
+        }
+        let (FlatRegister { settings, cells, carriers, widths, figures }, positions) = self.flat_mut();
+        // SAFETY: each pointer stands with the number of elements that may be read behind it; the vectors live through the call.
+        let answer = unsafe {
+            chanbook_placed_feed(
+                settings,
+                cells,
+                carriers,
+                widths,
+                figures,
+                positions,
+                list.slots.as_ptr(),
+                list.slots.len(),
+                list.values.as_ptr(),
+                list.values.len(),
+                kinds.as_ptr(),
+                kinds.len(),
+                numbers.as_ptr(),
+                numbers.len(),
+                entry_carriers.as_ptr(),
+                entry_carriers.len(),
+                entry_widths.as_ptr(),
+                entry_widths.len(),
+                xs.as_ptr(),
+                xs.len(),
+                ys.as_ptr(),
+                ys.len(),
+            )
+        };
+        match (answer.refusal, answer.number) {
+            (0, 0) => Ok(None),
+            (0, number) => Ok(Some((answer.slot, Refused(number)))),
             (refusal, _) => Err(ListRefusal::of(refusal)),
         }
     }

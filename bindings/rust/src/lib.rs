@@ -24,7 +24,8 @@
 //! A read is served once a majority has answered, and each response counts one, as in the original: a host hands a `ReadResponse` in once.
 //!
 //! Beside the engine, [`raster`] turns carrier numbers of TS 38.104 into kHz and back, [`register`] keeps what the committed entries say of the
-//! cells: which carrier each has, and a report, and [`catch_up`] joins lists of commits and feeds them to a register.
+//! cells: which carrier each has, and a report, [`catch_up`] joins lists of commits and feeds them to a register, and [`windows`] has the dates of the
+//! calendar and the windows in which a carrier may go on air.
 //!
 //! # Example
 //!
@@ -62,6 +63,7 @@ mod reply;
 mod settings;
 mod shard;
 pub mod sys;
+pub mod windows;
 
 pub use call::{Call, Delivery, Said};
 pub use message::{ConsensusMessage, ConsensusMsg, PaxosRound, ReadId, RoundV};

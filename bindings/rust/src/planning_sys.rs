@@ -1,9 +1,10 @@
 //! The flat forms and functions of crates/planning_host, which stand beside the engine's ([`sys`](crate::sys)). Numbers go in and numbers come out, and
 //! every function is total on every number.
 //!
-//! [`raster`](crate::raster), [`register`](crate::register), [`reach`](crate::reach) and [`catch_up`](crate::catch_up) are the interface for a host.
+//! [`raster`](crate::raster), [`register`](crate::register), [`reach`](crate::reach), [`catch_up`](crate::catch_up) and [`windows`](crate::windows) are the
+//! interface for a host.
 #![allow(missing_docs)]
-use crate::sys::FlatGroupSettings;
+use crate::sys::{FlatDate, FlatGroupSettings};
 
 /// The number of document 02 that refuses, with 0 as the value; or 0 and the value.
 #[repr(C)]
@@ -56,6 +57,31 @@ pub struct FlatPosition {
     pub y: i64,
 }
 
+/// A date, or the number of document 02 that refuses and zeros as the date.
+#[repr(C)]
+#[derive(Clone, Copy, Debug, PartialEq, Eq, Default)]
+pub struct FlatDateAnswer {
+    pub refusal: u64,
+    pub date: FlatDate,
+}
+
+/// The three arrays of what is kept of windows, which the functions are lent one by one: the minutes in which each starts and ends, and the figures.
+#[repr(C)]
+#[derive(Clone, Copy, Debug, PartialEq, Eq)]
+pub struct FlatKeptWindows {
+    pub starts: [u64; 128],
+    pub ends: [u64; 128],
+    pub figures: [u64; 2],
+}
+
+/// [`INSIDE`], [`NEXT`] with the minute, [`NONE`], or the number of document 02 that refuses.
+#[repr(C)]
+#[derive(Clone, Copy, Debug, PartialEq, Eq, Default)]
+pub struct FlatWindowAnswer {
+    pub answer: u64,
+    pub minute: u64,
+}
+
 /// The places of a register's figures.
 pub const NEXT_SLOT: usize = 0;
 pub const MADE: usize = 1;
@@ -75,6 +101,15 @@ pub const POSITION: u64 = 3;
 /// What became of an entry that is not refused: these numbers are not document 02's.
 pub const DONE: u64 = 0;
 pub const OLDER: u64 = 64;
+
+/// What is said of a minute that is not refused: these numbers are not document 02's either.
+pub const INSIDE: u64 = 65;
+pub const NEXT: u64 = 66;
+pub const NONE: u64 = 67;
+
+/// The places of the figures of windows.
+pub const WINDOWS_NUMBER: usize = 0;
+pub const WINDOWS_COUNT: usize = 1;
 
 unsafe extern "C" {
     /// The frequency of a carrier number, in kHz.
@@ -161,6 +196,32 @@ unsafe extern "C" {
         entry_width_count: usize,
     ) -> FlatFed;
 
+    /// A list fed to a register with positions: beside [`chanbook_feed`]'s slices the x and the y of each entry.
+    pub fn chanbook_placed_feed(
+        settings: &[u64; 2],
+        cells: &mut [u64; 512],
+        carriers: &mut [u64; 512],
+        widths: &mut [u64; 512],
+        figures: &mut [u64; 5],
+        positions: &mut [FlatPosition; 512],
+        slots: *const u64,
+        slot_count: usize,
+        values: *const u64,
+        value_count: usize,
+        kinds: *const u64,
+        kind_count: usize,
+        entry_cells: *const CellNumber,
+        entry_cell_count: usize,
+        entry_carriers: *const u64,
+        entry_carrier_count: usize,
+        entry_widths: *const u64,
+        entry_width_count: usize,
+        entry_xs: *const i64,
+        entry_x_count: usize,
+        entry_ys: *const i64,
+        entry_y_count: usize,
+    ) -> FlatFed;
+
     /// No cell has a position.
     pub safe fn chanbook_positions_new(positions: &mut [FlatPosition; 512]);
 
@@ -212,4 +273,21 @@ unsafe extern "C" {
         y: i64,
         distance: u64,
     ) -> FlatValue;
+
+    /// The minute of a date, since 1970-01-01 00:00 UTC.
+    pub safe fn chanbook_minute_of(date: FlatDate) -> FlatValue;
+
+    /// The date of a minute.
+    pub safe fn chanbook_date_of(minute: u64) -> FlatDateAnswer;
+
+    /// Keeps what a question needs of the windows of group settings: 0, or the number of the settings.
+    pub safe fn chanbook_windows_new(
+        group: FlatGroupSettings,
+        starts: &mut [u64; 128],
+        ends: &mut [u64; 128],
+        figures: &mut [u64; 2],
+    ) -> u64;
+
+    /// A minute asked of what is kept.
+    pub safe fn chanbook_windows_ask(starts: &[u64; 128], ends: &[u64; 128], figures: &[u64; 2], minute: u64) -> FlatWindowAnswer;
 }

@@ -1,5 +1,6 @@
 //! Positions of the cells of a register, which cells a carrier conflicts with near a position, and which carrier is free there.
-use crate::planning_sys::{self as sys, CellNumber, FlatPosition, FlatRegister, FlatValue};
+pub use crate::planning_sys::FlatPosition;
+use crate::planning_sys::{self as sys, CellNumber, FlatRegister, FlatValue};
 use crate::register::{Applied, Assignment, Change, Register};
 use crate::settings::GroupSettings;
 use std::fmt;
@@ -21,6 +22,19 @@ pub enum Said {
     Change(Change),
     /// The cell stands there.
     Position(Position),
+}
+
+impl Said {
+    /// The kind of an entry, its carrier and width, and its position.
+    pub(crate) fn in_numbers(self) -> (u64, Assignment, Position) {
+        match self {
+            Said::Change(change) => {
+                let (kind, assignment) = change.in_numbers();
+                (kind, assignment, Position { x: 0, y: 0 })
+            }
+            Said::Position(position) => (sys::POSITION, Assignment { carrier: 0, width: 0 }, position),
+        }
+    }
 }
 
 /// An entry of a register with positions.
@@ -58,7 +72,7 @@ pub struct Question {
 
 /// Document 02's number of what refuses an entry or a question.
 #[derive(Clone, Copy, Debug, PartialEq, Eq, PartialOrd, Ord, Hash)]
-pub struct Refused(u64);
+pub struct Refused(pub(crate) u64);
 
 impl Refused {
     /// The number.
@@ -75,6 +89,7 @@ impl fmt::Display for Refused {
             14 => "no raster number, or a width outside its limits",
             15 => "a new cell with 512 live",
             16 => "the cell is not live",
+            17 => "the register is not made: a window of its settings is not in the calendar",
             21 => "a position or a distance outside its limits",
             22 => "no carrier in the range is free",
             23 => "a width that is not in whole MHz",
@@ -88,6 +103,16 @@ impl std::error::Error for Refused {}
 
 fn value(answer: FlatValue) -> Result<u64, Refused> {
     if answer.refusal == 0 { Ok(answer.value) } else { Err(Refused(answer.refusal)) }
+}
+
+/// The ends of a range, the last below the first where it is empty: one that was run to its end still has the ends of a range with carriers in it.
+fn ends(range: &RangeInclusive<u64>) -> (u64, u64) {
+    let (first, last) = (*range.start(), *range.end());
+    if range.is_empty() && first <= last {
+        let after = first.max(1);
+        return (after, after - 1);
+    }
+    (first, last)
 }
 
 /// A register of at most 512 live cells, each with its position where it has one. It owns its memory and lends it to the library.
@@ -127,22 +152,43 @@ impl PlacedRegister {
         PlacedRegister { register, positions }
     }
 
+    /// The positions of the register, place by place, for a host that puts it aside with [`register`](PlacedRegister::register)`().flat()`.
+    pub fn flat_positions(&self) -> &[FlatPosition; 512] {
+        &self.positions
+    }
+
+    /// A register that was put aside, with its positions.
+    ///
+    /// ```
+    /// use chanbook_shard::reach::{PlacedEntry, PlacedRegister, Position, Said};
+    /// use chanbook_shard::register::{Assignment, Change, Register};
+    /// use chanbook_shard::{GroupSettings, PFModeSetting, Settings};
+    /// let mut register = PlacedRegister::new(&GroupSettings::new(Settings::all_live(3, 0, PFModeSetting::Paxos), 0));
+    /// let assigned = Said::Change(Change::Assign(Assignment { carrier: 632_000, width: 20_000 }));
+    /// register.apply(&PlacedEntry { slot: 0, cell: 7, said: assigned }).unwrap();
+    /// register.apply(&PlacedEntry { slot: 1, cell: 7, said: Said::Position(Position { x: 300, y: -400 }) }).unwrap();
+    /// let aside = (*register.register().flat(), *register.flat_positions());
+    /// assert_eq!(PlacedRegister::from_flat(Register::from_flat(Box::new(aside.0)), Box::new(aside.1)), register);
+    /// ```
+    pub fn from_flat(register: Register, positions: Box<[FlatPosition; 512]>) -> PlacedRegister {
+        PlacedRegister { register, positions }
+    }
+
+    pub(crate) fn flat_mut(&mut self) -> (&mut FlatRegister, &mut [FlatPosition; 512]) {
+        (self.register.flat_mut(), &mut self.positions)
+    }
+
     /// An entry. What is not done changes no cell, no position and no figure.
     pub fn apply(&mut self, entry: &PlacedEntry) -> Result<Applied, Refused> {
-        let none = (Assignment { carrier: 0, width: 0 }, Position { x: 0, y: 0 });
-        let (kind, assignment, position) = match entry.said {
-            Said::Change(Change::Assign(assignment)) => (sys::ASSIGNMENT, assignment, none.1),
-            Said::Change(Change::Release) => (sys::RELEASE, none.0, none.1),
-            Said::Position(position) => (sys::POSITION, none.0, position),
-        };
-        let FlatRegister { settings, cells, carriers, widths, figures } = self.register.flat_mut();
+        let (kind, assignment, position) = entry.said.in_numbers();
+        let (FlatRegister { settings, cells, carriers, widths, figures }, positions) = self.flat_mut();
         let number = sys::chanbook_placed_entry(
             settings,
             cells,
             carriers,
             widths,
             figures,
-            &mut self.positions,
+            positions,
             entry.slot,
             kind,
             entry.cell,
@@ -199,23 +245,11 @@ impl PlacedRegister {
         value(answer).map(|count| numbers[..count as usize].to_vec())
     }
 
-    /// The lowest carrier of a range that conflicts with no cell.
+    /// The lowest carrier of a range that conflicts with no cell. A range that was run to its end is empty, and so refused with 22.
     pub fn first_free(&self, range: RangeInclusive<u64>, question: &Question) -> Result<u64, Refused> {
+        let (first, last) = ends(&range);
         let FlatRegister { settings, cells, carriers, widths, figures } = self.register.flat();
         let Question { width, position: Position { x, y }, distance } = *question;
-        value(sys::chanbook_first_free(
-            settings,
-            cells,
-            carriers,
-            widths,
-            figures,
-            &self.positions,
-            *range.start(),
-            *range.end(),
-            width,
-            x,
-            y,
-            distance,
-        ))
+        value(sys::chanbook_first_free(settings, cells, carriers, widths, figures, &self.positions, first, last, width, x, y, distance))
     }
 }

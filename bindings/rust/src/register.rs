@@ -74,8 +74,8 @@ pub enum Applied {
     Older,
 }
 
-/// Why an entry is refused. A refused entry counts nowhere and changes no cell. Its slot is seen, but not after [`NumberTooLarge`](Self::NumberTooLarge) and
-/// [`Unmade`](Self::Unmade).
+/// Why an entry is refused. A refused entry counts nowhere and changes no cell. Its slot is seen, but not after [`NumberTooLarge`](Self::NumberTooLarge),
+/// [`Unmade`](Self::Unmade) and [`NotInCalendar`](Self::NotInCalendar).
 ///
 /// ```
 /// use chanbook_shard::register::EntryRefusal;
@@ -88,6 +88,8 @@ pub enum Applied {
 pub enum EntryRefusal {
     /// The settings that the register was begun from are outside their limits: every entry is refused so.
     Unmade = 1,
+    /// A window of the settings has a date or a time that there is not, or an end that is not after its start: every entry is refused so.
+    NotInCalendar = 17,
     /// The slot is above 2^63−2.
     NumberTooLarge = 2,
     /// The carrier is no raster number, or the width is outside its limits.
@@ -102,8 +104,9 @@ pub enum EntryRefusal {
 
 impl EntryRefusal {
     /// All of them, in the order in which they are looked for.
-    pub const ALL: [EntryRefusal; 6] = [
+    pub const ALL: [EntryRefusal; 7] = [
         EntryRefusal::Unmade,
+        EntryRefusal::NotInCalendar,
         EntryRefusal::NumberTooLarge,
         EntryRefusal::NotAssignable,
         EntryRefusal::OddWidth,
@@ -126,6 +129,7 @@ impl fmt::Display for EntryRefusal {
     fn fmt(&self, f: &mut fmt::Formatter<'_>) -> fmt::Result {
         let why = match self {
             EntryRefusal::Unmade => "the settings of the group are outside their limits",
+            EntryRefusal::NotInCalendar => "a window of the group is not in the calendar",
             EntryRefusal::NumberTooLarge => "the slot is above 2^63-2",
             EntryRefusal::NotAssignable => "no raster number, or a width outside its limits",
             EntryRefusal::OddWidth => "a width not in whole MHz at or after the slot from which it must be",
@@ -175,8 +179,8 @@ pub struct Register {
 }
 
 impl Register {
-    /// A register of the settings of its group that has seen no entry. Of settings outside their limits it is not made, and refuses every call with 1: an
-    /// entry, a list, its cells, figures and next slot; its report is the line `refused,1`.
+    /// A register of the settings of its group that has seen no entry. Of settings outside their limits it is not made, and refuses every call with their
+    /// number, 1, or 17 of a window: an entry, a list, its cells, figures and next slot; its report is the line `refused,1` or `refused,17`.
     pub fn new(group: &GroupSettings) -> Register {
         let mut flat = Box::new(FlatRegister { cells: [0; 512], carriers: [0; 512], widths: [0; 512], figures: [0; 5], settings: [0; 2] });
         let FlatRegister { settings, cells, carriers, widths, figures } = &mut *flat;
@@ -184,10 +188,11 @@ impl Register {
         Register { flat }
     }
 
-    /// Whether it is made; else [`Unmade`](EntryRefusal::Unmade).
+    /// Whether it is made; else [`Unmade`](EntryRefusal::Unmade) or [`NotInCalendar`](EntryRefusal::NotInCalendar).
     pub fn made(&self) -> Result<(), EntryRefusal> {
         match self.flat.settings[sys::SETTINGS_NUMBER] {
             0 => Ok(()),
+            17 => Err(EntryRefusal::NotInCalendar),
             _ => Err(EntryRefusal::Unmade),
         }
     }
@@ -232,7 +237,8 @@ impl Register {
         })
     }
 
-    /// The report over all entries so far, as CSV: a header and one line, each ended with CR LF. Of a register that is not made it is the one line `refused,1`.
+    /// The report over all entries so far, as CSV: a header and one line, each ended with CR LF. Of a register that is not made it is the one line `refused,1`
+    /// or `refused,17`.
     pub fn report(&self) -> String {
         let mut bytes = [0; 116];
         let length = sys::chanbook_register_report(&self.flat.settings, &self.flat.figures, &mut bytes);

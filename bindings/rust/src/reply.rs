@@ -39,11 +39,13 @@ pub enum Refusal {
     ProposalNotAllowed = 11,
     /// 128 reads are open, or the read numbers are spent.
     NoRoomForRead = 12,
+    /// A window of the settings has a date or a time that there is not, or an end that is not after its start: the shard was never made.
+    NotInCalendar = 17,
 }
 
 impl Refusal {
     /// All refusals, by number.
-    pub const ALL: [Refusal; 12] = [
+    pub const ALL: [Refusal; 13] = [
         Refusal::SettingsOutsideLimits,
         Refusal::NumberTooLarge,
         Refusal::NoSuchProcess,
@@ -56,9 +58,10 @@ impl Refusal {
         Refusal::SecondFastAnswer,
         Refusal::ProposalNotAllowed,
         Refusal::NoRoomForRead,
+        Refusal::NotInCalendar,
     ];
 
-    /// The number by which document 01 names the refusal.
+    /// The number by which document 01 or 02 names the refusal.
     pub fn number(self) -> u64 {
         self as u64
     }
@@ -84,6 +87,7 @@ impl fmt::Display for Refusal {
             Refusal::SecondFastAnswer => "a second fast answer from one process",
             Refusal::ProposalNotAllowed => "no proposal is allowed now",
             Refusal::NoRoomForRead => "no room for a read",
+            Refusal::NotInCalendar => "a window is not in the calendar",
         };
         write!(f, "refused, {}: {why}", self.number())
     }
@@ -193,7 +197,7 @@ impl Reply {
 fn outcome(number: u64) -> Result<(), Refusal> {
     match number {
         0 => Ok(()),
-        n => Err(Refusal::from_number(n).unwrap_or_else(|| unreachable!("the engine refuses with 1 to 12, not with {n}"))),
+        n => Err(Refusal::from_number(n).unwrap_or_else(|| unreachable!("the engine refuses with 1 to 12 and 17, not with {n}"))),
     }
 }
 

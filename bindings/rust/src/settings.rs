@@ -1,6 +1,7 @@
 //! The settings of a group, as its host makes them for one member.
 use crate::message::flat_option;
 use crate::sys::{FlatGroupSettings, FlatSettings};
+use crate::windows::Window;
 
 /// The mode, with its tables.
 #[expect(clippy::large_enum_variant, reason = "settings are made once for each shard")]
@@ -73,8 +74,15 @@ impl Settings {
 /// assert!(Shard::new(&GroupSettings::new(settings.clone(), 1000)).made().is_ok());
 /// let late = GroupSettings::new(settings.clone(), LAST_SLOT + 1);
 /// assert_eq!(Shard::new(&late).made(), Err(Refusal::SettingsOutsideLimits));
-/// let outside = GroupSettings::new(Settings { my_pid: 5, ..settings }, LAST_SLOT);
+/// let outside = GroupSettings::new(Settings { my_pid: 5, ..settings.clone() }, LAST_SLOT);
 /// assert_eq!(Shard::new(&outside).made(), Err(Refusal::SettingsOutsideLimits));
+///
+/// use chanbook_shard::windows::{Date, Window};
+/// let night = |day| Window::new(Date::new(2023, 2, day, 22, 0), Date::new(2023, 2, day, 23, 30));
+/// let within = |windows| GroupSettings::new(settings.clone(), LAST_SLOT).with_windows(windows);
+/// assert!(Shard::new(&within(vec![night(27), night(28)])).made().is_ok());
+/// assert_eq!(Shard::new(&within(vec![night(28), night(29)])).made(), Err(Refusal::NotInCalendar), "2023 is no leap year");
+/// assert_eq!(Shard::new(&within(vec![night(29); 129])).made(), Err(Refusal::SettingsOutsideLimits), "more than 128 windows");
 /// ```
 #[derive(Clone, Debug, PartialEq, Eq)]
 pub struct GroupSettings {
@@ -82,18 +90,29 @@ pub struct GroupSettings {
     pub settings: Settings,
     /// The slot from which the width of an assignment must be whole MHz (document 02, E13). It is at most [`LAST_SLOT`], and the same at all members.
     pub whole_mhz_from: u64,
+    /// The windows in which a carrier may go on air (document 02, E8), at most 128, in any order. They may overlap, and are the same at all members.
+    pub windows: Vec<Window>,
 }
 
 impl GroupSettings {
-    /// A host that wants no slot of whole MHz names [`LAST_SLOT`], which binds the last slot alone.
+    /// Settings without a window. A host that wants no slot of whole MHz names [`LAST_SLOT`], which binds the last slot alone.
     pub fn new(settings: Settings, whole_mhz_from: u64) -> GroupSettings {
-        GroupSettings { settings, whole_mhz_from }
+        GroupSettings { settings, whole_mhz_from, windows: vec![] }
+    }
+
+    /// The same settings with these windows.
+    pub fn with_windows(self, windows: Vec<Window>) -> GroupSettings {
+        GroupSettings { windows, ..self }
     }
 }
 
 impl From<&GroupSettings> for FlatGroupSettings {
     fn from(group: &GroupSettings) -> FlatGroupSettings {
-        FlatGroupSettings { settings: (&group.settings).into(), whole_mhz_from: group.whole_mhz_from }
+        FlatGroupSettings {
+            settings: (&group.settings).into(),
+            whole_mhz_from: group.whole_mhz_from,
+            windows: group.windows.as_slice().into(),
+        }
     }
 }
 

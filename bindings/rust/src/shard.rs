@@ -26,17 +26,20 @@ pub struct Shard {
 }
 
 impl Shard {
-    /// A new shard, at slot 0 and with no read open. Where the settings are outside the limits it is not made, and refuses every call with 1.
+    /// A new shard, at slot 0 and with no read open. Where the settings are outside the limits it is not made, and refuses every call with 1; or else,
+    /// where a window has a date or a time that there is not, or an end that is not after its start, with 17.
     pub fn new(group: &GroupSettings) -> Shard {
         Shard { flat: Box::new(sys::chanbook_shard_new(group.into())) }
     }
 
     /// Whether the shard is made, as its calls ask it. A shard read back with an unknown mode is not made either.
     pub fn made(&self) -> Result<(), Refusal> {
-        if self.flat.made == 0 && self.flat.settings.mode <= 5 {
-            return Ok(());
+        match self.flat.made {
+            _ if self.flat.settings.mode > 5 => Err(Refusal::SettingsOutsideLimits),
+            0 => Ok(()),
+            17 => Err(Refusal::NotInCalendar),
+            _ => Err(Refusal::SettingsOutsideLimits),
         }
-        Err(Refusal::SettingsOutsideLimits)
     }
 
     /// A call. The reply is all that the host has to act on.

@@ -1,5 +1,5 @@
-//! The flat forms that cross `extern "C"`, as crates/flat, crates/group_settings and crates/host declare them, and the functions that crates/host,
-//! crates/direct and crates/direct_fast export. A flat form has numbers only: 0 is no and any other number yes. Every flat form stands for some shard or
+//! The flat forms that cross `extern "C"`, as crates/flat, crates/calendar, crates/windows, crates/group_settings and crates/host declare them, and the
+//! functions that crates/host, crates/direct and crates/direct_fast export. A flat form has numbers only: 0 is no and any other number yes. Every flat form stands for some shard or
 //! call, whatever numbers are in it, and so a call on one is safe.
 //!
 //! [`Shard`](crate::Shard) is the interface for a host; these are for whoever keeps shards in memory of their own.
@@ -58,12 +58,40 @@ pub struct FlatSettings {
     pub delegates: [u64; 64],
 }
 
-/// The settings of a group: those of the engine, and the slot from which a width must be whole MHz.
+/// A minute of UTC in the Gregorian calendar.
+#[repr(C)]
+#[derive(Clone, Copy, Debug, PartialEq, Eq, Default)]
+pub struct FlatDate {
+    pub year: u64,
+    pub month: u64,
+    pub day: u64,
+    pub hour: u64,
+    pub minute: u64,
+}
+
+/// A window: the first minute belongs to it, and the last does not.
+#[repr(C)]
+#[derive(Clone, Copy, Debug, PartialEq, Eq, Default)]
+pub struct FlatWindow {
+    pub start: FlatDate,
+    pub end: FlatDate,
+}
+
+/// The windows, in the first `count` places. The others are never looked at.
+#[repr(C)]
+#[derive(Clone, Copy, Debug, PartialEq, Eq)]
+pub struct FlatWindows {
+    pub places: [FlatWindow; 128],
+    pub count: u64,
+}
+
+/// The settings of a group: those of the engine, the slot from which a width must be whole MHz, and the windows in which a carrier may go on air.
 #[repr(C)]
 #[derive(Clone, Copy, Debug, PartialEq, Eq)]
 pub struct FlatGroupSettings {
     pub settings: FlatSettings,
     pub whole_mhz_from: u64,
+    pub windows: FlatWindows,
 }
 
 /// What most calls change.
@@ -139,7 +167,7 @@ pub struct FlatState {
     pub table: FlatTable,
 }
 
-/// `made` is 0 for a shard that is made. With any other number it refuses every call with 1; the engine writes 1.
+/// `made` is 0 for a shard that is made. With 17 it refuses every call with 17, and with any other number with 1; the engine writes 0, 1 or 17.
 #[repr(C)]
 #[derive(Clone, Copy, Debug, PartialEq, Eq)]
 pub struct FlatShard {
@@ -219,7 +247,7 @@ pub struct FlatAnswer {
 }
 
 unsafe extern "C" {
-    /// A shard as it begins. Its `made` is 0, or 1 where the settings are outside the limits.
+    /// A shard as it begins. Its `made` is 0; 1 where the settings are outside the limits; or else 17 where a window does not fit.
     pub safe fn chanbook_shard_new(group: FlatGroupSettings) -> FlatShard;
 
     /// A call by value: the shard afterwards and the reply. It copies the shard; a host takes [`chanbook_call`], and the tests compare the two. Where it
@@ -396,7 +424,8 @@ const _: () = {
     assert!(size_of::<FlatOutgoing>() == 160);
     assert!(size_of::<FlatReply>() == 528);
     assert!(size_of::<FlatSettings>() == 1096);
-    assert!(size_of::<FlatGroupSettings>() == 1104);
+    assert!(size_of::<FlatWindows>() == 10248);
+    assert!(size_of::<FlatGroupSettings>() == 11352);
     assert!(size_of::<FlatShard>() == 12040);
     assert!(offset_of!(FlatShard, settings) == 8);
     assert!(offset_of!(FlatShard, state) == 1104);

@@ -1,9 +1,10 @@
-//! Damaged frames and shards of any numbers. Each call ends; it is taken or gives a number from 1 to 12; a refusal leaves every number of the
-//! shard as it was and hands back the number alone. A host's way and `chanbook_shard_call` give the same number.
+//! Damaged frames and shards of any numbers. Each call ends; it is taken or gives a number from 1 to 12, or 17 where that is the shard's mark; a refusal leaves
+//! every number of the shard as it was and hands back the number alone. A host's way and `chanbook_shard_call` give the same number.
 mod numbers;
 mod support;
 
-use chanbook_shard::sys::{self, FlatAnswer, FlatCall, FlatGroupSettings, FlatReply, FlatSettings, FlatShard};
+use chanbook_shard::sys::{self, FlatAnswer, FlatCall, FlatGroupSettings, FlatReply, FlatSettings, FlatShard, FlatWindows};
+use chanbook_shard::windows::Window;
 use chanbook_shard::{Call, LAST_SLOT, PFModeSetting, Refusal, Settings, Shard};
 use numbers::{AT_LIMITS, any_number};
 use std::collections::BTreeSet;
@@ -12,7 +13,8 @@ use support::{Group, Random, all_modes, begun, five};
 /// The outcome of the call, once what must hold of every call was checked.
 fn checked(shard: &FlatShard, call: FlatCall) -> u64 {
     let FlatAnswer { shard: after, reply } = sys::chanbook_shard_call(*shard, call);
-    assert!(reply.outcome <= 12, "{} on {call:?}", reply.outcome);
+    let marked_17 = shard.made == 17 && shard.settings.mode <= 5;
+    assert!(if marked_17 { reply.outcome == 17 } else { reply.outcome <= 12 }, "{} on {call:?}", reply.outcome);
     if reply.outcome != 0 {
         assert_eq!(after.numbers(), shard.numbers(), "{call:?}");
         let alone = FlatReply { outcome: reply.outcome, ..FlatReply::default() };
@@ -121,11 +123,33 @@ fn the_readers_take_a_shard_of_any_numbers() {
     }
 }
 
+/// A mark of 17 comes back as 17, and every other but 0 as 1.
+#[test]
+fn a_shard_of_any_mark() {
+    for mode in all_modes() {
+        let begun = *begun(&five(mode)).flat();
+        for made in AT_LIMITS.into_iter().chain([16, 17, 18]) {
+            let shard = FlatShard { made, ..begun };
+            let number = match made {
+                0 => Ok(()),
+                17 => Err(17),
+                _ => Err(1),
+            };
+            assert_eq!(Shard::from_flat(Box::new(shard)).made().map_err(Refusal::number), number, "{made}");
+            if let Err(number) = number {
+                assert_eq!(checked(&shard, Call::Propose(1).into()), number, "{made}");
+            }
+        }
+    }
+}
+
 #[test]
 fn a_mode_that_there_is_not_is_outside_the_limits() {
     let known = begun(&Settings::all_live(5, 0, PFModeSetting::Paxos)).flat().settings;
     for mode in 6..9 {
-        let shard = sys::chanbook_shard_new(FlatGroupSettings { settings: FlatSettings { mode, ..known }, whole_mhz_from: LAST_SLOT });
+        let unfit = FlatWindows::from([Window::default()].as_slice());
+        let settings = FlatSettings { mode, ..known };
+        let shard = sys::chanbook_shard_new(FlatGroupSettings { settings, whole_mhz_from: LAST_SLOT, windows: unfit });
         assert_eq!(shard.made, 1);
         assert_eq!(checked(&shard, Call::Propose(1).into()), 1);
         assert_eq!(Shard::from_flat(Box::new(shard)).made(), Err(Refusal::SettingsOutsideLimits));

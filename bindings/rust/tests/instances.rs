@@ -3,6 +3,7 @@
 use chanbook_shard::{
     Call, ConsensusMessage, ConsensusMsg, Delivery, Destination, GroupSettings, LAST_SLOT, PFModeSetting, PaxosRound, ReadId, Refusal,
     Reply, RoundV, Said, Settings, Shard,
+    windows::{Date, Window},
 };
 
 fn round(round_group: u64, leader: u64) -> PaxosRound {
@@ -218,22 +219,64 @@ fn limits_of_the_slot_of_whole_mhz() {
     }
 }
 
-fn refuses_every_call_with_1(mut shard: Shard) {
+/// Document 02, E8: "More than 128 windows give 1"; 17 is "checked when settings are made, after 1".
+#[test]
+fn limits_of_the_windows() {
+    let made = |settings: &Settings, slot, windows: &[Window]| {
+        Shard::new(&GroupSettings::new(settings.clone(), slot).with_windows(windows.to_vec())).made().map_err(Refusal::number)
+    };
+    let five = Settings::all_live(5, 0, PFModeSetting::Paxos);
+    let fits = Window::new(Date::new(1970, 1, 1, 0, 0), Date::new(9999, 12, 31, 23, 59));
+    let unfit = Window::new(fits.end, fits.end);
+    assert_eq!(made(&five, 0, &[]), Ok(()));
+    assert_eq!(made(&five, 0, &[fits; 128]), Ok(()));
+    assert_eq!(made(&five, 0, &[fits; 129]), Err(1));
+    assert_eq!(made(&five, 0, &[unfit; 129]), Err(1));
+    assert_eq!(made(&five, LAST_SLOT, &[fits, unfit]), Err(17));
+    assert_eq!(made(&five, LAST_SLOT + 1, &[fits, unfit]), Err(1));
+    assert_eq!(made(&Settings { my_pid: 5, ..five.clone() }, 0, &[unfit]), Err(1));
+
+    let start = |date| made(&five, 0, &[Window::new(date, fits.end)]);
+    for date in [Date::new(2000, 2, 29, 0, 0), Date::new(2024, 2, 29, 23, 59), Date::new(9999, 12, 31, 23, 58)] {
+        assert_eq!(start(date), Ok(()), "{date}");
+    }
+    let missing = [
+        Date::new(1969, 12, 31, 0, 0),
+        Date::new(10000, 1, 1, 0, 0),
+        Date::new(2100, 2, 29, 0, 0),
+        Date::new(2023, 13, 1, 0, 0),
+        Date::new(2023, 4, 31, 0, 0),
+        Date::new(2023, 4, 0, 0, 0),
+        Date::new(2023, 4, 1, 24, 0),
+        Date::new(2023, 4, 1, 0, 60),
+        Date::new(u64::MAX, u64::MAX, u64::MAX, u64::MAX, u64::MAX),
+    ];
+    for date in missing {
+        assert_eq!(start(date), Err(17), "{date}");
+        assert_eq!(made(&five, 0, &[fits, Window::new(fits.start, date)]), Err(17), "{date}");
+    }
+}
+
+fn refuses_every_call_with(refusal: Refusal, mut shard: Shard) {
     let before = shard.clone();
     let commit = ConsensusMessage { msg: ConsensusMsg::Commit { slot: 0, v: 1 }, src: 0, last_v: None };
     let calls =
         [Call::Propose(1), Call::Propose(u64::MAX), Call::StartRead { tag: 1, arrival_slot: 0 }, Call::Receive(Delivery::of(commit))];
     for call in calls {
-        assert_eq!(shard.call(call).outcome, Err(Refusal::SettingsOutsideLimits));
+        assert_eq!(shard.call(call).outcome, Err(refusal));
     }
     assert_eq!(shard, before);
 }
 
 #[test]
-fn an_unmade_shard_refuses_every_call_with_1() {
-    refuses_every_call_with_1(member(65, 0, PFModeSetting::Paxos));
-    let settings = Settings::all_live(5, 0, PFModeSetting::Paxos);
-    refuses_every_call_with_1(Shard::new(&GroupSettings::new(settings, LAST_SLOT + 1)));
+fn an_unmade_shard_refuses_every_call_with_1_or_17() {
+    refuses_every_call_with(Refusal::SettingsOutsideLimits, member(65, 0, PFModeSetting::Paxos));
+    for mode in [PFModeSetting::Paxos, PFModeSetting::EPaxos] {
+        let settings = Settings::all_live(5, 0, mode);
+        refuses_every_call_with(Refusal::SettingsOutsideLimits, Shard::new(&GroupSettings::new(settings.clone(), LAST_SLOT + 1)));
+        let unfit = GroupSettings::new(settings, LAST_SLOT).with_windows(vec![Window::default()]);
+        refuses_every_call_with(Refusal::NotInCalendar, Shard::new(&unfit));
+    }
 }
 
 #[test]

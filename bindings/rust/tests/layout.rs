@@ -1,11 +1,13 @@
-//! The flat forms of this crate have the fields of crates/flat, of crates/group_settings, of crates/host and of the C header, in the same order and of the
-//! same types. All are numbers and `#[repr(C)]`, and so equal fields are equal sizes and offsets. The two calls in place have the rows of the source and of
+//! The flat forms of this crate have the fields of crates/flat, of crates/calendar, crates/windows and crates/group_settings, of crates/host and of the C
+//! header, in the same order and of the same types. All are numbers and `#[repr(C)]`, and so equal fields are equal sizes and offsets. The two calls in place have the rows of the source and of
 //! the header, in the same order, and so have the functions of a register and of lists.
 
 use std::collections::BTreeMap;
 
 const MIRROR: &str = include_str!("../src/sys.rs");
 const FLAT: &str = include_str!("../../../crates/flat/src/lib.rt");
+const CALENDAR: &str = include_str!("../../../crates/calendar/src/lib.rt");
+const WINDOWS: &str = include_str!("../../../crates/windows/src/lib.rt");
 const GROUP_SETTINGS: &str = include_str!("../../../crates/group_settings/src/lib.rt");
 const HOST: &str = include_str!("../../../crates/host/src/lib.rt");
 const DIRECT: &str = include_str!("../../../crates/direct/src/lib.rt");
@@ -116,7 +118,9 @@ fn by_struct(fields: Vec<String>) -> BTreeMap<String, Vec<String>> {
 #[test]
 fn the_flat_forms_are_those_of_the_source() {
     let mut source = fields_in_rust(FLAT);
-    source.extend(fields_in_rust(GROUP_SETTINGS));
+    // dates and windows are numbers as they are, and have no other form in the source
+    let flat = |field: String| field.replace("Date", "FlatDate").replace("Window", "FlatWindow");
+    source.extend([CALENDAR, WINDOWS, GROUP_SETTINGS].into_iter().flat_map(fields_in_rust).map(flat));
     source.extend(fields_in_rust(HOST));
     assert!(source.contains(&"FlatReply.served_count: u64".to_string()), "read to the last one");
     assert_eq!(by_struct(fields_in_rust(MIRROR)), by_struct(source));
@@ -143,16 +147,24 @@ fn the_planning_forms_are_those_of_the_source_and_of_the_header() {
     let fed = ["FlatFed.refusal: u64", "FlatFed.slot: u64", "FlatFed.number: u64"];
     assert_eq!(mirror[11..14], fed);
     let position = ["FlatPosition.given: u64", "FlatPosition.x: i64", "FlatPosition.y: i64"];
-    assert_eq!(mirror[14..], position);
+    assert_eq!(mirror[14..17], position);
+    let date = ["FlatDateAnswer.refusal: u64", "FlatDateAnswer.date: FlatDate"];
+    let kept = ["FlatKeptWindows.starts: [u64; 128]", "FlatKeptWindows.ends: [u64; 128]", "FlatKeptWindows.figures: [u64; 2]"];
+    let answer = ["FlatWindowAnswer.answer: u64", "FlatWindowAnswer.minute: u64"];
+    assert_eq!(mirror[17..], [date.as_slice(), &kept, &answer].concat());
     assert_eq!(fields_in_c(PLANNING_HEADER), mirror);
     assert!(fields_in_rust(POSITION_ARRAYS).iter().map(|field| field.replace("CellPosition", "FlatPosition")).take(3).eq(position));
-    assert_eq!(fields_in_rust(PLANNING_HOST), [value.as_slice(), &fed].concat(), "a register's arrays are lent one by one");
+    let source: Vec<_> = fields_in_rust(PLANNING_HOST).iter().map(|field| field.replace(": Date", ": FlatDate")).collect();
+    assert_eq!(source, [value.as_slice(), &fed, &date, &answer].concat(), "the arrays of a register and of windows are lent one by one");
 }
 
 /// `cells: &mut [u64; 512]` for `uint64_t cells[512]`, `slot: u64` for `uint64_t slot`, and the settings of a group.
 fn argument_in_c(argument: &str) -> String {
     if let Some(name) = argument.strip_prefix("struct chanbook_group_settings ") {
         return format!("{name}: FlatGroupSettings");
+    }
+    if let Some(name) = argument.strip_prefix("struct chanbook_date ") {
+        return format!("{name}: FlatDate");
     }
     let (kind, rest) = argument.strip_prefix("const ").map_or(("&mut ", argument), |rest| ("&", rest));
     let (of, declared) = rest.rsplit_once(' ').expect("a type and a name");
@@ -176,13 +188,15 @@ fn the_functions_of_a_register_are_those_of_the_source_and_of_the_header() {
     let functions =
         [("chanbook_register_new", 6), ("chanbook_register_entry", 10), ("chanbook_register_report", 3), ("chanbook_register_widened", 10)];
     let placed = [("chanbook_positions_new", 1), ("chanbook_placed_entry", 13), ("chanbook_conflicts", 12), ("chanbook_first_free", 12)];
-    for (function, count) in functions.into_iter().chain(placed) {
+    let windows = [("chanbook_minute_of", 1), ("chanbook_date_of", 1), ("chanbook_windows_new", 4), ("chanbook_windows_ask", 4)];
+    for (function, count) in functions.into_iter().chain(placed).chain(windows) {
         let mirror = arguments(PLANNING_MIRROR, &format!("fn {function}("));
         assert_eq!(mirror.len(), count, "{function}");
         let header = arguments(PLANNING_HEADER, &format!(" {function}("));
         assert_eq!(header.into_iter().map(argument_in_c).collect::<Vec<_>>(), mirror);
         let source = arguments(PLANNING_HOST, &format!("fn {function}("));
-        assert_eq!(source.iter().map(|argument| argument.replace("CellPosition", "FlatPosition")).collect::<Vec<_>>(), mirror);
+        let renamed = |argument: &&str| argument.replace("CellPosition", "FlatPosition").replace(": Date", ": FlatDate");
+        assert_eq!(source.iter().map(renamed).collect::<Vec<_>>(), mirror);
     }
 }
 

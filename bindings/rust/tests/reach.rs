@@ -4,8 +4,9 @@ mod support;
 mod wall;
 
 use chanbook_shard::LAST_SLOT;
+use chanbook_shard::catch_up::{CommitList, ListRefusal};
 use chanbook_shard::reach::{PlacedCell, PlacedEntry, PlacedRegister, Position, Question, Said};
-use chanbook_shard::register::{Applied, Assignment, Change};
+use chanbook_shard::register::{Applied, Assignment, Change, Register};
 use model::group;
 use std::collections::BTreeMap;
 use support::Random;
@@ -147,4 +148,72 @@ fn edges() {
             }
         }
     }
+}
+
+/// Lists that are fed in pieces, with positions, against the same entries one by one; a list past the next slot leaves all as it was.
+#[test]
+fn fed_as_one_by_one() {
+    for seed in 1..9 {
+        let mut random = Random(seed);
+        let said: Vec<(u32, Said)> = (0..400).map(|_| some_entry(&mut random, 0, 30)).map(|entry| (entry.cell, entry.said)).collect();
+        let log: CommitList = (0..400).map(|slot| (slot, slot)).collect();
+        let says = |value: u64| said[value as usize];
+        let (mut fed, mut model) = (PlacedRegister::new(&group(LAST_SLOT)), Model::default());
+        let mut one_by_one = fed.clone();
+        let mut begin = 0;
+        while begin < 400 {
+            let end = (begin + 1 + random.below(60)).min(400);
+            let from = begin.saturating_sub(random.below(3));
+            let mut first = None;
+            for slot in begin..end {
+                let (cell, said) = said[slot];
+                let number = both(&mut one_by_one, &mut model, &PlacedEntry { slot: slot as u64, cell, said });
+                first = first.or((number != 0).then_some((slot as u64, number)));
+            }
+            let piece: CommitList = log.entries().take(end).skip(from).collect();
+            assert_eq!(fed.feed(&piece, says).map(|first| first.map(|(slot, why)| (slot, why.number()))), Ok(first));
+            assert_eq!(fed, one_by_one);
+            begin = end;
+        }
+        let past: CommitList = [(401, 3)].into_iter().collect();
+        assert_eq!(fed.feed(&past, says), Err(ListRefusal::Gap));
+        assert_eq!(fed, one_by_one);
+    }
+}
+
+/// A register that is put aside and taken up again has its positions.
+#[test]
+fn put_aside() {
+    let mut random = Random(5);
+    let (mut register, mut model) = (PlacedRegister::new(&group(LAST_SLOT)), Model::default());
+    for _ in 0..500 {
+        let entry = some_entry(&mut random, model.next_slot, 40);
+        both(&mut register, &mut model, &entry);
+    }
+    let aside = (*register.register().flat(), *register.flat_positions());
+    let mut again = PlacedRegister::from_flat(Register::from_flat(Box::new(aside.0)), Box::new(aside.1));
+    assert_eq!(again, register);
+    assert!(again.cells().expect("made").eq(model.cells()));
+    let entry = some_entry(&mut random, model.next_slot, 40);
+    both(&mut again, &mut model, &entry);
+}
+
+/// A range that was run to its end has no carrier in it.
+#[test]
+fn range_run_to_its_end() {
+    let register = PlacedRegister::new(&group(LAST_SLOT));
+    let question = Question { width: 5, position: Position { x: 0, y: 0 }, distance: 0 };
+    let number = |range| register.first_free(range, &question).map_err(|why| why.number());
+    for (first, last) in [(0, 0), (0, 3), (600_000, 600_002), (3_279_165, 3_279_165)] {
+        assert_eq!(number(first..=last), Ok(first));
+        let mut range = first..=last;
+        range.by_ref().for_each(drop);
+        assert_eq!(number(range), Err(22));
+        let mut backwards = first..=last;
+        while backwards.next_back().is_some() {}
+        assert_eq!(number(backwards), Err(22));
+    }
+    let mut past = 3_279_166..=3_279_166;
+    past.next();
+    assert_eq!(number(past), Err(14));
 }

@@ -7,6 +7,7 @@ mod support;
 use chanbook_shard::catch_up::{CommitList, ListRefusal};
 use chanbook_shard::planning_sys::{self as sys, FlatRegister};
 use chanbook_shard::register::{Applied, Assignment, Cell, CellEntry, CellNumber, Change, EntryRefusal, Figures, Register, StoredRegister};
+use chanbook_shard::windows::Window;
 use chanbook_shard::{GroupSettings, LAST_SLOT, Settings};
 use model::{Model, group};
 use numbers::any_number;
@@ -175,25 +176,35 @@ fn widths_about_the_slot() {
     }
 }
 
-/// Every call gives 1, and no number changes.
+/// Every call gives the number of the settings, 1 or 17, and no number changes.
 #[test]
 fn a_register_that_is_not_made() {
     let outside = GroupSettings { settings: Settings { my_pid: 3, ..group(5).settings }, ..group(5) };
-    for settings in [group(LAST_SLOT + 1), group(u64::MAX), outside] {
+    let no_window = [Window::default()];
+    let (unmade, calendar) = (EntryRefusal::Unmade, EntryRefusal::NotInCalendar);
+    let settings = [
+        (group(LAST_SLOT + 1), unmade),
+        (group(u64::MAX), unmade),
+        (outside.clone(), unmade),
+        (group(5).with_windows(no_window.to_vec()), calendar),
+        (outside.with_windows(no_window.to_vec()), unmade),
+        (group(5).with_windows(vec![no_window[0]; 129]), unmade),
+    ];
+    for (settings, why) in settings {
         let mut register = Register::new(&settings);
-        assert_eq!(register.made(), Err(EntryRefusal::Unmade));
+        assert_eq!(register.made(), Err(why));
         let before = register.clone();
         for (slot, kind) in [(0, 1), (0, 2), (0, 3), (u64::MAX, 1)] {
-            assert_eq!(apply(&mut register, Numbers { slot, kind, cell: 7, carrier: u64::MAX, width: 1 }), 1);
+            assert_eq!(apply(&mut register, Numbers { slot, kind, cell: 7, carrier: u64::MAX, width: 1 }), why.number());
         }
-        assert_eq!(register.feed(&CommitList::default(), |_| (7, Change::Release)), Err(ListRefusal::Unmade));
+        assert_eq!(register.feed(&CommitList::default(), |_| (7, Change::Release)).map_err(ListRefusal::number), Err(why.number()));
         assert_eq!(register, before);
         let stored = StoredRegister { cells: [7; 512], carriers: [7; 512], widths: [7; 512], figures: [7; 5] };
         for unmade in [register, Register::from_stored(&stored, &settings)] {
-            assert_eq!(unmade.made(), Err(EntryRefusal::Unmade));
-            assert_eq!(unmade.report(), "refused,1\r\n");
-            assert_eq!((unmade.figures(), unmade.next_slot()), (Err(EntryRefusal::Unmade), Err(EntryRefusal::Unmade)));
-            assert_eq!(unmade.cells().err(), Some(EntryRefusal::Unmade));
+            assert_eq!(unmade.made(), Err(why));
+            assert_eq!(unmade.report(), format!("refused,{}\r\n", why.number()));
+            assert_eq!((unmade.figures(), unmade.next_slot()), (Err(why), Err(why)));
+            assert_eq!(unmade.cells().err(), Some(why));
         }
     }
     assert_eq!(Register::new(&group(LAST_SLOT)).made(), Ok(()));

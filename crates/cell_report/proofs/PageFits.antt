@@ -13,10 +13,10 @@ use Rattle.register.specs.Register.{live_places}
 use Rattle.register.specs.declared.Register.{Register}
 use Rattle.report.specs.Report.{report_text, refusal_text, page_holding, page_with}
 use Rattle.report.specs.declared.ReportPage.{ReportPage}
-use Rattle.group_register.specs.Settings.{is_made}
+use Rattle.group_register.specs.Settings.{settings_refusal, is_made}
 use Rattle.group_register.specs.GroupRegister.{group_page}
-use Rattle.register_lines.specs.Reports.{page_after}
-use Rattle.register_lines.specs.declared.LinesTaken.{LinesTaken}
+use Rattle.entry_lines.specs.Reports.{page_after}
+use Rattle.entry_lines.specs.declared.LinesTaken.{LinesTaken}
 
 abbrev Fits : ReportPage → Type 0
 Fits p = IsPrefixLen p.len p.bytes
@@ -29,7 +29,7 @@ holding_fits text =
 
 pub page_fits : (t : Option LinesTaken) (p : ReportPage) → p ≡ page_after t → Fits p
 unfolding page_after group_page page_with
-page_fits None p e = subst Fits (sym e) (holding_fits refusal_text)
+page_fits None p e = subst Fits (sym e) (holding_fits (refusal_text 1))
 page_fits (Some t) p e =
     let r : Register = t.group.register in
-    subst Fits (sym e) (of-both Fits (is_made t.group.settings) (holding_fits (report_text r.figures (live_places r))) (holding_fits refusal_text))
+    subst Fits (sym e) (of-both Fits (is_made t.group.settings) (holding_fits (report_text r.figures (live_places r))) (holding_fits (refusal_text (settings_refusal t.group.settings))))

@@ -4,10 +4,10 @@
 #![tactic(auto)]
 
 ghost use Rattle.std.specs.Prelude.{◌≡◌, is_some, None};
-ghost use Rattle.register_lines.specs.Reports.{take_line};
+ghost use Rattle.entry_lines.specs.Reports.{take_line};
 
+use entry_lines::LinesTaken;
 use line_blocks::LineTaker;
-use register_lines::LinesTaken;
 use std::io::Read;
 use texts::Output;
 
@@ -25,7 +25,7 @@ impl LineTaker for Entries {
     ghost asks = { λ entries. is_some entries.taken };
 
     fn take(&mut self, line: &[u8], _out: &mut Output<'_>) {
-        self.taken = register_lines::take_line(self.taken, line);
+        self.taken = entry_lines::take_line(self.taken, line);
     }
 
     fn take_too_long(&mut self, _start: &[u8], _out: &mut Output<'_>) {
@@ -65,7 +65,7 @@ fn take_entries<R: Read + Drop>(
     };
     let mut out = Output::new(nothing);
     let mut entries = Entries {
-        taken: register_lines::no_lines(),
+        taken: entry_lines::no_lines(),
     };
     line_blocks::take_input(&mut watched, input, &mut entries, &mut out);
     if watched.failed {
@@ -75,7 +75,7 @@ fn take_entries<R: Read + Drop>(
 }
 
 fn write_report(taken: Option<LinesTaken>) {
-    let page = register_lines::page_after(taken);
+    let page = entry_lines::page_after(taken);
     let bytes = page.bytes;
     let len = page.len;
     io::write_all(1, &bytes[..len]);

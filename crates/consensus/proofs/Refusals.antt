@@ -17,7 +17,7 @@ use Rattle.message.specs.declared.ConsensusMsg.TheVariants.{Prepare, Accept, For
 use Rattle.message.specs.declared.PFMode.{PFMode}
 use Rattle.message.specs.declared.PFMode.TheVariants.{Paxos, MultiPaxos, MultiPaxos3P, EPaxos, Pando, SwiftPaxos}
 use Rattle.message.specs.declared.Refusal.{Refusal}
-use Rattle.message.specs.declared.Refusal.TheVariants.{SettingsOutsideLimits, NumberTooLarge, NoSuchProcess, OtherLastValue, SlotAhead, ValueNotHeld, SourceNotLive, Panic, AcceptUnlikeHeld, SecondFastAnswer, ProposalNotAllowed, NoRoomForRead}
+use Rattle.message.specs.declared.Refusal.TheVariants.{SettingsOutsideLimits, NumberTooLarge, NoSuchProcess, OtherLastValue, SlotAhead, ValueNotHeld, SourceNotLive, Panic, AcceptUnlikeHeld, SecondFastAnswer, ProposalNotAllowed, NoRoomForRead, NotInCalendar}
 use Rattle.message.specs.declared.RoundV.{RoundV}
 use Rattle.message.specs.declared.RoundV.TheVariants.{FastV, PaxosV}
 use Rattle.settings.specs.declared.Settings.{Settings}
@@ -77,7 +77,7 @@ refusal_of n =
     (cond (eqb n 5) SlotAhead
     (cond (eqb n 6) ValueNotHeld
     (cond (eqb n 7) SourceNotLive
-    (cond (eqb n 8) Panic (cond (eqb n 9) AcceptUnlikeHeld (cond (eqb n 10) SecondFastAnswer (cond (eqb n 11) ProposalNotAllowed NoRoomForRead))))))))))
+    (cond (eqb n 8) Panic (cond (eqb n 9) AcceptUnlikeHeld (cond (eqb n 10) SecondFastAnswer (cond (eqb n 11) ProposalNotAllowed (cond (eqb n 12) NoRoomForRead NotInCalendar)))))))))))
 
 refusal_of_lem : (why : Refusal) → refusal_of (refusal_number why) ≡ why
 unfolding refusal_of
@@ -93,6 +93,7 @@ refusal_of_lem AcceptUnlikeHeld = refl
 refusal_of_lem SecondFastAnswer = refl
 refusal_of_lem ProposalNotAllowed = refl
 refusal_of_lem NoRoomForRead = refl
+refusal_of_lem NotInCalendar = refl
 
 same_refusal : (a b : Refusal) → refusal_number a ≡ refusal_number b → a ≡ b
 same_refusal a b e = sym (refusal_of_lem a) ∙ ap refusal_of e ∙ refusal_of_lem b
@@ -160,6 +161,7 @@ refusal_numbered AcceptUnlikeHeld = refl
 refusal_numbered SecondFastAnswer = refl
 refusal_numbered ProposalNotAllowed = refl
 refusal_numbered NoRoomForRead = refl
+refusal_numbered NotInCalendar = refl
 
 unmade_numbered : (o : Outcome) → Numbered (unmade o)
 unfolding numbered

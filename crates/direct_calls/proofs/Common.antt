@@ -24,7 +24,7 @@ use Rattle.fast_state.specs.declared.FastState.{FastState}
 use Rattle.message.specs.Refusals.{refusal_number}
 use Rattle.message.specs.declared.PaxosRound.{PaxosRound}
 use Rattle.message.specs.declared.Refusal.{Refusal}
-use Rattle.message.specs.declared.Refusal.TheVariants.{SettingsOutsideLimits, NumberTooLarge, NoSuchProcess, OtherLastValue, SlotAhead, ValueNotHeld, SourceNotLive, Panic, AcceptUnlikeHeld, SecondFastAnswer, ProposalNotAllowed, NoRoomForRead}
+use Rattle.message.specs.declared.Refusal.TheVariants.{SettingsOutsideLimits, NumberTooLarge, NoSuchProcess, OtherLastValue, SlotAhead, ValueNotHeld, SourceNotLive, Panic, AcceptUnlikeHeld, SecondFastAnswer, ProposalNotAllowed, NoRoomForRead, NotInCalendar}
 use Rattle.read_tracker.specs.declared.ReadTable.{ReadTable}
 use Rattle.settings.specs.declared.Settings.{Settings}
 use Rattle.steps.specs.declared.Core.{Core}
@@ -83,6 +83,7 @@ not_passed_on AcceptUnlikeHeld = refl
 not_passed_on SecondFastAnswer = refl
 not_passed_on ProposalNotAllowed = refl
 not_passed_on NoRoomForRead = refl
+not_passed_on NotInCalendar = refl
 
 -- ---- kinds of messages
 

@@ -14,6 +14,7 @@ use Rattle.array_reads.specs.Rows.{open_rows, served_rows}
 use Rattle.consensus.specs.Call.{call_of}
 use Rattle.consensus.specs.declared.Answer.{Answer}
 use Rattle.consensus.specs.declared.Shard.{Shard}
+use Rattle.consensus.proofs.Refusals.{unmade_refuses}
 use Rattle.direct.specs.Direct.{Direct, direct}
 use Rattle.direct_core.specs.Handled.{Written, put_reply, passed_on}
 use Rattle.direct_fast.specs.DirectFast.{FastDirect, fast_half_acts}
@@ -21,13 +22,13 @@ use Rattle.fast_arrays.specs.FastArrays.{fast_of}
 use Rattle.fast_state.specs.Adopt.{lowest_best}
 use Rattle.group.specs.Claim.{ours, MemberCall, Entry, after_call, entries_from, Claim, NotSwift}
 use Rattle.group.proofs.Ties.{lowest_picks_best}
-use Rattle.group_settings.specs.GroupSettings.{decoded_group_settings}
+use Rattle.group_settings.specs.GroupSettings.{decoded_group_settings, flat_settings_number}
 use Rattle.group_settings.specs.declared.FlatGroupSettings.{FlatGroupSettings}
 use Rattle.group_settings.specs.declared.GroupSettings.{GroupSettings}
 use Rattle.group_shard.specs.Begin.{begin_shard}
 use Rattle.group_settings_runs.specs.Groups.{member_group_settings, begun_from, group_entries, GroupLegal}
 use Rattle.group_settings_runs.proofs.Agreeing.{agreement_from}
-use Rattle.host.proofs.Calls.{refusal_leaves, new_stands}
+use Rattle.host.proofs.Calls.{refusal_leaves, new_stands, MarkedBy, marked_by_number}
 use Rattle.host.specs.Calls.{flat_new}
 use Rattle.host.specs.Shards.{decoded_shard}
 use Rattle.host.specs.declared.FlatShard.{FlatShard}
@@ -159,3 +160,22 @@ host_agreement g claimed memories new cs legal = (
 pub host_begins : (g : GroupSettings) (j : ℕ) (t : FlatGroupSettings) → leb t.settings.mode 5 ≡ true → decoded_group_settings t ≡ member_group_settings g j
     → shard_of (memory_of (flat_new t)) ≡ begun_from g j
 host_begins g j t known e = same_shard (flat_new t) ∙ new_stands t known ∙ ap begin_shard e
+
+-- Where it hands back a shard that is not made, every call in place gives the number of the settings, 1 or 17, and writes nothing.
+pub host_refuses : (t : FlatGroupSettings) → (flat_settings_number t ≡ 0 → ⊥) → (f : FlatCall) (w : Written)
+    → ((host_call (memory_of (flat_new t)) f w).number ≡ flat_settings_number t) × ((host_call (memory_of (flat_new t)) f w).reply ≡ w)
+host_refuses t refused f w = go (marked_by_number t)
+  where
+    m : Memory
+    m = memory_of (flat_new t)
+
+    told_refused : (why : Refusal) → (decoded_shard (flat_new t)).made ≡ Err why → Told (made m f w).reply (Err why) w (host_call m f w)
+    told_refused why e =
+        let unmade : (shard_of m).made ≡ Err why = ap (λ (s : Shard). s.made) (same_shard (flat_new t)) ∙ e in
+        let outcome : (made m f w).reply.outcome ≡ Err why =
+        ap (λ (r : Answer). r.reply.outcome) (unmade_refuses lowest_best (shard_of m) (call_in m f) why unmade) in
+        subst (λ (o : Outcome). Told (made m f w).reply o w (host_call m f w)) outcome (host_is_call m f w).told
+
+    go : MarkedBy (decoded_shard (flat_new t)).made (flat_settings_number t) → ((host_call m f w).number ≡ flat_settings_number t) × ((host_call m f w).reply ≡ w)
+    go (inl (_, none)) = absurd (refused none)
+    go (inr (why, (e, number))) = let (told, left) = told_refused why e in (told ∙ sym number, left)

@@ -10,12 +10,13 @@ use Rattle.register.specs.declared.Entered.{Entered}
 use Rattle.register.specs.declared.Entered.TheVariants.{Done, Older}
 use Rattle.register.specs.declared.EntryRefusal.TheVariants.{NumberTooLarge as too_large_entry, NotAssignable, NoRoomForCell, CellNotLive}
 use Rattle.register.specs.declared.CellEntry.{CellEntry}
-use Rattle.group_register.specs.Settings.{is_made}
+use Rattle.group_register.specs.Settings.{unmade_by, is_made}
 use Rattle.group_register.specs.GroupHistory.{apply_all_in_group}
 use Rattle.group_register.specs.GroupRegister.{group_refusal_number, group_outcome_number, apply_in_group}
 use Rattle.group_register.specs.declared.GroupRefusal.{GroupRefusal}
 use Rattle.group_register.specs.declared.GroupRefusal.TheVariants.{Unmade as unmade_register, OddWidth, AsRegister}
 use Rattle.group_register.specs.declared.GroupRegister.{GroupRegister}
+use Rattle.group_register.specs.declared.UnmadeBy.TheVariants.{OutsideLimits, NotInCalendar}
 use Rattle.group_register.proofs.GroupLaws.{older_applied}
 use Rattle.catch_up.specs.Joining.{too_large}
 use Rattle.catch_up.specs.declared.JoinRefusal.TheVariants.{NumberTooLarge, OutsideLimits, Gap}
@@ -57,8 +58,9 @@ AllTaken g [] = Unit {0}
 AllTaken g (e ∷ es) = (is_refusal (group_outcome_number (apply_in_group g e).outcome) ≡ false) × AllTaken (apply_in_group g e).group es
 
 -- every refusal has a number of document 02
-number_refuses : (why : GroupRefusal) → is_refusal (group_refusal_number why) ≡ true
-number_refuses unmade_register = refl
+pub number_refuses : (why : GroupRefusal) → is_refusal (group_refusal_number why) ≡ true
+number_refuses (unmade_register OutsideLimits) = refl
+number_refuses (unmade_register NotInCalendar) = refl
 number_refuses OddWidth = refl
 number_refuses (AsRegister too_large_entry) = refl
 number_refuses (AsRegister NotAssignable) = refl
@@ -113,7 +115,7 @@ first_refused_number g before e after t is =
 -- ---- the call
 
 -- a register that is not made gives its number, and stays
-pub not_fed_unmade : (g : GroupRegister) (l : FedList) → is_made g.settings ≡ false → feeding g l ≡ feeding_in (Err Unmade) g
+pub not_fed_unmade : (g : GroupRegister) (l : FedList) → is_made g.settings ≡ false → feeding g l ≡ feeding_in (Err (Unmade (unmade_by g.settings))) g
 unfolding feeding
 not_fed_unmade g l unmade = simp unmade
 
@@ -124,7 +126,7 @@ fed_if_made g l made = simp made
 -- what the call comes to, by whether the register is made and by the causes of 2, 18 and 19
 abbrev ended : GroupRegister → Feeding → (m s t u : Bool) → Feeding
 ended g end m s t u =
-    cond m (cond s (not_fed NumberTooLarge g) (cond t (not_fed OutsideLimits g) (cond u (not_fed Gap g) end))) (feeding_in (Err Unmade) g)
+    cond m (cond s (not_fed NumberTooLarge g) (cond t (not_fed OutsideLimits g) (cond u (not_fed Gap g) end))) (feeding_in (Err (Unmade (unmade_by g.settings))) g)
 
 -- a call that says so has fed the whole list, to a register that is made
 pub fed_as_said : (g : GroupRegister) (l : FedList) (first : Option FirstRefused) → (feeding g l).answer ≡ Ok first

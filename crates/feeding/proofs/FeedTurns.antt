@@ -25,7 +25,7 @@ pub feed_end : (l : FedList) (i n : ℕ) (f : FedTo) → n ≤ i → feed_all f 
 unfolding feed_all entries_from
 feed_end l i n f h = let none : n - i ≡ 0 = omega arith in rw none refl
 
-inside_same : (l : FedList) → outside_fed l ≡ false → SameLengths l
+pub inside_same : (l : FedList) → outside_fed l ≡ false → SameLengths l
 unfolding outside_fed
 inside_same l e =
     let one = (or_parts (ltb 8192 (length l.slots)) _ e).1 in

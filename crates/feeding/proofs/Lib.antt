@@ -1,5 +1,5 @@
 -- The laws of feeding, and what the functions cite.
-mod FeedTurns
+pub mod FeedTurns
 pub mod FeedLaws
 pub mod FeedNumbers
 pub mod JoinFed

@@ -6,7 +6,7 @@ use Rattle.std.specs.Prelude.{◌≡◌, Option, Some, None, Result, Ok, Err, Bo
 use Rattle.register.specs.declared.Entered.{Entered}
 use Rattle.register.specs.declared.CellEntry.{CellEntry}
 use Rattle.register_arrays.specs.Columns.{entry_from_numbers}
-use Rattle.group_register.specs.Settings.{is_made}
+use Rattle.group_register.specs.Settings.{unmade_number, unmade_by, is_made}
 use Rattle.group_register.specs.GroupRegister.{group_refusal_number, apply_in_group}
 use Rattle.group_register.specs.declared.GroupRefusal.{GroupRefusal}
 use Rattle.group_register.specs.declared.GroupRegister.{GroupRegister}
@@ -117,9 +117,9 @@ outside_fed l =
 abbrev pub begins_past : GroupRegister → FedList → Bool
 begins_past g l = ltb 0 (length l.slots) && ltb g.register.next_slot (first_slot l.slots)
 
--- document 02's number: a register that is not made gives 1
+-- document 02's number: a register that is not made gives that of its settings
 abbrev pub feed_refusal_number : FeedRefusal → ℕ
-feed_refusal_number Unmade = 1
+feed_refusal_number (Unmade why) = unmade_number why
 feed_refusal_number (AsList why) = join_number why
 
 -- the register afterwards, and the answer
@@ -145,4 +145,4 @@ feeding_made g l =
 
 -- a register that is not made gives its number before anything else (E13)
 unfoldable pub feeding : GroupRegister → FedList → Feeding
-feeding g l = cond (is_made g.settings) (feeding_made g l) (feeding_in (Err Unmade) g)
+feeding g l = cond (is_made g.settings) (feeding_made g l) (feeding_in (Err (Unmade (unmade_by g.settings))) g)

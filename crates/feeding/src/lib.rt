@@ -8,7 +8,7 @@ ghost use Rattle.group_register.specs.GroupRegister.{group_register};
 ghost use Rattle.feeding.specs.Feeding.{or_refused, feed_all, entry_in, entries_in, SameLengths, fed_to, fed_list, outside_fed, feed_refusal_number, feeding_in, feeding};
 
 use catch_up::{JoinRefusal, LentList};
-use group_register::{GroupRefusal, RegisterSettings, apply_in};
+use group_register::{GroupRefusal, RegisterSettings, UnmadeBy, apply_in};
 use refusals::Refused;
 use register::{CellEntry, CellNumber, Entered, RegisterPlaces};
 use register_arrays::entry_from_numbers;
@@ -31,10 +31,10 @@ pub struct FirstRefused {
     pub why: GroupRefusal,
 }
 
-// Why nothing of a list is fed: the register is not made (E13); or the list, by 2, 18 or 19.
+// Why nothing of a list is fed: the register is not made (E13, E8); or the list, by 2, 18 or 19.
 #[derive(Clone, Copy, PartialEq, Eq, Debug)]
 pub enum FeedRefusal {
-    Unmade,
+    Unmade(UnmadeBy),
     AsList(JoinRefusal),
 }
 
@@ -46,7 +46,7 @@ impl Refused for FeedRefusal {
     // Document 02's number. By `match`, since a cause of a list is itself one of several, each with its number.
     fn number(self) -> u64 {
         match self {
-            FeedRefusal::Unmade => 1,
+            FeedRefusal::Unmade(why) => why.number(),
             FeedRefusal::AsList(why) => why.number(),
         }
     }
@@ -68,7 +68,7 @@ fn or_refused(
 }
 
 // 19: the list has entries, and the first is past the slot after the last one seen.
-fn begins_past(slots: &[u64], next_slot: u64) -> bool
+pub fn begins_past(slots: &[u64], next_slot: u64) -> bool
     ensures { result ≡ (ltb 0 (length slots.now) && ltb next_slot (first_slot slots.now)) }
 {
     0 < slots.len() && next_slot < slots[0]
@@ -77,7 +77,7 @@ fn begins_past(slots: &[u64], next_slot: u64) -> bool
 impl EntryList<'_> {
     // 18: more than 8,192 entries, slices of unequal length, or slots not consecutive.
     #[tactic(auto, unfolding(crate::specs::Feeding::outside_fed))]
-    fn outside(self) -> bool
+    pub fn outside(self) -> bool
         ensures { result ≡ outside_fed (fed_list self.entry) }
     {
         let length = self.commits.slots.len();
@@ -128,7 +128,7 @@ fn feed_all<R: RegisterPlaces>(
     first
 }
 
-// Feeds a list: 1, 2, 18 or 19 and nothing fed, or every entry taken as in E6 and E13 and the first refused slot with its number.
+// Feeds a list: 1 or 17 of a register that is not made, 2, 18 or 19 and nothing fed, or every entry taken as in E6 and E13 and the first refused slot with its number.
 #[tactic(auto, using(crate::proofs::FeedTurns::kinds_same, crate::proofs::FeedTurns::cells_same, crate::proofs::FeedTurns::carriers_same, crate::proofs::FeedTurns::widths_same), unfolding(crate::specs::Feeding::feeding, crate::specs::Feeding::feeding_made))]
 pub fn feed<R: RegisterPlaces>(
     settings: RegisterSettings,
@@ -140,7 +140,7 @@ pub fn feed<R: RegisterPlaces>(
         ≡ feeding (group_register settings (R.register register.old)) (fed_list list.entry) }
 {
     if !settings.is_made() {
-        return Err(FeedRefusal::Unmade);
+        return Err(FeedRefusal::Unmade(settings.unmade_by()));
     }
     if list.commits.too_large() {
         return Err(FeedRefusal::AsList(JoinRefusal::NumberTooLarge));

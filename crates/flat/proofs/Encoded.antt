@@ -5,7 +5,10 @@ use Rattle.message.specs.declared.PaxosRound.{PaxosRound}
 use mathlib.Core.Path.{◌≡◌, refl, ap, ap₂}
 use mathlib.Core.Bool.{Bool, true, false}
 use mathlib.Core.List.{List, [], ◌∷◌, map}
+use mathlib.Core.Logic.{inl, inr}
 use Prim.Native.Nat.{ℕ}
+use lib.Dec.{leb}
+use Rattle.message.specs.Outcomes.{Outcome}
 use Rattle.message.specs.declared.ConsensusMessage.{ConsensusMessage}
 use Rattle.message.specs.declared.ConsensusMsg.{ConsensusMsg}
 use Rattle.message.specs.declared.ConsensusMsg.TheVariants.{Prepare, Accept, ForwardRequest, Commit, ReadRequest, ReadResponse}
@@ -17,9 +20,16 @@ use Rattle.read_tracker.specs.declared.ReadTable.{ReadTable}
 use Rattle.read_tracker.specs.declared.ServedRead.{ServedRead}
 use Rattle.steps.specs.declared.Core.{Core}
 use Rattle.steps.specs.declared.Rounds.{Rounds}
-use Rattle.flat.specs.Encode.{encoded_bool, encoded_option, encoded_round, encoded_promise, encoded_held, encoded_core, encoded_fast, encoded_rounds, encoded_open, encoded_served, encoded_table, encoded_msg, with_source, encoded_message}
-use Rattle.flat.specs.Decode.{is_yes, decoded_option, decoded_round, decoded_promise, decoded_held, decoded_core, decoded_fast, decoded_rounds, decoded_open, decoded_served, decoded_table, decoded_msg, decoded_source, decoded_message}
+use Rattle.flat.specs.Encode.{encoded_bool, encoded_outcome, encoded_made, encoded_option, encoded_round, encoded_promise, encoded_held, encoded_core, encoded_fast, encoded_rounds, encoded_open, encoded_served, encoded_table, encoded_msg, with_source, encoded_message}
+use Rattle.flat.specs.Decode.{is_yes, decoded_option, decoded_round, decoded_promise, decoded_held, decoded_made, IsMark, decoded_core, decoded_fast, decoded_rounds, decoded_open, decoded_served, decoded_table, decoded_msg, decoded_source, decoded_message}
 use Rattle.flat.specs.declared.FlatOption.{FlatOption}
+
+-- in a mode that there is, the mark that a shard begins with crosses to numbers and back: 1 comes back as 1, and 17 as 17
+pub mark_encoded : (o : Outcome) (mode : ℕ) → IsMark o → leb mode 5 ≡ true → decoded_made (encoded_made o mode) mode ≡ o
+unfolding decoded_made encoded_made encoded_outcome
+mark_encoded o mode (inl made) known = simp (made, known)
+mark_encoded o mode (inr (inl outside)) known = simp (outside, known)
+mark_encoded o mode (inr (inr unfit)) known = simp (unfit, known)
 
 yes_encoded : (b : Bool) → is_yes (encoded_bool b) ≡ b
 yes_encoded true = refl

@@ -1,13 +1,13 @@
 -- What the flat forms stand for. 0 is no, and any other number yes.
 -- Assumes nothing.
-use Rattle.std.specs.Prelude.{Bool, cond, not, ◌&&◌, map, ℕ, eqb, ltb, leb, Option, None, Some, Ok, Err}
+use Rattle.std.specs.Prelude.{◌≡◌, ◌⊎◌, Bool, cond, not, ◌&&◌, map, ℕ, eqb, ltb, leb, Option, None, Some, Ok, Err}
 use Rattle.message.specs.Modes.{mode_of_number}
 use Rattle.message.specs.Outcomes.{Outcome}
 use Rattle.message.specs.declared.PaxosRound.{PaxosRound}
 use Rattle.message.specs.declared.ConsensusMessage.{ConsensusMessage}
 use Rattle.message.specs.declared.ConsensusMsg.{ConsensusMsg}
 use Rattle.message.specs.declared.ConsensusMsg.TheVariants.{Prepare, Accept, ForwardRequest, Commit, ReadRequest, ReadResponse}
-use Rattle.message.specs.declared.Refusal.TheVariants.{SettingsOutsideLimits}
+use Rattle.message.specs.declared.Refusal.TheVariants.{SettingsOutsideLimits, NotInCalendar}
 use Rattle.message.specs.declared.RoundV.{RoundV}
 use Rattle.message.specs.declared.RoundV.TheVariants.{FastV, PaxosV}
 use Rattle.settings.specs.declared.Settings.{Settings}
@@ -52,9 +52,14 @@ decoded_held f = cond (eqb f.given 0) None (Some (decoded_promise f.promise))
 
 -- ---- settings
 
--- a mode that there is not is outside the limits, which are the one cause for which a shard is not made
+-- the mark of a shard: 0 is made, 17 is 17, and any other is 1. A mode that there is not is outside the limits, whatever the mark.
 unfoldable pub decoded_made : ℕ → ℕ → Outcome
-decoded_made made mode = cond (leb mode 5) (cond (eqb made 0) (Ok tt) (Err SettingsOutsideLimits)) (Err SettingsOutsideLimits)
+decoded_made made mode =
+    cond (leb mode 5) (cond (eqb made 0) (Ok tt) (cond (eqb made 17) (Err NotInCalendar) (Err SettingsOutsideLimits))) (Err SettingsOutsideLimits)
+
+-- what a shard may be marked with as it begins
+abbrev pub IsMark : Outcome → Type 0
+IsMark o = (o ≡ Ok tt) ⊎ ((o ≡ Err SettingsOutsideLimits) ⊎ (o ≡ Err NotInCalendar))
 
 abbrev pub decoded_settings : FlatSettings → Settings
 decoded_settings f =

@@ -38,7 +38,7 @@ use Rattle.flat.specs.declared.FlatTable.{FlatTable}
 abbrev pub encoded_bool : Bool → ℕ
 encoded_bool b = cond b 1 0
 
--- Done is 0, and a refusal its number of document 01
+-- Done is 0, and a refusal its number of document 01 or 02
 unfoldable pub encoded_outcome : Outcome → ℕ
 encoded_outcome (Ok tt) = 0
 encoded_outcome (Err why) = refusal_number why

@@ -248,15 +248,19 @@ pub fn decode_held(f: FlatHeld) -> Option<RoundV>
     Some(decode_promise(f.promise))
 }
 
-// A mode that there is not is outside the limits. Settings outside the limits are the one cause for which a shard is not made.
+// The mark of a shard: 0 is made, 17 is 17, and any other is 1, settings outside the limits. A mode that there is not is outside the limits, whatever the mark.
 #[tactic(auto, unfolding(crate::specs::Decode::decoded_made))]
 pub fn decode_made(made: u64, mode: u64) -> Outcome
     ensures { result ≡ decoded_made made mode }
 {
-    if mode <= 5 && made == 0 {
-        return Ok(());
+    if mode > 5 {
+        return Err(Refusal::SettingsOutsideLimits);
     }
-    Err(Refusal::SettingsOutsideLimits)
+    match made {
+        0 => Ok(()),
+        17 => Err(Refusal::NotInCalendar),
+        _ => Err(Refusal::SettingsOutsideLimits),
+    }
 }
 
 pub fn decode_settings(f: FlatSettings) -> Settings

@@ -12,10 +12,11 @@ use Rattle.register_arrays.specs.Columns.{HavePlaces, register_of}
 use Rattle.register_arrays.proofs.Laws.{same_arrays}
 use Rattle.group_register.specs.Settings.{settings_refusal, is_made}
 use Rattle.report.specs.Report.{refusal_text, page_holding, register_page}
+use Rattle.report.specs.declared.ReportPage.{ReportPage}
 use Rattle.group_register.specs.GroupRegister.{group_outcome_number, group_page}
 use Rattle.group_register.specs.declared.GroupApplied.{GroupApplied}
 use Rattle.group_register.specs.declared.GroupRegister.{GroupRegister}
-use Rattle.group_register.proofs.GroupLaws.{unmade_left, unmade_number}
+use Rattle.group_register.proofs.GroupLaws.{unmade_left, unmade_number_lem}
 use Rattle.group_arrays.specs.GroupColumns.{settings_in, group_in, after_group_entry, group_report_in}
 
 -- the arrays before a call, and after it
@@ -26,7 +27,7 @@ module _ (settings ns cs ws f ms ds vs g : List ℕ) (before : HavePlaces ns cs 
   unmade_arrays_left unmade e k h =
       let left = unmade_left (settings_in settings) unmade (register_of ns cs ws f) e in (
         same_arrays ns cs ws f ms ds vs g before figures after figures' (ap (λ (x : GroupRegister × ℕ). x.0.register) h ∙ ap (λ (a : GroupApplied). a.group.register) left),
-        ap (λ (x : GroupRegister × ℕ). x.1) h ∙ ap (λ (a : GroupApplied). group_outcome_number a.outcome) left ∙ sym (unmade_number (settings_in settings) unmade),
+        ap (λ (x : GroupRegister × ℕ). x.1) h ∙ ap (λ (a : GroupApplied). group_outcome_number a.outcome) left ∙ sym (unmade_number_lem (settings_in settings) unmade),
       )
 
 pub report_of_group : (settings cells carriers widths figures : List ℕ)
@@ -37,8 +38,11 @@ report_of_group settings cells carriers widths figures = go (is_made (settings_i
     r : Register
     r = register_of cells carriers widths figures
 
+    refused : ReportPage
+    refused = page_holding (refusal_text (settings_refusal (settings_in settings)))
+
     go : (t : Bool)
-        → ◌≡◌ {A = List ℕ × ℕ} (cond t ((register_page r).bytes, (register_page r).len) ((page_holding refusal_text).bytes, (page_holding refusal_text).len))
-        ((cond t (register_page r) (page_holding refusal_text)).bytes, (cond t (register_page r) (page_holding refusal_text)).len)
+        → ◌≡◌ {A = List ℕ × ℕ} (cond t ((register_page r).bytes, (register_page r).len) (refused.bytes, refused.len))
+        ((cond t (register_page r) refused).bytes, (cond t (register_page r) refused).len)
     go true = refl
     go false = refl

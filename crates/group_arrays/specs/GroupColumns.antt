@@ -5,7 +5,7 @@ use Rattle.register.specs.declared.CellEntry.{CellEntry}
 use Rattle.register_arrays.specs.Columns.{register_of, register_in, report_in}
 use Rattle.register_arrays.specs.declared.Columns.{Columns}
 use Rattle.report.specs.Report.{refusal_text, page_holding}
-use Rattle.group_register.specs.Settings.{is_made}
+use Rattle.group_register.specs.Settings.{settings_refusal, is_made}
 use Rattle.group_register.specs.GroupRegister.{group_register, group_outcome_number, apply_in_group}
 use Rattle.group_register.specs.declared.GroupRegister.{GroupRegister}
 use Rattle.group_register.specs.declared.RegisterSettings.{RegisterSettings}
@@ -25,6 +25,8 @@ group_of settings c = group_register (settings_in settings) (register_in c)
 abbrev pub after_group_entry : GroupRegister → CellEntry → GroupRegister × ℕ
 after_group_entry g e = ((apply_in_group g e).group, group_outcome_number (apply_in_group g e).outcome)
 
--- the bytes of the report, or of "the one line `refused,1`", and the number of those that are its text
+-- the bytes of the report, or of "the one line `refused,1`" or `refused,17`, and the number of those that are its text
 unfoldable pub group_report_in : List ℕ → List ℕ → List ℕ × ℕ
-group_report_in settings figures = cond (is_made (settings_in settings)) (report_in figures) ((page_holding refusal_text).bytes, (page_holding refusal_text).len)
+group_report_in settings figures =
+    cond (is_made (settings_in settings)) (report_in figures)
+    (let page = page_holding (refusal_text (settings_refusal (settings_in settings))) in (page.bytes, page.len))

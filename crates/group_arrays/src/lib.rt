@@ -57,7 +57,7 @@ pub fn apply_group_entry(
     entry_number(group_register::apply_in(settings_in(settings), columns, entry))
 }
 
-// The report at the start of out, or the line `refused,1` of a register that is not made, zeros after it; and its length.
+// The report at the start of out, or the line `refused,1` or `refused,17` of a register that is not made, zeros after it; and its length.
 #[tactic(auto, unfolding(crate::specs::GroupColumns::group_report_in))]
 pub fn put_group_page(settings: &[u64; 2], figures: &[u64; 5], out: &mut [u8; 116]) -> u64
     ensures { (out.new, result) ≡ group_report_in settings.now figures.now }
@@ -66,7 +66,7 @@ pub fn put_group_page(settings: &[u64; 2], figures: &[u64; 5], out: &mut [u8; 11
     if kept.is_made() {
         return register_arrays::put_page(figures, out);
     }
-    let page = report::refusal();
+    let page = report::refusal(kept.refusal());
     let bytes = page.bytes;
     *out = bytes;
     page.len as u64

@@ -15,14 +15,19 @@ use Rattle.group_register.specs.Settings.{settings_from, settings_refusal, is_ma
 use Rattle.group_register.specs.WholeMhz.{is_odd}
 use Rattle.group_register.specs.GroupTaken.{group_number_given, group_latest, group_number_for, group_makes, group_supersedes, group_releases, group_live_count}
 use Rattle.group_register.specs.GroupHistory.{AllBefore, NoneTakenOf}
+use Rattle.group_register.specs.declared.RegisterSettings.{RegisterSettings}
 
 abbrev carrier : ℕ → Assignment
 carrier width = record { carrier = 630000; width = width }
 
--- a host that names the last slot, and one that names the slot behind it
-pub settings : (is_made (settings_from 9223372036854775806) ≡ true) × (settings_refusal (settings_from 9223372036854775807) ≡ 1)
+abbrev kept : ℕ → RegisterSettings
+kept number = record { number = number; whole_mhz_from = 5 }
+
+-- a host that names the last slot, and one that names the slot behind it; and what is kept as a number
+pub settings : (is_made (settings_from 9223372036854775806) ≡ true) × (settings_refusal (settings_from 9223372036854775807) ≡ 1) × (settings_refusal (kept 17) ≡ 17)
+    × (settings_refusal (kept 1) ≡ 1) × (settings_refusal (kept 16) ≡ 1) × (settings_refusal (kept 18) ≡ 1) × (is_made (kept 0) ≡ true)
 unfolding settings_from settings_refusal
-settings = (refl, refl)
+settings = (refl, refl, refl, refl, refl, refl, refl)
 
 -- widths are in whole MHz from slot 5 on: cells 7 and 9 have odd widths from before, and cell 9 is assigned again; latest first
 abbrev early : List CellEntry
@@ -43,9 +48,9 @@ unfolding group_number_given group_latest is_odd above count_in cells_named amon
 numbers = (refl, refl, refl, refl, refl, refl, refl)
 
 -- cell 7 keeps its odd width
-pub kept : group_latest 5 office 7 ≡ is (Assign (carrier 999))
+pub odd_width_kept : group_latest 5 office 7 ≡ is (Assign (carrier 999))
 unfolding group_number_given group_latest is_odd above count_in cells_named among
-kept = refl
+odd_width_kept = refl
 
 pub none_taken : NoneTakenOf 5 7 (entry 6 9 (Assign (carrier 2000)) ∷ entry 5 7 (Assign (carrier 1500)) ∷ []) early
 unfolding group_number_given group_latest is_odd above count_in cells_named among

@@ -8,7 +8,7 @@ use Prim.Native.Nat.{ℕ, ◌+◌, ◌≤◌, ◌<◌}
 use native.Mathlib.Omega.{arith}
 use lib.Dec.{ltb, leb, eqb}
 use lib.ListN.{length}
-use borrow.Author.Tests.{ltb-true, ltb-false, leb-true, le-leb, lt-leb, lt-ltb, le-ltb}
+use borrow.Author.Tests.{ltb-true, ltb-false, leb-true, le-leb, lt-leb, lt-ltb, le-ltb, ne_eqb}
 use Rattle.basics.specs.Lists.{In}
 use Rattle.basics.proofs.Tests.{not_both, fails, and_left, and_right, of-both}
 use Rattle.raster.specs.Raster.{frequency_of}
@@ -31,7 +31,7 @@ use Rattle.register.proofs.Agreement.{within_limits_lem}
 use Rattle.register.proofs.Laws as E6
 use Rattle.report.specs.Report.{refusal_text, page_holding, page_with}
 use Rattle.report.proofs.Counted.{report_counted}
-use Rattle.group_register.specs.Settings.{settings_refusal, is_made}
+use Rattle.group_register.specs.Settings.{unmade_number, unmade_by, settings_refusal, is_made}
 use Rattle.group_register.specs.WholeMhz.{in_whole_mhz, is_odd}
 use Rattle.group_register.specs.GroupRegister.{group_register, new_group_register, group_applied, group_outcome_number, in_group, change_assignable, gives_odd_width, as_register, apply_made, apply_in_group, group_page}
 use Rattle.group_register.specs.GroupTaken.{group_number_given, group_latest, group_number_for, number_in_group, is_group_taken, group_figures, group_live_count}
@@ -41,6 +41,8 @@ use Rattle.group_register.specs.declared.GroupRefusal.{GroupRefusal}
 use Rattle.group_register.specs.declared.GroupRefusal.TheVariants.{Unmade, OddWidth}
 use Rattle.group_register.specs.declared.GroupRegister.{GroupRegister}
 use Rattle.group_register.specs.declared.RegisterSettings.{RegisterSettings}
+use Rattle.group_register.specs.declared.UnmadeBy.{UnmadeBy}
+use Rattle.group_register.specs.declared.UnmadeBy.TheVariants.{OutsideLimits, NotInCalendar}
 use Rattle.group_register.proofs.Mapped.{without_width, odd_within_limits, bound_entry, bound_entries, above_bound, number_plain, number_odd, odd_not_taken, taken_kept, is_taken_bound, latest_bound, figures_bound, live_count_bound, later_bound}
 
 -- an outcome of E6 has the number that it has there
@@ -316,20 +318,30 @@ module _ (s : RegisterSettings) (made : is_made s ≡ true) where
     early_number = ap (λ (a : GroupApplied). group_outcome_number a.outcome) early_answered ∙ in_group_number (apply (register_after before) e).outcome
 
 -- ---- a register that is not made: every call gives its number, and nothing changes
-pub unmade_number : (s : RegisterSettings) → is_made s ≡ false → settings_refusal s ≡ 1
+pub unmade_number_lem : (s : RegisterSettings) → is_made s ≡ false → settings_refusal s ≡ unmade_number (unmade_by s)
 unfolding settings_refusal
-unmade_number s h = go (eqb s.number 0) refl
+unmade_number_lem s h = go (eqb s.number 0) refl
   where
-    go : (t : Bool) → eqb s.number 0 ≡ t → ◌≡◌ {A = ℕ} (cond t 0 1) 1
+    go : (t : Bool) → eqb s.number 0 ≡ t → ◌≡◌ {A = ℕ} (cond t 0 (unmade_number (unmade_by s))) (unmade_number (unmade_by s))
     go true e = absurd (not_both (simp e) h)
     go false e = refl
 
+-- 17 stays 17, and any other number but 0 is read as 1
+pub seventeen_stays : (s : RegisterSettings) → s.number ≡ 17 → settings_refusal s ≡ 17
+unfolding settings_refusal
+seventeen_stays s e = simp e
+
+pub others_read_as_1 : (s : RegisterSettings) → (s.number ≡ 0 → ⊥) → (s.number ≡ 17 → ⊥) → settings_refusal s ≡ 1
+unfolding settings_refusal
+others_read_as_1 s not-0 not-17 = simp (ne_eqb s.number 0 not-0, ne_eqb s.number 17 not-17)
+
 module _ (s : RegisterSettings) (unmade : is_made s ≡ false) where
-  pub unmade_left : (r : Register) (e : CellEntry) → apply_in_group (group_register s r) e ≡ group_applied s r (Err Unmade)
+  pub unmade_left : (r : Register) (e : CellEntry) → apply_in_group (group_register s r) e ≡ group_applied s r (Err (Unmade (unmade_by s)))
   unfolding apply_in_group
   unmade_left r e = simp unmade
 
-  pub unmade_page : (r : Register) → group_page (group_register s r) ≡ page_holding refusal_text
+  -- "the report is the one line `refused,1` or `refused,17`"
+  pub unmade_page : (r : Register) → group_page (group_register s r) ≡ page_holding (refusal_text (settings_refusal s))
   unfolding group_page
   unmade_page r = simp unmade
 
@@ -348,6 +360,16 @@ settings_stay g e =
     Stays : GroupApplied → Type 0
     Stays a = a.group.settings ≡ g.settings
 
+-- whether it is made, by the number that it keeps
+pub made_number : (s : RegisterSettings) → eqb s.number 0 ≡ is_made s
+unfolding settings_refusal
+made_number s = go (eqb s.number 0) (unmade_by s)
+  where
+    go : (t : Bool) (why : UnmadeBy) → t ≡ eqb (cond t 0 (unmade_number why)) 0
+    go true why = refl
+    go false OutsideLimits = refl
+    go false NotInCalendar = refl
+
 module _ (s : RegisterSettings) where
   -- the number is what the settings and the entries say
   pub number_given_lem : (before : List CellEntry) (e : CellEntry) → group_outcome_number (apply_in_group (group_after s before) e).outcome ≡ number_in_group s before e
@@ -359,7 +381,7 @@ module _ (s : RegisterSettings) where
       go false h =
           ap (λ (g : GroupRegister). group_outcome_number (apply_in_group g e).outcome) (unmade_after s h before)
           ∙ ap (λ (a : GroupApplied). group_outcome_number a.outcome) (unmade_left s h new_register e)
-          ∙ sym (unmade_number s h)
+          ∙ sym (unmade_number_lem s h)
 
   -- "All offices hold the same slot, so registers still agree."
   pub equal_registers : (one other : List CellEntry) → later_entries one ≡ later_entries other → group_after s one ≡ group_after s other

@@ -13,7 +13,7 @@ use Rattle.register.specs.declared.EntryRefusal.{EntryRefusal}
 use Rattle.register.specs.declared.Register.{Register}
 use Rattle.report.specs.Report.{refusal_text, page_holding, register_page}
 use Rattle.report.specs.declared.ReportPage.{ReportPage}
-use Rattle.group_register.specs.Settings.{is_made}
+use Rattle.group_register.specs.Settings.{unmade_number, unmade_by, settings_refusal, is_made}
 use Rattle.group_register.specs.WholeMhz.{is_odd}
 use Rattle.group_register.specs.declared.GroupApplied.{GroupApplied}
 use Rattle.group_register.specs.declared.GroupRefusal.{GroupRefusal}
@@ -37,9 +37,9 @@ group_applied s r o = record { group = group_register s r; outcome = o }
 abbrev pub group_done : GroupRegister → GroupApplied
 group_done g = record { group = g; outcome = Ok Done }
 
--- document 02's number: a register that is not made gives 1
+-- document 02's number: a register that is not made gives that of its settings
 abbrev pub group_refusal_number : GroupRefusal → ℕ
-group_refusal_number Unmade = 1
+group_refusal_number (Unmade why) = unmade_number why
 group_refusal_number OddWidth = 23
 group_refusal_number (AsRegister why) = entry_refusal_number why
 
@@ -75,8 +75,8 @@ apply_made s r e =
 unfoldable pub apply_in_group : GroupRegister → CellEntry → GroupApplied
 apply_in_group g e =
     cond (is_made g.settings) (apply_made g.settings g.register e)
-    (group_applied g.settings g.register (Err Unmade))
+    (group_applied g.settings g.register (Err (Unmade (unmade_by g.settings))))
 
--- the report; of a register that is not made "the one line `refused,1`"
+-- the report; of a register that is not made "the one line `refused,1`" or `refused,17`, by its number
 unfoldable pub group_page : GroupRegister → ReportPage
-group_page g = cond (is_made g.settings) (register_page g.register) (page_holding refusal_text)
+group_page g = cond (is_made g.settings) (register_page g.register) (page_holding (refusal_text (settings_refusal g.settings)))

@@ -1,9 +1,9 @@
-// A register of cells begun from group settings (document 02, E13): "From a slot named in the settings (one above 2^63−2 gives 1), an assignment must
+// A register of cells begun from group settings (document 02, E13 and E8): "From a slot named in the settings (one above 2^63−2 gives 1), an assignment must
 // have a width that is a multiple of 1,000 kHz." It stands above E6's register (crates/register), which does not move.
 #![tactic(auto)]
 
 ghost use Rattle.std.specs.Prelude.{◌≡◌};
-ghost use Rattle.group_register.specs.Settings.{settings_from, is_made};
+ghost use Rattle.group_register.specs.Settings.{settings_from, unmade_number, unmade_by, settings_refusal, is_made};
 ghost use Rattle.group_register.specs.WholeMhz.{is_odd};
 ghost use Rattle.group_register.specs.GroupRegister.{group_register, new_group_register, group_applied, group_done, group_refusal_number, change_assignable, gives_odd_width, apply_in_group, group_page};
 
@@ -25,10 +25,17 @@ pub struct GroupRegister {
     pub register: Register,
 }
 
+// Why a register is not made, with document 02's numbers: its settings are outside their limits, or one of their windows is none (E8).
+#[derive(Clone, Copy, PartialEq, Eq, Debug)]
+pub enum UnmadeBy {
+    OutsideLimits = 1,
+    NotInCalendar = 17,
+}
+
 // Why an entry is refused: the register is not made, which gives the number of its settings; 23, the width is not in whole MHz; or as in E6.
 #[derive(Clone, Copy, PartialEq, Eq, Debug)]
 pub enum GroupRefusal {
-    Unmade,
+    Unmade(UnmadeBy),
     OddWidth,
     AsRegister(EntryRefusal),
 }
@@ -57,12 +64,43 @@ impl RegisterSettings {
         }
     }
 
-    // Whether the register is made; where it is not, every call on it gives 1 before anything else.
-    #[tactic(auto, unfolding(crate::specs::Settings::settings_refusal))]
+    // Whether the register is made; where it is not, every call on it gives the number of `unmade_by` before anything else.
+    #[tactic(auto, using(crate::proofs::GroupLaws::made_number), unfolding(crate::specs::Settings::settings_refusal))]
     pub fn is_made(self) -> bool
         ensures { result ≡ is_made self }
     {
         self.number == 0
+    }
+
+    // Why the register is not made, where it is not: 17 stays 17, and any other number is read as 1.
+    pub fn unmade_by(self) -> UnmadeBy
+        ensures { result ≡ unmade_by self }
+    {
+        if self.number == 17 {
+            UnmadeBy::NotInCalendar
+        } else {
+            UnmadeBy::OutsideLimits
+        }
+    }
+
+    // The number that every call gives before anything else, and 0 of a register that is made.
+    #[tactic(auto, using(crate::proofs::GroupLaws::made_number), unfolding(crate::specs::Settings::settings_refusal))]
+    pub fn refusal(self) -> u64
+        ensures { result ≡ settings_refusal self }
+    {
+        if self.is_made() {
+            return 0;
+        }
+        self.unmade_by().number()
+    }
+}
+
+impl Refused for UnmadeBy {
+    ghost refusal_number = { unmade_number };
+
+    // Document 02's number.
+    fn number(self) -> u64 {
+        self as u64
     }
 }
 
@@ -72,7 +110,7 @@ impl Refused for GroupRefusal {
     // Document 02's number. By `match` and no discriminants: a cause of E6 is itself one of several, each with its number.
     fn number(self) -> u64 {
         match self {
-            GroupRefusal::Unmade => 1,
+            GroupRefusal::Unmade(why) => why.number(),
             GroupRefusal::OddWidth => 23,
             GroupRefusal::AsRegister(why) => why.number(),
         }
@@ -137,7 +175,7 @@ pub fn apply_in<R: RegisterPlaces>(
     ensures applied { group_applied settings (R.register register.new) result ≡ apply_in_group (group_register settings (R.register register.old)) entry }
 {
     if !settings.is_made() {
-        return Err(GroupRefusal::Unmade);
+        return Err(GroupRefusal::Unmade(settings.unmade_by()));
     }
     if gives_odd_width(settings.whole_mhz_from, register.next_slot(), entry) {
         register.see(entry.slot);
@@ -164,7 +202,7 @@ pub fn apply(mut group: GroupRegister, entry: CellEntry) -> GroupApplied
     GroupApplied { group, outcome }
 }
 
-// The report, or the one line `refused,1` of a register that is not made.
+// The report, or the one line `refused,1` or `refused,17` of a register that is not made.
 #[tactic(auto, unfolding(crate::specs::GroupRegister::group_page))]
 pub fn page(group: GroupRegister) -> ReportPage
     ensures { result ≡ group_page group }
@@ -172,5 +210,5 @@ pub fn page(group: GroupRegister) -> ReportPage
     if group.settings.is_made() {
         return report::report(group.register);
     }
-    report::refusal()
+    report::refusal(group.settings.refusal())
 }

@@ -10,7 +10,7 @@ use mathlib.Core.List.{List, [], ◌∷◌}
 use Prim.Native.Nat.{ℕ}
 use native.Mathlib.Omega.{arith}
 use lib.Dec.{eqb, leb}
-use Rattle.basics.proofs.Tests.{by_cases, of-both}
+use Rattle.basics.proofs.Tests.{either, of-both}
 use Rattle.message.specs.declared.Refusal.{Refusal}
 use Rattle.message.specs.declared.Refusal.TheVariants.{SettingsOutsideLimits}
 use Rattle.fast_state.specs.Adopt.{Choice}
@@ -21,7 +21,8 @@ use Rattle.consensus.specs.declared.Shard.{Shard}
 use Rattle.consensus.proofs.Refusals.{unmade_refuses}
 use Rattle.group.specs.Claim.{member_settings, begun, Choices, later_choices, MemberCall, Entry, entry_of, after_call, entries_from, LegalFrom, At, plus_commit, CommitAt, Claim, NotSwift, PicksBest}
 use Rattle.group.proofs.Agreement.{agreement_ties}
-use Rattle.group_settings.specs.GroupSettings.{settings_outcome}
+use Rattle.windows.specs.Windows.{check_windows}
+use Rattle.group_settings.specs.GroupSettings.{windows_outcome, settings_outcome}
 use Rattle.group_settings.specs.declared.GroupSettings.{GroupSettings}
 use Rattle.group_shard.specs.Begin.{begin_shard}
 use Rattle.group_settings_runs.specs.Groups.{begun_from, group_entries, GroupLegal}
@@ -31,37 +32,56 @@ Unmade shard = (why : Refusal) × (shard.made ≡ Err why)
 
 -- ---- the shards at the start
 
--- what the settings lead to, by whether they are within the limits
-abbrev outcome_for : Bool → Outcome
-outcome_for within = cond within (Ok tt) (Err SettingsOutsideLimits)
+-- what the settings lead to, by whether the engine's are within the limits, whether the slot is, and what the windows give
+abbrev outcome_for : Bool → Bool → Outcome → Outcome
+outcome_for within early windows = cond (within && early) windows (Err SettingsOutsideLimits)
 
-in_time : (t u : Bool) → u ≡ true → outcome_for (t && u) ≡ outcome_for t
-in_time true u e = ap outcome_for e
+in_time : (t u : Bool) → u ≡ true → outcome_for t u (Ok tt) ≡ cond t (Ok tt) (Err SettingsOutsideLimits)
+in_time true u e = ap (λ (early : Bool). outcome_for true early (Ok tt)) e
 in_time false u e = refl
 
-too_late : (t u : Bool) → u ≡ false → outcome_for (t && u) ≡ Err SettingsOutsideLimits
-too_late true u e = ap outcome_for e
-too_late false u e = refl
+too_late : (t u : Bool) (windows : Outcome) → u ≡ false → outcome_for t u windows ≡ Err SettingsOutsideLimits
+too_late true u windows e = ap (λ (early : Bool). outcome_for true early windows) e
+too_late false u windows e = refl
+
+unfitting : (t u : Bool) (why : Refusal) → (first : Refusal) × (outcome_for t u (Err why) ≡ Err first)
+unfitting true true why = (why, refl)
+unfitting true false why = (SettingsOutsideLimits, refl)
+unfitting false u why = (SettingsOutsideLimits, refl)
 
 module _ (g : GroupSettings) where
+  abbrev early : Bool
+  early = leb g.whole_mhz_from 9223372036854775806
+
   abbrev within : ℕ → Bool
   within i = within_limits (member_settings g.settings i)
 
   abbrev marked : Outcome → ℕ → Shard
   marked o i = record { made = o; settings = member_settings g.settings i; state = new_state (member_settings g.settings i) }
 
-  -- Where the slot is within its limit they are those of the claim.
-  pub begun_in_time : leb g.whole_mhz_from 9223372036854775806 ≡ true → begun_from g ≡ begun g.settings
-  unfolding begin_shard settings_outcome new_shard
-  begun_in_time e = fun_ext (λ i. ap (λ (o : Outcome). marked o i) (in_time (within i) _ e))
+  abbrev unmade_from : Outcome → Type 0
+  unmade_from windows = (i : ℕ) → Unmade (marked (outcome_for (within i) early windows) i)
 
-  unmade_late : leb g.whole_mhz_from 9223372036854775806 ≡ false → (i : ℕ) → Unmade (begun_from g i)
+  -- Where the slot is within its limit and the windows are made they are those of the claim.
+  shards_in_time : early ≡ true → (λ i. marked (outcome_for (within i) early (Ok tt)) i) ≡ begun g.settings
+  unfolding new_shard
+  shards_in_time e = fun_ext (λ i. ap (λ (o : Outcome). marked o i) (in_time (within i) early e))
+
+  pub begun_in_time : early ≡ true → windows_outcome (check_windows g.windows) ≡ Ok tt → begun_from g ≡ begun g.settings
   unfolding begin_shard settings_outcome
-  unmade_late e i = (SettingsOutsideLimits, too_late (within i) _ e)
+  begun_in_time e w =
+      ap {B = ℕ → Shard} (λ (windows : Outcome) (i : ℕ). marked (outcome_for (within i) early windows) i) w ∙ shards_in_time e
 
   -- Those of the claim, or none is made.
   pub begun_or_unmade : (begun_from g ≡ begun g.settings) ⊎ ((i : ℕ) → Unmade (begun_from g i))
-  begun_or_unmade = by_cases (leb g.whole_mhz_from 9223372036854775806) (λ e. inl (begun_in_time e)) (λ e. inr (unmade_late e))
+  unfolding begin_shard settings_outcome
+  begun_or_unmade = go (either early) (windows_outcome (check_windows g.windows))
+    where
+      go : (early ≡ true) ⊎ (early ≡ false) → (windows : Outcome)
+          → ((λ i. marked (outcome_for (within i) early windows) i) ≡ begun g.settings) ⊎ unmade_from windows
+      go (inl e) (Ok tt) = inl (shards_in_time e)
+      go (inl e) (Err why) = inr (λ i. unfitting (within i) early why)
+      go (inr e) windows = inr (λ i. (SettingsOutsideLimits, too_late (within i) early windows e))
 
 -- ---- a group of which no shard is made
 

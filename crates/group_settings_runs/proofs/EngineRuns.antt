@@ -1,6 +1,7 @@
--- Where the slot of whole MHz is within its limit, the runs of a group that is begun from group settings are those that begin from the engine's settings: the
+-- Where the slot of whole MHz is within its limit and the windows are made, the runs of a group that is begun from group settings are those that begin from the engine's settings: the
 -- same lists of calls are legal, and entries, commits and steps are the same. So what is proved of every legal run from the engine's settings is proved of them.
 -- Assumes nothing.
+use Rattle.std.specs.Prelude.{Ok}
 use mathlib.Core.Path.{◌≡◌, sym, ap, subst}
 use mathlib.Core.Logic.{◌↔◌}
 use mathlib.Core.List.{List, []}
@@ -9,13 +10,15 @@ use borrow.Author.Tests.{le-leb}
 use Rattle.consensus.specs.declared.Shard.{Shard}
 use Rattle.group.specs.Claim.{begun, Choices, MemberCall, entries_from, entries_with, LegalFrom, LegalWith}
 use Rattle.group.specs.Steps.{steps_from, steps}
+use Rattle.windows.specs.Windows.{check_windows}
+use Rattle.group_settings.specs.GroupSettings.{windows_outcome}
 use Rattle.group_settings.specs.declared.GroupSettings.{GroupSettings}
 use Rattle.group_settings_runs.specs.Groups.{begun_from, group_entries, GroupLegal, group_steps}
 use Rattle.group_settings_runs.proofs.Agreeing.{begun_in_time}
 
-module _ (g : GroupSettings) (in_time : g.whole_mhz_from ≤ 9223372036854775806) where
+module _ (g : GroupSettings) (in_time : g.whole_mhz_from ≤ 9223372036854775806) (windows : check_windows g.windows ≡ Ok tt) where
   pub engine_shards : begun_from g ≡ begun g.settings
-  engine_shards = begun_in_time g (le-leb g.whole_mhz_from 9223372036854775806 in_time)
+  engine_shards = begun_in_time g (le-leb g.whole_mhz_from 9223372036854775806 in_time) (ap windows_outcome windows)
 
   module _ (cs : List MemberCall) where
     pub engine_steps : group_steps g cs ≡ steps g.settings cs

@@ -10,7 +10,7 @@ use Rattle.group_shard.specs.Begin.{begin_shard}
 
 -- "made with the same settings but for the own number"
 abbrev pub member_group_settings : GroupSettings → ℕ → GroupSettings
-member_group_settings g i = record { settings = member_settings g.settings i; whole_mhz_from = g.whole_mhz_from }
+member_group_settings g i = record { settings = member_settings g.settings i; whole_mhz_from = g.whole_mhz_from; windows = g.windows }
 
 abbrev pub begun_from : GroupSettings → ℕ → Shard
 begun_from g i = begin_shard (member_group_settings g i)

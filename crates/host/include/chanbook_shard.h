@@ -4,7 +4,7 @@
 
    Every field is a number. 0 is no and any other number yes: a host tests such a field for 0, never for 1. A field that is not given is 0 where the
    engine writes it.
-   Whatever numbers stand in a shard or a call, the call is taken or answered with a refusal's number of document 01. A refused call leaves
+   Whatever numbers stand in a shard or a call, the call is taken or answered with a refusal's number of document 01 or 02. A refused call leaves
    every byte of the shard as it was. One thread at a time may hold a shard.
    In every mode but SwiftPaxos no two members of a group commit different values in one slot, on the terms of docs/QUESTIONS.md. */
 #ifndef CHANBOOK_SHARD_H
@@ -68,12 +68,35 @@ struct chanbook_settings {
 /* The last slot that may be named, 2^63-2. */
 #define CHANBOOK_LAST_SLOT UINT64_C(9223372036854775806)
 
-/* The settings of a group with what its planners agree on besides: those of the engine, and the slot from which the width of an assignment must be
-   whole MHz (23 of document 02, E13), at most CHANBOOK_LAST_SLOT. All members name the same slot. A host that wants none names CHANBOOK_LAST_SLOT,
-   which binds the last slot alone. */
+/* A minute of UTC in the Gregorian calendar: a year from 1970 to 9999, a month and a day from 1 on, an hour from 0 to 23 and a minute from 0 to 59. Any
+   numbers may stand here: a date or a time that there is not gives 17. */
+struct chanbook_date {
+    uint64_t year;
+    uint64_t month;
+    uint64_t day;
+    uint64_t hour;
+    uint64_t minute;
+};
+
+/* The first minute belongs to the window, and the last does not. An end that is not after its start gives 17. */
+struct chanbook_window {
+    struct chanbook_date start;
+    struct chanbook_date end;
+};
+
+/* The windows stand in the first `count` places, in any order, and may overlap. The other places are never looked at. More than 128 give 1. */
+struct chanbook_windows {
+    struct chanbook_window places[128];
+    uint64_t count;
+};
+
+/* The settings of a group with what its planners agree on besides, all members the same: those of the engine; the slot from which the width of an
+   assignment must be whole MHz (23 of document 02, E13), at most CHANBOOK_LAST_SLOT; and the windows in which a carrier may go on air (E8). A host that
+   wants no slot of whole MHz names CHANBOOK_LAST_SLOT, which binds the last slot alone, and one that wants no windows a count of 0. */
 struct chanbook_group_settings {
     struct chanbook_settings settings;
     uint64_t whole_mhz_from;
+    struct chanbook_windows windows;
 };
 
 struct chanbook_core {
@@ -129,7 +152,8 @@ struct chanbook_state {
     struct chanbook_table table;
 };
 
-/* made: 0 for a shard that is made. With any other number it refuses every call with 1; the engine writes 1. */
+/* made: 0 for a shard that is made. With 17 it refuses every call with 17, and with any other number with 1; the engine writes 0, 1 or 17. In a mode
+   that there is not every call is refused with 1, whatever the number. */
 struct chanbook_shard {
     uint64_t made;
     struct chanbook_settings settings;
@@ -209,8 +233,8 @@ struct chanbook_answer {
     struct chanbook_reply reply;
 };
 
-/* A shard as it begins from the settings of its group, of which it keeps the engine's alone. Its `made` is 0, or 1 where the settings are outside the
-   limits. */
+/* A shard as it begins from the settings of its group, of which it keeps the engine's alone. Its `made` is 0; 1 where the settings are outside the
+   limits, more than 128 windows among them; or else 17 where a window has a date or a time that there is not, or an end that is not after its start. */
 struct chanbook_shard chanbook_shard_new(struct chanbook_group_settings group);
 
 /* A call by value. It copies the shard; a host takes chanbook_call below, which changes the shard in place. The tests compare the two. */

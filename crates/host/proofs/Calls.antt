@@ -4,17 +4,18 @@
 use Rattle.std.specs.Prelude.{Ok, Err}
 use Rattle.message.specs.Outcomes.{Outcome}
 use mathlib.Core.Path.{◌≡◌, refl, sym, ap, ap₂, ◌∙◌}
-use mathlib.Core.Logic.{inl, inr}
-use mathlib.Core.Bool.{Bool, true, false, cond, ◌&&◌}
+use mathlib.Core.Logic.{◌⊎◌, inl, inr}
+use mathlib.Core.Bool.{Bool, true, false, cond}
+use Prim.Native.Nat.{ℕ}
 use lib.Dec.{leb}
-use Rattle.basics.proofs.Tests.{not_both}
+use Rattle.basics.proofs.Tests.{either, not_both}
+use Rattle.message.specs.Refusals.{refusal_number}
 use Rattle.message.specs.declared.Refusal.{Refusal}
 use Rattle.message.specs.declared.Refusal.TheVariants.{SettingsOutsideLimits}
 use Rattle.fast_state.specs.Adopt.{lowest_best}
 use Rattle.read_tracker.specs.declared.ReadTable.{ReadTable}
 use Rattle.steps.specs.declared.Rounds.{Rounds}
 use Rattle.state_calls.specs.declared.State.{State}
-use Rattle.settings.specs.Settings.{within_limits}
 use Rattle.consensus.specs.Answers.{with_state}
 use Rattle.consensus.specs.Call.{call_of}
 use Rattle.consensus.specs.FirstCause.{ByFirstCause}
@@ -26,9 +27,10 @@ use Rattle.consensus.proofs.ByParts.{by_parts}
 use Rattle.flat.specs.Encode.{encoded_made, encoded_outcome, encoded_reply}
 use Rattle.flat.specs.Decode.{decoded_made, decoded_settings}
 use Rattle.flat.specs.declared.FlatCall.{FlatCall}
-use Rattle.flat.proofs.Encoded.{rounds_encoded, table_encoded}
+use Rattle.flat.proofs.Encoded.{mark_encoded, rounds_encoded, table_encoded}
 use Rattle.group_settings.specs.GroupSettings.{settings_outcome, decoded_group_settings, flat_settings_number}
 use Rattle.group_settings.specs.declared.FlatGroupSettings.{FlatGroupSettings}
+use Rattle.group_settings.proofs.Numbers.{is_mark_lem}
 use Rattle.group_shard.specs.Begin.{begin_shard}
 use Rattle.host.specs.Calls.{flat_answer, called, flat_call, flat_new}
 use Rattle.host.specs.Shards.{decoded_state, encoded_state, decoded_shard}
@@ -42,20 +44,36 @@ state_encoded s = ap₂ (λ (r : Rounds) (t : ReadTable). record { rounds = r; t
 
 -- in a mode that there is, a flat form that begins stands for the shard that begins from these settings
 pub new_stands : (g : FlatGroupSettings) → leb g.settings.mode 5 ≡ true → decoded_shard (flat_new g) ≡ begin_shard (decoded_group_settings g)
-unfolding flat_new flat_settings_number settings_outcome begin_shard decoded_made encoded_made encoded_outcome
+unfolding flat_new flat_settings_number begin_shard
 new_stands g known =
     ap₂ (λ (o : Outcome) (t : State). record { made = o; settings = decoded_settings g.settings; state = t })
-    (go (within_limits (decoded_settings g.settings) && leb g.whole_mhz_from 9223372036854775806)) (state_encoded _)
-  where
-    go : (t : Bool)
-        → decoded_made (encoded_made (cond t (Ok tt) (Err SettingsOutsideLimits)) g.settings.mode) g.settings.mode ≡ cond t (Ok tt) (Err SettingsOutsideLimits)
-    go true = simp known
-    go false = simp known
+    (mark_encoded (settings_outcome (decoded_group_settings g)) g.settings.mode (is_mark_lem (decoded_group_settings g)) known) (state_encoded _)
 
 -- in another mode it is not made
 pub unknown_mode_unmade : (g : FlatGroupSettings) → leb g.settings.mode 5 ≡ false → (decoded_shard (flat_new g)).made ≡ Err SettingsOutsideLimits
 unfolding flat_new decoded_made
 unknown_mode_unmade g unknown = simp unknown
+
+-- in every mode: it is made, and the number of its settings is 0; or it is marked with the refusal of that number
+abbrev pub MarkedBy : Outcome → ℕ → Type 0
+MarkedBy made number = ((made ≡ Ok tt) × (number ≡ 0)) ⊎ ((why : Refusal) × ((made ≡ Err why) × (number ≡ refusal_number why)))
+
+pub marked_by_number : (g : FlatGroupSettings) → MarkedBy (decoded_shard (flat_new g)).made (flat_settings_number g)
+unfolding flat_new flat_settings_number begin_shard encoded_made encoded_outcome
+marked_by_number g = go (either (leb g.settings.mode 5))
+  where
+    outcome : Outcome
+    outcome = settings_outcome (decoded_group_settings g)
+
+    known_mode : (o : Outcome) → outcome ≡ o → (decoded_shard (flat_new g)).made ≡ o → leb g.settings.mode 5 ≡ true
+        → MarkedBy (decoded_shard (flat_new g)).made (cond (leb g.settings.mode 5) (encoded_outcome outcome) 1)
+    known_mode (Ok tt) e made known = inl (made, simp (known, e))
+    known_mode (Err why) e made known = inr (why, (made, simp (known, e)))
+
+    go : (leb g.settings.mode 5 ≡ true) ⊎ (leb g.settings.mode 5 ≡ false)
+        → MarkedBy (decoded_shard (flat_new g)).made (cond (leb g.settings.mode 5) (encoded_outcome outcome) 1)
+    go (inl known) = known_mode outcome refl (ap (λ (s : Shard). s.made) (new_stands g known)) known
+    go (inr unknown) = inr (SettingsOutsideLimits, (unknown_mode_unmade g unknown, simp unknown))
 
 -- ---- refusals
 

@@ -19,7 +19,7 @@ pub struct FlatState {
     pub table: FlatTable,
 }
 
-// `made` is 0 for a shard that is made. With any other number it refuses every call with 1; the engine writes 1.
+// `made` is 0 for a shard that is made. With 17 it refuses every call with 17, and with any other number with 1; the engine writes 0, 1 or 17.
 #[repr(C)]
 #[derive(Clone, Copy)]
 pub struct FlatShard {
@@ -111,7 +111,7 @@ pub fn chanbook_shard_call(shard: FlatShard, call: FlatCall) -> FlatAnswer
     flat_answer(shard, a, outcome)
 }
 
-// A shard as it begins from the settings of its group. Settings outside the limits give one that is not made.
+// A shard as it begins from the settings of its group. Settings outside the limits, and windows that do not fit, give one that is not made.
 #[tactic(auto, unfolding(crate::specs::Calls::flat_new, group_shard::specs::Begin::begin_shard))]
 pub fn chanbook_shard_new(group: FlatGroupSettings) -> FlatShard
     ensures { result ≡ flat_new group }

@@ -188,12 +188,75 @@ static void shards_are_not_made(void)
     require(other.made == 1 && call_both_ways(&other, c).outcome == 1, "whole MHz from 2^63-1 on: 1");
 }
 
+/* A window of the year 2024, from the 29th of February to a day of March. */
+static struct chanbook_window window_until(uint64_t day)
+{
+    struct chanbook_window w = {{2024, 2, 29, 23, 59}, {2024, 3, day, 0, 0}};
+    return w;
+}
+
+/* The mark of a shard of these settings, once every kind of call gave it too where it is not 0. */
+static uint64_t mark_of(struct chanbook_group_settings g)
+{
+    struct chanbook_shard s = chanbook_shard_new(g);
+    struct chanbook_call c = {0};
+    if (s.made == 0) {
+        require(call_both_ways(&s, c).outcome == 0, "a proposal is refused");
+        return 0;
+    }
+    for (c.kind = CHANBOOK_PROPOSE; c.kind <= CHANBOOK_RECEIVE; c.kind++)
+        for (c.message.kind = 0; c.message.kind <= CHANBOOK_READ_RESPONSE + 1; c.message.kind++)
+            require(call_both_ways(&s, c).outcome == s.made, "another number than the mark");
+    c.message.slot = UINT64_MAX;
+    c.message.src = 64;
+    require(call_both_ways(&s, c).outcome == s.made, "2 and 3 before the mark");
+    return s.made;
+}
+
+static void windows_are_looked_at(uint64_t mode)
+{
+    struct chanbook_group_settings g = settings_of(mode);
+    for (g.windows.count = 0; g.windows.count < 128; g.windows.count++)
+        g.windows.places[g.windows.count] = window_until(1 + g.windows.count % 31);
+    require(mark_of(g) == 0, "128 windows are refused");
+    g.windows.places[127] = window_until(0);
+    require(mark_of(g) == 17, "no day 0: 17");
+    g.windows.count = 127;
+    require(mark_of(g) == 0, "a place that is not looked at");
+    g.windows.places[126] = window_until(32);
+    require(mark_of(g) == 17, "no day 32: 17");
+    g.windows.places[126].end = g.windows.places[126].start;
+    require(mark_of(g) == 17, "an end that is not after its start: 17");
+    g.whole_mhz_from = CHANBOOK_LAST_SLOT + 1;
+    require(mark_of(g) == 1, "1 before 17");
+    g.whole_mhz_from = CHANBOOK_LAST_SLOT;
+    g.windows.count = 129;
+    require(mark_of(g) == 1, "129 windows: 1");
+}
+
+/* A mark of 17 comes back as 17, and every other but 0 as 1. */
+static void marks_are_numbers(uint64_t mode)
+{
+    const uint64_t marks[] = {1, 2, 16, 17, 18, 255, UINT64_MAX};
+    struct chanbook_shard s = chanbook_shard_new(settings_of(mode));
+    struct chanbook_call c = {0};
+    for (int i = 0; i < 7; i++) {
+        s.made = marks[i];
+        require(call_both_ways(&s, c).outcome == (marks[i] == 17 ? 17 : 1), "a mark is read as another number");
+    }
+    s.made = 17;
+    s.settings.mode = 6;
+    require(call_both_ways(&s, c).outcome == 1, "unknown mode: 1, whatever the mark");
+}
+
 int main(void)
 {
     const uint64_t modes[] = {CHANBOOK_EPAXOS, CHANBOOK_SWIFT_PAXOS, CHANBOOK_PAXOS};
     for (int mode = 0; mode < 3; mode++) {
         a_group_commits_and_reads(modes[mode]);
         messages_are_refused();
+        windows_are_looked_at(modes[mode]);
+        marks_are_numbers(modes[mode]);
     }
     shards_are_not_made();
     puts("host_test: ok");

@@ -16,7 +16,7 @@ pub extern "C" fn chanbook_shard_call(shard: FlatShard, call: FlatCall) -> FlatA
     host::chanbook_shard_call(shard, call)
 }
 
-// A shard as it begins from the settings of its group. Settings outside the limits give one that is not made.
+// A shard as it begins from the settings of its group. Settings outside the limits, and windows that do not fit, give one that is not made.
 #[unsafe(no_mangle)]
 pub extern "C" fn chanbook_shard_new(group: FlatGroupSettings) -> FlatShard
     ensures { result ≡ flat_new group }

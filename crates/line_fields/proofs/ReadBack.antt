@@ -50,7 +50,7 @@ digit_byte s b d e h =
     let is : b - 48 ≡ d = omega arith in
     simp (ne_eqb b 32 (λ q. omega arith), le-ltb b 48 (omega arith), le-ltb 57 b (omega arith), is)
 
-digit_glyph : (s : Scan) (d : ℕ) → d < 10 → after_byte s (hex_digit_ascii d) ≡ after_digit s d
+pub digit_glyph : (s : Scan) (d : ℕ) → d < 10 → after_byte s (hex_digit_ascii d) ≡ after_digit s d
 digit_glyph s d h = digit_byte s (hex_digit_ascii d) d (simp (lt-ltb d 10 h)) h
 
 next_digit : (n d : ℕ) → n * 10 + d ≤ 18446744073709551615 → after_digit (reading n) d ≡ reading (n * 10 + d)
@@ -79,7 +79,7 @@ unfolding digit_count
 some_digit zero n = omega arith
 some_digit (suc most) n = of-both (λ (k : ℕ). 0 < k) (ltb n 10) (omega arith) (omega arith)
 
-enough_digits : (most n : ℕ) → n < 10 ^ suc most → n < 10 ^ digit_count most n
+pub enough_digits : (most n : ℕ) → n < 10 ^ suc most → n < 10 ^ digit_count most n
 unfolding digit_count
 enough_digits zero n h = h
 enough_digits (suc most) n h = go (either (ltb n 10)) (enough_digits most (n / 10) (omega arith))

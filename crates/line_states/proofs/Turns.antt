@@ -8,12 +8,18 @@ use lib.ListN.{set}
 use Rattle.tables.specs.Tables.{store}
 use Rattle.read_tracker.specs.declared.OpenRead.{OpenRead}
 use Rattle.line_calls.specs.Calls.{at}
-use Rattle.line_states.specs.States.{proposers_to, read_at, reads_to}
+use Rattle.windows.specs.declared.Window.{Window}
+use Rattle.line_states.specs.States.{window_at, windows_to, proposers_to, read_at, reads_to}
 
 pub proposers_next : (ns : List ℕ) (k i : ℕ) (t u : List ℕ) (p x : ℕ) → t ≡ proposers_to ns k i → p ≡ at ns (21 + 4 * i)
     → x ≡ at ns (21 + 4 * i + k) → u ≡ store t p x → u ≡ proposers_to ns k (i + 1)
 unfolding proposers_to
 proposers_next ns k i t u p x h e f g = simp (add-one, ← h, g, e, f)
+
+pub windows_next : (ns : List ℕ) (w i : ℕ) (t : List Window) (x : Window) → t ≡ windows_to ns w i → x ≡ window_at ns (w + 10 * i)
+    → set t i x ≡ windows_to ns w (i + 1)
+unfolding windows_to
+windows_next ns w i t x h e = simp (add-one, ← h, e)
 
 pub reads_next : (ns : List ℕ) (w i : ℕ) (t : List OpenRead) (x : OpenRead) → t ≡ reads_to ns w i → x ≡ read_at ns (w + 5 * i)
     → set t i x ≡ reads_to ns w (i + 1)

@@ -10,8 +10,12 @@ is_kind kind = leb 1 kind && leb kind 10
 
 -- ---- how many numbers the line has, by its kind and the counts on it. A count from 2048 on gives more than a line may have.
 
-unfoldable pub settings_count_at : List ℕ → ℕ → ℕ
-settings_count_at ns c = 13 + c + min (at ns (11 + c)) 2048
+-- of settings whose windows are counted at w, ten numbers for each
+unfoldable pub windows_count_at : List ℕ → ℕ → ℕ
+windows_count_at ns w = w + 1 + 10 * min (at ns w) 2048
+
+abbrev pub settings_count_at : List ℕ → ℕ → ℕ
+settings_count_at ns c = windows_count_at ns (13 + c + min (at ns (11 + c)) 2048)
 
 unfoldable pub state_count_at : List ℕ → ℕ → ℕ
 state_count_at ns p = 22 + 4 * p + 5 * min (at ns (21 + 4 * p)) 2048

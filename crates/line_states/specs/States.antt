@@ -5,6 +5,9 @@ use Rattle.message.specs.declared.RoundV.{RoundV}
 use Rattle.tables.specs.Tables.{store}
 use Rattle.message.specs.Modes.{mode_of_number}
 use Rattle.settings.specs.declared.Settings.{Settings}
+use Rattle.calendar.specs.declared.Date.{Date}
+use Rattle.windows.specs.declared.Window.{Window}
+use Rattle.windows.specs.declared.Windows.{Windows}
 use Rattle.group_settings.specs.declared.GroupSettings.{GroupSettings}
 use Rattle.round_state.specs.declared.PaxosState.{PaxosState}
 use Rattle.fast_state.specs.declared.FastState.{FastState}
@@ -44,13 +47,40 @@ settings_with ns committers delegates =
       delegates = delegates;
     }
 
--- the group settings of a line with c committers: the engine's, and behind the delegates the slot of whole MHz
-unfoldable pub group_settings_at : List ℕ → ℕ → GroupSettings
-group_settings_at ns c =
+-- a date whose five numbers begin at w, and a window whose two dates do
+unfoldable pub date_at : List ℕ → ℕ → Date
+date_at ns w = record { year = at ns w; month = at ns (w + 1); day = at ns (w + 2); hour = at ns (w + 3); minute = at ns (w + 4) }
+
+abbrev pub window_at : List ℕ → ℕ → Window
+window_at ns w = record { start = date_at ns w; end = date_at ns (w + 5) }
+
+-- a place without a window
+abbrev pub no_date : Date
+no_date = record { year = 0; month = 0; day = 0; hour = 0; minute = 0 }
+
+abbrev pub no_window : Window
+no_window = record { start = no_date; end = no_date }
+
+-- the first i windows of those that begin at w, in 128 places
+unfoldable pub windows_to : List ℕ → ℕ → ℕ → List Window
+windows_to ns w zero = replicate 128 no_window
+windows_to ns w (suc i) = set (windows_to ns w i) i (window_at ns (w + 10 * i))
+
+-- the windows that are counted at w and begin behind it: those past the 128th are not read, since it is their count that refuses them
+unfoldable pub windows_at : List ℕ → ℕ → Windows
+windows_at ns w = record { places = windows_to ns (w + 1) (min (at ns w) 128); count = at ns w }
+
+-- the group settings of a line with c committers and d delegates: the engine's, behind the delegates the slot of whole MHz, and behind it the windows
+unfoldable pub group_settings_with : List ℕ → ℕ → ℕ → GroupSettings
+group_settings_with ns c d =
     record {
-      settings = settings_with ns (table_to ns 11 c 64) (table_to ns (12 + c) (min (at ns (11 + c)) 64) 64);
-      whole_mhz_from = at ns (12 + c + min (at ns (11 + c)) 64);
+      settings = settings_with ns (table_to ns 11 c 64) (table_to ns (12 + c) d 64);
+      whole_mhz_from = at ns (12 + c + d);
+      windows = windows_at ns (13 + c + d);
     }
+
+abbrev pub group_settings_at : List ℕ → ℕ → GroupSettings
+group_settings_at ns c = group_settings_with ns c (min (at ns (11 + c)) 64)
 
 abbrev pub group_settings_of : List ℕ → GroupSettings
 group_settings_of ns = group_settings_at ns (min (at ns 10) 64)

@@ -4,9 +4,10 @@
 
 ghost use Rattle.std.specs.Prelude.{◌≡◌, ◌+◌, ◌*◌, ◌≤◌, ◌<◌, min};
 ghost use Rattle.line_calls.specs.Calls.{at};
-ghost use Rattle.line_states.specs.States.{entry_at, table_to, settings_with, group_settings_at, group_settings_of, held_of, paxos_of, core_at, proposers_to, fast_at, read_at, read_table_at, state_at, state_of};
-ghost use Rattle.line_states.specs.Faults.{is_kind, settings_count_at, state_count_at, expected_count, is_flag, read_flags, settings_flags, state_flags_at, message_flags, flags_fit, mode_fits, promise_fits, settings_places, proposers_fit, state_places_at, places_fit, numbers_fault};
+ghost use Rattle.line_states.specs.States.{entry_at, table_to, settings_with, date_at, window_at, windows_to, windows_at, group_settings_with, group_settings_of, held_of, paxos_of, core_at, proposers_to, fast_at, read_at, read_table_at, state_at, state_of};
+ghost use Rattle.line_states.specs.Faults.{is_kind, windows_count_at, settings_count_at, state_count_at, expected_count, is_flag, read_flags, settings_flags, state_flags_at, message_flags, flags_fit, mode_fits, promise_fits, settings_places, proposers_fit, state_places_at, places_fit, numbers_fault};
 
+use calendar::Date;
 use call_lines::Fault;
 use fast_state::FastState;
 use group_settings::GroupSettings;
@@ -17,6 +18,16 @@ use round_state::PaxosState;
 use settings::Settings;
 use state_calls::State;
 use steps::{Core, Rounds};
+use windows::{Window, Windows};
+
+// A place without a window.
+const NO_DATE: Date = Date {
+    year: 0,
+    month: 0,
+    day: 0,
+    hour: 0,
+    minute: 0,
+};
 
 #[tactic(auto, unfolding(crate::specs::States::held_of))]
 fn held_promise(kind: u64, a: u64, b: u64, v: u64) -> Option<RoundV>
@@ -70,8 +81,51 @@ fn settings_with(numbers: &[u64], committers: [u64; 64], delegates: [u64; 64]) -
     }
 }
 
+#[tactic(auto, unfolding(crate::specs::States::date_at))]
+fn date_at(numbers: &[u64], at: usize) -> Date
+    requires { at < 10000 }
+    ensures { result ≡ date_at numbers.now at }
+{
+    Date {
+        year: number_at(numbers, at),
+        month: number_at(numbers, at + 1),
+        day: number_at(numbers, at + 2),
+        hour: number_at(numbers, at + 3),
+        minute: number_at(numbers, at + 4),
+    }
+}
+
+fn window_at(numbers: &[u64], at: usize) -> Window
+    requires { at < 9000 }
+    ensures { result ≡ window_at numbers.now at }
+{
+    Window {
+        start: date_at(numbers, at),
+        end: date_at(numbers, at + 5),
+    }
+}
+
+// The windows that are counted at `at` and begin behind it. A `for` over places, as in `reads_at`. Those past the 128th are not read: more than 128 are
+// refused by their count.
+#[tactic(auto, using(crate::proofs::Turns::windows_next), unfolding(crate::specs::States::windows_to, crate::specs::States::windows_at))]
+fn windows_at(numbers: &[u64], at: usize) -> Windows
+    requires { at < 1000 }
+    ensures { result ≡ windows_at numbers.now at }
+{
+    let none = Window {
+        start: NO_DATE,
+        end: NO_DATE,
+    };
+    let count = number_at(numbers, at);
+    let mut places = [none; 128];
+    for i in 0..at_most(count, 128) {
+        places[i] = window_at(numbers, at + 1 + 10 * i);
+    }
+    Windows { places, count }
+}
+
 // The group settings of a line of kind 1.
-#[tactic(auto, unfolding(crate::specs::States::group_settings_at))]
+#[tactic(auto, unfolding(crate::specs::States::group_settings_with))]
 pub fn group_settings_of(numbers: &[u64]) -> GroupSettings
     ensures { result ≡ group_settings_of numbers.now }
 {
@@ -82,6 +136,7 @@ pub fn group_settings_of(numbers: &[u64]) -> GroupSettings
     GroupSettings {
         settings: settings_with(numbers, committers, delegates),
         whole_mhz_from: number_at(numbers, 12 + committer_count + delegate_count),
+        windows: windows_at(numbers, 13 + committer_count + delegate_count),
     }
 }
 
@@ -212,13 +267,15 @@ pub fn state_of(numbers: &[u64]) -> State
 }
 
 // How many numbers a line of kind 1 has.
-#[tactic(auto, unfolding(crate::specs::Faults::settings_count_at))]
+#[tactic(auto, unfolding(crate::specs::Faults::windows_count_at))]
 fn settings_count(numbers: &[u64]) -> usize
     ensures { result ≡ settings_count_at numbers.now (min (at numbers.now 10) 2048) }
 {
     let committer_count = at_most(number_at(numbers, 10), 2048);
     let delegate_count = at_most(number_at(numbers, 11 + committer_count), 2048);
-    13 + committer_count + delegate_count
+    let windows = 13 + committer_count + delegate_count;
+    let window_count = at_most(number_at(numbers, windows), 2048);
+    windows + 1 + 10 * window_count
 }
 
 // How many numbers a line of kind 2 has.

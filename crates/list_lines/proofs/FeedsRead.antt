@@ -5,19 +5,23 @@ use lib.ListN.{length-map}
 use borrow.Author.Tests.{ltb-false}
 use Rattle.basics.proofs.Tests.{either}
 use Rattle.planning_lines.specs.Answers.{bad_line_text}
-use Rattle.register.specs.declared.CellEntry.{CellEntry}
-use Rattle.register.specs.declared.Change.{Change}
 use Rattle.register.specs.declared.Change.TheVariants.{Assign, Release}
 use Rattle.register_arrays.specs.Columns.{change_of}
 use Rattle.group_register.specs.Settings.{is_made}
-use Rattle.group_register.specs.declared.GroupRegister.{GroupRegister}
 use Rattle.catch_up.specs.Joining.{too_large}
 use Rattle.feeding.specs.declared.FeedRefusal.{FeedRefusal}
-use Rattle.feeding.specs.declared.FirstRefused.{FirstRefused}
-use Rattle.feeding.specs.Feeding.{Feeding, feeding_in, entry_in, entries_from, entries_in, outside_fed, feeding_made, feeding}
+use Rattle.feeding.specs.Feeding.{outside_fed}
+use Rattle.positions.specs.declared.Entry.{Entry}
+use Rattle.positions.specs.declared.PlacedRegister.{PlacedRegister}
+use Rattle.position_arrays.specs.Row.{placed_entry_of}
+use Rattle.placed_feeding.specs.declared.FirstRefused.{FirstRefused}
+use Rattle.placed_feeding.specs.PlacedFeeding.{Feeding, feeding_in, placed_entry_in, placed_entries_from, placed_entries_in, outside_placed, feeding_made, feeding}
+use Rattle.entry_lines.specs.Entries.{entry_said}
+use Rattle.entry_lines.specs.declared.Said.{Said}
+use Rattle.entry_lines.specs.declared.Said.TheVariants.{Changed, Placed}
 use Rattle.list_lines.specs.declared.LineItem.{LineItem}
 use Rattle.list_lines.specs.declared.LineList.{LineList}
-use Rattle.list_lines.specs.Lists.{slots_of, commits_of, kind_of, carrier_of, width_of, entries_of}
+use Rattle.list_lines.specs.Lists.{slots_of, commits_of, numbers_of, entries_of}
 use Rattle.list_lines.specs.Kept.{kept_of, kept_entries}
 use Rattle.list_lines.specs.Feeds.{feed_asked, after_feed, fed_text, feed_text, kept_feeding_made, kept_feeding}
 use Rattle.list_lines.proofs.Kept.{kept_count, kept_large, entries_kept}
@@ -25,24 +29,24 @@ use Rattle.list_lines.proofs.ListsRead.{kept_some, kept_none}
 
 -- ---- the list
 
-longer : (items : List LineItem) → ltb 8192 (length items) ≡ true → outside_fed (entries_of items) ≡ true
-unfolding outside_fed
+longer : (items : List LineItem) → ltb 8192 (length items) ≡ true → outside_placed (entries_of items) ≡ true
+unfolding outside_placed outside_fed
 longer items h = simp (length-map, h)
 
-kept_within : (g : GroupRegister) (l : LineList) → is_made g.settings ≡ true → l.too_large ≡ false → ltb 8192 l.count ≡ false
+kept_within : (g : PlacedRegister) (l : LineList) → is_made g.group.settings ≡ true → l.too_large ≡ false → ltb 8192 l.count ≡ false
     → kept_feeding g l ≡ feeding g (kept_entries l)
 unfolding kept_feeding kept_feeding_made
 kept_within g l made p q = simp (made, p, q)
 
-module _ (g : GroupRegister) (end : ℕ) (items : List LineItem) where
+module _ (g : PlacedRegister) (end : ℕ) (items : List LineItem) where
   abbrev Same : Type 0
   Same = kept_feeding g (kept_of end items) ≡ feeding g (entries_of items)
 
   pub list_fed : Same
   unfolding kept_feeding kept_feeding_made feeding feeding_made
-  list_fed = ⊎_elim to_made (λ (t : is_made g.settings ≡ false). simp t) (either (is_made g.settings))
+  list_fed = ⊎_elim to_made (λ (t : is_made g.group.settings ≡ false). simp t) (either (is_made g.group.settings))
     where
-      to_made : is_made g.settings ≡ true → Same
+      to_made : is_made g.group.settings ≡ true → Same
       to_made made = ⊎_elim (λ (t : too_large (commits_of items) ≡ true). simp (made, kept_large, t)) fit (either (too_large (commits_of items)))
         where
           fit : too_large (commits_of items) ≡ false → Same
@@ -58,14 +62,14 @@ module _ (g : GroupRegister) (end : ℕ) (items : List LineItem) where
 
 -- ---- the line
 
-module _ (g : GroupRegister) (line : List ℕ) where
+module _ (g : PlacedRegister) (line : List ℕ) where
   module _ (l : LineList) (read : Some l ≡ option_map (kept_of 4) (feed_asked line)) (fed : Result (Option FirstRefused) FeedRefusal)
-      (after : GroupRegister) (done : feeding_in fed after ≡ kept_feeding g l) where
+      (after : PlacedRegister) (done : feeding_in fed after ≡ kept_feeding g l) where
     pub fed_register : after ≡ after_feed g (feed_asked line)
     unfolding after_feed
     fed_register =
         let whole = kept_some (kept_of 4) (feed_asked line) l read in
-        rw whole.1 (ap (λ (f : Feeding). f.group) (done ∙ ap (kept_feeding g) whole.2 ∙ list_fed g 4 whole.0))
+        rw whole.1 (ap (λ (f : Feeding). f.placed) (done ∙ ap (kept_feeding g) whole.2 ∙ list_fed g 4 whole.0))
 
     pub fed_answer : fed_text fed ≡ feed_text g (feed_asked line)
     unfolding feed_text
@@ -84,21 +88,25 @@ module _ (g : GroupRegister) (line : List ℕ) where
 
 -- ---- the entries: each is what the line says of a cell in that slot
 
-change_back : (c : Change) → change_of (kind_of c) (carrier_of c) (width_of c) ≡ c
-unfolding change_of
-change_back (Assign a) = refl
-change_back Release = refl
+said_back : (slot cell : ℕ) (s : Said)
+    → placed_entry_of slot (numbers_of s).kind cell (numbers_of s).carrier (numbers_of s).width (record { x = (numbers_of s).x; y = (numbers_of s).y })
+    ≡ entry_said slot cell s
+unfolding placed_entry_of change_of
+said_back slot cell (Changed (Assign a)) = refl
+said_back slot cell (Changed Release) = refl
+said_back slot cell (Placed p) = refl
 
-entries_past : (i : LineItem) (items : List LineItem) (at n : ℕ) → entries_from (entries_of (i ∷ items)) (at + 1) n ≡ entries_from (entries_of items) at n
-unfolding entries_from
+entries_past : (i : LineItem) (items : List LineItem) (at n : ℕ)
+    → placed_entries_from (entries_of (i ∷ items)) (at + 1) n ≡ placed_entries_from (entries_of items) at n
+unfolding placed_entries_from
 entries_past i items at zero = refl
 entries_past i items at (suc n) =
-    ap₂ (λ (e : CellEntry) (es : List CellEntry). e ∷ es) (ap (λ (k : ℕ). entry_in (entries_of (i ∷ items)) k) (add-one at)) (entries_past i items (at + 1) n)
+    ap₂ (λ (e : Entry) (es : List Entry). e ∷ es) (ap (λ (k : ℕ). placed_entry_in (entries_of (i ∷ items)) k) (add-one at))
+    (entries_past i items (at + 1) n)
 
-pub entries_back : (items : List LineItem)
-    → entries_in (entries_of items) ≡ map (λ (i : LineItem). record { slot = i.slot; cell = i.cell; change = i.change }) items
-unfolding entries_from
+pub entries_back : (items : List LineItem) → placed_entries_in (entries_of items) ≡ map (λ (i : LineItem). entry_said i.slot i.cell i.said) items
+unfolding placed_entries_from
 entries_back [] = refl
 entries_back (i ∷ items) =
-    ap₂ (λ (e : CellEntry) (es : List CellEntry). e ∷ es) (ap (λ (c : Change). record { slot = i.slot; cell = i.cell; change = c }) (change_back i.change))
+    ap₂ (λ (e : Entry) (es : List Entry). e ∷ es) (said_back i.slot i.cell i.said)
     (entries_past i items 0 (length (slots_of items)) ∙ entries_back items)

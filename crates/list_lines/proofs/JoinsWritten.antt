@@ -9,6 +9,7 @@ use Rattle.line_fields.specs.Fields.{same_to, begins, field_end, next_field, num
 use Rattle.line_fields.proofs.FieldsRead.{FieldEnds, first_digit, field_read, behind_field, number_before, end_before}
 use Rattle.register.specs.declared.Change.TheVariants.{Release}
 use Rattle.register_lines.specs.Entries.{second}
+use Rattle.entry_lines.specs.declared.Said.TheVariants.{Changed}
 use Rattle.catch_up.specs.Causes.{CommitList, Commit, commits, beside}
 use Rattle.catch_up.specs.Joining.{joining}
 use Rattle.list_lines.specs.declared.LineItem.{LineItem}
@@ -117,7 +118,7 @@ module _ (line : List ℕ) (tail : List ℕ) (ends : Ends tail) where
       let e2 = behind_field line at c.slot (decimal c.value ++ rest) e in
       let slot = field_read line at c.slot (decimal c.value ++ rest) ls e in
       let value = number_before line (second line at) c.value lv rest t e2 in (
-        record { slot = c.slot; value = c.value; cell = 0; change = Release; end = (number_field line (second line at)).end },
+        record { slot = c.slot; value = c.value; cell = 0; said = Changed Release; end = (number_field line (second line at)).end },
         simp (slot, value),
         refl,
         end_before line (second line at) c.value lv rest t e2,

@@ -1,17 +1,16 @@
 -- What is kept of a list: its count and its largest numbers of all entries, and as many entries as there are places for.
 -- Assumes nothing.
-use Rattle.std.proofs.Common.{◌≡◌, ◌∙◌, refl, sym, ap, ap₂, ℕ, ◌+◌, ◌≤◌, Bool, true, false, ◌||◌, List, [], ◌∷◌, ◌++◌, map, length, take, replicate, append-nil, append_assoc, zero-add, arith}
+use Rattle.std.proofs.Common.{◌≡◌, ◌∙◌, refl, sym, ap, ap₂, ℕ, ◌+◌, ◌≤◌, ℤ, pos, Bool, true, false, ◌||◌, List, [], ◌∷◌, ◌++◌, map, length, take, replicate, append-nil, append_assoc, zero-add, arith}
 use lib.ListN.{length-append, length-map, length-replicate}
 use lib.Seq.{take_at}
 use borrow.Author.Tests.{lt-ltb}
 use Rattle.places.specs.Places.{at_front}
 use Rattle.places.proofs.Lists.{front_push, front_length, front_none}
-use Rattle.call_lines.specs.Reading.{stored}
 use Rattle.catch_up.specs.Joining.{list_of, some_above, too_large}
 use Rattle.list_lines.specs.declared.LineItem.{LineItem}
 use Rattle.list_lines.specs.declared.LineList.{LineList}
-use Rattle.list_lines.specs.Lists.{slots_of, values_of, commits_of, kind_of, carrier_of, width_of, entries_of}
-use Rattle.list_lines.specs.Kept.{nothing_kept, kept_more, kept_all, kept_of, kept_commits, kept_entries}
+use Rattle.list_lines.specs.Lists.{slots_of, values_of, commits_of, numbers_of, entries_of}
+use Rattle.list_lines.specs.Kept.{nothing_kept, kept_at, kept_more, kept_all, kept_of, kept_commits, kept_entries}
 
 -- ---- of all entries
 
@@ -46,42 +45,43 @@ kept_large end items = large_of_kept (nothing_kept end) items
 
 -- ---- of the first ones, in each column
 
--- numbers in the places from one on, as far as these reach
-unfoldable stored_from : List ℕ → ℕ → List ℕ → List ℕ
-stored_from places i [] = places
-stored_from places i (n ∷ ns) = stored_from (stored places i n) (i + 1) ns
+module _ {A : Type 0} where
+  -- numbers in the places from one on, as far as these reach
+  unfoldable kept_from : List A → ℕ → List A → List A
+  kept_from places i [] = places
+  kept_from places i (n ∷ ns) = kept_from (kept_at places i n) (i + 1) ns
 
-front_stored : (ns l places : List ℕ) → length l + length ns ≤ length places → stored_from (at_front l places) (length l) ns ≡ at_front (l ++ ns) places
-unfolding stored_from stored
-front_stored [] l places h = ap (λ (m : List ℕ). at_front m places) (sym (append-nil l))
-front_stored (n ∷ ns) l places h =
-    let long : length (at_front l places) ≡ length places = front_length l places (omega arith) in
-    let one : length (l ++ (n ∷ [])) ≡ length l + 1 = length-append l (n ∷ []) ∙ omega arith in
-    simp (long, lt-ltb (length l) (length places) (omega arith), front_push l places (length l) n refl (omega arith))
-    (ap (λ (k : ℕ). stored_from (at_front (l ++ (n ∷ [])) places) k ns) (sym one)
-    ∙ front_stored ns (l ++ (n ∷ [])) places (omega arith)
-    ∙ ap (λ (m : List ℕ). at_front m places) (append_assoc l (n ∷ []) ns))
+  front_kept : (ns l places : List A) → length l + length ns ≤ length places → kept_from (at_front l places) (length l) ns ≡ at_front (l ++ ns) places
+  unfolding kept_from kept_at
+  front_kept [] l places h = ap (λ (m : List A). at_front m places) (sym (append-nil l))
+  front_kept (n ∷ ns) l places h =
+      let long : length (at_front l places) ≡ length places = front_length l places (omega arith) in
+      let one : length (l ++ (n ∷ [])) ≡ length l + 1 = length-append l (n ∷ []) ∙ omega arith in
+      simp (long, lt-ltb (length l) (length places) (omega arith), front_push l places (length l) n refl (omega arith))
+      (ap (λ (k : ℕ). kept_from (at_front (l ++ (n ∷ [])) places) k ns) (sym one)
+      ∙ front_kept ns (l ++ (n ∷ [])) places (omega arith)
+      ∙ ap (λ (m : List A). at_front m places) (append_assoc l (n ∷ []) ns))
 
-take_stored : (ns places : List ℕ) → length ns ≤ length places → take (length ns) (stored_from places 0 ns) ≡ ns
-unfolding at_front
-take_stored ns places h =
-    let front : stored_from places 0 ns ≡ at_front ns places =
-    ap (λ (p : List ℕ). stored_from p 0 ns) (sym (front_none places)) ∙ front_stored ns [] places (omega arith) in
-    ap (take (length ns)) front ∙ take_at ns _ (length ns) refl
+  take_kept : (ns places : List A) → length ns ≤ length places → take (length ns) (kept_from places 0 ns) ≡ ns
+  unfolding at_front
+  take_kept ns places h =
+      let front : kept_from places 0 ns ≡ at_front ns places =
+      ap (λ (p : List A). kept_from p 0 ns) (sym (front_none places)) ∙ front_kept ns [] places (omega arith) in
+      ap (take (length ns)) front ∙ take_at ns _ (length ns) refl
 
-module _ (column : LineList → List ℕ) (field : LineItem → ℕ)
-    (one : (i : LineItem) (l : LineList) → column (kept_more i l) ≡ stored (column l) l.count (field i)) where
-  column_stored : (l : LineList) (items : List LineItem) → column (kept_all l items) ≡ stored_from (column l) l.count (map field items)
-  unfolding kept_all stored_from kept_more
-  column_stored l [] = refl
-  column_stored l (i ∷ items) = column_stored (kept_more i l) items ∙ ap (λ (p : List ℕ). stored_from p (l.count + 1) (map field items)) (one i l)
+  module _ (column : LineList → List A) (field : LineItem → A)
+      (one : (i : LineItem) (l : LineList) → column (kept_more i l) ≡ kept_at (column l) l.count (field i)) where
+    column_stored : (l : LineList) (items : List LineItem) → column (kept_all l items) ≡ kept_from (column l) l.count (map field items)
+    unfolding kept_all kept_from kept_more
+    column_stored l [] = refl
+    column_stored l (i ∷ items) = column_stored (kept_more i l) items ∙ ap (λ (p : List A). kept_from p (l.count + 1) (map field items)) (one i l)
 
-  column_kept : (end : ℕ) (items : List LineItem) → length (column (nothing_kept end)) ≡ 8192 → length items ≤ 8192
-      → take (kept_of end items).count (column (kept_of end items)) ≡ map field items
-  column_kept end items room few =
-      let long : length (map field items) ≡ length items = length-map items field in
-      ap₂ (λ (n : ℕ) (p : List ℕ). take n p) (kept_count end items ∙ sym long) (column_stored (nothing_kept end) items)
-      ∙ take_stored (map field items) (column (nothing_kept end)) (omega arith)
+    column_kept : (end : ℕ) (items : List LineItem) → length (column (nothing_kept end)) ≡ 8192 → length items ≤ 8192
+        → take (kept_of end items).count (column (kept_of end items)) ≡ map field items
+    column_kept end items room few =
+        let long : length (map field items) ≡ length items = length-map items field in
+        ap₂ (λ (n : ℕ) (p : List A). take n p) (kept_count end items ∙ sym long) (column_stored (nothing_kept end) items)
+        ∙ take_kept (map field items) (column (nothing_kept end)) (omega arith)
 
 module _ (end : ℕ) (items : List LineItem) (few : length items ≤ 8192) where
   room : length {A = ℕ} (replicate 8192 0) ≡ 8192
@@ -95,24 +95,35 @@ module _ (end : ℕ) (items : List LineItem) (few : length items ≤ 8192) where
   unfolding kept_more
   kept_values = column_kept (λ l. l.values) (λ i. i.value) (λ i l. refl) end items room few
 
-  kept_kinds : take (kept_of end items).count (kept_of end items).kinds ≡ (entries_of items).kinds
+  kept_kinds : take (kept_of end items).count (kept_of end items).kinds ≡ (entries_of items).cells.kinds
   unfolding kept_more
-  kept_kinds = column_kept (λ l. l.kinds) (λ i. kind_of i.change) (λ i l. refl) end items room few
+  kept_kinds = column_kept (λ l. l.kinds) (λ i. (numbers_of i.said).kind) (λ i l. refl) end items room few
 
-  kept_cells : take (kept_of end items).count (kept_of end items).cells ≡ (entries_of items).cells
+  kept_cells : take (kept_of end items).count (kept_of end items).cells ≡ (entries_of items).cells.cells
   unfolding kept_more
   kept_cells = column_kept (λ l. l.cells) (λ i. i.cell) (λ i l. refl) end items room few
 
-  kept_carriers : take (kept_of end items).count (kept_of end items).carriers ≡ (entries_of items).carriers
+  kept_carriers : take (kept_of end items).count (kept_of end items).carriers ≡ (entries_of items).cells.carriers
   unfolding kept_more
-  kept_carriers = column_kept (λ l. l.carriers) (λ i. carrier_of i.change) (λ i l. refl) end items room few
+  kept_carriers = column_kept (λ l. l.carriers) (λ i. (numbers_of i.said).carrier) (λ i l. refl) end items room few
 
-  kept_widths : take (kept_of end items).count (kept_of end items).widths ≡ (entries_of items).widths
+  kept_widths : take (kept_of end items).count (kept_of end items).widths ≡ (entries_of items).cells.widths
   unfolding kept_more
-  kept_widths = column_kept (λ l. l.widths) (λ i. width_of i.change) (λ i l. refl) end items room few
+  kept_widths = column_kept (λ l. l.widths) (λ i. (numbers_of i.said).width) (λ i l. refl) end items room few
+
+  room_signed : length {A = ℤ} (replicate 8192 (pos 0)) ≡ 8192
+  room_signed = length-replicate {A = ℤ} 8192 (pos 0)
+
+  kept_xs : take (kept_of end items).count (kept_of end items).xs ≡ (entries_of items).xs
+  unfolding kept_more
+  kept_xs = column_kept (λ l. l.xs) (λ i. (numbers_of i.said).x) (λ i l. refl) end items room_signed few
+
+  kept_ys : take (kept_of end items).count (kept_of end items).ys ≡ (entries_of items).ys
+  unfolding kept_more
+  kept_ys = column_kept (λ l. l.ys) (λ i. (numbers_of i.said).y) (λ i l. refl) end items room_signed few
 
   pub commits_kept : kept_commits (kept_of end items) ≡ commits_of items
   commits_kept = ap₂ list_of kept_slots kept_values
 
   pub entries_kept : kept_entries (kept_of end items) ≡ entries_of items
-  entries_kept = rw (kept_slots, kept_values, kept_kinds, kept_cells, kept_carriers, kept_widths) refl
+  entries_kept = rw (kept_slots, kept_values, kept_kinds, kept_cells, kept_carriers, kept_widths, kept_xs, kept_ys) refl

@@ -8,20 +8,21 @@ use Rattle.texts.specs.Text.{ascii, with_bytes, put}
 use Rattle.texts.proofs.Lengths.{put_fits, number, decimal_length, each_length}
 use Rattle.line_fields.specs.Fields.{line_text, begins}
 use Rattle.planning_lines.specs.Answers.{bad_line_text}
-use Rattle.group_register.specs.GroupRegister.{group_refusal_number}
-use Rattle.group_register.specs.declared.GroupRegister.{GroupRegister}
 use Rattle.catch_up.specs.Causes.{CommitList, Commit, commits, join_number}
 use Rattle.catch_up.specs.Joining.{joining}
 use Rattle.catch_up.specs.declared.JoinRefusal.{JoinRefusal}
 use Rattle.catch_up.proofs.Exact.{is_join}
-use Rattle.feeding.specs.Feeding.{feed_refusal_number, feeding}
+use Rattle.feeding.specs.Feeding.{feed_refusal_number}
 use Rattle.feeding.specs.declared.FeedRefusal.{FeedRefusal}
-use Rattle.feeding.specs.declared.FirstRefused.{FirstRefused}
+use Rattle.positions.specs.Placed.{position_refusal_number}
+use Rattle.positions.specs.declared.PlacedRegister.{PlacedRegister}
+use Rattle.placed_feeding.specs.PlacedFeeding.{feeding}
+use Rattle.placed_feeding.specs.declared.FirstRefused.{FirstRefused}
 use Rattle.list_lines.specs.declared.LineItem.{LineItem}
 use Rattle.list_lines.specs.Lists.{commits_of, entries_of}
 use Rattle.list_lines.specs.Joins.{JoinLine, join_asked, commit_text, commits_text, joining_text, asked_text, join_text}
 use Rattle.list_lines.specs.Feeds.{refused_text, first_text, fed_text, feed_text}
-use Rattle.list_lines.specs.Answers.{register_after_list_line}
+use Rattle.list_lines.specs.Answers.{placed_after_list_line}
 use Rattle.list_lines.proofs.JoinsRead.{beside_long}
 
 commit_length : (c : Commit) → length (commit_text c) ≤ 42
@@ -52,14 +53,14 @@ asked_length None = omega arith
 first_length : (f : Option FirstRefused) → length (first_text f) ≤ 60
 unfolding first_text refused_text line_text
 first_length None = omega arith
-first_length (Some f) = simp length-append (omega (arith, number f.slot, number (group_refusal_number f.why)))
+first_length (Some f) = simp length-append (omega (arith, number f.slot, number (position_refusal_number f.why)))
 
 fed_length : (fed : Result (Option FirstRefused) FeedRefusal) → length (fed_text fed) ≤ 60
 unfolding fed_text
 fed_length (Ok f) = first_length f
 fed_length (Err why) = omega (arith, refusal_length (feed_refusal_number why))
 
-feed_length : (g : GroupRegister) (asked : Option (List LineItem)) → length (feed_text g asked) ≤ 60
+feed_length : (g : PlacedRegister) (asked : Option (List LineItem)) → length (feed_text g asked) ≤ 60
 unfolding feed_text bad_line_text
 feed_length g (Some items) = fed_length (feeding g (entries_of items)).answer
 feed_length g None = omega arith
@@ -69,12 +70,12 @@ pub join_answer_whole : (line : List ℕ) (o : Output) → o.at + 344085 ≤ len
     ≡ with_bytes o (take o.at o.bytes.now ++ join_text line ++ drop (o.at + length (join_text line)) o.bytes.now) (o.at + length (join_text line))
 join_answer_whole line o room = put_fits (join_text line) o (omega (arith, asked_length (join_asked line)))
 
-pub feed_answer_whole : (g : GroupRegister) (asked : Option (List LineItem)) (o : Output) → o.at + 60 ≤ length o.bytes.now
+pub feed_answer_whole : (g : PlacedRegister) (asked : Option (List LineItem)) (o : Output) → o.at + 60 ≤ length o.bytes.now
     → put (feed_text g asked) o
     ≡ with_bytes o (take o.at o.bytes.now ++ feed_text g asked ++ drop (o.at + length (feed_text g asked)) o.bytes.now) (o.at + length (feed_text g asked))
 feed_answer_whole g asked o room = put_fits (feed_text g asked) o (omega (arith, feed_length g asked))
 
 -- "Joining takes no register."
-pub join_leaves : (g : GroupRegister) (line : List ℕ) → begins (ascii "join ") line ≡ true → register_after_list_line g line ≡ g
-unfolding register_after_list_line
+pub join_leaves : (g : PlacedRegister) (line : List ℕ) → begins (ascii "join ") line ≡ true → placed_after_list_line g line ≡ g
+unfolding placed_after_list_line
 join_leaves g line joins = simp joins

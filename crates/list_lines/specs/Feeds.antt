@@ -4,14 +4,15 @@ use Rattle.std.specs.Prelude.{true, cond, List, ◌++◌, ℕ, ltb, Option, Some
 use Rattle.texts.specs.Text.{ascii, field}
 use Rattle.line_fields.specs.Fields.{line_text}
 use Rattle.planning_lines.specs.Answers.{bad_line_text}
-use Rattle.group_register.specs.Settings.{is_made}
-use Rattle.group_register.specs.GroupRegister.{group_refusal_number}
-use Rattle.group_register.specs.declared.GroupRegister.{GroupRegister}
+use Rattle.group_register.specs.Settings.{unmade_by, is_made}
 use Rattle.catch_up.specs.declared.JoinRefusal.TheVariants.{NumberTooLarge, OutsideLimits}
-use Rattle.feeding.specs.Feeding.{Feeding, feeding_in, not_fed, feed_refusal_number, feeding}
+use Rattle.feeding.specs.Feeding.{feed_refusal_number}
 use Rattle.feeding.specs.declared.FeedRefusal.{FeedRefusal}
 use Rattle.feeding.specs.declared.FeedRefusal.TheVariants.{Unmade}
-use Rattle.feeding.specs.declared.FirstRefused.{FirstRefused}
+use Rattle.positions.specs.Placed.{position_refusal_number}
+use Rattle.positions.specs.declared.PlacedRegister.{PlacedRegister}
+use Rattle.placed_feeding.specs.PlacedFeeding.{Feeding, feeding_in, not_fed, feeding}
+use Rattle.placed_feeding.specs.declared.FirstRefused.{FirstRefused}
 use Rattle.list_lines.specs.declared.LineItem.{LineItem}
 use Rattle.list_lines.specs.declared.LineList.{LineList}
 use Rattle.list_lines.specs.Lists.{last_list, entries_of}
@@ -22,9 +23,9 @@ abbrev pub feed_asked : List ℕ → Option (List LineItem)
 feed_asked line = last_list true line 4
 
 -- the register that it leaves: a bad line "changes nothing"
-unfoldable pub after_feed : GroupRegister → Option (List LineItem) → GroupRegister
-after_feed g (Some items) = (feeding g (entries_of items)).group
-after_feed g None = g
+unfoldable pub after_feed : PlacedRegister → Option (List LineItem) → PlacedRegister
+after_feed p (Some items) = (feeding p (entries_of items)).placed
+after_feed p None = p
 
 -- ---- the answer
 
@@ -34,22 +35,22 @@ refused_text slot number = ascii "fed, slot" ++ field slot ++ line_text (ascii "
 -- "hands back the first refused slot, if any, with its number"
 unfoldable pub first_text : Option FirstRefused → List ℕ
 first_text None = ascii "fed\n"
-first_text (Some f) = refused_text f.slot (group_refusal_number f.why)
+first_text (Some f) = refused_text f.slot (position_refusal_number f.why)
 
 unfoldable pub fed_text : Result (Option FirstRefused) FeedRefusal → List ℕ
 fed_text (Ok first) = first_text first
 fed_text (Err why) = line_text (ascii "refused") (feed_refusal_number why)
 
-unfoldable pub feed_text : GroupRegister → Option (List LineItem) → List ℕ
-feed_text g (Some items) = fed_text (feeding g (entries_of items)).answer
-feed_text g None = bad_line_text
+unfoldable pub feed_text : PlacedRegister → Option (List LineItem) → List ℕ
+feed_text p (Some items) = fed_text (feeding p (entries_of items)).answer
+feed_text p None = bad_line_text
 
 -- ---- steps of the code
 
 -- of the list as it is kept, 2 and 18 of all that was read, and else what stands in the places is fed
-unfoldable pub kept_feeding_made : GroupRegister → LineList → Feeding
-kept_feeding_made g l = cond l.too_large (not_fed NumberTooLarge g) (cond (ltb 8192 l.count) (not_fed OutsideLimits g) (feeding g (kept_entries l)))
+unfoldable pub kept_feeding_made : PlacedRegister → LineList → Feeding
+kept_feeding_made p l = cond l.too_large (not_fed NumberTooLarge p) (cond (ltb 8192 l.count) (not_fed OutsideLimits p) (feeding p (kept_entries l)))
 
 -- before these, 1 of a register that is not made
-unfoldable pub kept_feeding : GroupRegister → LineList → Feeding
-kept_feeding g l = cond (is_made g.settings) (kept_feeding_made g l) (feeding_in (Err Unmade) g)
+unfoldable pub kept_feeding : PlacedRegister → LineList → Feeding
+kept_feeding p l = cond (is_made p.group.settings) (kept_feeding_made p l) (feeding_in (Err (Unmade (unmade_by p.group.settings))) p)

@@ -1,14 +1,14 @@
 -- What is kept of a list as it is read: how many entries it has and whether a number is too large, of all of them; and the first 8,192, as many as may
 -- be fed. These are steps of the code: what a line asks is said of the whole list (Joins, Feeds).
 -- Assumes nothing.
-use Rattle.std.specs.Prelude.{Bool, ◌||◌, List, [], ◌∷◌, ℕ, ◌+◌, ltb, take, replicate}
-use Rattle.call_lines.specs.Reading.{stored}
+use Rattle.std.specs.Prelude.{Bool, cond, ◌||◌, List, [], ◌∷◌, ℕ, ◌+◌, ℤ, pos, ltb, length, set, take, replicate}
 use Rattle.catch_up.specs.Causes.{CommitList}
 use Rattle.catch_up.specs.Joining.{list_of}
-use Rattle.feeding.specs.Feeding.{FedList, fed_list_of}
+use Rattle.feeding.specs.Feeding.{fed_list_of}
+use Rattle.placed_feeding.specs.PlacedFeeding.{PlacedColumns, placed_columns}
 use Rattle.list_lines.specs.declared.LineItem.{LineItem}
 use Rattle.list_lines.specs.declared.LineList.{LineList}
-use Rattle.list_lines.specs.Lists.{kind_of, carrier_of, width_of}
+use Rattle.list_lines.specs.Lists.{numbers_of}
 
 -- 2, of one entry
 abbrev pub above_limits : LineItem → Bool
@@ -26,7 +26,13 @@ nothing_kept end =
       cells = replicate 8192 0;
       carriers = replicate 8192 0;
       widths = replicate 8192 0;
+      xs = replicate 8192 (pos 0);
+      ys = replicate 8192 (pos 0);
     }
+
+-- a number in a place, where there is one
+unfoldable pub kept_at : {A : Type 0} → List A → ℕ → A → List A
+kept_at places at n = cond (ltb at (length places)) (set places at n) places
 
 -- one entry more, in the next place where there is one
 unfoldable pub kept_more : LineItem → LineList → LineList
@@ -35,12 +41,14 @@ kept_more i l =
       count = l.count + 1;
       too_large = l.too_large || above_limits i;
       end = i.end;
-      slots = stored l.slots l.count i.slot;
-      values = stored l.values l.count i.value;
-      kinds = stored l.kinds l.count (kind_of i.change);
-      cells = stored l.cells l.count i.cell;
-      carriers = stored l.carriers l.count (carrier_of i.change);
-      widths = stored l.widths l.count (width_of i.change);
+      slots = kept_at l.slots l.count i.slot;
+      values = kept_at l.values l.count i.value;
+      kinds = kept_at l.kinds l.count (numbers_of i.said).kind;
+      cells = kept_at l.cells l.count i.cell;
+      carriers = kept_at l.carriers l.count (numbers_of i.said).carrier;
+      widths = kept_at l.widths l.count (numbers_of i.said).width;
+      xs = kept_at l.xs l.count (numbers_of i.said).x;
+      ys = kept_at l.ys l.count (numbers_of i.said).y;
     }
 
 unfoldable pub kept_all : LineList → List LineItem → LineList
@@ -55,7 +63,9 @@ kept_of end items = kept_all (nothing_kept end) items
 abbrev pub kept_commits : LineList → CommitList
 kept_commits l = list_of (take l.count l.slots) (take l.count l.values)
 
-abbrev pub kept_entries : LineList → FedList
+abbrev pub kept_entries : LineList → PlacedColumns
 kept_entries l =
-    fed_list_of (take l.count l.slots) (take l.count l.values) (take l.count l.kinds) (take l.count l.cells) (take l.count l.carriers)
-    (take l.count l.widths)
+    placed_columns
+    (fed_list_of (take l.count l.slots) (take l.count l.values) (take l.count l.kinds) (take l.count l.cells) (take l.count l.carriers)
+    (take l.count l.widths))
+    (take l.count l.xs) (take l.count l.ys)

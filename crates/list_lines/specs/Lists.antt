@@ -1,15 +1,19 @@
 -- A list of commits on a line of `planning` (docs/PLANNING.md; document 02, E10): `s v s v ..`, and `s v ENTRY s v ENTRY ..` in one that is fed.
 -- Assumes nothing.
-use Rattle.std.specs.Prelude.{Bool, true, cond, ◌&&◌, List, [], ◌∷◌, map, ℕ, zero, suc, ◌+◌, eqb, length, drop, Option, Some, None}
+use Rattle.std.specs.Prelude.{Bool, true, cond, ◌&&◌, List, [], ◌∷◌, map, ℕ, zero, suc, ◌+◌, pos, eqb, length, drop, Option, Some, None}
 use Rattle.std.specs.Option.{option_map, option_and_then}
 use Rattle.texts.specs.Text.{ascii}
 use Rattle.line_fields.specs.Fields.{is_number, value_of, begins, next_field, number_field}
-use Rattle.register.specs.declared.Change.{Change}
 use Rattle.register.specs.declared.Change.TheVariants.{Assign, Release}
-use Rattle.register_lines.specs.Entries.{second, change_at}
-use Rattle.register_lines.specs.declared.LineChange.{LineChange}
+use Rattle.register_lines.specs.Entries.{second}
+use Rattle.entry_lines.specs.Entries.{said_at}
+use Rattle.entry_lines.specs.declared.LineSaid.{LineSaid}
+use Rattle.entry_lines.specs.declared.Said.{Said}
+use Rattle.entry_lines.specs.declared.Said.TheVariants.{Changed, Placed}
 use Rattle.catch_up.specs.Causes.{CommitList}
-use Rattle.feeding.specs.Feeding.{FedList, fed_list_of}
+use Rattle.feeding.specs.Feeding.{fed_list_of}
+use Rattle.placed_feeding.specs.PlacedFeeding.{PlacedColumns, placed_columns}
+use Rattle.list_lines.specs.declared.EntryNumbers.{EntryNumbers}
 use Rattle.list_lines.specs.declared.LineItem.{LineItem}
 
 -- ---- one entry, from a place on, and where it ends
@@ -23,17 +27,17 @@ commit_at line at =
       slot = value_of (number_field line at).number;
       value = value_of (number_field line (second line at)).number;
       cell = 0;
-      change = Release;
+      said = Changed Release;
       end = (number_field line (second line at)).end;
     }))
     None
 
 -- "ENTRY as in an entry line from its letter on"
-abbrev pub entry_beside : LineItem → LineChange → LineItem
-entry_beside i c = record { slot = i.slot; value = i.value; cell = c.cell; change = c.change; end = c.end }
+abbrev pub entry_beside : LineItem → LineSaid → LineItem
+entry_beside i s = record { slot = i.slot; value = i.value; cell = s.cell; said = s.said; end = s.end }
 
 unfoldable pub with_entry : List ℕ → LineItem → Option LineItem
-with_entry line i = option_map (entry_beside i) (change_at line (next_field line i.end))
+with_entry line i = option_map (entry_beside i) (said_at line (next_field line i.end))
 
 unfoldable pub item_at : Bool → List ℕ → ℕ → Option LineItem
 item_at fed line at = cond fed (option_and_then (with_entry line) (commit_at line at)) (commit_at line at)
@@ -88,20 +92,15 @@ values_of items = map (λ (i : LineItem). i.value) items
 abbrev pub commits_of : List LineItem → CommitList
 commits_of items = record { slots = slots_of items; values = values_of items }
 
--- an entry in numbers, as in E6
-abbrev pub kind_of : Change → ℕ
-kind_of (Assign a) = 1
-kind_of Release = 2
+-- an entry in numbers: kind 1 is an assignment, kind 2 a release and kind 3 a position
+abbrev pub numbers_of : Said → EntryNumbers
+numbers_of (Changed (Assign a)) = record { kind = 1; carrier = a.carrier; width = a.width; x = pos 0; y = pos 0 }
+numbers_of (Changed Release) = record { kind = 2; carrier = 0; width = 0; x = pos 0; y = pos 0 }
+numbers_of (Placed p) = record { kind = 3; carrier = 0; width = 0; x = p.x; y = p.y }
 
-abbrev pub carrier_of : Change → ℕ
-carrier_of (Assign a) = a.carrier
-carrier_of Release = 0
-
-abbrev pub width_of : Change → ℕ
-width_of (Assign a) = a.width
-width_of Release = 0
-
-abbrev pub entries_of : List LineItem → FedList
+abbrev pub entries_of : List LineItem → PlacedColumns
 entries_of items =
-    fed_list_of (slots_of items) (values_of items) (map (λ (i : LineItem). kind_of i.change) items) (map (λ (i : LineItem). i.cell) items)
-    (map (λ (i : LineItem). carrier_of i.change) items) (map (λ (i : LineItem). width_of i.change) items)
+    placed_columns
+    (fed_list_of (slots_of items) (values_of items) (map (λ (i : LineItem). (numbers_of i.said).kind) items) (map (λ (i : LineItem). i.cell) items)
+    (map (λ (i : LineItem). (numbers_of i.said).carrier) items) (map (λ (i : LineItem). (numbers_of i.said).width) items))
+    (map (λ (i : LineItem). (numbers_of i.said).x) items) (map (λ (i : LineItem). (numbers_of i.said).y) items)

@@ -7,16 +7,19 @@ ghost use Rattle.std.specs.Prelude.{◌≡◌, ◌+◌, ◌<◌, ◌≤◌, leng
 ghost use Rattle.std.specs.Option.{option_map};
 ghost use Rattle.texts.specs.Text.{put};
 ghost use Rattle.catch_up.specs.Joining.{list_of, lent_list, lent_places, SamePlaces, join_count, Gives};
-ghost use Rattle.feeding.specs.Feeding.{fed_list, feeding_in};
-ghost use Rattle.list_lines.specs.Lists.{commit_at, with_entry, item_at, list_ends, items_from, list_behind, last_list, kind_of, carrier_of, width_of};
+ghost use Rattle.feeding.specs.Feeding.{fed_list};
+ghost use Rattle.placed_feeding.specs.PlacedFeeding.{placed_list, feeding_in};
+ghost use Rattle.list_lines.specs.Lists.{commit_at, with_entry, item_at, list_ends, items_from, list_behind, last_list, numbers_of};
 ghost use Rattle.list_lines.specs.Kept.{above_limits, nothing_kept, kept_more, kept_of, kept_commits, kept_entries};
 ghost use Rattle.list_lines.specs.Joins.{join_asked, commits_text, joining_text, join_text, joined_text, kept_refused, kept_joining, kept_asked};
 ghost use Rattle.list_lines.specs.Feeds.{feed_asked, after_feed, refused_text, first_text, fed_text, feed_text, kept_feeding};
-ghost use Rattle.list_lines.specs.Answers.{register_after_list_line, list_line_answer};
+ghost use Rattle.list_lines.specs.Answers.{placed_after_list_line, list_line_answer};
 
 use catch_up::{JoinRefusal, LentList, LentPlaces};
-use feeding::{EntryList, FeedRefusal, FirstRefused};
-use group_register::GroupRegister;
+use entry_lines::Said;
+use feeding::{EntryList, FeedRefusal};
+use placed_feeding::{FirstRefused, PlacedList};
+use positions::PlacedRegister;
 use refusals::Refused;
 use register::{CellNumber, Change};
 use texts::Output;
@@ -28,12 +31,22 @@ pub struct LineItem {
     pub slot: u64,
     pub value: u64,
     pub cell: CellNumber,
-    pub change: Change,
+    pub said: Said,
     pub end: usize,
 }
 
+// What an entry says besides its slot and cell, in numbers as a host lends them.
+#[derive(Clone, Copy)]
+pub struct EntryNumbers {
+    pub kind: u64,
+    pub carrier: u64,
+    pub width: u64,
+    pub x: i64,
+    pub y: i64,
+}
+
 // What is kept of a list: how many entries it has, whether a slot or value among them is too large, where it ends, and the first 8,192 entries, with a
-// change in numbers as a host lends it. Arrays in place of one of entries, since the library joins and feeds such slices.
+// entry in numbers as a host lends it. Arrays in place of one of entries, since the library joins and feeds such slices.
 #[derive(Clone, Copy)]
 pub struct LineList {
     pub count: usize,
@@ -45,6 +58,8 @@ pub struct LineList {
     pub cells: [CellNumber; 8192],
     pub carriers: [u64; 8192],
     pub widths: [u64; 8192],
+    pub xs: [i64; 8192],
+    pub ys: [i64; 8192],
 }
 
 // What a line `join` asks: how many places are lent, and the lists.
@@ -72,7 +87,7 @@ fn commit_at(line: &[u8], at: usize) -> Option<LineItem>
         slot: slot.number?,
         value: value.number?,
         cell: 0,
-        change: Change::Release,
+        said: Said::Changed(Change::Release),
         end: value.end,
     })
 }
@@ -82,11 +97,11 @@ fn commit_at(line: &[u8], at: usize) -> Option<LineItem>
 fn with_entry(line: &[u8], item: LineItem) -> Option<LineItem>
     ensures { result ≡ with_entry line.now item }
 {
-    let said = register_lines::change_at(line, line_fields::next_field(line, item.end))?;
+    let beside = entry_lines::said_at(line, line_fields::next_field(line, item.end))?;
     Some(LineItem {
-        cell: said.cell,
-        change: said.change,
-        end: said.end,
+        cell: beside.cell,
+        said: beside.said,
+        end: beside.end,
         ..item
     })
 }
@@ -118,13 +133,31 @@ fn above_limits(item: LineItem) -> bool
     item.slot > 9223372036854775806 || item.value > 9223372036854775807
 }
 
-// A change's kind, carrier and width in numbers.
-fn numbers_of(change: Change) -> (u64, u64, u64)
-    ensures { result ≡ (kind_of change, carrier_of change, width_of change) }
+// Kind 1 is an assignment, kind 2 a release and kind 3 a position.
+fn numbers_of(said: Said) -> EntryNumbers
+    ensures { result ≡ numbers_of said }
 {
-    match change {
-        Change::Assign(assignment) => (1, assignment.carrier, assignment.width),
-        Change::Release => (2, 0, 0),
+    let none = EntryNumbers {
+        kind: 2,
+        carrier: 0,
+        width: 0,
+        x: 0,
+        y: 0,
+    };
+    match said {
+        Said::Changed(Change::Assign(assignment)) => EntryNumbers {
+            kind: 1,
+            carrier: assignment.carrier,
+            width: assignment.width,
+            ..none
+        },
+        Said::Changed(Change::Release) => none,
+        Said::Placed(position) => EntryNumbers {
+            kind: 3,
+            x: position.x,
+            y: position.y,
+            ..none
+        },
     }
 }
 
@@ -143,24 +176,28 @@ impl LineList {
             cells: [0; 8192],
             carriers: [0; 8192],
             widths: [0; 8192],
+            xs: [0; 8192],
+            ys: [0; 8192],
         }
     }
 
     // One entry more, in the next place where there is one.
-    #[tactic(auto, unfolding(crate::specs::Kept::kept_more, call_lines::specs::Reading::stored))]
+    #[tactic(auto, unfolding(crate::specs::Kept::kept_more, crate::specs::Kept::kept_at))]
     fn push(&mut self, item: LineItem)
         requires { self.old.count < 18446744073709551615 }
         ensures { self.new ≡ kept_more item self.old }
     {
         let at = self.count;
         if at < MOST_KEPT {
-            let (kind, carrier, width) = numbers_of(item.change);
+            let numbers = numbers_of(item.said);
             self.slots[at] = item.slot;
             self.values[at] = item.value;
-            self.kinds[at] = kind;
+            self.kinds[at] = numbers.kind;
             self.cells[at] = item.cell;
-            self.carriers[at] = carrier;
-            self.widths[at] = width;
+            self.carriers[at] = numbers.carrier;
+            self.widths[at] = numbers.width;
+            self.xs[at] = numbers.x;
+            self.ys[at] = numbers.y;
         }
         self.count = at + 1;
         self.too_large = self.too_large || above_limits(item);
@@ -179,16 +216,20 @@ impl LineList {
     }
 
     // The same with the entries beside them.
-    fn entries(&self) -> EntryList<'_>
-        ensures { fed_list result ≡ kept_entries self.now }
+    fn entries(&self) -> PlacedList<'_>
+        ensures { placed_list result ≡ kept_entries self.now }
     {
         let count = self.count.min(MOST_KEPT);
-        EntryList {
-            commits: self.commits(),
-            kinds: &self.kinds[..count],
-            cells: &self.cells[..count],
-            carriers: &self.carriers[..count],
-            widths: &self.widths[..count],
+        PlacedList {
+            entries: EntryList {
+                commits: self.commits(),
+                kinds: &self.kinds[..count],
+                cells: &self.cells[..count],
+                carriers: &self.carriers[..count],
+                widths: &self.widths[..count],
+            },
+            xs: &self.xs[..count],
+            ys: &self.ys[..count],
         }
     }
 }
@@ -338,7 +379,7 @@ fn put_join(out: &mut Output<'_>, asked: &JoinQuestion)
     put_joined(out, joined, &slots, &values);
 }
 
-// The answer to a line that begins with `join` and a blank. Not in line, nor is that of `feed`: the lists take up to 3.2 MiB of stack, which others do without.
+// The answer to a line that begins with `join` and a blank. Not in line, nor is that of `feed`: the lists take up to 4.2 MiB of stack, which others do without.
 #[inline(never)]
 #[tactic(auto, using(crate::proofs::JoinsRead::asked_answer, crate::proofs::JoinsRead::asked_bad))]
 fn answer_join(line: &[u8], out: &mut Output<'_>)
@@ -352,16 +393,16 @@ fn answer_join(line: &[u8], out: &mut Output<'_>)
 
 // ---- a list fed
 
-// 1 of a register that is not made, 2 and 18 of all that was read, and else what stands in the places is fed.
+// 1 or 17 of a register that is not made, 2 and 18 of all that was read, and else what stands in the places is fed.
 #[tactic(auto, unfolding(crate::specs::Feeds::kept_feeding, crate::specs::Feeds::kept_feeding_made))]
 fn feed_kept(
-    group: &mut GroupRegister,
+    placed: &mut PlacedRegister,
     list: &LineList,
 ) -> Result<Option<FirstRefused>, FeedRefusal>
-    ensures { feeding_in result group.new ≡ kept_feeding group.old list.now }
+    ensures { feeding_in result placed.new ≡ kept_feeding placed.old list.now }
 {
-    if !group.settings.is_made() {
-        return Err(FeedRefusal::Unmade);
+    if !placed.group.settings.is_made() {
+        return Err(FeedRefusal::Unmade(placed.group.settings.unmade_by()));
     }
     if list.too_large {
         return Err(FeedRefusal::AsList(JoinRefusal::NumberTooLarge));
@@ -369,7 +410,12 @@ fn feed_kept(
     if MOST_KEPT < list.count {
         return Err(FeedRefusal::AsList(JoinRefusal::OutsideLimits));
     }
-    feeding::feed(group.settings, &mut group.register, list.entries())
+    placed_feeding::feed(
+        placed.group.settings,
+        &mut placed.group.register,
+        &mut placed.positions,
+        list.entries(),
+    )
 }
 
 // The first slot that was refused, and its number.
@@ -402,35 +448,35 @@ fn put_fed(out: &mut Output<'_>, fed: Result<Option<FirstRefused>, FeedRefusal>)
     }
 }
 
-// The answer to a line that begins with `feed`, and the register that it leaves.
+// The answer to a line that begins with `feed`; the register is the one that it leaves.
 #[inline(never)]
 #[tactic(auto, using(crate::proofs::FeedsRead::bad_register, crate::proofs::FeedsRead::bad_answer))]
-fn answer_feed(mut group: GroupRegister, line: &[u8], out: &mut Output<'_>) -> GroupRegister
-    ensures group { result ≡ after_feed group (feed_asked line.now) }
-    ensures put { out.new ≡ put (feed_text group (feed_asked line.now)) out.old }
+fn answer_feed(placed: &mut PlacedRegister, line: &[u8], out: &mut Output<'_>)
+    ensures placed { placed.new ≡ after_feed placed.old (feed_asked line.now) }
+    ensures put { out.new ≡ put (feed_text placed.old (feed_asked line.now)) out.old }
 {
     match last_list(line, 4, true) {
         Some(list) => {
-            let fed = feed_kept(&mut group, &list);
+            let fed = feed_kept(placed, &list);
             put_fed(out, fed);
         }
         None => planning_lines::put_bad_line(out),
     }
-    group
 }
 
-// The answer to a line of `planning`, and the register that the line leaves.
-#[tactic(auto, unfolding(crate::specs::Answers::register_after_list_line, crate::specs::Answers::list_line_answer))]
-pub fn answer_line(group: GroupRegister, line: &[u8], out: &mut Output<'_>) -> GroupRegister
-    ensures group { result ≡ register_after_list_line group line.now }
-    ensures put { out.new ≡ put (list_line_answer group line.now) out.old }
+// The answer to a line of `planning`; the register is the one that the line leaves.
+#[tactic(auto, unfolding(crate::specs::Answers::placed_after_list_line, crate::specs::Answers::list_line_answer))]
+pub fn answer_line(placed: &mut PlacedRegister, line: &[u8], out: &mut Output<'_>)
+    ensures placed { placed.new ≡ placed_after_list_line placed.old line.now }
+    ensures put { out.new ≡ put (list_line_answer placed.old line.now) out.old }
 {
     if line_fields::begins(line, b"join ") {
         answer_join(line, out);
-        return group;
+        return;
     }
     if line_fields::begins(line, b"feed") {
-        return answer_feed(group, line, out);
+        answer_feed(placed, line, out);
+        return;
     }
-    stored_lines::answer_line(group, line, out)
+    position_lines::answer_line(placed, line, out);
 }

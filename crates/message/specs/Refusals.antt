@@ -1,8 +1,8 @@
--- The refusals and their numbers (document 01, the table of "Message and answer").
+-- The refusals and their numbers (document 01, the table of "Message and answer"; document 02, E8).
 -- Assumes nothing.
 use Rattle.std.specs.Prelude.{ℕ}
 use Rattle.message.specs.declared.Refusal.{Refusal}
-use Rattle.message.specs.declared.Refusal.TheVariants.{SettingsOutsideLimits, NumberTooLarge, NoSuchProcess, OtherLastValue, SlotAhead, ValueNotHeld, SourceNotLive, Panic, AcceptUnlikeHeld, SecondFastAnswer, ProposalNotAllowed, NoRoomForRead}
+use Rattle.message.specs.declared.Refusal.TheVariants.{SettingsOutsideLimits, NumberTooLarge, NoSuchProcess, OtherLastValue, SlotAhead, ValueNotHeld, SourceNotLive, Panic, AcceptUnlikeHeld, SecondFastAnswer, ProposalNotAllowed, NoRoomForRead, NotInCalendar}
 
 abbrev pub refusal_number : Refusal → ℕ
 -- settings outside the limits
@@ -30,3 +30,5 @@ refusal_number SecondFastAnswer = 10
 refusal_number ProposalNotAllowed = 11
 -- 128 reads open, or ids spent
 refusal_number NoRoomForRead = 12
+-- "17, a date that the calendar or those years lack, a time outside the day, or a window whose end is not after its start, checked when settings are made"
+refusal_number NotInCalendar = 17

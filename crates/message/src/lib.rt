@@ -1,5 +1,5 @@
-// Modes, rounds, promises, messages and refusals: the Rust's message.rs of consensus and of paxos_family, PFModeSetting, and document 01's
-// table.
+// Modes, rounds, promises, messages and refusals: the Rust's message.rs of consensus and of paxos_family, PFModeSetting, document 01's table, and what
+// document 02 adds to it.
 #![tactic(auto)]
 
 ghost use Rattle.std.specs.Prelude.{◌≡◌, ◌-◌};
@@ -120,7 +120,7 @@ pub struct ConsensusMessage {
     pub last_v: Option<u64>,
 }
 
-// Why a call is refused, with document 01's numbers.
+// Why a call is refused, with the numbers of documents 01 and 02.
 #[derive(Clone, Copy, PartialEq, Eq, Debug)]
 pub enum Refusal {
     SettingsOutsideLimits = 1,
@@ -135,6 +135,9 @@ pub enum Refusal {
     SecondFastAnswer = 10,
     ProposalNotAllowed = 11,
     NoRoomForRead = 12,
+    // A window of the group's settings has a date or a time that there is not, or an end that is not after its start (document 02, E8). The mark of a shard
+    // that is not made gives it, and no handler.
+    NotInCalendar = 17,
 }
 
 // What became of a call, or of a step of it.
@@ -143,7 +146,7 @@ pub type Outcome = Result<(), Refusal>;
 impl Refused for Refusal {
     ghost refusal_number = { refusal_number };
 
-    // The number by which document 01 names the refusal.
+    // The number by which document 01 or 02 names the refusal.
     fn number(self) -> u64 {
         self as u64
     }

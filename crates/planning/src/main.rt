@@ -2,29 +2,37 @@
 // more than 1,048,576 bytes, without its LF, is too long and so a bad line.
 #![tactic(auto)]
 
-ghost use Rattle.std.specs.Prelude.{◌≡◌, true};
-ghost use Rattle.list_lines.specs.Answers.{register_after_list_line};
+ghost use Rattle.std.specs.Prelude.{◌≡◌, true, cond};
+ghost use Rattle.list_lines.specs.Answers.{placed_after_list_line};
+ghost use Rattle.window_lines.specs.Lines.{is_window_line};
+ghost use Rattle.window_lines.specs.Answers.{after_window_line};
 
-use group_register::GroupRegister;
 use line_blocks::LineTaker;
+use positions::PlacedRegister;
 use std::io::Read;
 use texts::Output;
+use windows::{KeptWindows, WindowRefusal};
 
-// The register that the lines ask of.
+// The register that the lines ask of, with the positions of its cells, and the windows.
 #[derive(Clone, Copy)]
 struct Planner {
-    group: GroupRegister,
+    placed: PlacedRegister,
+    windows: Result<KeptWindows, WindowRefusal>,
 }
 
 impl LineTaker for Planner {
-    ghost takes = { λ old line new. new.group ≡ register_after_list_line old.group line };
+    ghost takes = { λ old line new. (new.placed ≡ cond (is_window_line line) old.placed (placed_after_list_line old.placed line)) × (new.windows ≡ cond (is_window_line line) (after_window_line old.windows line) old.windows) };
 
     ghost takes_too_long = { λ old _ new. new ≡ old };
 
     ghost asks = { λ _. true };
 
     fn take(&mut self, line: &[u8], out: &mut Output<'_>) {
-        self.group = list_lines::answer_line(self.group, line, out);
+        if window_lines::is_window_line(line) {
+            window_lines::answer_line(&mut self.windows, line, out);
+        } else {
+            list_lines::answer_line(&mut self.placed, line, out);
+        }
     }
 
     fn take_too_long(&mut self, _start: &[u8], out: &mut Output<'_>) {
@@ -42,7 +50,8 @@ fn answer_input<R: Read>(reader: &mut R, input_bytes: &mut [u8; 1048577], output
     let input: &mut [u8] = input_bytes;
     let mut out = Output::new(output_bytes);
     let mut planner = Planner {
-        group: register_lines::first_register(),
+        placed: PlacedRegister::without_positions(register_lines::first_register()),
+        windows: window_lines::first_windows(),
     };
     line_blocks::take_input(reader, input, &mut planner, &mut out);
 }

@@ -15,23 +15,27 @@ extern "C" {
 
 /* Why a call is refused: numbers of document 02. */
 enum {
-    CHANBOOK_UNMADE = 1,          /* the settings that the register was begun from are outside their limits */
-    CHANBOOK_TOO_LARGE = 2,       /* a slot is above 2^63-2; in a list also a value above 2^63-1 */
-    CHANBOOK_NO_RASTER = 14,      /* no raster number or no raster frequency; in an entry also a width outside its limits, or an unknown kind */
-    CHANBOOK_NO_ROOM = 15,        /* a new cell with 512 live */
-    CHANBOOK_CELL_NOT_LIVE = 16,  /* release, or position (E11), of a cell that is not live */
-    CHANBOOK_OUTSIDE_LIMITS = 18, /* too many entries in a list, slots not consecutive, slices of unequal length, or too few places */
-    CHANBOOK_GAP = 19,            /* a gap between two lists, or between a register and a list */
-    CHANBOOK_TWO_VALUES = 20,     /* one slot with two values */
-    CHANBOOK_OUTSIDE_GRID = 21,   /* a position or a distance outside its limits */
-    CHANBOOK_NONE_FREE = 22,      /* no carrier in the range is free */
-    CHANBOOK_ODD_WIDTH = 23       /* a width not in whole MHz at or after the slot that the settings name */
+    CHANBOOK_UNMADE = 1,           /* the settings of the group are outside their limits, more than 128 windows among them */
+    CHANBOOK_TOO_LARGE = 2,        /* a slot is above 2^63-2; in a list also a value above 2^63-1 */
+    CHANBOOK_NO_RASTER = 14,       /* no raster number or no raster frequency; in an entry also a width outside its limits, or an unknown kind */
+    CHANBOOK_NO_ROOM = 15,         /* a new cell with 512 live */
+    CHANBOOK_CELL_NOT_LIVE = 16,   /* release, or position (E11), of a cell that is not live */
+    CHANBOOK_NOT_IN_CALENDAR = 17, /* no such date or time, a window whose end is not after its start, or a minute past the year 9999 */
+    CHANBOOK_OUTSIDE_LIMITS = 18,  /* too many entries in a list, slots not consecutive, slices of unequal length, or too few places */
+    CHANBOOK_GAP = 19,             /* a gap between two lists, or between a register and a list */
+    CHANBOOK_TWO_VALUES = 20,      /* one slot with two values */
+    CHANBOOK_OUTSIDE_GRID = 21,    /* a position or a distance outside its limits */
+    CHANBOOK_NONE_FREE = 22,       /* no carrier in the range is free */
+    CHANBOOK_ODD_WIDTH = 23        /* a width not in whole MHz at or after the slot that the settings name */
 };
 
 /* What document 02 gives no number: these are ours, and none of them is one of its numbers, 1 to 23. */
 enum {
     CHANBOOK_DONE = 0,
-    CHANBOOK_OLDER = 64 /* the entry's slot is not after the last one seen */
+    CHANBOOK_OLDER = 64,  /* the entry's slot is not after the last one seen */
+    CHANBOOK_INSIDE = 65, /* the minute is inside a window */
+    CHANBOOK_NEXT = 66,   /* it is not, and the nearest later window begins at the minute beside this number */
+    CHANBOOK_NONE = 67    /* it is not, and no window begins later */
 };
 
 /* refusal: 0 and a value, or the number of document 02 that refuses, and 0 as the value. */
@@ -64,7 +68,7 @@ enum {
     CHANBOOK_FIGURES = 5 /* how many there are */
 };
 
-/* The places of settings: what a register keeps of the settings of its group. A number that is not 0 is read as 1. */
+/* The places of settings: what a register keeps of the settings of its group. A number other than 0 and 17 is read as 1. */
 enum {
     CHANBOOK_SETTINGS_NUMBER = 0, /* 0, or the number that every call on the register gives before anything else, with nothing changed */
     CHANBOOK_WHOLE_MHZ_FROM = 1,  /* from this slot on the width of an assignment is in whole MHz */
@@ -92,17 +96,18 @@ enum {
     CHANBOOK_RELEASE = 2     /* the cell is live no more; carrier and width say nothing */
 };
 
-/* A register of the settings of its group that has seen no entry. Of settings outside their limits it is not made, and gives their number, 1. */
+/* A register of the settings of its group that has seen no entry. Of settings outside their limits it is not made, and gives their number: 1, or 17 of a
+   window (E8). */
 void chanbook_register_new(struct chanbook_group_settings group, uint64_t settings[2], uint64_t cells[512], uint64_t carriers[512],
                            uint64_t widths[512], uint64_t figures[5]);
 
-/* An entry: the first of 1, 2, 64, 14, 23, 15 and 16 whose cause holds, or 0, and it is done. After 1, 2 and 64 every number is as it was. After 14, 23,
-   15 and 16 the slot is seen, and nothing else has changed. */
+/* An entry: the first of 1 or 17, 2, 64, 14, 23, 15 and 16 whose cause holds, or 0, and it is done. After 1, 17, 2 and 64 every number is as it was. After
+   14, 23, 15 and 16 the slot is seen, and nothing else has changed. */
 uint64_t chanbook_register_entry(const uint64_t settings[2], uint64_t cells[512], uint64_t carriers[512], uint64_t widths[512], uint64_t figures[5],
                                  uint64_t slot, uint64_t kind, chanbook_cell_number cell, uint64_t carrier, uint64_t width);
 
 /* The report as CSV: the header made,superseded,released,live and one line, each ended with CR LF; of a register that is not made the one line
-   refused,1. Hands back how many bytes it has; zeros stand behind them. */
+   refused,1 or refused,17. Hands back how many bytes it has; zeros stand behind them. */
 uint64_t chanbook_register_report(const uint64_t settings[2], const uint64_t figures[5], uint8_t out[116]);
 
 /* E7, a register that was stored while cell numbers had 16 bits: its numbers, as they stood in the arrays. A host that stored the arrays themselves, 64 bits a
@@ -136,7 +141,7 @@ struct chanbook_value chanbook_join(
     const uint64_t *b_slots, size_t b_slot_count, const uint64_t *b_values, size_t b_value_count,
     uint64_t *slots, size_t slot_places, uint64_t *values, size_t value_places);
 
-/* refusal: 0 and the list is fed, or 1, 2, 18 or 19 and nothing of it is. slot and number: the first entry that was refused and document 02's number, both
+/* refusal: 0 and the list is fed, or 1, 17, 2, 18 or 19 and nothing of it is. slot and number: the first entry that was refused and document 02's number, both
    0 where none was. */
 struct chanbook_fed {
     uint64_t refusal;
@@ -145,7 +150,7 @@ struct chanbook_fed {
 };
 
 /* E10, a list fed to a register (E6), with the host's entry beside each value: kind, cell, carrier and width as in chanbook_register_entry. Each entry from the
-   slot after the last one seen is taken as there, also those behind a refused one; what lies before that slot is not fed. 1, 2, 18 (more than 8,192
+   slot after the last one seen is taken as there, also those behind a refused one; what lies before that slot is not fed. 1 or 17, 2, 18 (more than 8,192
    entries, slots not consecutive, or slices of unequal length) or 19 (it begins past that slot) and nothing fed. The list's arrays may lie anywhere, but
    they overlap none of the register's. An empty list may have null pointers. */
 struct chanbook_fed chanbook_feed(
@@ -173,23 +178,75 @@ void chanbook_positions_new(struct chanbook_position positions[512]);
 /* An entry of a register whose host lends positions too: kinds 1 and 2 as in chanbook_register_entry, and a position, of which x and y are read and carrier and
    width are not: the first of 2, 64, 21 and 16 whose cause holds, or 0; it adds to no figure. After 21 and 16 the slot is
    seen. An assignment keeps its cell's position, and a release drops it. The positions overlap none of the register's arrays.
-   Such a host gives every entry here and none by chanbook_register_entry or chanbook_feed, which would leave the positions where other cells stand.
-   settings: 0 and the slot from which widths are in whole MHz (23); any other number in its first place gives 1, and nothing changes. */
+   Such a host gives every entry here, or a list by chanbook_placed_feed, and none by chanbook_register_entry or chanbook_feed, which would leave the
+   positions where other cells stand.
+   settings: 0 and the slot from which widths are in whole MHz (23); 17 in its first place gives 17, any other number 1, and nothing changes. */
 uint64_t chanbook_placed_entry(const uint64_t settings[2], uint64_t cells[512], uint64_t carriers[512], uint64_t widths[512], uint64_t figures[5],
                                struct chanbook_position positions[512], uint64_t slot, uint64_t kind, chanbook_cell_number cell, uint64_t carrier,
                                uint64_t width, int64_t x, int64_t y);
 
+/* E10 and E11, a list fed to a register whose host lends positions too: chanbook_feed with two slices more, the x and the y of each entry, which are read where
+   it is a position. Each entry is taken as chanbook_placed_entry takes it; slices of unequal length give 18. */
+struct chanbook_fed chanbook_placed_feed(
+    const uint64_t settings[2], uint64_t cells[512], uint64_t carriers[512], uint64_t widths[512], uint64_t figures[5],
+    struct chanbook_position positions[512],
+    const uint64_t *slots, size_t slot_count, const uint64_t *values, size_t value_count,
+    const uint64_t *kinds, size_t kind_count, const chanbook_cell_number *entry_cells, size_t entry_cell_count,
+    const uint64_t *entry_carriers, size_t entry_carrier_count, const uint64_t *entry_widths, size_t entry_width_count,
+    const int64_t *entry_xs, size_t entry_x_count, const int64_t *entry_ys, size_t entry_y_count);
+
 /* The numbers of the live cells that overlap the carrier and lie within the distance, 0 to 6,000,000 metres, of x, y, by number, in the first of the lent
-   places; the others stay as they are. The places overlap none of the other arrays. A cell without a position is near. The value is how many they are. 1, 21 or 14, the first of them whose cause holds,
-   and then all places stay. */
+   places; the others stay as they are. The places overlap none of the other arrays. A cell without a position is near. The value is how many they are. 1 or 17, 21 or 14, the first of them whose cause
+   holds, and then all places stay. */
 struct chanbook_value chanbook_conflicts(const uint64_t settings[2], const uint64_t cells[512], const uint64_t carriers[512], const uint64_t widths[512],
                                          const uint64_t figures[5], const struct chanbook_position positions[512], uint64_t carrier, uint64_t width,
                                          int64_t x, int64_t y, uint64_t distance, uint64_t numbers[512]);
 
-/* The lowest carrier number from first to last, both of the range, that conflicts with no cell. 1, 21, 14 or 22, the first of them whose cause holds. */
+/* The lowest carrier number from first to last, both of the range, that conflicts with no cell. 1 or 17, 21, 14 or 22, the first of them whose cause
+   holds. */
 struct chanbook_value chanbook_first_free(const uint64_t settings[2], const uint64_t cells[512], const uint64_t carriers[512], const uint64_t widths[512],
                                           const uint64_t figures[5], const struct chanbook_position positions[512], uint64_t first, uint64_t last,
                                           uint64_t width, int64_t x, int64_t y, uint64_t distance);
+
+/* E8, dates of the Gregorian calendar in UTC (struct chanbook_date of chanbook_shard.h). refusal: 0 and a date, or 17 and zeros as the date. */
+struct chanbook_date_answer {
+    uint64_t refusal;
+    struct chanbook_date date;
+};
+
+/* The minutes from 1970-01-01 00:00 to a date, whatever numbers stand in it, and the date of a minute, however large. 17 where there is none. There and
+   back, either way, is where one began. */
+struct chanbook_value chanbook_minute_of(struct chanbook_date date);
+struct chanbook_date_answer chanbook_date_of(uint64_t minute);
+
+/* E8, change windows. What is kept of the windows of group settings, in three arrays that a host lends: the minutes in which each starts and ends, in the
+   first places, and two figures. The arrays do not overlap, and each is as chanbook_windows_new left it. They may stand in one block. */
+enum {
+    CHANBOOK_WINDOWS = 128,       /* at most so many */
+    CHANBOOK_WINDOWS_NUMBER = 0,  /* the places of figures: 0, or the number that every question gives before anything else. Other than 0 and 17 it is read as 1 */
+    CHANBOOK_WINDOWS_COUNT = 1,   /* how many windows there are */
+    CHANBOOK_WINDOWS_FIGURES = 2  /* how many figures there are */
+};
+
+struct chanbook_kept_windows {
+    uint64_t starts[128];
+    uint64_t ends[128];
+    uint64_t figures[2];
+};
+
+/* Keeps the windows, and hands back the number of the settings, the same that a shard and a register of them give: 0; 1, of whatever is outside the limits;
+   or 17, of a window. It fills the arrays in each case. */
+uint64_t chanbook_windows_new(struct chanbook_group_settings group, uint64_t starts[128], uint64_t ends[128], uint64_t figures[2]);
+
+/* answer: 65, 66 or 67, or the number that refuses. minute: with 66 the first minute of the nearest later window, else 0. */
+struct chanbook_window_answer {
+    uint64_t answer;
+    uint64_t minute;
+};
+
+/* A minute asked of the windows: the number of their settings; then 17 for a minute past the year 9999, however large; then 65, 66 or 67. It looks at the
+   minutes alone, at no date and at no place behind the windows, and copies nothing. */
+struct chanbook_window_answer chanbook_windows_ask(const uint64_t starts[128], const uint64_t ends[128], const uint64_t figures[2], uint64_t minute);
 
 #ifdef __cplusplus
 }

@@ -1,39 +1,52 @@
--- A register gives the number of the settings that it was begun from, the same that a shard gives (document 02, E13).
+-- A register gives the number of the settings that it was begun from, the same that a shard gives: 1, or 17 of a window (document 02, E13 and E8).
 -- Assumes nothing.
-use Rattle.std.specs.Prelude.{Ok, Err}
 use mathlib.Core.Path.{◌≡◌, refl, ap, ◌∙◌}
-use mathlib.Core.Bool.{Bool, true, false, cond, ◌&&◌}
+use mathlib.Core.Bool.{true, cond}
 use mathlib.Core.List.{List, reverse_aux}
+use mathlib.Core.Logic.{◌⊎◌, inl, inr}
 use Prim.Native.Nat.{ℕ}
-use lib.Dec.{leb, eqb}
-use Rattle.message.specs.declared.Refusal.TheVariants.{SettingsOutsideLimits}
-use Rattle.settings.specs.Settings.{within_limits}
-use Rattle.flat.specs.Encode.{encoded_made, encoded_outcome}
+use lib.Dec.{eqb}
 use Rattle.register.specs.History.{register_after}
 use Rattle.register.specs.declared.CellEntry.{CellEntry}
 use Rattle.stored_register.specs.Stored.{stored_of, OldEntries}
-use Rattle.group_register.specs.Settings.{settings_refusal}
+use Rattle.stored_register.specs.declared.StoredRegister.{StoredRegister}
+use Rattle.group_register.specs.Settings.{unmade_number, settings_refusal}
 use Rattle.group_register.specs.GroupRegister.{group_outcome_number, apply_in_group}
 use Rattle.group_register.specs.GroupTaken.{group_number_for}
 use Rattle.group_register.specs.GroupHistory.{group_after, apply_all_in_group, AllBefore}
 use Rattle.group_register.specs.declared.GroupRegister.{GroupRegister}
+use Rattle.group_register.specs.declared.UnmadeBy.TheVariants.{OutsideLimits, NotInCalendar}
 use Rattle.group_register.proofs.GroupLaws.{number_given_lem}
-use Rattle.group_settings.specs.GroupSettings.{settings_outcome, decoded_group_settings, flat_settings_number}
+use Rattle.group_settings.specs.GroupSettings.{decoded_group_settings, flat_settings_number, NumberBySettings, FlatNumberBySettings}
 use Rattle.group_settings.specs.declared.FlatGroupSettings.{FlatGroupSettings}
 use Rattle.group_arrays.proofs.StoredLaws.{stored_then_applied}
+use Rattle.group_settings.proofs.Numbers.{flat_number_by_settings}
 use Rattle.planning_host.specs.Begun.{register_settings, widened_with}
 
-pub same_number : (f : FlatGroupSettings) → settings_refusal (register_settings f) ≡ flat_settings_number f
-unfolding settings_refusal flat_settings_number settings_outcome encoded_made encoded_outcome
-same_number f = go (leb f.settings.mode 5) (within_limits (decoded_group_settings f).settings && leb f.whole_mhz_from 9223372036854775806)
-  where
-    number : Bool → Bool → ℕ
-    number t u = cond t (encoded_outcome (cond u (Ok tt) (Err SettingsOutsideLimits))) 1
+-- the settings have no other number than 0, 1 and 17
+abbrev pub IsNumber : ℕ → Type 0
+IsNumber n = (n ≡ 0) ⊎ ((n ≡ 1) ⊎ (n ≡ 17))
 
-    go : (t u : Bool) → cond (eqb (number t u) 0) 0 1 ≡ number t u
-    go true true = refl
-    go true false = refl
-    go false u = refl
+pub is_number : (f : FlatGroupSettings) → IsNumber (flat_settings_number f)
+is_number f = of_all (flat_settings_number f) (flat_number_by_settings f)
+  where
+    of_one : (n : ℕ) → NumberBySettings (decoded_group_settings f) n → IsNumber n
+    of_one n (inl made) = inl made.0
+    of_one n (inr (inl outside)) = inr (inl outside.0)
+    of_one n (inr (inr unfit)) = inr (inr unfit.0)
+
+    of_all : (n : ℕ) → FlatNumberBySettings f n → IsNumber n
+    of_all n (inl known) = of_one n known.1
+    of_all n (inr unknown) = inr (inl unknown.1)
+
+pub same_number : (f : FlatGroupSettings) → settings_refusal (register_settings f) ≡ flat_settings_number f
+unfolding settings_refusal
+same_number f = go (flat_settings_number f) (is_number f)
+  where
+    go : (n : ℕ) → IsNumber n → cond (eqb n 0) 0 (unmade_number (cond (eqb n 17) NotInCalendar OutsideLimits)) ≡ n
+    go n (inl e) = rw e refl
+    go n (inr (inl e)) = rw e refl
+    go n (inr (inr e)) = rw e refl
 
 -- and an entry gives what the settings that the host gave and the entries before it say: the settings' number, or that of the entries at the slot that they name
 pub number_by_group : (f : FlatGroupSettings) (before : List CellEntry) (e : CellEntry)
@@ -43,7 +56,11 @@ number_by_group f before e =
     number_given_lem (register_settings f) before e
     ∙ ap (λ (n : ℕ). cond (eqb n 0) (group_number_for f.whole_mhz_from before e) n) (same_number f)
 
--- A stored register takes the slot from the settings that it is read with (E7): where its entries all stood before that slot, an entry behind it has the number
+-- A stored register has the number and the slot of the settings that it is read with (E7), whatever was stored, ..
+pub widened_settings : (f : FlatGroupSettings) (stored : StoredRegister) → (widened_with f stored).settings ≡ register_settings f
+widened_settings f stored = refl
+
+-- .. and where its entries all stood before that slot, an entry behind it has the number
 -- that this slot, its old entries and the new ones say.
 pub stored_number_by_group : (f : FlatGroupSettings) → flat_settings_number f ≡ 0 → (old : List CellEntry) → OldEntries old → AllBefore f.whole_mhz_from old
     → (new : List CellEntry) (e : CellEntry)

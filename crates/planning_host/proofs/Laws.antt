@@ -7,12 +7,17 @@ use Rattle.std.specs.Option.{ok_or}
 use Rattle.raster.specs.Raster.{not_on_raster}
 use Rattle.raster.specs.Table.{OnRaster}
 use Rattle.raster.proofs.ByTable.{on_raster_khz, off_raster_khz, raster_number_refused, on_raster_carrier, off_raster_carrier, raster_frequency_refused}
-use Rattle.planning_host.specs.Conversions.{flat_value, flat_raster, flat_khz, flat_number}
+use Rattle.calendar.specs.Calendar.{not_in_calendar}
+use Rattle.planning_host.specs.Conversions.{flat_value, flat_raster, flat_khz, flat_number, flat_minute_answer}
 
 -- an answer, computed as a result
 pub raster_as_result : (answer : Option ℕ) → flat_value not_on_raster (ok_or answer (record {})) ≡ flat_raster answer
 raster_as_result (Some value) = refl
 raster_as_result None = refl
+
+pub minute_as_result : (answer : Option ℕ) → flat_value not_in_calendar (ok_or answer (record {})) ≡ flat_minute_answer answer
+minute_as_result (Some minute) = refl
+minute_as_result None = refl
 
 pub flat_khz_lem : (n f : ℕ) → OnRaster n f → flat_khz n ≡ record { refusal = 0; value = f }
 flat_khz_lem n f row = simp ((on_raster_khz n f row).0, (on_raster_khz n f row).1)

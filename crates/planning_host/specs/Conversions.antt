@@ -1,9 +1,12 @@
--- The conversions of E5 as a host gets them: the number of document 02 that refuses, or 0, and the value.
+-- The conversions of E5 and E8 as a host gets them: the number of document 02 that refuses, or 0, and the value.
 -- Assumes nothing.
-use Rattle.std.specs.Prelude.{ℕ, Option, Result}
+use Rattle.std.specs.Prelude.{ℕ, Option, Some, None, Result}
 use Rattle.std.specs.Result.{result_unwrap_or}
 use Rattle.refusals.specs.Refusals.{refusal}
 use Rattle.raster.specs.Raster.{frequency_of, number_of, raster_refusal, raster_value}
+use Rattle.calendar.specs.Calendar.{to_minute, to_date}
+use Rattle.calendar.specs.declared.Date.{Date}
+use Rattle.planning_host.specs.declared.FlatDateAnswer.{FlatDateAnswer}
 use Rattle.planning_host.specs.declared.FlatValue.{FlatValue}
 
 -- of a result, by the numbers of its refusals
@@ -18,3 +21,20 @@ flat_khz n = flat_raster (frequency_of n)
 
 abbrev pub flat_number : ℕ → FlatValue
 flat_number f = flat_raster (number_of f)
+
+abbrev pub flat_minute_answer : Option ℕ → FlatValue
+flat_minute_answer (Some minute) = record { refusal = 0; value = minute }
+flat_minute_answer None = record { refusal = 17; value = 0 }
+
+abbrev pub flat_minute : Date → FlatValue
+flat_minute d = flat_minute_answer (to_minute d)
+
+abbrev pub no_date : Date
+no_date = record { year = 0; month = 0; day = 0; hour = 0; minute = 0 }
+
+abbrev pub flat_date_answer : Option Date → FlatDateAnswer
+flat_date_answer (Some d) = record { refusal = 0; date = d }
+flat_date_answer None = record { refusal = 17; date = no_date }
+
+abbrev pub flat_date : ℕ → FlatDateAnswer
+flat_date minute = flat_date_answer (to_date minute)

@@ -2,3 +2,4 @@ pub mod Begun
 pub mod Conversions
 pub mod Lists
 pub mod Reach
+pub mod Asked

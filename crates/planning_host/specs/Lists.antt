@@ -9,6 +9,9 @@ use Rattle.catch_up.specs.Causes.{CommitList, join_number}
 use Rattle.feeding.specs.Feeding.{FedList, refused_slot, refused_number, feed_refusal_number, feeding}
 use Rattle.feeding.specs.declared.FeedRefusal.{FeedRefusal}
 use Rattle.feeding.specs.declared.FirstRefused.{FirstRefused}
+use Rattle.positions.specs.declared.PlacedRegister.{PlacedRegister}
+use Rattle.placed_feeding.specs.PlacedFeeding as placed
+use Rattle.placed_feeding.specs.declared.FirstRefused.{FirstRefused as FirstPlacedRefused}
 use Rattle.planning_host.specs.Conversions.{flat_value}
 use Rattle.planning_host.specs.declared.FlatFed.{FlatFed}
 use Rattle.planning_host.specs.declared.FlatValue.{FlatValue}
@@ -30,3 +33,12 @@ flat_fed (Err why) = record { refusal = feed_refusal_number why; slot = 0; numbe
 pub record FeedsFlat (g : GroupRegister) (l : FedList) (after : GroupRegister) (answer : FlatFed) : Type 0 where
   pub group : after ≡ (feeding g l).group
   pub numbers : answer ≡ flat_fed (feeding g l).answer
+
+-- the same of a register with positions
+abbrev pub flat_placed_fed : Result (Option FirstPlacedRefused) FeedRefusal → FlatFed
+flat_placed_fed (Ok first) = record { refusal = 0; slot = placed.refused_slot first; number = placed.refused_number first }
+flat_placed_fed (Err why) = record { refusal = feed_refusal_number why; slot = 0; number = 0 }
+
+pub record FeedsPlacedFlat (p : PlacedRegister) (l : placed.PlacedColumns) (after : PlacedRegister) (answer : FlatFed) : Type 0 where
+  pub placed_after : after ≡ (placed.feeding p l).placed
+  pub numbers : answer ≡ flat_placed_fed (placed.feeding p l).answer

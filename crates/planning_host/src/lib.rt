@@ -9,14 +9,19 @@ ghost use Rattle.stored_arrays.specs.Columns.{stored_in};
 ghost use Rattle.catch_up.specs.Joining.{list_of};
 ghost use Rattle.feeding.specs.Feeding.{fed_list_of};
 ghost use Rattle.planning_host.specs.Begun.{register_settings, widened_with};
-ghost use Rattle.planning_host.specs.Conversions.{flat_value, flat_raster, flat_khz, flat_number};
+ghost use Rattle.planning_host.specs.Conversions.{flat_value, flat_raster, flat_khz, flat_number, flat_minute, flat_date};
+ghost use Rattle.group_settings.specs.GroupSettings.{flat_settings_number};
+ghost use Rattle.windows.specs.Windows.{kept_in, ask_kept};
+ghost use Rattle.planning_host.specs.Asked.{kept_settings, flat_window_answer};
 ghost use Rattle.group_register.specs.Settings.{is_made};
-ghost use Rattle.position_arrays.specs.Row.{positions_in, placed_entry_of};
+ghost use Rattle.position_arrays.specs.Row.{positions_in, Plain, placed_entry_of};
 ghost use Rattle.reach.specs.Cells.{cells_of};
 ghost use Rattle.reach.specs.Reach.{conflicts_of, first_free};
 ghost use Rattle.planning_host.specs.Reach.{placed_in_arrays, after_placed_entry, question_of, flat_answer, flat_list};
-ghost use Rattle.planning_host.specs.Lists.{JoinsFlat, flat_fed, FeedsFlat};
+ghost use Rattle.planning_host.specs.Lists.{JoinsFlat, flat_fed, FeedsFlat, flat_placed_fed, FeedsPlacedFlat};
+ghost use Rattle.placed_feeding.specs.PlacedFeeding.{placed_columns};
 
+use calendar::{Date, NotInCalendar};
 use catch_up::{LentList, LentPlaces};
 use feeding::{EntryList, FeedRefusal, FirstRefused};
 use group_arrays::{
@@ -24,6 +29,7 @@ use group_arrays::{
 };
 use group_register::RegisterSettings;
 use group_settings::FlatGroupSettings;
+use placed_feeding::PlacedList;
 use position_arrays::{CellPosition, LentCells, PositionRow};
 use positions::Position;
 use raster::NotOnRaster;
@@ -32,6 +38,7 @@ use refusals::{Refused, refusal};
 use register::{CellNumber, entry_number};
 use register_arrays::Columns;
 use stored_arrays::StoredColumns;
+use windows::{WindowAnswer, WindowRefusal};
 
 // The number of document 02 that refuses, with 0 as the value; or 0 and the value: a Result or an Option as the C interface has it.
 #[repr(C)]
@@ -49,6 +56,23 @@ pub struct FlatFed {
     pub refusal: u64,
     pub slot: u64,
     pub number: u64,
+}
+
+// A date, or the number of document 02 that refuses, with zeros as the date: an Option as the C interface has it.
+#[repr(C)]
+#[derive(Clone, Copy)]
+pub struct FlatDateAnswer {
+    pub refusal: u64,
+    pub date: Date,
+}
+
+// What is said of a minute: 65, it is inside a window; 66, the minute is the first of the nearest later window; 67, none follows; or the number of
+// document 02 that refuses. The minute is 0 but with 66. Numbers and no enum: the C interface.
+#[repr(C)]
+#[derive(Clone, Copy)]
+pub struct FlatWindowAnswer {
+    pub answer: u64,
+    pub minute: u64,
 }
 
 fn flat_value<E: Copy + Refused>(given: Result<u64, E>) -> FlatValue
@@ -142,7 +166,8 @@ pub extern "C" fn chanbook_register_entry(
     apply_group_entry(settings, &mut columns, slot, kind, cell, carrier, width)
 }
 
-// E6 and E13: the report at the start of out, or the line `refused,1` of a register that is not made, zeros after it; hands back its length.
+// E6 and E13: the report at the start of out, or the line `refused,1` or `refused,17` of a register that is not made, zeros after it; hands back its
+// length.
 #[unsafe(no_mangle)]
 pub extern "C" fn chanbook_register_report(
     settings: &[u64; 2],
@@ -267,7 +292,8 @@ pub extern "C" fn chanbook_feed(
 // E11: no cell has a position, in an array that the host lends beside those of a register.
 #[unsafe(no_mangle)]
 pub extern "C" fn chanbook_positions_new(positions: &mut [CellPosition; 512])
-    ensures { positions_in positions.new ≡ replicate 512 None }
+    ensures none { positions_in positions.new ≡ replicate 512 None }
+    ensures plain { Plain positions.new }
 {
     let mut row = PositionRow { cells: positions };
     row.clear();
@@ -291,7 +317,8 @@ pub extern "C" fn chanbook_placed_entry(
     x: i64,
     y: i64,
 ) -> u64
-    ensures { (placed_in_arrays settings.now cells.new carriers.new widths.new figures.new positions.new, result) ≡ after_placed_entry (placed_in_arrays settings.now cells.old carriers.old widths.old figures.old positions.old) (placed_entry_of slot kind cell carrier width (record { x = x; y = y })) }
+    ensures plain { Plain positions.old → Plain positions.new }
+    ensures applied { (placed_in_arrays settings.now cells.new carriers.new widths.new figures.new positions.new, result) ≡ after_placed_entry (placed_in_arrays settings.now cells.old carriers.old widths.old figures.old positions.old) (placed_entry_of slot kind cell carrier width (record { x = x; y = y })) }
 {
     let mut columns = Columns {
         cells,
@@ -302,6 +329,68 @@ pub extern "C" fn chanbook_placed_entry(
     let mut row = PositionRow { cells: positions };
     let entry = position_arrays::entry_from_numbers(slot, kind, cell, carrier, width, x, y);
     entry_number(position_arrays::apply(settings, &mut columns, &mut row, entry))
+}
+
+fn flat_placed_fed(fed: Result<Option<placed_feeding::FirstRefused>, FeedRefusal>) -> FlatFed
+    ensures { result ≡ flat_placed_fed fed }
+{
+    let refusal = refusal(fed);
+    match fed {
+        Ok(Some(first)) => FlatFed {
+            refusal,
+            slot: first.slot,
+            number: first.why.number(),
+        },
+        _ => FlatFed {
+            refusal,
+            slot: 0,
+            number: 0,
+        },
+    }
+}
+
+// E10 and E11: feeds a list, with the host's entry beside each value, to a register with positions: what chanbook_placed_entry is given of an entry.
+#[unsafe(no_mangle)]
+pub extern "C" fn chanbook_placed_feed(
+    settings: &[u64; 2],
+    cells: &mut [u64; 512],
+    carriers: &mut [u64; 512],
+    widths: &mut [u64; 512],
+    figures: &mut [u64; 5],
+    positions: &mut [CellPosition; 512],
+    slots: &[u64],
+    values: &[u64],
+    kinds: &[u64],
+    entry_cells: &[CellNumber],
+    entry_carriers: &[u64],
+    entry_widths: &[u64],
+    entry_xs: &[i64],
+    entry_ys: &[i64],
+) -> FlatFed
+    ensures plain { Plain positions.old → Plain positions.new }
+    ensures fed { FeedsPlacedFlat (placed_in_arrays settings.now cells.old carriers.old widths.old figures.old positions.old)
+        (placed_columns (fed_list_of slots.now values.now kinds.now entry_cells.now entry_carriers.now entry_widths.now) entry_xs.now entry_ys.now)
+        (placed_in_arrays settings.now cells.new carriers.new widths.new figures.new positions.new) result }
+{
+    let mut columns = Columns {
+        cells,
+        carriers,
+        widths,
+        figures,
+    };
+    let mut row = PositionRow { cells: positions };
+    let list = PlacedList {
+        entries: EntryList {
+            commits: LentList { slots, values },
+            kinds,
+            cells: entry_cells,
+            carriers: entry_carriers,
+            widths: entry_widths,
+        },
+        xs: entry_xs,
+        ys: entry_ys,
+    };
+    flat_placed_fed(placed_feeding::feed(settings_in(settings), &mut columns, &mut row, list))
 }
 
 // E11: the numbers of the cells that a carrier conflicts with, in the first of the lent places. The value is how many they are.
@@ -320,7 +409,7 @@ pub extern "C" fn chanbook_conflicts(
     distance: u64,
     numbers: &mut [u64; 512],
 ) -> FlatValue
-    ensures { (result, numbers.new) ≡ flat_list (conflicts_of (is_made (settings_in settings.now)) (cells_of (placed_in_arrays settings.now cells.now carriers.now widths.now figures.now positions.now)) carrier (question_of width x y distance) numbers.old) }
+    ensures { (result, numbers.new) ≡ flat_list (conflicts_of (settings_in settings.now) (cells_of (placed_in_arrays settings.now cells.now carriers.now widths.now figures.now positions.now)) carrier (question_of width x y distance) numbers.old) }
 {
     let lent = LentCells {
         settings,
@@ -350,7 +439,7 @@ pub extern "C" fn chanbook_first_free(
     y: i64,
     distance: u64,
 ) -> FlatValue
-    ensures { result ≡ flat_answer (first_free (is_made (settings_in settings.now)) (cells_of (placed_in_arrays settings.now cells.now carriers.now widths.now figures.now positions.now)) first last (question_of width x y distance)) }
+    ensures { result ≡ flat_answer (first_free (settings_in settings.now) (cells_of (placed_in_arrays settings.now cells.now carriers.now widths.now figures.now positions.now)) first last (question_of width x y distance)) }
 {
     let lent = LentCells {
         settings,
@@ -372,4 +461,75 @@ fn question_of(width: u64, x: i64, y: i64, distance: u64) -> Question
         position: Position { x, y },
         distance,
     }
+}
+
+// E8: the minute of a date, since 1970-01-01 00:00 UTC.
+#[unsafe(no_mangle)]
+#[tactic(auto, using(crate::proofs::Laws::minute_as_result))]
+pub extern "C" fn chanbook_minute_of(date: Date) -> FlatValue
+    ensures { result ≡ flat_minute date }
+{
+    flat_value(date.to_minute().ok_or(NotInCalendar))
+}
+
+// E8: the date of a minute.
+#[unsafe(no_mangle)]
+pub extern "C" fn chanbook_date_of(minute: u64) -> FlatDateAnswer
+    ensures { result ≡ flat_date minute }
+{
+    match calendar::to_date(minute) {
+        Some(date) => FlatDateAnswer { refusal: 0, date },
+        None => FlatDateAnswer {
+            refusal: NotInCalendar.number(),
+            date: Date::default(),
+        },
+    }
+}
+
+// E8: what is kept of the windows of group settings, in arrays that the host lends: the number of the settings, how many windows there are, and the minutes in
+// which each starts and ends. Hands back that number.
+#[unsafe(no_mangle)]
+pub extern "C" fn chanbook_windows_new(
+    group: FlatGroupSettings,
+    starts: &mut [u64; 128],
+    ends: &mut [u64; 128],
+    figures: &mut [u64; 2],
+) -> u64
+    ensures kept { kept_in starts.new ends.new figures.new ≡ kept_settings group }
+    ensures number { result ≡ flat_settings_number group }
+{
+    let number = group_settings::flat_number(group);
+    if number == 0 {
+        windows::keep(&group.windows, starts, ends, figures);
+    } else {
+        *starts = [0; 128];
+        *ends = [0; 128];
+        *figures = [number, 0];
+    }
+    number
+}
+
+fn flat_window_answer(answer: Result<WindowAnswer, WindowRefusal>) -> FlatWindowAnswer
+    ensures { result ≡ flat_window_answer answer }
+{
+    let (answer, minute) = match answer {
+        Ok(WindowAnswer::Inside) => (65, 0),
+        Ok(WindowAnswer::Next(minute)) => (66, minute),
+        Ok(WindowAnswer::NoneFollows) => (67, 0),
+        Err(why) => (why.number(), 0),
+    };
+    FlatWindowAnswer { answer, minute }
+}
+
+// E8: a minute asked of what is kept in the arrays, whatever they hold.
+#[unsafe(no_mangle)]
+pub extern "C" fn chanbook_windows_ask(
+    starts: &[u64; 128],
+    ends: &[u64; 128],
+    figures: &[u64; 2],
+    minute: u64,
+) -> FlatWindowAnswer
+    ensures { result ≡ flat_window_answer (ask_kept (kept_in starts.now ends.now figures.now) minute) }
+{
+    flat_window_answer(windows::ask_arrays(starts, ends, figures, minute))
 }

@@ -146,6 +146,86 @@ static void refusals(void)
     refused(&o, feed_all(&o), &before, 0);
 }
 
+/* ---- a register with positions */
+
+struct placed {
+    struct office office;
+    struct chanbook_position positions[512];
+};
+
+static int64_t xs[MOST], ys[MOST];
+
+static struct chanbook_fed placed_feed(struct placed *p, size_t value_count, size_t x_count, size_t y_count)
+{
+    struct office *o = &p->office;
+    return chanbook_placed_feed(o->settings, o->cells, o->carriers, o->widths, o->figures, p->positions, slots, count, values, value_count, kinds, count,
+                                cells, count, carriers, count, widths, count, xs, x_count, ys, y_count);
+}
+
+/* every third entry is a position, some of them outside the limits */
+static void fill_placed(uint64_t first, size_t n, uint64_t pool)
+{
+    fill(first, n, pool);
+    for (size_t i = 0; i < n; i++) {
+        uint64_t mixed = (slots[i] * 11400714819323198485u) >> 20;
+        if (mixed % 3 == 0) kinds[i] = CHANBOOK_POSITION;
+        xs[i] = (int64_t)(mixed % 4000003) - 2000001;
+        ys[i] = mixed % 17 == 0 ? -2000001 : -(int64_t)(mixed % 2000001);
+    }
+}
+
+static void placed_agrees(struct placed *p)
+{
+    struct placed other = *p;
+    struct chanbook_fed first = {0, 0, 0}, answer = placed_feed(p, count, count, count);
+    for (size_t i = 0; i < count; i++) {
+        struct office *o = &other.office;
+        uint64_t number = chanbook_placed_entry(o->settings, o->cells, o->carriers, o->widths, o->figures, other.positions, slots[i], kinds[i], cells[i],
+                                                carriers[i], widths[i], xs[i], ys[i]);
+        if (number != 0 && number != CHANBOOK_OLDER && first.number == 0) {
+            first.slot = slots[i];
+            first.number = number;
+        }
+    }
+    require(answer.refusal == 0, "refused with positions", answer.refusal);
+    require(answer.slot == first.slot && answer.number == first.number, "another first refused slot with positions", answer.slot);
+    require(memcmp(p, &other, sizeof other) == 0, "another register with positions", slots[0]);
+}
+
+static void placed_refused(struct placed *p, struct chanbook_fed answer, const struct placed *before, uint64_t number)
+{
+    require(answer.refusal == number && answer.slot == 0 && answer.number == 0, "another refusal with positions than", number);
+    require(memcmp(p, before, sizeof *before) == 0, "the register with positions is changed", number);
+}
+
+static void placed_lists(void)
+{
+    static struct placed p, before;
+    for (int turn = 0; turn < 200; turn++) {
+        begin(&p.office);
+        chanbook_positions_new(p.positions);
+        for (int lists = 0; lists < 6; lists++) {
+            uint64_t next = p.office.figures[0], back = below(20);
+            fill_placed(next > back ? next - back : 0, below(turn % 10 == 0 ? 700 : 40), turn % 2 ? 1000 : 12);
+            placed_agrees(&p);
+        }
+    }
+    before = p;
+    fill_placed(p.office.figures[0], 4, 12);
+    placed_refused(&p, placed_feed(&p, 3, 4, 4), &before, 18);
+    placed_refused(&p, placed_feed(&p, 4, 3, 4), &before, 18);
+    placed_refused(&p, placed_feed(&p, 4, 4, 3), &before, 18);
+    fill_placed(p.office.figures[0] + 1, 4, 12);
+    placed_refused(&p, placed_feed(&p, 4, 4, 4), &before, 19);
+    placed_refused(&p, placed_feed(&p, 4, 4, 5), &before, 18);
+    values[3] = 9223372036854775808u;
+    placed_refused(&p, placed_feed(&p, 4, 4, 5), &before, 2);
+    fill_placed(0, MOST, 400);
+    placed_refused(&p, placed_feed(&p, MOST, MOST, MOST), &before, 18);
+    p.office.settings[0] = before.office.settings[0] = 17;
+    placed_refused(&p, placed_feed(&p, MOST, MOST, MOST), &before, 1);
+}
+
 /* An office that was away joins two neighbours' lists and feeds the join: it holds the register of the office that heard every slot. */
 static void catches_up(void)
 {
@@ -174,6 +254,7 @@ int main(void)
 {
     random_lists();
     refusals();
+    placed_lists();
     catches_up();
     puts("feed_test: passed");
     return 0;

@@ -94,32 +94,37 @@ static void entries(void) {
     check("another kind", enter(9, 4, 3, 1, 1, 0, 0), 14);
 }
 
-/* Cell 3, 300 m east and 400 m south of 0, 0, has 3,440,000 up to 3,460,000 kHz, and cell 7, anywhere, 3,470,000 up to 3,490,000 kHz. */
+/* Questions of 1000, -2000. Cell 3, 300 m east and 400 m south of there, has 3,440,000 up to 3,460,000 kHz, and cell 7, anywhere, 3,470,000 up to 3,490,000 kHz. */
 static void questions(void) {
     begin();
     chanbook_positions_new(positions);
     check("cell 7", assign(0, 7, 632000, 20000), 0);
     check("cell 3", assign(1, 3, 630000, 20000), 0);
-    check("its position", place(2, 3, 300, -400), 0);
+    check("its position", place(2, 3, 1300, -2400), 0);
     const uint64_t both[] = {3, 7}, one[] = {7};
-    lists("exactly at the distance", conflicts(631000, 20000, 0, 0, 500), 2, both);
-    lists("one metre more", conflicts(631000, 20000, 0, 0, 499), 1, one);
-    lists("touching", conflicts(631000, 10000, 0, 0, 500), 0, both);
-    lists("half a kHz more", conflicts(631000, 10001, 0, 0, 500), 2, both);
+    lists("exactly at the distance", conflicts(631000, 20000, 1000, -2000, 500), 2, both);
+    lists("one metre more", conflicts(631000, 20000, 1000, -2000, 499), 1, one);
+    lists("touching", conflicts(631000, 10000, 1000, -2000, 500), 0, both);
+    lists("half a kHz more", conflicts(631000, 10001, 1000, -2000, 500), 2, both);
     refused("21 before 14", conflicts(3279166, 0, -2000001, 0, 0), 21);
     refused("a distance too long", conflicts(631000, 10000, 0, 0, 6000001), 21);
     refused("14", conflicts(3279166, 10000, -2000000, 2000000, 6000000), 14);
     refused("no width", conflicts(631000, 0, 0, 0, 0), 14);
-    check("free", first_free(630998, 631001, 10000, 0, 0, 500).value, 631000);
-    check("22", first_free(630998, 630999, 10000, 0, 0, 500).refusal, 22);
-    check("22 of an empty range", first_free(631001, 631000, 10000, 0, 0, 500).refusal, 22);
-    check("14 before 22", first_free(631001, 3279166, 10000, 0, 0, 500).refusal, 14);
+    lists("x and y exchanged", conflicts(631000, 20000, -2000, 1000, 500), 1, one);
+    check("free", first_free(630998, 631001, 10000, 1000, -2000, 500).value, 631000);
+    check("free where x and y are exchanged", first_free(629999, 630001, 10000, -2000, 1000, 500).value, 629999);
+    check("22", first_free(630998, 630999, 10000, 1000, -2000, 500).refusal, 22);
+    check("22 of an empty range", first_free(631001, 631000, 10000, 1000, -2000, 500).refusal, 22);
+    check("14 before 22", first_free(631001, 3279166, 10000, 1000, -2000, 500).refusal, 14);
     check("21 before 14", first_free(3279166, 631000, 0, 2000001, 0, 500).refusal, 21);
     check("over the joint of two ranges", first_free(599999, 600000, 400000, 0, 0, 0).value, 599999);
-    office.settings[0] = 17;
-    refused("a register that is not made", conflicts(631000, 10000, 9000000, 0, 500), 1);
-    check("nor an entry", place(9, 3, 0, 0), 1);
-    check("nor a free carrier", first_free(0, 3279165, 1, 0, 0, 0).refusal, 1);
+    for (unsigned mark = 16; mark <= 18; mark++) {
+        uint64_t number = mark == 17 ? 17 : 1;
+        office.settings[0] = mark;
+        refused("a register that is not made", conflicts(631000, 10000, 9000000, 0, 500), number);
+        check("nor an entry", place(9, 3, 0, 0), number);
+        check("nor a free carrier", first_free(0, 3279165, 1, 0, 0, 0).refusal, number);
+    }
     office.settings[0] = 0;
 }
 

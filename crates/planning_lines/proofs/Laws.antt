@@ -22,8 +22,7 @@ use Rattle.register.specs.declared.CellEntry.{CellEntry}
 use Rattle.group_register.specs.declared.GroupApplied.{GroupApplied}
 use Rattle.register_lines.specs.Written.{entry_line, register_line, EntryFits}
 use Rattle.register_lines.specs.declared.RegisterQuestion.TheVariants.{Begin, Enter}
-use Rattle.register_lines.proofs.EntriesRead.{entry_read}
-use Rattle.register_lines.proofs.ReportLaws.{entry_no_register, register_begins}
+use Rattle.register_lines.proofs.EntriesRead.{entry_no_register, register_begins, entry_read}
 use Rattle.register_lines.proofs.Lengths.{register_answer_length}
 use Rattle.planning_lines.specs.declared.Question.{Question}
 use Rattle.planning_lines.specs.declared.Question.TheVariants.{FrequencyOf, CarrierOf, OfRegister, BadLine}

@@ -5,9 +5,10 @@ ghost use Rattle.std.specs.Prelude.{◌≡◌};
 ghost use Rattle.texts.specs.Text.{put};
 ghost use Rattle.planning_lines.specs.Questions.{begin_question, register_question, question_of};
 ghost use Rattle.raster.specs.Raster.{raster_refusal, raster_value};
+ghost use Rattle.register_lines.specs.Answers.{after_question, register_answer};
 ghost use Rattle.planning_lines.specs.Answers.{value_text, bad_line_text, after_line, answer_text};
 
-use group_register::{GroupApplied, GroupRegister};
+use group_register::GroupRegister;
 use raster::NotOnRaster;
 use refusals::Refused;
 use register_lines::{LAST_SLOT, RegisterQuestion};
@@ -85,39 +86,26 @@ pub fn put_bad_line(out: &mut Output<'_>)
     out.put_bytes(b"bad line\n");
 }
 
-// The register after a question, and what became of its entry.
-#[tactic(auto, unfolding(crate::specs::Answers::after_line))]
-fn after_line(group: GroupRegister, question: Question) -> GroupApplied
-    ensures { result ≡ after_line group question }
+// The answer to a question of a register, and the register that it leaves.
+fn answer_register(group: &mut GroupRegister, question: RegisterQuestion, out: &mut Output<'_>)
+    ensures group { group.new ≡ (after_question group.old question).group }
+    ensures put { out.new ≡ put (register_answer question (after_question group.old question)) out.old }
 {
-    match question {
-        Question::OfRegister(asked) => register_lines::after_question(group, asked),
-        Question::FrequencyOf(_) | Question::CarrierOf(_) | Question::BadLine => {
-            group_register::done(group)
-        }
-    }
+    let applied = register_lines::after_question(*group, question);
+    register_lines::put_answer(out, question, &applied);
+    *group = applied.group;
 }
 
-// The answer to a question, with its LF.
-#[tactic(auto, unfolding(crate::specs::Answers::answer_text))]
-fn put_answer(out: &mut Output<'_>, question: Question, applied: &GroupApplied)
-    ensures { out.new ≡ put (answer_text question applied.now) out.old }
+// The answer to a line; the register is the one that the line leaves. Only a question of a register copies it.
+#[tactic(auto, unfolding(crate::specs::Answers::after_line, crate::specs::Answers::answer_text))]
+pub fn answer_line(group: &mut GroupRegister, line: &[u8], out: &mut Output<'_>)
+    ensures group { group.new ≡ (after_line group.old (question_of line.now)).group }
+    ensures put { out.new ≡ put (answer_text (question_of line.now) (after_line group.old (question_of line.now))) out.old }
 {
-    match question {
+    match question_of(line) {
         Question::FrequencyOf(n) => put_value(out, b"khz", raster::frequency_of(n)),
         Question::CarrierOf(f) => put_value(out, b"number", raster::number_of(f)),
-        Question::OfRegister(asked) => register_lines::put_answer(out, asked, applied),
+        Question::OfRegister(asked) => answer_register(group, asked, out),
         Question::BadLine => put_bad_line(out),
     }
-}
-
-// The answer to a line, and the register that the line leaves.
-pub fn answer_line(group: GroupRegister, line: &[u8], out: &mut Output<'_>) -> GroupRegister
-    ensures group { result ≡ (after_line group (question_of line.now)).group }
-    ensures put { out.new ≡ put (answer_text (question_of line.now) (after_line group (question_of line.now))) out.old }
-{
-    let question = question_of(line);
-    let applied = after_line(group, question);
-    put_answer(out, question, &applied);
-    applied.group
 }

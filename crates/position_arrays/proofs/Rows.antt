@@ -5,7 +5,7 @@ use mathlib.Core.List.{List, [], ◌∷◌, ◌++◌}
 use Prim.Native.Nat.{ℕ, zero, suc, min, ◌<◌}
 use native.Mathlib.Omega.{arith}
 use lib.ListN.{length, get_or, set, take, drop, length-map}
-use Rattle.std.specs.Prelude.{Option, Some, None}
+use Rattle.std.specs.Prelude.{Option, Some, None, map}
 use Rattle.std.proofs.lemmas.List.{map-set, take-map, drop-map}
 use lib.IntN.{pos}
 use Rattle.places.specs.Places.{at_front, without, with_at}
@@ -17,7 +17,7 @@ use Rattle.positions.specs.declared.Position.{Position}
 use Rattle.reach.specs.Cells.{placed_cell, placed_cells}
 use Rattle.reach.specs.declared.PlacedCell.{PlacedCell}
 use Rattle.reach.proofs.Cells.{live_length, live_within, live_at}
-use Rattle.position_arrays.specs.Row.{position_at, positions_in}
+use Rattle.position_arrays.specs.Row.{position_at, positions_in, in_numbers, Plain}
 use Rattle.position_arrays.specs.declared.CellPosition.{CellPosition}
 
 pub position_read : (row : List CellPosition) (at : ℕ) (c : CellPosition) → at < length row → position_at (get_or row at c) ≡ get_or (positions_in row) at None
@@ -29,44 +29,74 @@ pub position_put : (row : List CellPosition) (at : ℕ) (c : CellPosition) (p : 
     → positions_in (set row at c) ≡ set (positions_in row) at (Some p)
 position_put row at c p e = map-set position_at row at c ∙ ap (λ (x : Option Position). set (positions_in row) at x) e
 
--- ---- the positions of a list that is put together
-of_both : (xs ys : List CellPosition) → positions_in (xs ++ ys) ≡ positions_in xs ++ positions_in ys
-of_both [] ys = refl
-of_both (x ∷ xs) ys = ap (λ (l : List (Option Position)). position_at x ∷ l) (of_both xs ys)
+-- ---- a list that is put together, each of its elements taken to another
+module _ {A B : Type 0} (f : A → B) where
+  map_both : (xs ys : List A) → map f (xs ++ ys) ≡ map f xs ++ map f ys
+  map_both [] ys = refl
+  map_both (x ∷ xs) ys = ap (λ (l : List B). f x ∷ l) (map_both xs ys)
 
-of_front : (l row : List CellPosition) → positions_in (at_front l row) ≡ at_front (positions_in l) (positions_in row)
-unfolding at_front
-of_front l row =
-    of_both l (drop (length l) row)
-    ∙ ap (λ (ps : List (Option Position)). positions_in l ++ ps)
-    (sym (drop-map position_at (length l) row) ∙ ap (λ (k : ℕ). drop k (positions_in row)) (sym (length-map l position_at)))
+  map_front : (l row : List A) → map f (at_front l row) ≡ at_front (map f l) (map f row)
+  unfolding at_front
+  map_front l row =
+      map_both l (drop (length l) row)
+      ∙ ap (λ (ps : List B). map f l ++ ps) (sym (drop-map f (length l) row) ∙ ap (λ (k : ℕ). drop k (map f row)) (sym (length-map l f)))
 
-of_with : (l : List CellPosition) (at : ℕ) (c : CellPosition) → positions_in (with_at at c l) ≡ with_at at (position_at c) (positions_in l)
-unfolding with_at
-of_with l at c =
-    of_both (take at l) (c ∷ drop at l)
-    ∙ ap₂ (λ (a b : List (Option Position)). a ++ position_at c ∷ b) (sym (take-map position_at at l)) (sym (drop-map position_at at l))
+  map_with : (l : List A) (at : ℕ) (c : A) → map f (with_at at c l) ≡ with_at at (f c) (map f l)
+  unfolding with_at
+  map_with l at c =
+      map_both (take at l) (c ∷ drop at l) ∙ ap₂ (λ (a b : List B). a ++ f c ∷ b) (sym (take-map f at l)) (sym (drop-map f at l))
 
-of_without : (l : List CellPosition) (at : ℕ) → positions_in (without at l) ≡ without at (positions_in l)
-unfolding without
-of_without l at =
-    of_both (take at l) (drop (suc at) l)
-    ∙ ap₂ (λ (a b : List (Option Position)). a ++ b) (sym (take-map position_at at l)) (sym (drop-map position_at (suc at) l))
+  map_without : (l : List A) (at : ℕ) → map f (without at l) ≡ without at (map f l)
+  unfolding without
+  map_without l at =
+      map_both (take at l) (drop (suc at) l) ∙ ap₂ (λ (a b : List B). a ++ b) (sym (take-map f at l)) (sym (drop-map f (suc at) l))
+
+  module _ (row : List A) (at places : ℕ) where
+    map_inserted : (c : A) → map f (at_front (with_at at c (take places row)) row) ≡ at_front (with_at at (f c) (take places (map f row))) (map f row)
+    map_inserted c =
+        map_front (with_at at c (take places row)) row
+        ∙ ap (λ (ps : List B). at_front ps (map f row))
+        (map_with (take places row) at c ∙ ap (λ (ps : List B). with_at at (f c) ps) (sym (take-map f places row)))
+
+    map_removed : map f (at_front (without at (take places row)) row) ≡ at_front (without at (take places (map f row))) (map f row)
+    map_removed =
+        map_front (without at (take places row)) row
+        ∙ ap (λ (ps : List B). at_front ps (map f row))
+        (map_without (take places row) at ∙ ap (λ (ps : List B). without at ps) (sym (take-map f places row)))
 
 module _ (row : List CellPosition) (at places : ℕ) where
   pub positions_inserted : (c : CellPosition) → position_at c ≡ None
       → positions_in (at_front (with_at at c (take places row)) row) ≡ at_front (with_at at None (take places (positions_in row))) (positions_in row)
   positions_inserted c none =
-      of_front (with_at at c (take places row)) row
-      ∙ ap (λ (ps : List (Option Position)). at_front ps (positions_in row))
-      (of_with (take places row) at c
-      ∙ ap₂ (λ (p : Option Position) (ps : List (Option Position)). with_at at p ps) none (sym (take-map position_at places row)))
+      map_inserted position_at row at places c
+      ∙ ap (λ (p : Option Position). at_front (with_at at p (take places (positions_in row))) (positions_in row)) none
 
   pub positions_removed : positions_in (at_front (without at (take places row)) row) ≡ at_front (without at (take places (positions_in row))) (positions_in row)
-  positions_removed =
-      of_front (without at (take places row)) row
-      ∙ ap (λ (ps : List (Option Position)). at_front ps (positions_in row))
-      (of_without (take places row) at ∙ ap (λ (ps : List (Option Position)). without at ps) (sym (take-map position_at places row)))
+  positions_removed = map_removed position_at row at places
+
+  -- ---- and its numbers are still those of its positions
+
+  pub plain_put : (p : Position) → Plain row → Plain (set row at (in_numbers (Some p)))
+  plain_put p plain =
+      ap (map in_numbers) (position_put row at (in_numbers (Some p)) p refl)
+      ∙ map-set in_numbers (positions_in row) at (Some p)
+      ∙ ap (λ (r : List CellPosition). set r at (in_numbers (Some p))) plain
+
+  pub plain_inserted : Plain row → Plain (at_front (with_at at (in_numbers None) (take places row)) row)
+  plain_inserted plain =
+      ap (map in_numbers) (positions_inserted (in_numbers None) refl)
+      ∙ map_inserted in_numbers (positions_in row) at places None
+      ∙ ap (λ (r : List CellPosition). at_front (with_at at (in_numbers None) (take places r)) r) plain
+
+  pub plain_removed : Plain row → Plain (at_front (without at (take places row)) row)
+  plain_removed plain =
+      ap (map in_numbers) positions_removed
+      ∙ map_removed in_numbers (positions_in row) at places
+      ∙ ap (λ (r : List CellPosition). at_front (without at (take places r)) r) plain
+
+-- so arrays with equal positions are equal, number by number
+pub plain_equal : (one other : List CellPosition) → Plain one → Plain other → positions_in one ≡ positions_in other → one ≡ other
+plain_equal one other p q same = sym p ∙ ap (map in_numbers) same ∙ q
 
 -- ---- cells with their positions, in arrays
 module _ (ns cs ws figures : List ℕ) (row : List CellPosition) (places : (length ns ≡ 512) × (length cs ≡ 512) × (length ws ≡ 512) × (length row ≡ 512)) where

@@ -1,6 +1,6 @@
 -- The positions that stand in an array of a host, and the cells with their positions in arrays (document 02, E11).
 -- Assumes nothing.
-use Rattle.std.specs.Prelude.{cond, ℕ, eqb, List, map, Option, Some, None, Result}
+use Rattle.std.specs.Prelude.{◌≡◌, cond, ℕ, pos, eqb, List, map, Option, Some, None, Result}
 use Rattle.register.specs.declared.Entered.{Entered}
 use Rattle.register_arrays.specs.Columns.{entry_from_numbers, register_in}
 use Rattle.register_arrays.specs.declared.Columns.{Columns}
@@ -23,6 +23,15 @@ position_at c = cond (eqb c.given 0) None (Some (record { x = c.x; y = c.y }))
 
 abbrev pub positions_in : List CellPosition → List (Option Position)
 positions_in row = map position_at row
+
+-- a position in numbers: zeros where there is none
+abbrev pub in_numbers : Option Position → CellPosition
+in_numbers None = record { given = 0; x = pos 0; y = pos 0 }
+in_numbers (Some p) = record { given = 1; x = p.x; y = p.y }
+
+-- the numbers of an array are those that its positions have, and no others
+abbrev pub Plain : List CellPosition → Type 0
+Plain row = map in_numbers (positions_in row) ≡ row
 
 -- the register in the lent arrays
 abbrev pub placed_of : List ℕ → Columns → PositionRow → PlacedRegister

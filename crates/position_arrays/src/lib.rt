@@ -4,13 +4,13 @@
 
 ghost use Rattle.std.specs.Prelude.{◌≡◌, Some, None, [], ◌∷◌, length, replicate};
 ghost use Rattle.register_arrays.specs.Columns.{SameArrays};
-ghost use Rattle.group_register.specs.Settings.{is_made};
 ghost use Rattle.group_arrays.specs.GroupColumns.{settings_in};
 ghost use Rattle.positions.specs.Placed.{apply_entry};
 ghost use Rattle.reach.specs.Cells.{cells_of};
-ghost use Rattle.position_arrays.specs.Row.{position_at, positions_in, placed_entry_of, placed_of, placed_applied_in, placed_in};
+ghost use Rattle.position_arrays.specs.Row.{position_at, positions_in, in_numbers, Plain, placed_entry_of, placed_of, placed_applied_in, placed_in};
 
 use group_arrays::settings_in;
+use group_register::RegisterSettings;
 use places::{insert_at, remove_at};
 use positions::{Entry, Position, PositionEntry, PositionPlaces, PositionRefusal};
 use reach::{PlacedCell, PlacedCells};
@@ -29,7 +29,7 @@ pub struct CellPosition {
 
 impl CellPosition {
     fn of(position: Position) -> CellPosition
-        ensures { position_at result ≡ Some position }
+        ensures { result ≡ in_numbers (Some position) }
     {
         CellPosition {
             given: 1,
@@ -62,17 +62,19 @@ impl PositionPlaces for PositionRow<'_> {
 
     ghost lent = { λ row. row.cells.ghost_name ∷ [] };
 
-    #[tactic(auto, using(crate::proofs::Rows::position_put))]
+    ghost plain = { λ row. Plain row.cells.now };
+
+    #[tactic(auto, using(crate::proofs::Rows::position_put, crate::proofs::Rows::plain_put))]
     fn put(&mut self, at: usize, position: Position) {
         self.cells[at] = CellPosition::of(position);
     }
 
-    #[tactic(auto, using(crate::proofs::Rows::positions_inserted))]
+    #[tactic(auto, using(crate::proofs::Rows::positions_inserted, crate::proofs::Rows::plain_inserted))]
     fn insert(&mut self, at: usize, places: usize) {
         insert_at(self.cells, at, places, CellPosition::default());
     }
 
-    #[tactic(auto, using(crate::proofs::Rows::positions_removed))]
+    #[tactic(auto, using(crate::proofs::Rows::positions_removed, crate::proofs::Rows::plain_removed))]
     fn remove(&mut self, at: usize, places: usize) {
         remove_at(self.cells, at, places);
     }
@@ -83,6 +85,7 @@ impl PositionRow<'_> {
     pub fn clear(&mut self)
         ensures same { self.new.cells.ghost_name ≡ self.old.cells.ghost_name }
         ensures cleared { positions_in self.new.cells.now ≡ replicate 512 None }
+        ensures plain { Plain self.new.cells.now }
     {
         *self.cells = [CellPosition::default(); 512];
     }
@@ -96,6 +99,7 @@ pub fn apply(
     entry: Entry,
 ) -> Result<Entered, PositionRefusal>
     ensures same { SameArrays columns.old columns.new × (row.new.cells.ghost_name ≡ row.old.cells.ghost_name) }
+    ensures plain { Plain row.old.cells.now → Plain row.new.cells.now }
     ensures applied { placed_applied_in settings.now columns.new row.new result ≡ apply_entry (placed_of settings.now columns.old row.old) entry }
 {
     positions::apply_in(settings_in(settings), columns, row, entry)
@@ -142,12 +146,12 @@ fn have_places(cells: &[u64], carriers: &[u64], widths: &[u64], positions: &[Cel
 {}
 
 impl PlacedCells for LentCells<'_> {
-    ghost made = { λ c. is_made (settings_in c.settings.now) };
+    ghost settings = { λ c. settings_in c.settings.now };
 
     ghost cells = { λ c. cells_of (placed_in c) };
 
-    fn is_made(&self) -> bool {
-        settings_in(self.settings).is_made()
+    fn settings(&self) -> RegisterSettings {
+        settings_in(self.settings)
     }
 
     #[tactic(auto, using(crate::proofs::Rows::lent_live))]

@@ -20,7 +20,7 @@ use Rattle.register.specs.declared.Entered.TheVariants.{Done, Older}
 use Rattle.register.specs.declared.EntryRefusal.TheVariants.{NumberTooLarge, NotAssignable, NoRoomForCell, CellNotLive}
 use Rattle.register.specs.declared.Register.{Register}
 use Rattle.register.proofs.Places.{found_err}
-use Rattle.group_register.specs.Settings.{is_made}
+use Rattle.group_register.specs.Settings.{unmade_by, is_made}
 use Rattle.group_register.specs.GroupRegister.{group_register, group_applied, gives_odd_width, as_register, apply_made, apply_in_group}
 use Rattle.group_register.specs.declared.GroupApplied.{GroupApplied}
 use Rattle.group_register.specs.declared.GroupRefusal.{GroupRefusal}
@@ -82,8 +82,8 @@ module _ (s : RegisterSettings) (r : Register) (e : CellEntry) where
   became = go (is_made s) (gives_odd_width s.whole_mhz_from r.next_slot e) (ltb 9223372036854775806 e.slot) (ltb e.slot r.next_slot) (changed e.change refl)
     where
       go : (m o t u : Bool) → Becomes (apply_change e.change e.cell seen)
-          → Became (cond m (cond o (group_applied s seen (Err OddWidth)) (as_register s (cond t (refused NumberTooLarge r) (cond u (older r) (apply_change e.change e.cell seen))))) (group_applied s r (Err Unmade)))
-      go false o t u x = stayed r (Err Unmade) refl tt
+          → Became (cond m (cond o (group_applied s seen (Err OddWidth)) (as_register s (cond t (refused NumberTooLarge r) (cond u (older r) (apply_change e.change e.cell seen))))) (group_applied s r (Err (Unmade (unmade_by s)))))
+      go false o t u x = stayed r (Err (Unmade (unmade_by s))) refl tt
       go true true t u x = stayed seen (Err OddWidth) refl tt
       go true false true u x = stayed r (Err _) refl tt
       go true false false true x = stayed r (Ok Older) refl tt

@@ -11,7 +11,6 @@ use Rattle.group_register.specs.Settings.{settings_refusal}
 use Rattle.group_register.specs.WholeMhz.{is_odd}
 use Rattle.group_register.specs.GroupTaken.{group_number_given, group_latest}
 use Rattle.group_register.specs.declared.RegisterSettings.{RegisterSettings}
-use Rattle.positions.specs.Grid.{within_grid}
 use Rattle.positions.specs.PlacedTaken.{position_number, entry_number_for, latest_position}
 use Rattle.positions.specs.declared.Entry.{Entry}
 use Rattle.positions.specs.declared.Entry.TheVariants.{OfCell, OfPosition}
@@ -42,7 +41,7 @@ kept = assigned 2 ∷ at here 1 ∷ assigned 0 ∷ []
 pub positions : (latest_position settings kept 7 ≡ Some here)
     × (latest_position settings (released 3 ∷ kept) 7 ≡ None)
     × (latest_position settings (assigned 4 ∷ released 3 ∷ kept) 7 ≡ None)
-unfolding latest_position entry_number_for position_number within_grid settings_refusal group_number_given group_latest above is_odd cells_named among count_in
+unfolding latest_position entry_number_for position_number settings_refusal group_number_given group_latest above is_odd cells_named among count_in
 positions = (refl, refl, refl)
 
 -- 2, older, 21, then 16
@@ -50,5 +49,5 @@ pub numbers : (entry_number_for settings kept (at outside 9223372036854775807) �
     × (entry_number_for settings kept (at outside 2) ≡ 64)
     × (entry_number_for settings [] (at outside 3) ≡ 21)
     × (entry_number_for settings [] (at here 3) ≡ 16)
-unfolding entry_number_for position_number within_grid settings_refusal group_number_given group_latest above is_odd cells_named among count_in
+unfolding entry_number_for position_number settings_refusal group_number_given group_latest above is_odd cells_named among count_in
 numbers = (refl, refl, refl, refl)

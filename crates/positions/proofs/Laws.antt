@@ -2,14 +2,16 @@
 -- a position adds to no figure, and that equal entries leave equal registers.
 -- Assumes nothing.
 use mathlib.Core.Path.{◌≡◌, refl, sym, ap, ap₂, ◌∙◌}
-use mathlib.Core.Bool.{Bool, true, false, cond, ◌&&◌, not}
+use mathlib.Core.Bool.{Bool, true, false, cond, ◌&&◌, ◌||◌, not}
 use mathlib.Core.List.{List, [], ◌∷◌}
 use mathlib.Core.Logic.{◌⊎◌, inl, inr}
 use Prim.Native.Nat.{ℕ, zero, suc, ◌≤◌, ◌<◌}
+use native.Mathlib.Omega.{arith}
 use lib.Dec.{ltb, leb, eqb}
+use lib.IntN.{ℤ, pos, negsuc}
 use lib.ListN.{length, get_or, set, replicate}
-use borrow.Author.Tests.{ltb-true, ltb-false, leb-false, le-leb, lt-leb, eq-eqb}
-use Rattle.std.specs.Prelude.{Option, Some, None, Ok, Err}
+use borrow.Author.Tests.{ltb-true, ltb-false, leb-false, le-leb, lt-leb, le-ltb, lt-ltb, eq-eqb}
+use Rattle.std.specs.Prelude.{Option, Some, None, Ok, Err, unsigned_abs}
 use Rattle.basics.proofs.Tests.{either, not_both, and_both}
 use Rattle.register.specs.Cells.{has_number, is_live_cell, cell_place}
 use Rattle.register.specs.Register.{new_register, live_cells, slot_seen, older, refused, apply_change, apply}
@@ -23,7 +25,7 @@ use Rattle.register.specs.declared.Register.{Register}
 use Rattle.register.proofs.Agreement.{RegisterAgrees, standing}
 use Rattle.register.proofs.Cells.{live_look_up}
 use Rattle.register.proofs.Laws as E6
-use Rattle.group_register.specs.Settings.{settings_refusal, is_made}
+use Rattle.group_register.specs.Settings.{unmade_by, settings_refusal, is_made}
 use Rattle.group_register.specs.WholeMhz.{is_odd}
 use Rattle.group_register.specs.GroupRegister.{group_register, group_applied, group_outcome_number, change_assignable, gives_odd_width, as_register, apply_made, apply_in_group}
 use Rattle.group_register.specs.GroupHistory.{group_after}
@@ -35,7 +37,7 @@ use Rattle.group_register.proofs.Mapped.{bound_entries, above_bound, latest_boun
 use Rattle.group_register.proofs.GroupLaws as E13
 use Rattle.positions.specs.Grid.{within_grid}
 use Rattle.positions.specs.Placed.{placed, without_positions, new_placed, position_of, placed_applied, positioned, with_seen, position_refused, give_position, apply_cell, apply_position, apply_entry}
-use Rattle.positions.specs.PlacedTaken.{slot_alone, cell_entry, cell_entries, assigned_in, position_number, entry_number_for, entry_is_taken, cell_named, position_said, latest_position, is_later_entry, later_placed, placed_after}
+use Rattle.positions.specs.PlacedTaken.{cell_entry, cell_entries, is_beyond, is_outside, assigned_in, position_number, entry_number_for, entry_is_taken, cell_named, position_said, latest_position, is_later_entry, later_placed, placed_after}
 use Rattle.positions.specs.declared.Entry.{Entry}
 use Rattle.positions.specs.declared.Entry.TheVariants.{OfCell, OfPosition}
 use Rattle.positions.specs.declared.PlacedApplied.{PlacedApplied}
@@ -53,15 +55,42 @@ not_leb a b = go (ltb a b) refl
     go true h = sym (ap not (lt-leb b a (ltb-true a b h)))
     go false h = sym (ap not (le-leb b a (ltb-false a b h)))
 
+-- ---- the limits that the code tests, without the sign, are those of document 02
+beyond_limit : (x : ℤ) → not (leb (unsigned_abs x) 2000000) ≡ is_beyond x
+beyond_limit (pos n) = sym (not_leb 2000000 n) ∙ none (ltb 2000000 n)
+  where
+    none : (t : Bool) → t ≡ (t || false)
+    none true = refl
+    none false = refl
+beyond_limit (negsuc n) = sym (not_leb 2000000 (suc n)) ∙ go (ltb 1999999 n) refl
+  where
+    go : (t : Bool) → ltb 1999999 n ≡ t → ltb 2000000 (suc n) ≡ t
+    go true e = lt-ltb 2000000 (suc n) (omega (arith, ltb-true 1999999 n e))
+    go false e = le-ltb 2000000 (suc n) (omega (arith, ltb-false 1999999 n e))
+
+pub outside_grid : (p : Position) → not (within_grid p) ≡ is_outside p
+unfolding within_grid
+outside_grid p =
+    either_not (leb (unsigned_abs p.x) 2000000) (leb (unsigned_abs p.y) 2000000)
+    ∙ ap₂ (λ (a b : Bool). a || b) (beyond_limit p.x) (beyond_limit p.y)
+  where
+    either_not : (a b : Bool) → not (a && b) ≡ (not a || not b)
+    either_not true b = refl
+    either_not false b = refl
+
+-- ---- the register below sees of a position its slot alone
+pub entry_below : (p : PlacedRegister) (e : Entry) → (apply_entry p e).placed.group ≡ (apply_in_group p.group (cell_entry e)).group
+unfolding apply_entry apply_cell
+entry_below p (OfCell e) = refl
+entry_below p (OfPosition e) = position_group p.group.settings p.group.register e p.positions
+
 module _ (s : RegisterSettings) where
-  -- ---- the register below is that of the entries of cells: so E6 and E13 hold of it, and the report is as before
+  -- so it is that of the entries of cells: E6 and E13 hold of it, and the report is as before
   pub register_below : (es : List Entry) → (placed_after s es).group ≡ group_after s (cell_entries es)
-  unfolding placed_after apply_entry apply_cell group_after
+  unfolding placed_after group_after
   register_below [] = refl
-  register_below (OfCell e ∷ before) = ap (λ (g : GroupRegister). (apply_in_group g e).group) (register_below before)
-  register_below (OfPosition e ∷ before) =
-      position_group (placed_after s before).group.settings (placed_after s before).group.register e (placed_after s before).positions
-      ∙ ap (λ (g : GroupRegister). (apply_in_group g (slot_alone e)).group) (register_below before)
+  register_below (e ∷ before) =
+      entry_below (placed_after s before) e ∙ ap (λ (g : GroupRegister). (apply_in_group g (cell_entry e)).group) (register_below before)
 
   -- ---- a register that is made
   module _ (made : is_made s ≡ true) where
@@ -100,6 +129,9 @@ module _ (s : RegisterSettings) where
         (live_is before e.cell)
         ∙ ap (λ (k : ℕ). cond (not (slot_within_limit e.slot)) 2 (cond (not (above e.slot (cell_entries before))) 64 (cond outside 21 k)))
         (swap (assigned_in s before e.cell))
+        ∙ ap (λ (u : Bool). cond (not (slot_within_limit e.slot)) 2
+        (cond (not (above e.slot (cell_entries before))) 64 (cond u 21 (cond (not (assigned_in s before e.cell)) 16 0))))
+        (outside_grid e.position)
       where
         r : Register
         r = below before
@@ -124,7 +156,7 @@ module _ (s : RegisterSettings) where
 
         chain : Bool → Bool → Bool → Bool → Bool → PlacedApplied
         chain m t u w l =
-            cond (not m) (position_refused g ps (AsGroup Unmade))
+            cond (not m) (position_refused g ps (AsGroup (Unmade (unmade_by s))))
             (cond t (position_refused g ps (AsGroup (AsRegister NumberTooLarge)))
             (cond u (placed_applied g ps (Ok Older))
             (cond w (position_refused (with_seen e.slot g) ps OutsideGrid)
@@ -256,7 +288,7 @@ module _ (s : RegisterSettings) where
         given = give_position (with_seen e.slot (group_register s r)) ps e
 
         go : (t : Bool) → t ≡ not (leb e.slot 9223372036854775806) → (u : Bool) → u ≡ not (leb r.next_slot e.slot) → (m : Bool)
-            → (cond (not m) (position_refused (group_register s r) ps (AsGroup Unmade))
+            → (cond (not m) (position_refused (group_register s r) ps (AsGroup (Unmade (unmade_by s))))
             (cond t (position_refused (group_register s r) ps (AsGroup (AsRegister NumberTooLarge)))
             (cond u (placed_applied (group_register s r) ps (Ok Older)) given))).placed ≡ placed (group_register s r) ps
         go t p u q false = refl
@@ -289,7 +321,7 @@ module _ (s : RegisterSettings) where
   -- ---- a register that is not made: every entry gives its number, and nothing changes
   module _ (unmade : is_made s ≡ false) where
     unmade_entry : (r : Register) (ps : List (Option Position)) (e : Entry)
-        → apply_entry (placed (group_register s r) ps) e ≡ placed_applied (group_register s r) ps (Err (AsGroup Unmade))
+        → apply_entry (placed (group_register s r) ps) e ≡ placed_applied (group_register s r) ps (Err (AsGroup (Unmade (unmade_by s))))
     unfolding apply_entry apply_cell apply_position
     unmade_entry r ps (OfCell e) = ap (λ (x : GroupApplied). positioned (placed (group_register s r) ps) e x) (E13.unmade_left s unmade r e)
     unmade_entry r ps (OfPosition e) = simp unmade
@@ -301,17 +333,19 @@ module _ (s : RegisterSettings) where
         ap (λ (p : PlacedRegister). (apply_entry p e).placed) (unmade_after before)
         ∙ ap (λ (x : PlacedApplied). x.placed) (unmade_entry new_register (replicate 512 None) e)
 
-    unmade_number : (before : List Entry) (e : Entry) → entry_number_for s before e ≡ 1
+    unmade_number : (before : List Entry) (e : Entry) → entry_number_for s before e ≡ settings_refusal s
     unfolding entry_number_for
-    unmade_number before (OfCell e) = simp unmade (E13.unmade_number s unmade)
-    unmade_number before (OfPosition e) = simp unmade (E13.unmade_number s unmade)
+    unmade_number before (OfCell e) = simp unmade
+    unmade_number before (OfPosition e) = simp unmade
 
     no_position : (es : List Entry) (n : ℕ) → latest_position s es n ≡ None
     unfolding latest_position
     no_position [] n = refl
     no_position (e ∷ before) n =
         ap (λ (k : ℕ). cond (eqb k 0 && eqb (cell_named e) n) (position_said e (latest_position s before n)) (latest_position s before n))
-        (unmade_number before e) ∙ no_position before n
+        (unmade_number before e)
+        ∙ ap (λ (t : Bool). cond (t && eqb (cell_named e) n) (position_said e (latest_position s before n)) (latest_position s before n)) unmade
+        ∙ no_position before n
 
   -- ==== of every register
   -- an entry's number is the one that the settings and the entries say: of a position 2, older, 21, then 16
@@ -322,7 +356,8 @@ module _ (s : RegisterSettings) where
       go (inl m) = number_made m before e
       go (inr u) =
           ap (λ (p : PlacedRegister). placed_number (apply_entry p e).outcome) (unmade_after u before)
-          ∙ ap (λ (x : PlacedApplied). placed_number x.outcome) (unmade_entry u new_register (replicate 512 None) e) ∙ sym (unmade_number u before e)
+          ∙ ap (λ (x : PlacedApplied). placed_number x.outcome) (unmade_entry u new_register (replicate 512 None) e)
+          ∙ sym (unmade_number u before e ∙ E13.unmade_number_lem s u)
 
   -- the position of a cell is the one that the entries say: a release drops it, an assignment keeps it, a position sets it
   pub position_given : (es : List Entry) (n : ℕ) → position_of (placed_after s es) n ≡ latest_position s es n
@@ -386,7 +421,7 @@ only_seen p e =
     Goal x = (x.placed.group.register ≡ g.register) ⊎ (x.placed.group.register ≡ slot_seen e.slot g.register)
 
     go : (m t u w l : Bool)
-        → Goal (cond (not m) (position_refused g ps (AsGroup Unmade))
+        → Goal (cond (not m) (position_refused g ps (AsGroup (Unmade (unmade_by g.settings))))
         (cond t (position_refused g ps (AsGroup (AsRegister NumberTooLarge)))
         (cond u (placed_applied g ps (Ok Older))
         (cond (not w) (position_refused h ps OutsideGrid)

@@ -26,12 +26,14 @@ use Rattle.register.specs.declared.Figures.{Figures}
 use Rattle.register.specs.declared.Register.{Register}
 use Rattle.register.proofs.Cells.{inserted_length, reassigned_length, removed_length}
 use Rattle.register.proofs.Places.{place_within, live_within}
-use Rattle.group_register.specs.Settings.{is_made}
+use Rattle.group_register.specs.Settings.{unmade_number, unmade_by, is_made}
 use Rattle.group_register.specs.WholeMhz.{is_odd}
 use Rattle.group_register.specs.GroupRegister.{group_register, group_applied, group_outcome_number, gives_odd_width, as_register, apply_made, apply_in_group}
 use Rattle.group_register.specs.declared.GroupApplied.{GroupApplied}
 use Rattle.group_register.specs.declared.GroupRefusal.{GroupRefusal}
 use Rattle.group_register.specs.declared.GroupRefusal.TheVariants.{Unmade, OddWidth, AsRegister}
+use Rattle.group_register.specs.declared.UnmadeBy.{UnmadeBy}
+use Rattle.group_register.specs.declared.UnmadeBy.TheVariants.{OutsideLimits, NotInCalendar}
 use Rattle.group_register.specs.declared.GroupRegister.{GroupRegister}
 use Rattle.group_register.specs.declared.RegisterSettings.{RegisterSettings}
 use Rattle.positions.specs.Grid.{within_grid}
@@ -55,10 +57,15 @@ same_outcome_number (Ok Done) = refl
 same_outcome_number (Ok Older) = refl
 same_outcome_number (Err why) = refl
 
+-- what is not made is refused
+unmade_refuses : (why : UnmadeBy) → eqb (unmade_number why) 0 ≡ false
+unmade_refuses OutsideLimits = refl
+unmade_refuses NotInCalendar = refl
+
 not_done_number : (o : Result Entered GroupRefusal) → NotDone o → eqb (group_outcome_number o) 0 ≡ false
 not_done_number (Ok Done) h = absurd h
 not_done_number (Ok Older) h = refl
-not_done_number (Err Unmade) h = refl
+not_done_number (Err (Unmade why)) h = unmade_refuses why
 not_done_number (Err OddWidth) h = refl
 not_done_number (Err (AsRegister NumberTooLarge)) h = refl
 not_done_number (Err (AsRegister NotAssignable)) h = refl
@@ -111,12 +118,12 @@ module _ (s : RegisterSettings) (r : Register) (e : PositionEntry) where
       given = set ps (cell_place e.cell (live_cells r)) (Some e.position)
 
       go : (m t u w l : Bool) → (apply_made s r (slot_alone e)).group ≡ group_register s (cond t r (cond u r (slot_seen e.slot r)))
-          → (cond (not m) (position_refused g ps (AsGroup Unmade))
+          → (cond (not m) (position_refused g ps (AsGroup (Unmade (unmade_by s))))
           (cond t (position_refused g ps (AsGroup (AsRegister NumberTooLarge)))
           (cond u (placed_applied g ps (Ok Older))
           (cond (not w) (position_refused h ps OutsideGrid)
           (cond l (placed_applied h given (Ok Done)) (position_refused h ps (AsGroup (AsRegister CellNotLive)))))))).placed.group
-          ≡ (cond m (apply_made s r (slot_alone e)) (group_applied s r (Err Unmade))).group
+          ≡ (cond m (apply_made s r (slot_alone e)) (group_applied s r (Err (Unmade (unmade_by s))))).group
       go false t u w l k = refl
       go true true u w l k = sym k
       go true false true w l k = sym k
@@ -267,12 +274,16 @@ module _ (s : RegisterSettings) (r : Register) (ps : List (Option Position)) (pl
       Goal x = Beside x e.cell (eqb (placed_number x.outcome) 0) (λ _. Some e.position)
 
       go : (m t u w l : Bool) → is_live_cell e.cell cells ≡ l
-          → Goal (cond (not m) (position_refused g ps (AsGroup Unmade))
+          → Goal (cond (not m) (position_refused g ps (AsGroup (Unmade (unmade_by s))))
           (cond t (position_refused g ps (AsGroup (AsRegister NumberTooLarge)))
           (cond u (placed_applied g ps (Ok Older))
           (cond (not w) (position_refused h ps OutsideGrid)
           (cond l (placed_applied h given (Ok Done)) (position_refused h ps (AsGroup (AsRegister CellNotLive))))))))
-      go false t u w l k = record { still_long = long; each = λ m. refl }
+      go false t u w l k =
+          record {
+            still_long = long;
+            each = λ m. sym (ap (λ (z : Bool). cond (z && eqb e.cell m) (Some e.position) (position_of before m)) (unmade_refuses (unmade_by s)));
+          }
       go true true u w l k = record { still_long = long; each = λ m. refl }
       go true false true w l k = record { still_long = long; each = λ m. refl }
       go true false false false l k = record { still_long = long; each = λ m. refl }

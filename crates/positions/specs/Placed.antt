@@ -12,7 +12,7 @@ use Rattle.register.specs.declared.Entered.{Entered}
 use Rattle.register.specs.declared.Entered.TheVariants.{Done, Older}
 use Rattle.register.specs.declared.EntryRefusal.TheVariants.{NumberTooLarge, CellNotLive}
 use Rattle.register.specs.declared.Register.{Register}
-use Rattle.group_register.specs.Settings.{is_made}
+use Rattle.group_register.specs.Settings.{unmade_by, is_made}
 use Rattle.group_register.specs.GroupRegister.{group_register, new_group_register, group_refusal_number, apply_in_group}
 use Rattle.group_register.specs.declared.GroupApplied.{GroupApplied}
 use Rattle.group_register.specs.declared.GroupRefusal.{GroupRefusal}
@@ -113,7 +113,7 @@ give_position g ps e =
 -- the slot's 2, an older slot, and then what is left: the slot is seen
 unfoldable pub apply_position : PlacedRegister → PositionEntry → PlacedApplied
 apply_position p e =
-    cond (not (is_made p.group.settings)) (position_refused p.group p.positions (AsGroup Unmade))
+    cond (not (is_made p.group.settings)) (position_refused p.group p.positions (AsGroup (Unmade (unmade_by p.group.settings))))
     (cond (ltb 9223372036854775806 e.slot) (position_refused p.group p.positions (AsGroup (AsRegister NumberTooLarge)))
     (cond (ltb e.slot p.group.register.next_slot) (placed_applied p.group p.positions (Ok Older))
     (give_position (with_seen e.slot p.group) p.positions e)))

@@ -1,6 +1,6 @@
 -- What an entry's number is, and which position a cell has, from the entries alone (document 02, E11). A list of entries stands latest first.
 -- Assumes nothing.
-use Rattle.std.specs.Prelude.{Bool, cond, ◌&&◌, not, ℕ, eqb, List, [], ◌∷◌, map, Option, Some, None}
+use Rattle.std.specs.Prelude.{Bool, cond, ◌&&◌, ◌||◌, not, ℕ, ℤ, pos, negsuc, int_lt, eqb, List, [], ◌∷◌, map, Option, Some, None}
 use Rattle.register.specs.Taken.{is_assigned, slot_within_limit, above}
 use Rattle.register.specs.declared.CellEntry.{CellEntry}
 use Rattle.register.specs.declared.Change.{Change}
@@ -8,7 +8,6 @@ use Rattle.register.specs.declared.Change.TheVariants.{Assign, Release}
 use Rattle.group_register.specs.Settings.{settings_refusal, is_made}
 use Rattle.group_register.specs.GroupTaken.{group_latest, number_in_group}
 use Rattle.group_register.specs.declared.RegisterSettings.{RegisterSettings}
-use Rattle.positions.specs.Grid.{within_grid}
 use Rattle.positions.specs.Placed.{new_placed, apply_entry}
 use Rattle.positions.specs.declared.Entry.{Entry}
 use Rattle.positions.specs.declared.Entry.TheVariants.{OfCell, OfPosition}
@@ -32,12 +31,19 @@ cell_entries es = map cell_entry es
 abbrev pub assigned_in : RegisterSettings → List Entry → ℕ → Bool
 assigned_in s before n = is_assigned (group_latest s.whole_mhz_from (cell_entries before) n)
 
+-- "a position in whole metres .., signed, within 2,000,000 either way": one above that, or below it with the sign, is outside
+abbrev pub is_beyond : ℤ → Bool
+is_beyond x = int_lt (pos 2000000) x || int_lt x (negsuc 1999999)
+
+abbrev pub is_outside : Position → Bool
+is_outside p = is_beyond p.x || is_beyond p.y
+
 -- of a position: 2, older (64 is ours), 21, then 16
 unfoldable pub position_number : RegisterSettings → List Entry → PositionEntry → ℕ
 position_number s before e =
     cond (not (slot_within_limit e.slot)) 2
     (cond (not (above e.slot (cell_entries before))) 64
-    (cond (not (within_grid e.position)) 21
+    (cond (is_outside e.position) 21
     (cond (not (assigned_in s before e.cell)) 16
     0)))
 

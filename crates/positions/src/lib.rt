@@ -109,22 +109,28 @@ pub trait PositionPlaces {
     // What one that lends its places keeps: the references that it holds.
     ghost lent: { Self → List ℕ };
 
+    // Its numbers are those that its positions have, and no others.
+    ghost plain: { Self → Type 0 };
+
     // The cell in place `at` gets a position.
     fn put(&mut self, at: usize, position: Position)
         requires { at < 512 }
         ensures put { positions self.new ≡ set (positions self.old) at (Some position) }
+        ensures plain { plain self.old → plain self.new }
         ensures same_references { lent self.new ≡ lent self.old };
 
     // Beside the first `places` cells a cell without a position at place `at`: the later positions move one place up.
     fn insert(&mut self, at: usize, places: usize)
         requires { (at ≤ places) × (places < 512) }
         ensures inserted { positions self.new ≡ at_front (with_at at None (take places (positions self.old))) (positions self.old) }
+        ensures plain { plain self.old → plain self.new }
         ensures same_references { lent self.new ≡ lent self.old };
 
     // The position at place `at` goes: the later ones move one place down.
     fn remove(&mut self, at: usize, places: usize)
         requires { (at < places) × (places ≤ 512) }
         ensures removed { positions self.new ≡ at_front (without at (take places (positions self.old))) (positions self.old) }
+        ensures plain { plain self.old → plain self.new }
         ensures same_references { lent self.new ≡ lent self.old };
 }
 
@@ -132,6 +138,8 @@ impl PositionPlaces for [Option<Position>; 512] {
     ghost positions = { λ ps. ps };
 
     ghost lent = { λ _. [] };
+
+    ghost plain = { λ _. Unit {0} };
 
     fn put(&mut self, at: usize, position: Position) {
         self[at] = Some(position);
@@ -157,6 +165,7 @@ fn follow<P: PositionPlaces>(
 )
     requires { IsPlaceOf change found live }
     ensures same { P.lent positions.new ≡ P.lent positions.old }
+    ensures plain { P.plain positions.old → P.plain positions.new }
     ensures followed { P.positions positions.new ≡ followed change found live (P.positions positions.old) }
 {
     match change {
@@ -182,6 +191,7 @@ fn apply_cell<R: RegisterPlaces, P: PositionPlaces>(
     entry: CellEntry,
 ) -> Result<Entered, PositionRefusal>
     ensures same { (R.lent register.new ≡ R.lent register.old) × (P.lent positions.new ≡ P.lent positions.old) }
+    ensures plain { P.plain positions.old → P.plain positions.new }
     ensures applied { placed_applied (group_register settings (R.register register.new)) (P.positions positions.new) result
         ≡ apply_cell (placed (group_register settings (R.register register.old)) (P.positions positions.old)) entry }
 {
@@ -203,11 +213,12 @@ fn apply_position<R: RegisterPlaces, P: PositionPlaces>(
     entry: PositionEntry,
 ) -> Result<Entered, PositionRefusal>
     ensures same { (R.lent register.new ≡ R.lent register.old) × (P.lent positions.new ≡ P.lent positions.old) }
+    ensures plain { P.plain positions.old → P.plain positions.new }
     ensures applied { placed_applied (group_register settings (R.register register.new)) (P.positions positions.new) result
         ≡ apply_position (placed (group_register settings (R.register register.old)) (P.positions positions.old)) entry }
 {
     if !settings.is_made() {
-        return Err(PositionRefusal::AsGroup(GroupRefusal::Unmade));
+        return Err(PositionRefusal::AsGroup(GroupRefusal::Unmade(settings.unmade_by())));
     }
     if entry.slot > 9223372036854775806 {
         return Err(PositionRefusal::AsGroup(GroupRefusal::AsRegister(
@@ -237,6 +248,7 @@ pub fn apply_in<R: RegisterPlaces, P: PositionPlaces>(
     entry: Entry,
 ) -> Result<Entered, PositionRefusal>
     ensures same { (R.lent register.new ≡ R.lent register.old) × (P.lent positions.new ≡ P.lent positions.old) }
+    ensures plain { P.plain positions.old → P.plain positions.new }
     ensures applied { placed_applied (group_register settings (R.register register.new)) (P.positions positions.new) result
         ≡ apply_entry (placed (group_register settings (R.register register.old)) (P.positions positions.old)) entry }
 {

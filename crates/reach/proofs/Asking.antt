@@ -14,6 +14,11 @@ use Rattle.reach.specs.Search.{Askable}
 use Rattle.reach.specs.declared.Question.{Question}
 use Rattle.reach.specs.declared.ReachRefusal.{ReachRefusal}
 use Rattle.reach.specs.declared.ReachRefusal.TheVariants.{Unmade, NotAssignable, OutsideLimits}
+use Rattle.group_register.specs.Settings.{unmade_number, unmade_by, settings_refusal, is_made}
+use Rattle.group_register.specs.declared.RegisterSettings.{RegisterSettings}
+use Rattle.group_register.specs.declared.UnmadeBy.{UnmadeBy}
+use Rattle.group_register.specs.declared.UnmadeBy.TheVariants.{OutsideLimits as settings_outside, NotInCalendar}
+use Rattle.group_register.proofs.GroupLaws.{unmade_number_lem}
 use Rattle.reach.proofs.Meaning.{limits_of_test, test_of_limits, number_most, may_of_test, test_of_may}
 use Rattle.reach.proofs.Raster.{khz_most}
 
@@ -25,25 +30,30 @@ number_of answer = refusal reach_refusal_number answer
 pub same_number : {m n : ℕ} (answer : ℕ) → answer ≡ m → answer ≡ n → m ≡ n
 same_number answer p q = sym p ∙ q
 
-module _ (made : Bool) (q : Question) (first last : ℕ) where
+-- settings give 1 or 17 and no other number
+pub no_other : (why : UnmadeBy) (n : ℕ) → (n ≡ 1 → ⊥) → (n ≡ 17 → ⊥) → unmade_number why ≡ n → ⊥
+no_other settings_outside n a b e = a (sym e)
+no_other NotInCalendar n a b e = b (sym e)
+
+module _ (s : RegisterSettings) (q : Question) (first last : ℕ) where
   abbrev before : Result (Unit {0}) ReachRefusal
-  before = asked made q first last
+  before = asked s q first last
 
   abbrev ends : Bool
   ends = may_ask first q.width && may_ask last q.width
 
   -- what refuses, in document 02's words
   pub data Cause : Type 0 where
-    unmade : made ≡ false → before ≡ Err Unmade → Cause
-    outside : made ≡ true → (WithinLimits q → ⊥) → before ≡ Err OutsideLimits → Cause
-    not_assignable : made ≡ true → WithinLimits q → (MayAssign first q.width × MayAssign last q.width → ⊥) → before ≡ Err NotAssignable → Cause
-    none : made ≡ true → WithinLimits q → MayAssign first q.width → MayAssign last q.width → before ≡ Ok tt → Cause
+    unmade : is_made s ≡ false → before ≡ Err (Unmade (unmade_by s)) → Cause
+    outside : is_made s ≡ true → (WithinLimits q → ⊥) → before ≡ Err OutsideLimits → Cause
+    not_assignable : is_made s ≡ true → WithinLimits q → (MayAssign first q.width × MayAssign last q.width → ⊥) → before ≡ Err NotAssignable → Cause
+    none : is_made s ≡ true → WithinLimits q → MayAssign first q.width → MayAssign last q.width → before ≡ Ok tt → Cause
 
   pub the_cause : Cause
   unfolding asked
-  the_cause = go (either made) (either (within_limits q)) (either ends)
+  the_cause = go (either (is_made s)) (either (within_limits q)) (either ends)
     where
-      go : (made ≡ true) ⊎ (made ≡ false) → (within_limits q ≡ true) ⊎ (within_limits q ≡ false) → (ends ≡ true) ⊎ (ends ≡ false) → Cause
+      go : (is_made s ≡ true) ⊎ (is_made s ≡ false) → (within_limits q ≡ true) ⊎ (within_limits q ≡ false) → (ends ≡ true) ⊎ (ends ≡ false) → Cause
       go (inr m) l e = unmade m (simp m)
       go (inl m) (inr l) e = outside m (λ limits. not_both (test_of_limits q limits) l) (simp (m, l))
       go (inl m) (inl l) (inr e) =
@@ -53,17 +63,17 @@ module _ (made : Bool) (q : Question) (first last : ℕ) where
           none m (limits_of_test q l) (may_of_test first q.width (and_left (may_ask first q.width) (may_ask last q.width) e))
           (may_of_test last q.width (and_right (may_ask first q.width) (may_ask last q.width) e)) (simp (m, l, e))
 
-  -- ---- each cause refuses, in that order
-  pub unmade_is_1 : made ≡ false → number_of before ≡ 1
-  unmade_is_1 m = go the_cause
+  -- ---- each cause refuses, in that order; a register that is not made gives the number of its settings, 1 or 17
+  pub unmade_is_its_number : is_made s ≡ false → number_of before ≡ settings_refusal s
+  unmade_is_its_number m = go the_cause
     where
-      go : Cause → number_of before ≡ 1
-      go (unmade u is) = ap number_of is
+      go : Cause → number_of before ≡ settings_refusal s
+      go (unmade u is) = ap number_of is ∙ sym (unmade_number_lem s u)
       go (outside made off is) = absurd (not_both made m)
       go (not_assignable made limits may is) = absurd (not_both made m)
       go (none made limits low high is) = absurd (not_both made m)
 
-  pub outside_is_21 : made ≡ true → (WithinLimits q → ⊥) → number_of before ≡ 21
+  pub outside_is_21 : is_made s ≡ true → (WithinLimits q → ⊥) → number_of before ≡ 21
   outside_is_21 m off = go the_cause
     where
       go : Cause → number_of before ≡ 21
@@ -72,7 +82,7 @@ module _ (made : Bool) (q : Question) (first last : ℕ) where
       go (not_assignable made limits may is) = absurd (off limits)
       go (none made limits low high is) = absurd (off limits)
 
-  pub not_assignable_is_14 : made ≡ true → WithinLimits q → (MayAssign first q.width × MayAssign last q.width → ⊥) → number_of before ≡ 14
+  pub not_assignable_is_14 : is_made s ≡ true → WithinLimits q → (MayAssign first q.width × MayAssign last q.width → ⊥) → number_of before ≡ 14
   not_assignable_is_14 m limits off = go the_cause
     where
       go : Cause → number_of before ≡ 14
@@ -81,7 +91,7 @@ module _ (made : Bool) (q : Question) (first last : ℕ) where
       go (not_assignable made within may is) = ap number_of is
       go (none made within low high is) = absurd (off (low, high))
 
-  pub else_asked : made ≡ true → WithinLimits q → MayAssign first q.width → MayAssign last q.width → before ≡ Ok tt
+  pub else_asked : is_made s ≡ true → WithinLimits q → MayAssign first q.width → MayAssign last q.width → before ≡ Ok tt
   else_asked m limits low high = go the_cause
     where
       go : Cause → before ≡ Ok tt
@@ -91,39 +101,39 @@ module _ (made : Bool) (q : Question) (first last : ℕ) where
       go (none made within least most is) = is
 
   -- ---- and nothing else gives its number
-  pub is_1_unmade : number_of before ≡ 1 → made ≡ false
-  is_1_unmade e = go the_cause
+  pub is_its_number_unmade : (why : UnmadeBy) → number_of before ≡ unmade_number why → (is_made s ≡ false) × (settings_refusal s ≡ unmade_number why)
+  is_its_number_unmade why e = go the_cause
     where
-      go : Cause → made ≡ false
-      go (unmade u is) = u
-      go (outside made off is) = absurd (let z : ◌≡◌ {A = ℕ} 21 1 = same_number (number_of before) (ap number_of is) e in omega arith)
-      go (not_assignable made limits may is) = absurd (let z : ◌≡◌ {A = ℕ} 14 1 = same_number (number_of before) (ap number_of is) e in omega arith)
-      go (none made limits low high is) = absurd (let z : ◌≡◌ {A = ℕ} 0 1 = same_number (number_of before) (ap number_of is) e in omega arith)
+      go : Cause → (is_made s ≡ false) × (settings_refusal s ≡ unmade_number why)
+      go (unmade u is) = (u, unmade_number_lem s u ∙ same_number (number_of before) (ap number_of is) e)
+      go (outside made off is) = absurd (no_other why 21 (λ z. omega arith) (λ z. omega arith) (same_number (number_of before) e (ap number_of is)))
+      go (not_assignable made limits may is) = absurd (no_other why 14 (λ z. omega arith) (λ z. omega arith) (same_number (number_of before) e (ap number_of is)))
+      go (none made limits low high is) = absurd (no_other why 0 (λ z. omega arith) (λ z. omega arith) (same_number (number_of before) e (ap number_of is)))
 
-  pub is_21_outside : number_of before ≡ 21 → (made ≡ true) × (WithinLimits q → ⊥)
+  pub is_21_outside : number_of before ≡ 21 → (is_made s ≡ true) × (WithinLimits q → ⊥)
   is_21_outside e = go the_cause
     where
-      go : Cause → (made ≡ true) × (WithinLimits q → ⊥)
-      go (unmade u is) = absurd (let z : ◌≡◌ {A = ℕ} 1 21 = same_number (number_of before) (ap number_of is) e in omega arith)
+      go : Cause → (is_made s ≡ true) × (WithinLimits q → ⊥)
+      go (unmade u is) = absurd (no_other (unmade_by s) 21 (λ z. omega arith) (λ z. omega arith) (same_number (number_of before) (ap number_of is) e))
       go (outside m off is) = (m, off)
       go (not_assignable made limits may is) = absurd (let z : ◌≡◌ {A = ℕ} 14 21 = same_number (number_of before) (ap number_of is) e in omega arith)
       go (none made limits low high is) = absurd (let z : ◌≡◌ {A = ℕ} 0 21 = same_number (number_of before) (ap number_of is) e in omega arith)
 
-  pub is_14_not_assignable : number_of before ≡ 14 → (made ≡ true) × WithinLimits q × (MayAssign first q.width × MayAssign last q.width → ⊥)
+  pub is_14_not_assignable : number_of before ≡ 14 → (is_made s ≡ true) × WithinLimits q × (MayAssign first q.width × MayAssign last q.width → ⊥)
   is_14_not_assignable e = go the_cause
     where
-      go : Cause → (made ≡ true) × WithinLimits q × (MayAssign first q.width × MayAssign last q.width → ⊥)
-      go (unmade u is) = absurd (let z : ◌≡◌ {A = ℕ} 1 14 = same_number (number_of before) (ap number_of is) e in omega arith)
+      go : Cause → (is_made s ≡ true) × WithinLimits q × (MayAssign first q.width × MayAssign last q.width → ⊥)
+      go (unmade u is) = absurd (no_other (unmade_by s) 14 (λ z. omega arith) (λ z. omega arith) (same_number (number_of before) (ap number_of is) e))
       go (outside made off is) = absurd (let z : ◌≡◌ {A = ℕ} 21 14 = same_number (number_of before) (ap number_of is) e in omega arith)
       go (not_assignable m limits may is) = (m, limits, may)
       go (none made limits low high is) = absurd (let z : ◌≡◌ {A = ℕ} 0 14 = same_number (number_of before) (ap number_of is) e in omega arith)
 
   -- what is not refused keeps to the limits
-  pub asked_limits : before ≡ Ok tt → (made ≡ true) × WithinLimits q × MayAssign first q.width × MayAssign last q.width
+  pub asked_limits : before ≡ Ok tt → (is_made s ≡ true) × WithinLimits q × MayAssign first q.width × MayAssign last q.width
   asked_limits e = go the_cause
     where
-      go : Cause → (made ≡ true) × WithinLimits q × MayAssign first q.width × MayAssign last q.width
-      go (unmade u is) = absurd (let z : ◌≡◌ {A = ℕ} 1 0 = same_number (number_of before) (ap number_of is) (ap number_of e) in omega arith)
+      go : Cause → (is_made s ≡ true) × WithinLimits q × MayAssign first q.width × MayAssign last q.width
+      go (unmade u is) = absurd (no_other (unmade_by s) 0 (λ z. omega arith) (λ z. omega arith) (same_number (number_of before) (ap number_of is) (ap number_of e)))
       go (outside made off is) = absurd (let z : ◌≡◌ {A = ℕ} 21 0 = same_number (number_of before) (ap number_of is) (ap number_of e) in omega arith)
       go (not_assignable made limits may is) =
           absurd (let z : ◌≡◌ {A = ℕ} 14 0 = same_number (number_of before) (ap number_of is) (ap number_of e) in omega arith)

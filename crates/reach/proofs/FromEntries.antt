@@ -5,12 +5,12 @@ use mathlib.Core.Path.{◌≡◌, refl, sym, ap, ap₂, subst, ◌∙◌}
 use mathlib.Core.Bool.{Bool, true, false, cond, ◌&&◌, not}
 use mathlib.Core.List.{List, [], ◌∷◌}
 use mathlib.Core.Logic.{inl, inr}
-use Prim.Native.Nat.{ℕ, ◌+◌, ◌≤◌}
+use Prim.Native.Nat.{ℕ, ◌+◌, ◌≤◌, ◌<◌}
 use native.Mathlib.Omega.{arith}
 use lib.Dec.{leb, eqb}
 use lib.ListN.{length}
 use borrow.Author.Tests.{leb-true, le-leb, lt-leb, eq-eqb}
-use Rattle.std.specs.Prelude.{Option}
+use Rattle.std.specs.Prelude.{Option, Ok}
 use Rattle.basics.specs.Lists.{In}
 use Rattle.basics.proofs.Tests.{not_both, and_left, and_right}
 use Rattle.register.specs.Cells.{cell_of, has_number, number_place}
@@ -37,12 +37,13 @@ use Rattle.positions.specs.declared.Position.{Position}
 use Rattle.positions.proofs.Laws.{register_below, group_is, positions_long, position_given}
 use Rattle.positions.proofs.Rows.{position_in}
 use Rattle.reach.specs.Cells.{placed_cell, placed_cells, cells_of}
-use Rattle.reach.specs.Conflict.{Conflict, Named, WithinLimits, MayAssign, Assigned, RisingPlaced}
-use Rattle.reach.specs.Entries.{LiveWith, said_cell, InConflict}
-use Rattle.reach.specs.Reach.{khz_at, numbers_listed, conflicts_of}
+use Rattle.reach.specs.Conflict.{Conflict, Taken, Named, WithinLimits, MayAssign, Assigned, RisingPlaced}
+use Rattle.reach.specs.Entries.{LiveWith, said_cell, InConflict, SomeInConflict, LowestFree}
+use Rattle.reach.specs.Reach.{khz_at, numbers_listed, conflicts_of, first_free}
 use Rattle.reach.specs.declared.PlacedCell.{PlacedCell}
 use Rattle.reach.specs.declared.Question.{Question}
-use Rattle.reach.proofs.Laws.{listed_conflicts, conflicts_listed}
+use Rattle.reach.proofs.Asking.{number_of}
+use Rattle.reach.proofs.Laws.{listed_conflicts, conflicts_listed, free_lowest, lowest_free_lem, free_22_all_taken, all_taken_is_22}
 use Rattle.reach.proofs.Raster.{on_raster}
 
 -- ---- cells with the positions of their places
@@ -179,28 +180,74 @@ module _ (s : RegisterSettings) (made : is_made s ≡ true) (es : List Entry) wh
   pub cells_assigned : Assigned (cells_of (placed_after s es))
   cells_assigned c i = may_assign c.assignment (latest_limits s.whole_mhz_from (cell_entries es) c.number c.assignment (cell_said c i).0)
 
+  abbrev cells : List PlacedCell
+  cells = cells_of (placed_after s es)
+
+  -- ---- a conflict with one of them is a conflict with the cell that the entries say, and back
+  named_in_conflict : (q : Question) (n m : ℕ) → Named q n cells m → InConflict s es q n m
+  named_in_conflict q n m k =
+      let said = cell_said k.cell k.live in
+      let here : k.cell ≡ said_cell s es m k.cell.assignment =
+      ap₂ (λ (x : ℕ) (p : Option Position). record { number = x; assignment = k.cell.assignment; position = p }) k.number (said.1
+      ∙ ap (latest_position s es) k.number) in
+      record {
+        assignment = k.cell.assignment;
+        live = subst (λ (x : ℕ). LiveWith s es x k.cell.assignment) k.number said.0;
+        conflict = subst (λ (c : PlacedCell). Conflict q n c) here k.conflict;
+      }
+
+  taken_in_conflict : (q : Question) (n : ℕ) → Taken q n cells → SomeInConflict s es q n
+  taken_in_conflict q n t =
+      record {
+        cell = t.cell.number;
+        conflict = named_in_conflict q n t.cell.number (record { cell = t.cell; live = t.live; number = refl; conflict = t.conflict });
+      }
+
+  in_conflict_taken : (q : Question) (n m : ℕ) → InConflict s es q n m → Taken q n cells
+  in_conflict_taken q n m k =
+      record { cell = said_cell s es m k.assignment; live = said_is_live m k.assignment k.live; conflict = k.conflict }
+
   -- ==== "list the cells, by number, that overlap the carrier and lie within the distance of the position": exactly those, by the entries alone
   module _ (n : ℕ) (q : Question) (places : List ℕ) (m : ℕ) where
-    abbrev lists : Type 0
-    lists = In m (numbers_listed (conflicts_of true (cells_of (placed_after s es)) n q places))
-
-    pub listed_in_conflict : In m (numbers_listed (conflicts_of true (cells_of (placed_after s es)) n q places)) → InConflict s es q n m
-    listed_in_conflict i = go (listed_conflicts true (cells_of (placed_after s es)) n q places cells_assigned m i)
-      where
-        go : Named q n (cells_of (placed_after s es)) m → InConflict s es q n m
-        go k =
-            let said = cell_said k.cell k.live in
-            let here : k.cell ≡ said_cell s es m k.cell.assignment =
-            ap₂ (λ (x : ℕ) (p : Option Position). record { number = x; assignment = k.cell.assignment; position = p }) k.number (said.1
-            ∙ ap (latest_position s es) k.number) in
-            record {
-              assignment = k.cell.assignment;
-              live = subst (λ (x : ℕ). LiveWith s es x k.cell.assignment) k.number said.0;
-              conflict = subst (λ (c : PlacedCell). Conflict q n c) here k.conflict;
-            }
+    pub listed_in_conflict : In m (numbers_listed (conflicts_of s (cells_of (placed_after s es)) n q places)) → InConflict s es q n m
+    listed_in_conflict i = named_in_conflict q n m (listed_conflicts s cells n q places cells_assigned m i)
 
     pub in_conflict_listed : WithinLimits q → MayAssign n q.width → InConflict s es q n m
-        → In m (numbers_listed (conflicts_of true (cells_of (placed_after s es)) n q places))
+        → In m (numbers_listed (conflicts_of s (cells_of (placed_after s es)) n q places))
     in_conflict_listed limits may k =
-        conflicts_listed true (cells_of (placed_after s es)) n q places refl limits may (said_cell s es m k.assignment)
-        (said_is_live m k.assignment k.live) k.conflict
+        conflicts_listed s cells n q places made limits may (said_cell s es m k.assignment) (said_is_live m k.assignment k.live) k.conflict
+
+  -- ==== "Given a range of carrier numbers, give the lowest that conflicts with none."
+  module _ (first last : ℕ) (q : Question) where
+    pub lowest_in_entries : (n : ℕ) → first_free s (cells_of (placed_after s es)) first last q ≡ Ok n → LowestFree s es q first last n
+    lowest_in_entries n e =
+        let l = free_lowest s cells first last q cells_assigned n e in
+        record {
+          from = l.from;
+          to = l.to;
+          free = λ m k. (let t = in_conflict_taken q n m k in l.free t.cell t.live t.conflict);
+          lower = λ k least less. taken_in_conflict q k (l.lower k least less);
+        }
+
+    -- "22, no carrier in the range is free, given only if every one conflicts"
+    pub none_free_in_entries : number_of (first_free s (cells_of (placed_after s es)) first last q) ≡ 22 → (k : ℕ) → first ≤ k → k ≤ last
+        → SomeInConflict s es q k
+    none_free_in_entries e k least most = taken_in_conflict q k (free_22_all_taken s cells first last q cells_assigned e k least most)
+
+    -- and back, of a question within its limits
+    module _ (limits : WithinLimits q) (low : MayAssign first q.width) (high : MayAssign last q.width) where
+      pub in_entries_lowest : (n : ℕ) → LowestFree s es q first last n → first_free s (cells_of (placed_after s es)) first last q ≡ Ok n
+      in_entries_lowest n l =
+          lowest_free_lem s cells first last q made limits low high cells_assigned n
+          (record {
+            from = l.from;
+            to = l.to;
+            free = λ c live k. l.free c.number (named_in_conflict q n c.number (record { cell = c; live = live; number = refl; conflict = k }));
+            lower = λ k least less. (let some = l.lower k least less in in_conflict_taken q k some.cell some.conflict);
+          })
+
+      pub in_entries_none_free : ((k : ℕ) → first ≤ k → k ≤ last → SomeInConflict s es q k)
+          → number_of (first_free s (cells_of (placed_after s es)) first last q) ≡ 22
+      in_entries_none_free all =
+          all_taken_is_22 s cells first last q made limits low high
+          (λ k least most. (let some = all k least most in in_conflict_taken q k some.cell some.conflict))

@@ -18,18 +18,20 @@ use Rattle.reach.specs.Reach.{reach_refusal_number, khz_at, clashing, blocked, l
 use Rattle.reach.specs.declared.PlacedCell.{PlacedCell}
 use Rattle.reach.specs.declared.Question.{Question}
 use Rattle.reach.specs.declared.ReachRefusal.{ReachRefusal}
-use Rattle.reach.proofs.Asking.{number_of, same_number, Cause, unmade, outside, not_assignable, none, the_cause, else_asked, asked_limits}
+use Rattle.group_register.specs.Settings.{unmade_by, is_made}
+use Rattle.group_register.specs.declared.RegisterSettings.{RegisterSettings}
+use Rattle.reach.proofs.Asking.{number_of, same_number, no_other, Cause, unmade, outside, not_assignable, none, the_cause, else_asked, asked_limits}
 use Rattle.reach.proofs.Meaning.{test_of_may, number_most, taken_of_test, test_of_taken, named_of_list, list_of_conflict, list_rises}
 use Rattle.reach.proofs.Raster.{on_raster}
 use Rattle.reach.proofs.Ranges.{Found, lowest_found, lowest_none, none_lowest, found_lowest}
 
 -- ==== "list the cells, by number, that overlap the carrier and lie within the distance of the position"
-module _ (made : Bool) (cs : List PlacedCell) (n : ℕ) (q : Question) (places : List ℕ) where
+module _ (s : RegisterSettings) (cs : List PlacedCell) (n : ℕ) (q : Question) (places : List ℕ) where
   abbrev list : Result ℕ ReachRefusal × List ℕ
-  list = conflicts_of made cs n q places
+  list = conflicts_of s cs n q places
 
   abbrev before : Result (Unit {0}) ReachRefusal
-  before = asked made q n n
+  before = asked s q n n
 
   in_front : (ns : List ℕ) → take (length ns) (at_front ns places) ≡ ns
   unfolding at_front
@@ -53,22 +55,22 @@ module _ (made : Bool) (cs : List PlacedCell) (n : ℕ) (q : Question) (places :
       go (Err why) e = subst⁻¹ P (numbers_none why e) empty
 
   -- what is listed is the number of a live cell in conflict
-  pub listed_conflicts : Assigned cs → (m : ℕ) → In m (numbers_listed (conflicts_of made cs n q places)) → Named q n cs m
+  pub listed_conflicts : Assigned cs → (m : ℕ) → In m (numbers_listed (conflicts_of s cs n q places)) → Named q n cs m
   listed_conflicts assigned m =
-      by_answer (λ (l : List ℕ). In m l → Named q n cs m) (λ e. named_of_list q n (asked_limits made q n n e).2 cs assigned m) (λ i. absurd i)
+      by_answer (λ (l : List ℕ). In m l → Named q n cs m) (λ e. named_of_list q n (asked_limits s q n n e).2 cs assigned m) (λ i. absurd i)
 
   -- and every live cell in conflict is listed
-  pub conflicts_listed : made ≡ true → WithinLimits q → MayAssign n q.width → (c : PlacedCell) → In c cs → Conflict q n c
-      → In c.number (numbers_listed (conflicts_of made cs n q places))
+  pub conflicts_listed : is_made s ≡ true → WithinLimits q → MayAssign n q.width → (c : PlacedCell) → In c cs → Conflict q n c
+      → In c.number (numbers_listed (conflicts_of s cs n q places))
   conflicts_listed m limits may c live k =
-      subst⁻¹ (λ (l : List ℕ). In c.number l) (numbers_are (else_asked made q n n m limits may may)) (list_of_conflict q n cs c live k)
+      subst⁻¹ (λ (l : List ℕ). In c.number l) (numbers_are (else_asked s q n n m limits may may)) (list_of_conflict q n cs c live k)
 
   -- "by number": the numbers rise, so none is listed twice
-  pub listed_rises : (low : ℕ) → RisingPlaced low cs → Rising low (numbers_listed (conflicts_of made cs n q places))
+  pub listed_rises : (low : ℕ) → RisingPlaced low cs → Rising low (numbers_listed (conflicts_of s cs n q places))
   listed_rises low r = by_answer (Rising low) (λ e. list_rises q (khz_at n) low cs r) tt
 
   -- the numbers with which a list is refused are those of Asking.antt
-  pub list_number : number_of (conflicts_of made cs n q places).0 ≡ number_of (asked made q n n)
+  pub list_number : number_of (conflicts_of s cs n q places).0 ≡ number_of (asked s q n n)
   unfolding conflicts_of
   list_number = go before
     where
@@ -77,23 +79,23 @@ module _ (made : Bool) (cs : List PlacedCell) (n : ℕ) (q : Question) (places :
       go (Err why) = refl
 
   -- a refused question leaves every place as it was
-  pub places_left : (why : ReachRefusal) → asked made q n n ≡ Err why → (conflicts_of made cs n q places).1 ≡ places
+  pub places_left : (why : ReachRefusal) → asked s q n n ≡ Err why → (conflicts_of s cs n q places).1 ≡ places
   unfolding conflicts_of
   places_left why e = ap (λ (r : Result (Unit {0}) ReachRefusal). (listed r (clashing q (khz_at n) cs) places).1) e
 
 -- ==== "Given a range of carrier numbers, give the lowest that conflicts with none."
-module _ (made : Bool) (cs : List PlacedCell) (first last : ℕ) (q : Question) where
+module _ (s : RegisterSettings) (cs : List PlacedCell) (first last : ℕ) (q : Question) where
   abbrev answer : Result ℕ ReachRefusal
-  answer = first_free made cs first last q
+  answer = first_free s cs first last q
 
   abbrev search : Result ℕ ReachRefusal
   search = lowest_free (blocked q cs) first (last + 1 - first)
 
-  pub searched : asked made q first last ≡ Ok tt → answer ≡ search
+  pub searched : asked s q first last ≡ Ok tt → answer ≡ search
   unfolding first_free
   searched e = ap (λ (r : Result (Unit {0}) ReachRefusal). unless_refused r search) e
 
-  not_searched : (why : ReachRefusal) → asked made q first last ≡ Err why → answer ≡ Err why
+  not_searched : (why : ReachRefusal) → asked s q first last ≡ Err why → answer ≡ Err why
   unfolding first_free
   not_searched why e = ap (λ (r : Result (Unit {0}) ReachRefusal). unless_refused r search) e
 
@@ -104,10 +106,10 @@ module _ (made : Bool) (cs : List PlacedCell) (first last : ℕ) (q : Question) 
       record { khz = khz_at m; on_raster = on_raster m (omega arith); from = may.from; to = may.to }
 
   -- ---- the carrier given is in the range, conflicts with none, and every lower one of the range conflicts with some
-  pub free_lowest : Assigned cs → (n : ℕ) → first_free made cs first last q ≡ Ok n → Lowest q cs first last n
-  free_lowest assigned n e = go (asked made q first last) refl
+  pub free_lowest : Assigned cs → (n : ℕ) → first_free s cs first last q ≡ Ok n → Lowest q cs first last n
+  free_lowest assigned n e = go (asked s q first last) refl
     where
-      go : (r : Result (Unit {0}) ReachRefusal) → asked made q first last ≡ r → Lowest q cs first last n
+      go : (r : Result (Unit {0}) ReachRefusal) → asked s q first last ≡ r → Lowest q cs first last n
       go (Err why) is = absurd (never (sym (not_searched why is) ∙ e))
         where
           never : Err why ≡ Ok n → ⊥
@@ -121,16 +123,16 @@ module _ (made : Bool) (cs : List PlacedCell) (first last : ℕ) (q : Question) 
           }
         where
           may : MayAssign last q.width
-          may = (asked_limits made q first last is).3
+          may = (asked_limits s q first last is).3
 
           found : Found (blocked q cs) first (first + (last + 1 - first)) n
           found = lowest_found (blocked q cs) first (last + 1 - first) n (sym (searched is) ∙ e)
 
   -- and there is no other such one
-  pub lowest_free_lem : made ≡ true → WithinLimits q → MayAssign first q.width → MayAssign last q.width → Assigned cs → (n : ℕ) → Lowest q cs first last n
-      → first_free made cs first last q ≡ Ok n
+  pub lowest_free_lem : is_made s ≡ true → WithinLimits q → MayAssign first q.width → MayAssign last q.width → Assigned cs → (n : ℕ) → Lowest q cs first last n
+      → first_free s cs first last q ≡ Ok n
   lowest_free_lem m limits low high assigned n l =
-      searched (else_asked made q first last m limits low high)
+      searched (else_asked s q first last m limits low high)
       ∙ found_lowest (blocked q cs) first (last + 1 - first) n
       (record {
         from = l.from;
@@ -148,14 +150,14 @@ module _ (made : Bool) (cs : List PlacedCell) (first last : ℕ) (q : Question) 
   searched_number (Err why) e =
       inr (ap number_of (sym e ∙ none_lowest (blocked q cs) first (last + 1 - first) (lowest_none (blocked q cs) first (last + 1 - first) why e)))
 
-  pub free_22_all_taken : Assigned cs → number_of (first_free made cs first last q) ≡ 22 → (m : ℕ) → first ≤ m → m ≤ last → Taken q m cs
-  free_22_all_taken assigned e m low high = go (the_cause made q first last)
+  pub free_22_all_taken : Assigned cs → number_of (first_free s cs first last q) ≡ 22 → (m : ℕ) → first ≤ m → m ≤ last → Taken q m cs
+  free_22_all_taken assigned e m low high = go (the_cause s q first last)
     where
-      refused : (why : ReachRefusal) → asked made q first last ≡ Err why → number_of answer ≡ number_of {A = ℕ} (Err why)
+      refused : (why : ReachRefusal) → asked s q first last ≡ Err why → number_of answer ≡ number_of {A = ℕ} (Err why)
       refused why is = ap number_of (not_searched why is)
 
-      go : Cause made q first last → Taken q m cs
-      go (unmade u is) = absurd (let z : ◌≡◌ {A = ℕ} 1 22 = same_number (number_of answer) (refused _ is) e in omega arith)
+      go : Cause s q first last → Taken q m cs
+      go (unmade u is) = absurd (no_other (unmade_by s) 22 (λ z. omega arith) (λ z. omega arith) (same_number (number_of answer) (refused _ is) e))
       go (outside u off is) = absurd (let z : ◌≡◌ {A = ℕ} 21 22 = same_number (number_of answer) (refused _ is) e in omega arith)
       go (not_assignable u limits may is) = absurd (let z : ◌≡◌ {A = ℕ} 14 22 = same_number (number_of answer) (refused _ is) e in omega arith)
       go (none u limits least most is) = searching search refl (ap number_of (sym (searched is)) ∙ e)
@@ -166,36 +168,36 @@ module _ (made : Bool) (cs : List PlacedCell) (first last : ℕ) (q : Question) 
               taken_of_test q m (within_range most m high) cs assigned (lowest_none (blocked q cs) first (last + 1 - first) why found m low (omega arith))
 
   -- only where neither 21 nor 14 is due
-  pub free_22_asked : number_of (first_free made cs first last q) ≡ 22 → asked made q first last ≡ Ok tt
-  free_22_asked e = go (the_cause made q first last)
+  pub free_22_asked : number_of (first_free s cs first last q) ≡ 22 → asked s q first last ≡ Ok tt
+  free_22_asked e = go (the_cause s q first last)
     where
-      refused : (why : ReachRefusal) → asked made q first last ≡ Err why → number_of answer ≡ number_of {A = ℕ} (Err why)
+      refused : (why : ReachRefusal) → asked s q first last ≡ Err why → number_of answer ≡ number_of {A = ℕ} (Err why)
       refused why is = ap number_of (not_searched why is)
 
-      go : Cause made q first last → asked made q first last ≡ Ok tt
-      go (unmade u is) = absurd (let z : ◌≡◌ {A = ℕ} 1 22 = same_number (number_of answer) (refused _ is) e in omega arith)
+      go : Cause s q first last → asked s q first last ≡ Ok tt
+      go (unmade u is) = absurd (no_other (unmade_by s) 22 (λ z. omega arith) (λ z. omega arith) (same_number (number_of answer) (refused _ is) e))
       go (outside u off is) = absurd (let z : ◌≡◌ {A = ℕ} 21 22 = same_number (number_of answer) (refused _ is) e in omega arith)
       go (not_assignable u limits may is) = absurd (let z : ◌≡◌ {A = ℕ} 14 22 = same_number (number_of answer) (refused _ is) e in omega arith)
       go (none u limits least most is) = is
 
-  pub all_taken_is_22 : made ≡ true → WithinLimits q → MayAssign first q.width → MayAssign last q.width
-      → ((m : ℕ) → first ≤ m → m ≤ last → Taken q m cs) → number_of (first_free made cs first last q) ≡ 22
+  pub all_taken_is_22 : is_made s ≡ true → WithinLimits q → MayAssign first q.width → MayAssign last q.width
+      → ((m : ℕ) → first ≤ m → m ≤ last → Taken q m cs) → number_of (first_free s cs first last q) ≡ 22
   all_taken_is_22 m limits low high all =
       ap number_of
-      (searched (else_asked made q first last m limits low high)
+      (searched (else_asked s q first last m limits low high)
       ∙ none_lowest (blocked q cs) first (last + 1 - first)
       (λ k least less. (let t = all k least (omega arith) in test_of_taken q k cs t.cell t.live t.conflict)))
 
-  pub empty_is_22 : made ≡ true → WithinLimits q → MayAssign first q.width → MayAssign last q.width → last < first
-      → number_of (first_free made cs first last q) ≡ 22
+  pub empty_is_22 : is_made s ≡ true → WithinLimits q → MayAssign first q.width → MayAssign last q.width → last < first
+      → number_of (first_free s cs first last q) ≡ 22
   empty_is_22 m limits low high empty = all_taken_is_22 m limits low high (λ k least most. absurd (omega arith))
 
   -- ---- the other numbers are those of Asking.antt: a question that is refused there is refused here, and else the search gives 0 or 22
-  pub free_number_asked : (why : ReachRefusal) → asked made q first last ≡ Err why → number_of (first_free made cs first last q) ≡ reach_refusal_number why
+  pub free_number_asked : (why : ReachRefusal) → asked s q first last ≡ Err why → number_of (first_free s cs first last q) ≡ reach_refusal_number why
   free_number_asked why e = ap number_of (not_searched why e)
 
-  pub free_number_searched : asked made q first last ≡ Ok tt
-      → (number_of (first_free made cs first last q) ≡ 0) ⊎ (number_of (first_free made cs first last q) ≡ 22)
+  pub free_number_searched : asked s q first last ≡ Ok tt
+      → (number_of (first_free s cs first last q) ≡ 0) ⊎ (number_of (first_free s cs first last q) ≡ 22)
   free_number_searched e = go (searched_number search refl)
     where
       go : (number_of search ≡ 0) ⊎ (number_of search ≡ 22) → (number_of answer ≡ 0) ⊎ (number_of answer ≡ 22)
@@ -203,9 +205,9 @@ module _ (made : Bool) (cs : List PlacedCell) (first last : ℕ) (q : Question) 
       go (inr z) = inr (ap number_of (searched e) ∙ z)
 
   -- and a question within its limits, with a free carrier in the range, has no number
-  pub some_free_is_0 : made ≡ true → WithinLimits q → MayAssign first q.width → MayAssign last q.width → Assigned cs → (m : ℕ) → first ≤ m → m ≤ last
-      → ((c : PlacedCell) → In c cs → Conflict q m c → ⊥) → number_of (first_free made cs first last q) ≡ 0
-  some_free_is_0 is limits low high assigned m least most free = go (free_number_searched (else_asked made q first last is limits low high))
+  pub some_free_is_0 : is_made s ≡ true → WithinLimits q → MayAssign first q.width → MayAssign last q.width → Assigned cs → (m : ℕ) → first ≤ m → m ≤ last
+      → ((c : PlacedCell) → In c cs → Conflict q m c → ⊥) → number_of (first_free s cs first last q) ≡ 0
+  some_free_is_0 is limits low high assigned m least most free = go (free_number_searched (else_asked s q first last is limits low high))
     where
       go : (number_of answer ≡ 0) ⊎ (number_of answer ≡ 22) → number_of answer ≡ 0
       go (inl e) = e

@@ -1,7 +1,7 @@
 -- Which cells are in conflict, from the entries alone (document 02, E11): the cell's latest taken assignment or release is an assignment, and its position is
 -- the one that the entries say.
 -- Assumes nothing.
-use Rattle.std.specs.Prelude.{◌≡◌, ℕ, List}
+use Rattle.std.specs.Prelude.{◌≡◌, ◌≤◌, ◌<◌, ℕ, List}
 use Rattle.register.specs.Taken.{is}
 use Rattle.register.specs.declared.Assignment.{Assignment}
 use Rattle.register.specs.declared.Change.TheVariants.{Assign}
@@ -26,3 +26,15 @@ pub record InConflict (s : RegisterSettings) (es : List Entry) (q : Question) (n
   pub assignment : Assignment
   pub live : LiveWith s es m assignment
   pub conflict : Conflict q n (said_cell s es m assignment)
+
+-- some live cell is in conflict with it
+pub record SomeInConflict (s : RegisterSettings) (es : List Entry) (q : Question) (n : ℕ) : Type 0 where
+  pub cell : ℕ
+  pub conflict : InConflict s es q n cell
+
+-- "the lowest that conflicts with none" of a range
+pub record LowestFree (s : RegisterSettings) (es : List Entry) (q : Question) (first last n : ℕ) : Type 0 where
+  pub from : first ≤ n
+  pub to : n ≤ last
+  pub free : (m : ℕ) → InConflict s es q n m → ⊥
+  pub lower : (k : ℕ) → first ≤ k → k < n → SomeInConflict s es q k

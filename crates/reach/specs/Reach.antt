@@ -5,6 +5,8 @@ use Rattle.std.specs.List.{filter}
 use Rattle.places.specs.Places.{at_front}
 use Rattle.raster.specs.Raster.{frequency_of, raster_value}
 use Rattle.register.specs.Register.{assignable}
+use Rattle.group_register.specs.Settings.{unmade_number, unmade_by, is_made}
+use Rattle.group_register.specs.declared.RegisterSettings.{RegisterSettings}
 use Rattle.positions.specs.Grid.{within_grid}
 use Rattle.positions.specs.declared.Position.{Position}
 use Rattle.reach.specs.Conflict.{squared}
@@ -15,7 +17,7 @@ use Rattle.reach.specs.declared.ReachRefusal.TheVariants.{Unmade, NotAssignable,
 
 -- document 02's number
 abbrev pub reach_refusal_number : ReachRefusal → ℕ
-reach_refusal_number Unmade = 1
+reach_refusal_number (Unmade why) = unmade_number why
 -- a carrier, width or range end outside its limits
 reach_refusal_number NotAssignable = 14
 -- position or distance outside the limits
@@ -66,9 +68,9 @@ abbrev pub may_ask : ℕ → ℕ → Bool
 may_ask carrier width = assignable (record { carrier = carrier; width = width })
 
 -- "21 first, then 14 for a carrier, width or range end outside its limits", behind the number of a register that is not made
-unfoldable pub asked : Bool → Question → ℕ → ℕ → Result (Unit {0}) ReachRefusal
-asked made q first last =
-    cond (not made) (Err Unmade)
+unfoldable pub asked : RegisterSettings → Question → ℕ → ℕ → Result (Unit {0}) ReachRefusal
+asked s q first last =
+    cond (not (is_made s)) (Err (Unmade (unmade_by s)))
     (cond (not (within_limits q)) (Err OutsideLimits)
     (cond (not (may_ask first q.width && may_ask last q.width)) (Err NotAssignable)
     (Ok tt)))
@@ -78,16 +80,16 @@ abbrev pub listed : Result (Unit {0}) ReachRefusal → List ℕ → List ℕ →
 listed (Ok u) ns places = (Ok (length ns), at_front ns places)
 listed (Err why) ns places = (Err why, places)
 
-unfoldable pub conflicts_of : Bool → List PlacedCell → ℕ → Question → List ℕ → Result ℕ ReachRefusal × List ℕ
-conflicts_of made cs n q places = listed (asked made q n n) (clashing q (khz_at n) cs) places
+unfoldable pub conflicts_of : RegisterSettings → List PlacedCell → ℕ → Question → List ℕ → Result ℕ ReachRefusal × List ℕ
+conflicts_of s cs n q places = listed (asked s q n n) (clashing q (khz_at n) cs) places
 
 abbrev pub unless_refused : Result (Unit {0}) ReachRefusal → Result ℕ ReachRefusal → Result ℕ ReachRefusal
 unless_refused (Ok u) answer = answer
 unless_refused (Err why) answer = Err why
 
 -- both ends belong to the range
-unfoldable pub first_free : Bool → List PlacedCell → ℕ → ℕ → Question → Result ℕ ReachRefusal
-first_free made cs first last q = unless_refused (asked made q first last) (lowest_free (blocked q cs) first (last + 1 - first))
+unfoldable pub first_free : RegisterSettings → List PlacedCell → ℕ → ℕ → Question → Result ℕ ReachRefusal
+first_free s cs first last q = unless_refused (asked s q first last) (lowest_free (blocked q cs) first (last + 1 - first))
 
 -- the numbers that an answer lists: none where it is refused
 abbrev pub numbers_listed : Result ℕ ReachRefusal × List ℕ → List ℕ

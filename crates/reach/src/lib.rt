@@ -1,14 +1,15 @@
 // Conflicts within reach, and the first free carrier (document 02, E11), over the live cells of a register with positions.
 #![tactic(auto)]
 
-ghost use Rattle.std.specs.Prelude.{◌≡◌, ◌+◌, ◌*◌, ◌-◌, ◌≤◌, ◌<◌, Bool, ℕ, List, length, take, get_or, min};
+ghost use Rattle.std.specs.Prelude.{◌≡◌, ◌+◌, ◌*◌, ◌-◌, ◌≤◌, ◌<◌, ℕ, List, length, take, get_or, min};
 ghost use Rattle.places.specs.Places.{at_front};
-ghost use Rattle.group_register.specs.Settings.{is_made};
 ghost use Rattle.reach.specs.Cells.{cells_of};
 ghost use Rattle.reach.specs.Reach.{within_limits, near, khz_at, clashes, clashing, may_ask, asked, reach_refusal_number, conflicts_of, first_free, lowest_free};
+ghost use Rattle.group_register.specs.declared.RegisterSettings.{RegisterSettings};
 ghost use Rattle.reach.specs.declared.PlacedCell.{PlacedCell};
 ghost use Rattle.reach.specs.Search.{edges_of, contain, near_edges, in_the_way, is_in_the_way, FirstFrom, Askable};
 
+use group_register::{RegisterSettings, UnmadeBy};
 use positions::{PlacedRegister, Position};
 use raster::frequency_of;
 use refusals::Refused;
@@ -34,10 +35,10 @@ pub struct Question {
 // outside its limits; no carrier in the range is free.
 #[derive(Clone, Copy, PartialEq, Eq, Debug)]
 pub enum ReachRefusal {
-    Unmade = 1,
-    NotAssignable = 14,
-    OutsideLimits = 21,
-    NoneFree = 22,
+    Unmade(UnmadeBy),
+    NotAssignable,
+    OutsideLimits,
+    NoneFree,
 }
 
 impl Refused for ReachRefusal {
@@ -45,19 +46,24 @@ impl Refused for ReachRefusal {
 
     // Document 02's number.
     fn number(self) -> u64 {
-        self as u64
+        match self {
+            ReachRefusal::Unmade(why) => why.number(),
+            ReachRefusal::NotAssignable => 14,
+            ReachRefusal::OutsideLimits => 21,
+            ReachRefusal::NoneFree => 22,
+        }
     }
 }
 
 // The live cells of a register with positions, by number, whatever the register is made of.
 pub trait PlacedCells {
-    // Whether the register is made.
-    ghost made: { Self → Bool };
+    // What the register keeps of the settings of its group.
+    ghost settings: { Self → RegisterSettings };
 
     ghost cells: { Self → List PlacedCell };
 
-    fn is_made(&self) -> bool
-        ensures { result ≡ made self.now };
+    fn settings(&self) -> RegisterSettings
+        ensures { result ≡ settings self.now };
 
     // How many there are: no more than 512.
     fn live(&self) -> usize
@@ -77,12 +83,12 @@ fn have_places(cells: &[Cell; 512], positions: &[Option<Position>; 512])
 
 // The live cells of a register by value.
 impl PlacedCells for PlacedRegister {
-    ghost made = { λ p. is_made p.group.settings };
+    ghost settings = { λ p. p.group.settings };
 
     ghost cells = { cells_of };
 
-    fn is_made(&self) -> bool {
-        self.group.settings.is_made()
+    fn settings(&self) -> RegisterSettings {
+        self.group.settings
     }
 
     #[tactic(auto, using(crate::proofs::Cells::live_length))]
@@ -297,11 +303,16 @@ fn may_ask(carrier: u64, width: u64) -> bool
 
 // "21 first, then 14 for a carrier, width or range end outside its limits", behind the number of a register that is not made.
 #[tactic(auto, unfolding(crate::specs::Reach::asked))]
-fn asked(made: bool, question: Question, first: u64, last: u64) -> Result<(), ReachRefusal>
-    ensures { result ≡ asked made question first last }
+fn asked(
+    settings: RegisterSettings,
+    question: Question,
+    first: u64,
+    last: u64,
+) -> Result<(), ReachRefusal>
+    ensures { result ≡ asked settings question first last }
 {
-    if !made {
-        return Err(ReachRefusal::Unmade);
+    if !settings.is_made() {
+        return Err(ReachRefusal::Unmade(settings.unmade_by()));
     }
     if !question.within_limits() {
         return Err(ReachRefusal::OutsideLimits);
@@ -321,9 +332,9 @@ pub fn conflicts_of<C: PlacedCells>(
     question: Question,
     numbers: &mut [u64; 512],
 ) -> Result<usize, ReachRefusal>
-    ensures { (result, numbers.new) ≡ conflicts_of (C.made cells.now) (C.cells cells.now) carrier question numbers.old }
+    ensures { (result, numbers.new) ≡ conflicts_of (C.settings cells.now) (C.cells cells.now) carrier question numbers.old }
 {
-    asked(cells.is_made(), question, carrier, carrier)?;
+    asked(cells.settings(), question, carrier, carrier)?;
     Ok(list_cells(cells, khz_at(carrier), question, numbers))
 }
 
@@ -335,9 +346,9 @@ pub fn first_free<C: PlacedCells>(
     last: u64,
     question: Question,
 ) -> Result<u64, ReachRefusal>
-    ensures { result ≡ first_free (C.made cells.now) (C.cells cells.now) first last question }
+    ensures { result ≡ first_free (C.settings cells.now) (C.cells cells.now) first last question }
 {
-    asked(cells.is_made(), question, first, last)?;
+    asked(cells.settings(), question, first, last)?;
     let near = near_edges(cells, question);
     search(&near.edges[..near.count], first, last)
 }

@@ -24,7 +24,7 @@ use Rattle.register_lines.specs.Written.{change_line, entry_line, ChangeFits, En
 
 -- ---- words
 
-entry_begins : (rest : List ℕ) → begins (ascii "entry ") (ascii "entry " ++ rest) ≡ true
+pub entry_begins : (rest : List ℕ) → begins (ascii "entry ") (ascii "entry " ++ rest) ≡ true
 unfolding begins same_to
 entry_begins rest = ap (λ (t : Bool). cond t false true) (le-ltb (length (ascii "entry " ++ rest)) 6 (omega arith))
 
@@ -36,12 +36,21 @@ r_begins : (rest : List ℕ) → begins (ascii "r ") (ascii "r " ++ rest) ≡ tr
 unfolding begins same_to
 r_begins rest = ap (λ (t : Bool). cond t false true) (le-ltb (length (ascii "r " ++ rest)) 2 (omega arith))
 
+-- an entry line is no line that begins a register
+pub entry_no_register : (rest : List ℕ) → begins (ascii "register ") (ascii "entry " ++ rest) ≡ false
+unfolding begins same_to
+entry_no_register rest = of-both (λ (t : Bool). t ≡ false) (ltb (length (ascii "entry " ++ rest)) 9) refl refl
+
+pub register_begins : (rest : List ℕ) → begins (ascii "register ") (ascii "register " ++ rest) ≡ true
+unfolding begins same_to
+register_begins rest = ap (λ (t : Bool). cond t false true) (le-ltb (length (ascii "register " ++ rest)) 9 (omega arith))
+
 r_no_a : (rest : List ℕ) → begins (ascii "a ") (ascii "r " ++ rest) ≡ false
 unfolding begins same_to
 r_no_a rest = of-both (λ (t : Bool). t ≡ false) (ltb (length (ascii "r " ++ rest)) 2) refl refl
 
 -- behind a letter and its blank
-behind_letter : (line : List ℕ) (at a b : ℕ) (rest : List ℕ) → drop at line ≡ a ∷ b ∷ rest → drop (next_field line (next_field line at)) line ≡ rest
+pub behind_letter : (line : List ℕ) (at a b : ℕ) (rest : List ℕ) → drop at line ≡ a ∷ b ∷ rest → drop (next_field line (next_field line at)) line ≡ rest
 unfolding next_field
 behind_letter line at a b rest e =
     let long : length line - at ≡ suc (suc (length rest)) = sym (length-drop at line) ∙ ap length e in
@@ -70,7 +79,7 @@ release_read : (line : List ℕ) (at n : ℕ) → n ≤ 4294967295 → drop at l
 unfolding release_at release_of
 release_read line at n ln e = simp (last_read line at n (omega arith) e, last_ends line at n e, le-ltb 4294967295 n ln)
 
-change_read : (line : List ℕ) (at n : ℕ) (k : Change) → n ≤ 4294967295 → ChangeFits k → drop at line ≡ change_line n k
+pub change_read : (line : List ℕ) (at n : ℕ) (k : Change) → n ≤ 4294967295 → ChangeFits k → drop at line ≡ change_line n k
     → change_at line at ≡ Some (record { cell = n; change = k; end = length line })
 unfolding change_at field
 change_read line at n (Assign a) ln fits e =

@@ -5,7 +5,7 @@ use Prim.Native.Nat.{ℕ, ◌*◌, ◌≤◌}
 use native.Mathlib.Nat.{mul-le-mul_left, le_trans}
 use native.Mathlib.Omega.{arith}
 use lib.ListN.{length, length-append, length-take}
-use Rattle.texts.specs.Text.{each}
+use Rattle.texts.specs.Text.{ascii, each}
 use Rattle.texts.proofs.Lengths.{number, decimal_length, each_length}
 use Rattle.line_fields.specs.Fields.{line_text}
 use Rattle.register.specs.Register.{live_places, live_cells}
@@ -16,25 +16,29 @@ use Rattle.register.specs.declared.Entered.{Entered}
 use Rattle.register.specs.declared.Entered.TheVariants.{Done, Older}
 use Rattle.report.proofs.Room.{figures_length}
 use Rattle.basics.proofs.Tests.{of-both}
-use Rattle.group_register.specs.Settings.{is_made}
+use Rattle.group_register.specs.Settings.{settings_refusal, is_made}
 use Rattle.group_register.specs.GroupRegister.{group_refusal_number}
 use Rattle.group_register.specs.declared.GroupApplied.{GroupApplied}
 use Rattle.group_register.specs.declared.GroupRefusal.{GroupRefusal}
 use Rattle.group_register.specs.declared.GroupRegister.{GroupRegister}
 use Rattle.group_register.specs.declared.RegisterSettings.{RegisterSettings}
-use Rattle.register_lines.specs.Answers.{begun_text, outcome_text, figures_answer, cell_text, cells_text, group_figures_answer, group_cells_text, register_answer}
+use Rattle.register_lines.specs.Answers.{begun_text, outcome_text, figures_answer, no_figures, cell_text, cells_text, group_figures_answer, group_cells_text, register_answer}
 use Rattle.register_lines.specs.declared.RegisterQuestion.{RegisterQuestion}
 use Rattle.register_lines.specs.declared.RegisterQuestion.TheVariants.{Begin, Enter, ReportLine, CellList}
 
+refused_length : (n : ℕ) → length (line_text (ascii "refused") n) ≤ 29
+unfolding line_text
+refused_length n = simp length-append (omega (arith, number n))
+
 begun_length : (s : RegisterSettings) → length (begun_text s) ≤ 29
 unfolding begun_text
-begun_length s = of-both (λ (l : List ℕ). length l ≤ 29) (is_made s) (omega arith) (omega arith)
+begun_length s = of-both (λ (l : List ℕ). length l ≤ 29) (is_made s) (omega arith) (refused_length (settings_refusal s))
 
 outcome_length : (o : Result Entered GroupRefusal) → length (outcome_text o) ≤ 29
-unfolding outcome_text line_text
+unfolding outcome_text
 outcome_length (Ok Done) = omega arith
 outcome_length (Ok Older) = omega arith
-outcome_length (Err why) = simp length-append (omega (arith, number (group_refusal_number why)))
+outcome_length (Err why) = refused_length (group_refusal_number why)
 
 figures_answer_length : (r : Register) → length (figures_answer r) ≤ 84
 unfolding figures_answer
@@ -53,12 +57,15 @@ cells_length r =
     simp length-append (omega (arith, decimal_length (live_places r)))
 
 group_figures_length : (g : GroupRegister) → length (group_figures_answer g) ≤ 84
-unfolding group_figures_answer
-group_figures_length g = of-both (λ (l : List ℕ). length l ≤ 84) (is_made g.settings) (figures_answer_length g.register) (omega arith)
+unfolding group_figures_answer no_figures
+group_figures_length g =
+    of-both (λ (l : List ℕ). length l ≤ 84) (is_made g.settings) (figures_answer_length g.register)
+    (simp length-append (omega (arith, decimal_length (settings_refusal g.settings))))
 
 group_cells_length : (g : GroupRegister) → length (group_cells_text g) ≤ 34837
 unfolding group_cells_text
-group_cells_length g = of-both (λ (l : List ℕ). length l ≤ 34837) (is_made g.settings) (cells_length g.register) (omega arith)
+group_cells_length g =
+    of-both (λ (l : List ℕ). length l ≤ 34837) (is_made g.settings) (cells_length g.register) (omega (arith, refused_length (settings_refusal g.settings)))
 
 pub register_answer_length : (q : RegisterQuestion) (a : GroupApplied) → length (register_answer q a) ≤ 34837
 unfolding register_answer

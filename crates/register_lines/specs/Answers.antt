@@ -9,7 +9,7 @@ use Rattle.register.specs.declared.Register.{Register}
 use Rattle.register.specs.declared.Entered.{Entered}
 use Rattle.register.specs.declared.Entered.TheVariants.{Done, Older}
 use Rattle.report.specs.Report.{figures_text}
-use Rattle.group_register.specs.Settings.{settings_from, is_made}
+use Rattle.group_register.specs.Settings.{settings_from, settings_refusal, is_made}
 use Rattle.group_register.specs.GroupRegister.{new_group_register, group_refusal_number, group_done, apply_in_group}
 use Rattle.group_register.specs.declared.GroupApplied.{GroupApplied}
 use Rattle.group_register.specs.declared.GroupRefusal.{GroupRefusal}
@@ -22,9 +22,9 @@ use Rattle.register_lines.specs.declared.RegisterQuestion.TheVariants.{Begin, En
 abbrev pub first_register : GroupRegister
 first_register = new_group_register (settings_from 9223372036854775806)
 
--- of a register that is begun: it is made, or its settings give 1
+-- of a register that is begun: it is made, or its settings give their number
 unfoldable pub begun_text : RegisterSettings → List ℕ
-begun_text s = cond (is_made s) (ascii "made\n") (ascii "refused 1\n")
+begun_text s = cond (is_made s) (ascii "made\n") (line_text (ascii "refused") (settings_refusal s))
 
 unfoldable pub outcome_text : Result Entered GroupRefusal → List ℕ
 outcome_text (Ok Done) = ascii "done\n"
@@ -35,6 +35,10 @@ outcome_text (Err why) = line_text (ascii "refused") (group_refusal_number why)
 unfoldable pub figures_answer : Register → List ℕ
 figures_answer r = figures_text r.figures (live_places r) ++ ascii "\n"
 
+-- in its place, of a register that is not made, by its number
+unfoldable pub no_figures : ℕ → List ℕ
+no_figures number = ascii "refused," ++ decimal number ++ ascii "\n"
+
 -- number, carrier, width; it has no position
 unfoldable pub cell_text : Cell → List ℕ
 cell_text c = ascii "; " ++ decimal c.number ++ field c.assignment.carrier ++ field c.assignment.width ++ ascii " - -"
@@ -43,12 +47,12 @@ cell_text c = ascii "; " ++ decimal c.number ++ field c.assignment.carrier ++ fi
 unfoldable pub cells_text : Register → List ℕ
 cells_text r = decimal (live_places r) ++ each cell_text (live_cells r) ++ ascii "\n"
 
--- of a register that is not made "`refused,1`" stands in place of the figures, and "`refused N`" in place of the cells
+-- of a register that is not made "`refused,1` or `refused,17`" stands in place of the figures, and "`refused N`" in place of the cells
 unfoldable pub group_figures_answer : GroupRegister → List ℕ
-group_figures_answer g = cond (is_made g.settings) (figures_answer g.register) (ascii "refused,1\n")
+group_figures_answer g = cond (is_made g.settings) (figures_answer g.register) (no_figures (settings_refusal g.settings))
 
 unfoldable pub group_cells_text : GroupRegister → List ℕ
-group_cells_text g = cond (is_made g.settings) (cells_text g.register) (ascii "refused 1\n")
+group_cells_text g = cond (is_made g.settings) (cells_text g.register) (line_text (ascii "refused") (settings_refusal g.settings))
 
 -- ---- the register after a question, and the answer
 

@@ -1,5 +1,4 @@
 -- What the contracts of `register_lines` cite, and how entries are written.
 pub mod Entries
 pub mod Answers
-pub mod Reports
 pub mod Written

@@ -1,6 +1,6 @@
 -- Entries as they are written on a line, in decimal: what a line must be read as. No function computes these.
 -- Assumes nothing.
-use Rattle.std.specs.Prelude.{List, [], ◌∷◌, ◌++◌, ℕ, ◌≤◌}
+use Rattle.std.specs.Prelude.{List, ◌++◌, ℕ, ◌≤◌}
 use Rattle.texts.specs.Text.{ascii, field}
 use Rattle.register.specs.declared.Change.{Change}
 use Rattle.register.specs.declared.Change.TheVariants.{Assign, Release}
@@ -19,10 +19,6 @@ entry_line e = ascii "entry" ++ (field e.slot ++ (ascii " " ++ change_line e.cel
 abbrev pub register_line : ℕ → List ℕ
 register_line slot = ascii "register" ++ field slot
 
-unfoldable pub entry_lines : List CellEntry → List (List ℕ)
-entry_lines [] = []
-entry_lines (e ∷ es) = entry_line e ∷ entry_lines es
-
 -- the numbers have 64 bits, and a cell's 32
 abbrev pub ChangeFits : Change → Type 0
 ChangeFits (Assign a) = (a.carrier ≤ 18446744073709551615) × (a.width ≤ 18446744073709551615)
@@ -30,7 +26,3 @@ ChangeFits Release = Unit {0}
 
 abbrev pub EntryFits : CellEntry → Type 0
 EntryFits e = (e.slot ≤ 18446744073709551615) × (e.cell ≤ 4294967295) × ChangeFits e.change
-
-abbrev pub EntriesFit : List CellEntry → Type 0
-EntriesFit [] = Unit {0}
-EntriesFit (e ∷ es) = EntryFits e × EntriesFit es

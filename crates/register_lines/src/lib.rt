@@ -5,13 +5,11 @@
 ghost use Rattle.std.specs.Prelude.{◌≡◌};
 ghost use Rattle.texts.specs.Text.{put};
 ghost use Rattle.register_lines.specs.Entries.{assignment_of, assignment_at, release_of, release_at, change_at, entry_at, entry_with, entry_of};
-ghost use Rattle.register_lines.specs.Answers.{first_register, begun_text, outcome_text, figures_answer, cell_text, cells_text, group_figures_answer, group_cells_text, after_question, register_answer};
-ghost use Rattle.register_lines.specs.Reports.{lines_taken, take_entry, take_settings, take_first, take_line, no_lines, page_after};
+ghost use Rattle.register_lines.specs.Answers.{first_register, begun_text, outcome_text, figures_answer, no_figures, cell_text, cells_text, group_figures_answer, group_cells_text, after_question, register_answer};
 
 use group_register::{GroupApplied, GroupRefusal, GroupRegister, RegisterSettings};
 use refusals::Refused;
 use register::{Assignment, Cell, CellEntry, CellNumber, Change, Entered, Register, live_places};
-use report::ReportPage;
 use texts::Output;
 
 // What a line says of a cell, and where that ends.
@@ -29,13 +27,6 @@ pub enum RegisterQuestion {
     Enter(CellEntry),
     ReportLine,
     CellList,
-}
-
-// The register after the lines of an input so far, and whether there were any.
-#[derive(Clone, Copy)]
-pub struct LinesTaken {
-    pub group: GroupRegister,
-    pub begun: bool,
 }
 
 // The last slot: without another in the line, widths are in whole MHz from it on.
@@ -171,7 +162,7 @@ pub fn first_register() -> GroupRegister
     GroupRegister::new(RegisterSettings::from_slot(LAST_SLOT))
 }
 
-// Of a register that is begun, with LF: it is made, or its settings give 1.
+// Of a register that is begun, with LF: it is made, or its settings give their number.
 #[tactic(auto, unfolding(crate::specs::Answers::begun_text))]
 pub fn put_begun(out: &mut Output<'_>, settings: RegisterSettings)
     ensures { out.new ≡ put (begun_text settings) out.old }
@@ -179,7 +170,7 @@ pub fn put_begun(out: &mut Output<'_>, settings: RegisterSettings)
     if settings.is_made() {
         out.put_bytes(b"made\n");
     } else {
-        out.put_bytes(b"refused 1\n");
+        line_fields::put_line(out, b"refused", settings.refusal());
     }
 }
 
@@ -202,6 +193,16 @@ fn put_figures_answer(out: &mut Output<'_>, register: &Register)
 {
     let live = live_places(register.live_count) as u64;
     report::put_figures(out, register.figures, live);
+    out.put_byte(b'\n');
+}
+
+// In place of the figures, with LF.
+#[tactic(auto, using(texts::proofs::Putting::put_append), unfolding(crate::specs::Answers::no_figures, texts::specs::Text::put))]
+fn put_no_figures(out: &mut Output<'_>, number: u64)
+    ensures { out.new ≡ put (no_figures number) out.old }
+{
+    out.put_bytes(b"refused,");
+    out.put_number(number);
     out.put_byte(b'\n');
 }
 
@@ -239,7 +240,7 @@ fn put_group_figures(out: &mut Output<'_>, group: &GroupRegister)
     if group.settings.is_made() {
         put_figures_answer(out, &group.register);
     } else {
-        out.put_bytes(b"refused,1\n");
+        put_no_figures(out, group.settings.refusal());
     }
 }
 
@@ -251,7 +252,7 @@ fn put_group_cells(out: &mut Output<'_>, group: &GroupRegister)
     if group.settings.is_made() {
         put_cells(out, &group.register);
     } else {
-        out.put_bytes(b"refused 1\n");
+        line_fields::put_line(out, b"refused", group.settings.refusal());
     }
 }
 
@@ -279,74 +280,5 @@ pub fn put_answer(out: &mut Output<'_>, question: RegisterQuestion, applied: &Gr
         RegisterQuestion::Enter(_) => put_outcome(out, applied.outcome),
         RegisterQuestion::ReportLine => put_group_figures(out, &applied.group),
         RegisterQuestion::CellList => put_group_cells(out, &applied.group),
-    }
-}
-
-// ---- a report of entry lines: the register after the lines so far, where each of them was an entry line, or the first began the register
-
-// Before any line.
-pub fn no_lines() -> Option<LinesTaken>
-    ensures { result ≡ no_lines }
-{
-    Some(LinesTaken {
-        group: first_register(),
-        begun: false,
-    })
-}
-
-// After at least one line.
-fn lines_taken(group: GroupRegister) -> Option<LinesTaken>
-    ensures { result ≡ lines_taken group }
-{
-    Some(LinesTaken { group, begun: true })
-}
-
-#[tactic(auto, unfolding(crate::specs::Reports::take_entry))]
-fn take_entry(group: GroupRegister, entry: Option<CellEntry>) -> Option<LinesTaken>
-    ensures { result ≡ take_entry group entry }
-{
-    let given = entry?;
-    lines_taken(group_register::apply(group, given).group)
-}
-
-#[tactic(auto, unfolding(crate::specs::Reports::take_settings))]
-fn take_settings(slot: Option<u64>) -> Option<LinesTaken>
-    ensures { result ≡ take_settings slot }
-{
-    let from = slot?;
-    lines_taken(GroupRegister::new(RegisterSettings::from_slot(from)))
-}
-
-// The first line, which may be `register SLOT`.
-#[tactic(auto, unfolding(crate::specs::Reports::take_first))]
-fn take_first(group: GroupRegister, line: &[u8]) -> Option<LinesTaken>
-    ensures { result ≡ take_first group line.now }
-{
-    if line_fields::begins(line, b"register ") {
-        return take_settings(line_fields::number_from(line, 9));
-    }
-    take_entry(group, entry_of(line))
-}
-
-// One more line, without its LF. A line that is none of these is not forgotten.
-#[tactic(auto, unfolding(crate::specs::Reports::take_line))]
-pub fn take_line(taken: Option<LinesTaken>, line: &[u8]) -> Option<LinesTaken>
-    ensures { result ≡ take_line taken line.now }
-{
-    let lines = taken?;
-    if lines.begun {
-        return take_entry(lines.group, entry_of(line));
-    }
-    take_first(lines.group, line)
-}
-
-// What is printed when the input ends.
-#[tactic(auto, unfolding(crate::specs::Reports::page_after))]
-pub fn page_after(taken: Option<LinesTaken>) -> ReportPage
-    ensures { result ≡ page_after taken }
-{
-    match taken {
-        Some(lines) => group_register::page(lines.group),
-        None => report::refusal(),
     }
 }

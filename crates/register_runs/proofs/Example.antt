@@ -1,7 +1,7 @@
 -- A run of three members in Paxos mode, computed: it is legal, all three commit value 10 in slot 0, and their hosts take it as an assignment of
 -- cell 7. So every hypothesis of the law holds somewhere, and the registers are not empty.
 -- Assumes nothing.
-use Rattle.std.specs.Prelude.{None}
+use Rattle.std.specs.Prelude.{None, Ok}
 use mathlib.Core.Path.{◌≡◌, refl, sym, ap, ◌∙◌}
 use mathlib.Core.List.{List, [], ◌∷◌}
 use mathlib.Core.Logic.{inl, inr}
@@ -21,6 +21,7 @@ use Rattle.group.proofs.Computed.{computed}
 use Rattle.group.proofs.Example.{three, proposes, hears, first}
 use Rattle.register_runs.specs.Members.{CellChange, entry_for_commit, entries_for, register_of_member}
 use Rattle.register_runs.proofs.Agreeing.{whole, members_hold_equal_registers, members_hold_equal_registers_from}
+use Rattle.windows.specs.Windows.{all_fit, check_windows}
 use Rattle.group_settings.specs.declared.GroupSettings.{GroupSettings}
 use Rattle.group_settings_runs.specs.Groups.{group_entries}
 use Rattle.group_settings_runs.proofs.EngineRuns.{engine_legal, engine_entries}
@@ -69,15 +70,19 @@ members_0_and_2 =
     members_hold_equal_registers (three Paxos) tt calls calls_legal (settings_from 5) says 0 2 run run (whole run) (whole run)
     (all_assign_cell_7.0 ∙ sym all_assign_cell_7.1)
 
--- the same calls on a group that is begun from group settings, whose slot of whole MHz is 5
+-- the same calls on a group that is begun from group settings, whose slot of whole MHz is 5, and which has no windows
 abbrev group : GroupSettings
-group = record { settings = three Paxos; whole_mhz_from = 5 }
+group = record { settings = three Paxos; whole_mhz_from = 5; windows = record { places = []; count = 0 } }
+
+no_windows : check_windows group.windows ≡ Ok tt
+unfolding check_windows all_fit
+no_windows = refl
 
 abbrev run_from : List Entry
 run_from = group_entries ours group calls
 
 pub members_0_and_2_from : register_of_member (settings_from 5) says 0 run_from ≡ register_of_member (settings_from 5) says 2 run_from
 members_0_and_2_from =
-    let same = engine_entries group (omega arith) calls ours in
-    members_hold_equal_registers_from group tt calls ((engine_legal group (omega arith) calls ours).1 calls_legal) (settings_from 5) says 0 2 run_from run_from
+    let same = engine_entries group (omega arith) no_windows calls ours in
+    members_hold_equal_registers_from group tt calls ((engine_legal group (omega arith) no_windows calls ours).1 calls_legal) (settings_from 5) says 0 2 run_from run_from
     (whole run_from) (whole run_from) (ap (slot_at 0) same ∙ all_assign_cell_7.0 ∙ sym (ap (slot_at 2) same ∙ all_assign_cell_7.1))

@@ -9,7 +9,7 @@ use native.Mathlib.Omega.{arith}
 use lib.ListN.{length, length-append}
 use Rattle.message.specs.Refusals.{refusal_number}
 use Rattle.message.specs.declared.Refusal.{Refusal}
-use Rattle.message.specs.declared.Refusal.TheVariants.{SettingsOutsideLimits, NumberTooLarge, NoSuchProcess, OtherLastValue, SlotAhead, ValueNotHeld, SourceNotLive, Panic, AcceptUnlikeHeld, SecondFastAnswer, ProposalNotAllowed, NoRoomForRead}
+use Rattle.message.specs.declared.Refusal.TheVariants.{SettingsOutsideLimits, NumberTooLarge, NoSuchProcess, OtherLastValue, SlotAhead, ValueNotHeld, SourceNotLive, Panic, AcceptUnlikeHeld, SecondFastAnswer, ProposalNotAllowed, NoRoomForRead, NotInCalendar}
 use Rattle.read_tracker.specs.declared.ServedRead.{ServedRead}
 use Rattle.calls.specs.declared.Reply.{Reply}
 use Rattle.texts.specs.Text.{field, each, fields}
@@ -30,6 +30,7 @@ refusal_short AcceptUnlikeHeld = short 9 (omega arith)
 refusal_short SecondFastAnswer = short 10 (omega arith)
 refusal_short ProposalNotAllowed = short 11 (omega arith)
 refusal_short NoRoomForRead = short 12 (omega arith)
+refusal_short NotInCalendar = short 17 (omega arith)
 
 outcome : (o : Outcome) → length (outcome_text o) ≤ 10
 unfolding outcome_text fields each

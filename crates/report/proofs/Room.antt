@@ -13,7 +13,7 @@ use Rattle.texts.specs.Text.{with_bytes, put_byte, put}
 use Rattle.texts.proofs.Lengths.{put_fits, decimal_length}
 use Rattle.register.specs.declared.Figures.{Figures}
 use Rattle.report.specs.declared.ReportPage.{ReportPage}
-use Rattle.report.specs.Report.{report_header, figure_text, figures_text, report_text, page_holding}
+use Rattle.report.specs.Report.{report_header, figure_text, figures_text, report_text, refusal_text, page_holding}
 
 figure_length : (n b : ℕ) → length (figure_text n b) ≤ 21
 unfolding figure_text
@@ -28,6 +28,10 @@ figures_length f live =
 pub report_length : (f : Figures) (live : ℕ) → length (report_text f live) ≤ 116
 unfolding report_text report_header
 report_length f live = simp length-append (omega (arith, figures_length f live))
+
+pub refusal_length : (number : ℕ) → length (refusal_text number) ≤ 116
+unfolding refusal_text
+refusal_length number = simp length-append (omega (arith, decimal_length number))
 
 -- what is left of 116 zeros
 drop_zeros : (k : ℕ) → k ≤ 116 → drop {A = ℕ} k (replicate 116 0) ≡ replicate (116 - k) 0

@@ -23,9 +23,9 @@ figures_text f live = figure_text f.made 44 ++ figure_text f.superseded 44 ++ fi
 unfoldable pub report_text : Figures → ℕ → List ℕ
 report_text f live = report_header ++ figures_text f live ++ (13 ∷ 10 ∷ [])
 
--- in place of a report: document 01's "the one line `refused,1`"
-unfoldable pub refusal_text : List ℕ
-refusal_text = ascii "refused,1" ++ (13 ∷ 10 ∷ [])
+-- in place of a report: the one line `refused,1`, as document 01 has it, or `refused,17`, by the number
+unfoldable pub refusal_text : ℕ → List ℕ
+refusal_text number = ascii "refused," ++ decimal number ++ (13 ∷ 10 ∷ [])
 
 -- a text, followed by zeros up to 116 bytes, and its length
 unfoldable pub page_holding : List ℕ → ReportPage

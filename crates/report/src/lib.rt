@@ -63,13 +63,23 @@ pub fn report(register: Register) -> ReportPage
     page_with(register.figures, live_places(register.live_count) as u64)
 }
 
-// The page for what is no list of entries: the one line `refused,1`, as the quorum sheet's.
-pub fn refusal() -> ReportPage
-    ensures { result ≡ page_holding refusal_text }
+#[tactic(auto, using(texts::proofs::Putting::put_append), unfolding(crate::specs::Report::refusal_text, texts::specs::Text::put))]
+fn put_refusal(out: &mut Output<'_>, number: u64)
+    ensures { out.new ≡ put (refusal_text number) out.old }
+{
+    out.put_bytes(b"refused,");
+    out.put_number(number);
+    out.put_bytes(b"\r\n")
+}
+
+// The page in place of a report: the one line `refused,1`, as the quorum sheet's, of what is no list of entries; or, of a register that is not made, the
+// line with its number.
+pub fn refusal(number: u64) -> ReportPage
+    ensures { result ≡ page_holding (refusal_text number) }
 {
     let mut bytes = [0u8; 116];
     let mut out = Output::new(&mut bytes);
-    out.put_bytes(b"refused,1\r\n");
+    put_refusal(&mut out, number);
     let len = out.at;
     ReportPage { bytes, len }
 }

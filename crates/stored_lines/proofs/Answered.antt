@@ -25,9 +25,9 @@ begins_long word line h = go (ltb (length line) (length word)) refl h
     go true e k = absurd (not_both k refl)
     go false e k = ltb-false (length line) (length word) e
 
--- the bytes of a line behind a word of seven
-pub behind_word : (line : List ℕ) → take (length line - 7) (drop 7 line) ≡ drop 7 line
-behind_word line = take_all (length line - 7) (drop 7 line) (rw length-drop (omega arith))
+-- the bytes of a line behind its first n
+pub behind_word : (line : List ℕ) (n : ℕ) → take (length line - n) (drop n line) ≡ drop n line
+behind_word line n = take_all (length line - n) (drop n line) (rw length-drop (omega arith))
 
 -- "takes the slot from the settings that it is read with, never a default"
 pub settings_kept : (g : GroupRegister) (line : Option Register) → (after_stored g line).settings ≡ g.settings

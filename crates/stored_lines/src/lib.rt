@@ -16,7 +16,7 @@ use texts::Output;
 
 // Whether the bytes are numbers of 64 bits with single blanks between them.
 #[tactic(auto, unfolding(crate::specs::Lines::is_read))]
-fn is_read(scan: Scan) -> bool
+pub fn is_read(scan: Scan) -> bool
     ensures { result ≡ is_read scan }
 {
     !scan.malformed && !scan.above_limit && scan.has_digit
@@ -120,33 +120,28 @@ pub fn stored_line(bytes: &[u8]) -> Option<Register>
 
 // A line that is one begins its register, with the settings of the register before it; any other is a bad line, and the register stays.
 #[tactic(auto, unfolding(crate::specs::Answers::after_stored, crate::specs::Answers::stored_text))]
-fn answer_stored(group: GroupRegister, bytes: &[u8], out: &mut Output<'_>) -> GroupRegister
-    ensures group { result ≡ after_stored group (stored_line bytes.now) }
-    ensures put { out.new ≡ put (stored_text group.settings (stored_line bytes.now)) out.old }
+fn answer_stored(group: &mut GroupRegister, bytes: &[u8], out: &mut Output<'_>)
+    ensures group { group.new ≡ after_stored group.old (stored_line bytes.now) }
+    ensures put { out.new ≡ put (stored_text group.old.settings (stored_line bytes.now)) out.old }
 {
     match stored_line(bytes) {
         Some(register) => {
             register_lines::put_begun(out, group.settings);
-            GroupRegister {
-                settings: group.settings,
-                register,
-            }
+            group.register = register;
         }
-        None => {
-            planning_lines::put_bad_line(out);
-            group
-        }
+        None => planning_lines::put_bad_line(out),
     }
 }
 
-// The answer to a line of `planning`, and the register that the line leaves.
+// The answer to a line of `planning`; the register is the one that the line leaves.
 #[tactic(auto, using(crate::proofs::Answered::begins_long, crate::proofs::Answered::behind_word), unfolding(crate::specs::Answers::register_after_line, crate::specs::Answers::line_answer))]
-pub fn answer_line(group: GroupRegister, line: &[u8], out: &mut Output<'_>) -> GroupRegister
-    ensures group { result ≡ register_after_line group line.now }
-    ensures put { out.new ≡ put (line_answer group line.now) out.old }
+pub fn answer_line(group: &mut GroupRegister, line: &[u8], out: &mut Output<'_>)
+    ensures group { group.new ≡ register_after_line group.old line.now }
+    ensures put { out.new ≡ put (line_answer group.old line.now) out.old }
 {
     if line_fields::begins(line, b"stored ") {
-        return answer_stored(group, &line[7..], out);
+        answer_stored(group, &line[7..], out);
+        return;
     }
-    planning_lines::answer_line(group, line, out)
+    planning_lines::answer_line(group, line, out);
 }

@@ -46,7 +46,7 @@ use Rattle.consensus.specs.declared.Shard.{Shard}
 use Rattle.sums.specs.Sums.{Sums}
 use Rattle.sums.specs.Parts.{asked_of_by, commit_slot_by}
 use Rattle.sums.specs.Calls.{new_shard_by, committed_by, finish_at_by, finish_by, proposing_by, propose_by, after_insert_by, start_read_by, read_by, on_commit_by, on_read_request_by, on_read_response_by, processed_by, process_message_by, handle_by, admitted_by, receive_by, dispatch_by, unless_spent_by, if_made_by, call_by}
-use Rattle.sums.proofs.Parts.{EachNamed, MessageNamed, Rises, Falls, Meets, MeetsFast, MeetsCommit, ready_same, serve_same, slot_same, start_same, asked_same, heard_same}
+use Rattle.sums.proofs.Parts.{EachNamed, MessageNamed, Rises, Falls, Meets, MeetsFast, MeetsCommit, insert_same, ready_same, serve_same, slot_same, start_same, asked_same, heard_same}
 use Rattle.sums.proofs.Handlers.{processed_same, proposing_same}
 
 -- two tests that come to the same, the second only where the test fails
@@ -117,7 +117,9 @@ module _ (m : Sums) (Named : ℕ → Type 0) (ok : Meets m Named) where
 
     start_read_same : (tag arrival : ℕ) → start_read_by m shard tag arrival ≡ start_read shard tag arrival
     unfolding start_read_by start_read
-    start_read_same tag arrival = go (read_inserted shard tag arrival)
+    start_read_same tag arrival =
+        ap (after_insert_by m shard) (insert_same m Named ok shard.state.rounds.core.tracker shard.state.table tag arrival (not (is_some shard.state.rounds.core.paxos.max_rv)))
+        ∙ go (read_inserted shard tag arrival)
       where
         go : (r : Result Inserted Refusal) → after_insert_by m shard r ≡ after_insert shard r
         go (Ok ins) = refl

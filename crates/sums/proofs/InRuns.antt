@@ -1,5 +1,5 @@
--- Sums, differences, look-ups and stores that are right wherever there is room make every run what it is, whatever they are at the ends: so no list of
--- calls from new shards, legal or not, depends on a sum or a difference that stays at its end, or on a look-up or a store out of range.
+-- Sums, differences, look-ups and stores that are right wherever there is room make every run what it is, whatever they are at the ends: so what is handed
+-- back by a list of calls from new shards, legal or not, does not depend on a sum or a difference that stays at its end, or on a look-up or a store out of range.
 -- Assumes nothing.
 use Rattle.std.specs.Prelude.{Option, None, Some, Result, Ok, IfOk, get_or, set}
 use Rattle.std.proofs.lemmas.Result.{IfOk-weaker}
@@ -87,6 +87,8 @@ module _ (m : Sums) (right : Right m) where
         looks_up = λ table p l. right.looks_up table p l ∙ sym (look_up_small table p l);
         stores = λ table p n l. right.stores table p n l ∙ sym (store_small table p n l);
         first_group = rises 0 (increment_next 0 (omega arith));
+        adds_one = right.adds_one;
+        places = right.places;
       }
 
   module _ (shard : Shard) (k : Lasts shard) where

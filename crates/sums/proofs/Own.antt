@@ -3,6 +3,7 @@
 use Rattle.std.specs.Prelude.{Option, None, Some, Result, Ok, Err, IfOk}
 use mathlib.Core.Path.{◌≡◌, refl}
 use Prim.Native.Nat.{ℕ}
+use Rattle.message.proofs.NextLeader.{increment_next}
 use Rattle.message.specs.declared.ConsensusMsg.{ConsensusMsg}
 use Rattle.message.specs.declared.ConsensusMsg.TheVariants.{Prepare, Accept, ForwardRequest, Commit, ReadRequest, ReadResponse}
 use Rattle.message.specs.declared.Refusal.{Refusal}
@@ -27,7 +28,7 @@ abbrev Any : ℕ → Type 0
 Any p = Unit {0}
 
 meets : Meets own_sums Any
-meets = record { below = λ p l. tt; looks_up = λ table p n. refl; stores = λ table p v n. refl; first_group = refl }
+meets = record { below = λ p l. tt; looks_up = λ table p n. refl; stores = λ table p v n. refl; first_group = refl; adds_one = increment_next; places = λ l p r n. refl }
 
 each_named : (p : Option ℕ) → EachNamed Any p
 each_named None = tt

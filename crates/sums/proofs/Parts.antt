@@ -1,13 +1,13 @@
 -- Sums and look-ups that are the engine's where they are met make the parts of a call the engine's.
 -- Assumes nothing.
-use Rattle.std.specs.Prelude.{Option, None, Some, is_some, Result, Ok, Err, IfOk}
+use Rattle.std.specs.Prelude.{Option, None, Some, is_some, Result, Ok, Err, IfOk, set}
 use mathlib.Core.Path.{◌≡◌, refl, ap, ap₂, ◌∙◌}
 use mathlib.Core.Logic.{inl, inr}
 use mathlib.Core.Bool.{Bool, true, false, cond, not, ◌&&◌, ◌||◌}
 use mathlib.Core.List.{List, [], ◌∷◌}
-use Prim.Native.Nat.{ℕ, zero, suc, ◌+◌, ◌-◌, ◌*◌, ◌/◌, ◌<◌, min, max}
+use Prim.Native.Nat.{ℕ, zero, suc, ◌+◌, ◌-◌, ◌*◌, ◌/◌, ◌<◌, ◌≤◌, min, max}
 use native.Mathlib.Omega.{arith}
-use lib.Dec.{eqb, ltb, leb}
+use lib.Dec.{T, eqb, ltb, leb, nleb→lt, nltb→le}
 use Rattle.basics.specs.Lists.{In}
 use Rattle.sets.specs.Sets.{contains, insert, size}
 use Rattle.tables.specs.Tables.{look_up, store}
@@ -20,7 +20,7 @@ use Rattle.message.specs.declared.PFMode.TheVariants.{Paxos, MultiPaxos, MultiPa
 use Rattle.message.specs.declared.PaxosRound.{PaxosRound}
 use Rattle.message.specs.declared.ReadId.{ReadId}
 use Rattle.message.specs.declared.Refusal.{Refusal}
-use Rattle.message.specs.declared.Refusal.TheVariants.{Panic}
+use Rattle.message.specs.declared.Refusal.TheVariants.{NoRoomForRead, Panic}
 use Rattle.message.specs.declared.RoundV.{RoundV}
 use Rattle.message.specs.declared.RoundV.TheVariants.{FastV, PaxosV}
 use Rattle.quorum.specs.Quorum.{majority_of}
@@ -37,7 +37,8 @@ use Rattle.fast_state.specs.declared.Entry.TheVariants.{SameEntries, Recorded, E
 use Rattle.fast_state.specs.declared.FastAnswers.{FastAnswers}
 use Rattle.fast_state.specs.declared.FastChange.{FastChange}
 use Rattle.fast_state.specs.declared.FastState.{FastState}
-use Rattle.read_tracker.specs.Reads.{open_reads, with_count, has_quorum, serve, after_response, after_commit}
+use Rattle.read_tracker.specs.Reads.{read_id, new_read, open_reads, opening, open_next, insert_opened, insert as insert_read, with_count, has_quorum, serve, after_response, after_commit}
+use Rattle.read_tracker.specs.declared.Inserted.{Inserted}
 use Rattle.read_tracker.specs.declared.OpenRead.{OpenRead}
 use Rattle.read_tracker.specs.declared.ServedRead.{ServedRead}
 use Rattle.read_tracker.specs.declared.ReadTracker.{ReadTracker}
@@ -55,7 +56,7 @@ use Rattle.paxos_family.specs.Commit.{commit_slot}
 use Rattle.delivery.specs.declared.Delivery.{Delivery}
 use Rattle.calls.specs.Asked.{asked_of, proposer_gathers, gatherer_in, heard_of}
 use Rattle.sums.specs.Sums.{Sums}
-use Rattle.sums.specs.Parts.{next_leader_round_by, starting_round_by, proposal_round_by, may_propose_by, delegate_in_by, committer_for_by, committer_in_by, asked_of_by, gatherer_in_by, heard_of_by, to_v_after_by, epaxos_scores_after_by, swift_scores_after_by, change_rounds_by, preaccepted_after_by, score_after_by, epaxos_counted_by, epaxos_answered_by, epaxos_propose_v_by, value_in_by, score_in_by, epaxos_try_adopt_after_by, swift_counted_by, swift_first_by, swift_answered_by, swift_own_by, swift_unanswered_by, swift_propose_v_by, after_response_by, after_commit_by, kept_by_ready_by, served_by_ready_by, kept_by_commit_by, served_by_commit_by, receive_ready_by, serve_reads_by, commit_slot_by}
+use Rattle.sums.specs.Parts.{next_leader_round_by, starting_round_by, proposal_round_by, may_propose_by, delegate_in_by, committer_for_by, committer_in_by, asked_of_by, gatherer_in_by, heard_of_by, to_v_after_by, epaxos_scores_after_by, swift_scores_after_by, change_rounds_by, preaccepted_after_by, score_after_by, epaxos_counted_by, epaxos_answered_by, epaxos_propose_v_by, value_in_by, score_in_by, epaxos_try_adopt_after_by, swift_counted_by, swift_first_by, swift_answered_by, swift_own_by, swift_unanswered_by, swift_propose_v_by, opening_by, open_next_by, insert_opened_by, insert_by, after_response_by, after_commit_by, kept_by_ready_by, served_by_ready_by, kept_by_commit_by, served_by_commit_by, receive_ready_by, serve_reads_by, commit_slot_by}
 
 -- ---- two results that are the same, of which what is not refused has a property
 
@@ -124,6 +125,8 @@ module _ (m : Sums) where
     pub looks_up : (table : List ℕ) (p : ℕ) → Named p → m.looked_up table p ≡ look_up table p
     pub stores : (table : List ℕ) (p n : ℕ) → Named p → m.stored table p n ≡ store table p n
     pub first_group : Rises 0
+    pub adds_one : (n : ℕ) → n < 18446744073709551615 → m.one_more n ≡ n + 1
+    pub places : (l : List OpenRead) (p : ℕ) (r : OpenRead) → p < 128 → m.placed l p r ≡ set l p r
 
   -- at the figures of the fast half
   pub record MeetsFast (Named : ℕ → Type 0) (answers : FastAnswers) (epaxos_scores swift_scores : List ℕ) : Type 0 where
@@ -212,6 +215,28 @@ module _ (m : Sums) where
         proposal_same
 
   module _ (Named : ℕ → Type 0) (ok : Meets Named) where
+    -- ---- a new read: where it is not refused, fewer than 128 are open, and the next id is 2^63-1 at most
+
+    pub insert_same : (tracker : ReadTracker) (table : ReadTable) (tag arrival : ℕ) (local : Bool) → insert_by m tracker table tag arrival local ≡ insert_read tracker table tag arrival local
+    unfolding insert_by insert_read open_next_by open_next
+    insert_same tracker table tag arrival local =
+        go (leb 128 tracker.open_count) (nleb→lt 128 tracker.open_count) (ltb 9223372036854775807 tracker.next_id) (nltb→le 9223372036854775807 tracker.next_id)
+      where
+        made : ℕ → ℕ → List OpenRead → Result Inserted Refusal
+        made next count reads =
+            Ok (record { tracker = record { next_id = next; open_count = count }; table = record { reads = reads; served = table.served }; id = read_id tracker.next_id })
+
+        go : (full : Bool) → (T (not full) → tracker.open_count < 128) → (spent : Bool) → (T (not spent) → tracker.next_id ≤ 9223372036854775807)
+            → insert_opened_by m tracker table (cond full (Err NoRoomForRead) (cond spent (Err NoRoomForRead) (Ok (opening_by m tracker tag arrival local))))
+            ≡ insert_opened tracker table (cond full (Err NoRoomForRead) (cond spent (Err NoRoomForRead) (Ok (opening tracker tag arrival local))))
+        go true below spent upto = refl
+        go false below true upto = refl
+        go false below false upto =
+            let few = below tt in
+            let next = upto tt in
+            λ z. made (ok.adds_one tracker.next_id (omega arith) z) (ok.adds_one tracker.open_count (omega arith) z)
+            (ok.places table.reads tracker.open_count (new_read (read_id tracker.next_id) tag arrival local) few z)
+
     pub start_same : (mode : PFMode) (l : ℕ) → starting_round_by m mode l ≡ starting_round mode l
     start_same Paxos l = refl
     start_same MultiPaxos l = ap (λ (r : PaxosRound). Some r) (round_same default_round l ok.first_group)

@@ -1,7 +1,7 @@
 -- A call with its sums, differences, look-ups and stores as parameters, and a shard as it begins. Each `name_by` is the definition `name` of the engine:
 -- the crate consensus has it. With the engine's own sums it is the engine's call (`call_by_own`, proofs/Own.antt).
 -- Assumes nothing.
-use Rattle.std.specs.Prelude.{Bool, true, false, cond, ◌&&◌, ℕ, eqb, ltb, leb, None, Result, Ok, Err}
+use Rattle.std.specs.Prelude.{Bool, true, false, cond, not, ◌&&◌, is_some, ℕ, eqb, ltb, leb, None, Result, Ok, Err}
 use Rattle.message.specs.Modes.{has_fast_path}
 use Rattle.message.specs.Outcomes.{Outcome}
 use Rattle.message.specs.declared.ConsensusMsg.{ConsensusMsg}
@@ -32,11 +32,10 @@ use Rattle.core_calls.specs.Replies.{sent_reply, is_fast}
 use Rattle.state_calls.specs.StateCall.{with_tracker}
 use Rattle.state_calls.specs.declared.State.{State}
 use Rattle.consensus.specs.Answers.{with_state, with_rounds, refused, sent, nothing, served}
-use Rattle.consensus.specs.Handle.{read_inserted}
 use Rattle.consensus.specs.declared.Answer.{Answer}
 use Rattle.consensus.specs.declared.Shard.{Shard}
 use Rattle.sums.specs.Sums.{Sums}
-use Rattle.sums.specs.Parts.{starting_round_by, row_of_by, asked_of_by, heard_of_by, receive_ready_by, serve_reads_by, read_answer_by, commit_slot_by, next_slot_by}
+use Rattle.sums.specs.Parts.{starting_round_by, row_of_by, asked_of_by, heard_of_by, insert_by, receive_ready_by, serve_reads_by, read_answer_by, commit_slot_by, next_slot_by}
 use Rattle.sums.specs.Handlers.{process_fast_by, propose_classic_by, propose_fast_by}
 
 module _ (m : Sums) where
@@ -105,8 +104,12 @@ module _ (m : Sums) where
         reply = sent_reply (one_message (sends (asked_of_by m shard.settings) shard.state.rounds.core to_all (ReadRequest ins.id)));
       }
 
+  abbrev pub read_inserted_by : Shard → ℕ → ℕ → Result Inserted Refusal
+  read_inserted_by shard tag arrival =
+      insert_by m shard.state.rounds.core.tracker shard.state.table tag arrival (not (is_some shard.state.rounds.core.paxos.max_rv))
+
   unfoldable pub start_read_by : Shard → ℕ → ℕ → Answer
-  start_read_by shard tag arrival = after_insert_by shard (read_inserted shard tag arrival)
+  start_read_by shard tag arrival = after_insert_by shard (read_inserted_by shard tag arrival)
 
   unfoldable pub read_by : Shard → ℕ → ℕ → Answer
   read_by shard tag arrival = cond (is_number tag && is_slot arrival) (start_read_by shard tag arrival) (refused NumberTooLarge shard)

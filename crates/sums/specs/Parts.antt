@@ -1,7 +1,7 @@
 -- The definitions below the handlers that have a sum, a difference, a look-up or a store, with these as parameters. Each `name_by` is the definition `name`
 -- of the engine: the crates message, quorum, settings, calls, fast_state, epaxos_path, read_tracker, serving, proposal, paxos_family, steps and core_calls have it.
 -- Assumes nothing.
-use Rattle.std.specs.Prelude.{Bool, true, false, cond, not, ◌&&◌, ◌||◌, List, [], ◌∷◌, ℕ, ◌+◌, ◌*◌, ◌/◌, min, max, eqb, leb, Option, None, Some, is_some, Result, Ok, Err}
+use Rattle.std.specs.Prelude.{Bool, true, false, cond, not, ◌&&◌, ◌||◌, List, [], ◌∷◌, ℕ, ◌+◌, ◌*◌, ◌/◌, min, max, eqb, ltb, leb, Option, None, Some, is_some, Result, Ok, Err}
 use Rattle.sets.specs.Sets.{contains, insert}
 use Rattle.message.specs.Modes.{has_fast_path, is_multi_paxos, is_swift_paxos}
 use Rattle.message.specs.Rounds.{round_of, default_round, equal, unwrap_or_default}
@@ -12,7 +12,7 @@ use Rattle.message.specs.declared.PFMode.TheVariants.{Paxos, MultiPaxos, MultiPa
 use Rattle.message.specs.declared.PaxosRound.{PaxosRound}
 use Rattle.message.specs.declared.ReadId.{ReadId}
 use Rattle.message.specs.declared.Refusal.{Refusal}
-use Rattle.message.specs.declared.Refusal.TheVariants.{Panic}
+use Rattle.message.specs.declared.Refusal.TheVariants.{NoRoomForRead, Panic}
 use Rattle.message.specs.declared.RoundV.TheVariants.{FastV, PaxosV}
 use Rattle.quorum.specs.Quorum.{majority_of}
 use Rattle.quorum.specs.declared.QuorumRow.{QuorumRow}
@@ -27,8 +27,10 @@ use Rattle.fast_state.specs.declared.Entry.TheVariants.{SameEntries, Recorded, E
 use Rattle.fast_state.specs.declared.FastAnswers.{FastAnswers}
 use Rattle.fast_state.specs.declared.FastChange.{FastChange}
 use Rattle.fast_state.specs.declared.FastState.{FastState}
-use Rattle.read_tracker.specs.Reads.{open_reads, with_count, has_quorum, serve}
+use Rattle.read_tracker.specs.Reads.{read_id, new_read, open_reads, with_count, has_quorum, serve}
+use Rattle.read_tracker.specs.declared.Inserted.{Inserted}
 use Rattle.read_tracker.specs.declared.OpenRead.{OpenRead}
+use Rattle.read_tracker.specs.declared.Opening.{Opening}
 use Rattle.read_tracker.specs.declared.ServedRead.{ServedRead}
 use Rattle.read_tracker.specs.declared.ReadTracker.{ReadTracker}
 use Rattle.read_tracker.specs.declared.ReadTable.{ReadTable}
@@ -245,6 +247,34 @@ module _ (m : Sums) where
       cond (swift_unanswered_by me f scores) (swift_own_by me v quorum leader f scores) (Err Panic)
 
   -- ---- reads
+
+  abbrev pub opening_by : ReadTracker → ℕ → ℕ → Bool → Opening
+  opening_by tracker tag arrival local =
+      record {
+        read = new_read (read_id tracker.next_id) tag arrival local;
+        tracker = record { next_id = m.one_more tracker.next_id; open_count = m.one_more tracker.open_count };
+      }
+
+  unfoldable pub open_next_by : ReadTracker → ℕ → ℕ → Bool → Result Opening Refusal
+  open_next_by tracker tag arrival local =
+      cond (leb 128 tracker.open_count) (Err NoRoomForRead)
+      (cond (ltb 9223372036854775807 tracker.next_id) (Err NoRoomForRead) (Ok (opening_by tracker tag arrival local)))
+
+  abbrev pub inserted_by : ReadTracker → ReadTable → Opening → Inserted
+  inserted_by tracker table o =
+      record {
+        tracker = o.tracker;
+        table = record { reads = m.placed table.reads tracker.open_count o.read; served = table.served };
+        id = o.read.id;
+      }
+
+  abbrev pub insert_opened_by : ReadTracker → ReadTable → Result Opening Refusal → Result Inserted Refusal
+  insert_opened_by tracker table (Ok o) = Ok (inserted_by tracker table o)
+  insert_opened_by tracker table (Err why) = Err why
+
+  -- `insert` of read_tracker
+  unfoldable pub insert_by : ReadTracker → ReadTable → ℕ → ℕ → Bool → Result Inserted Refusal
+  insert_by tracker table tag arrival local = insert_opened_by tracker table (open_next_by tracker tag arrival local)
 
   unfoldable pub after_response_by : OpenRead → OpenRead
   after_response_by r = with_count r (m.one_more r.ready_count) r.local_ready

@@ -12,7 +12,7 @@ use borrow.Author.Tests.{le-leb}
 use Rattle.std.proofs.lemmas.List.{take_all}
 use Rattle.places.specs.Places.{at_front}
 use Rattle.places.proofs.Lists.{front_push}
-use Rattle.windows.specs.Windows.{start_of, end_of, agreed, check_windows, ask_checked, ask_windows, refusal_number, minute_places, KeptArrays, made_of, kept_arrays, kept_checked, kept_of, check_kept, ask_kept}
+use Rattle.windows.specs.Windows.{start_of, end_of, agreed, check_windows, ask_checked, ask_windows, refusal_number, minute_places, KeptArrays, made_of, kept_checked, kept_windows, kept_arrays, kept_of, check_kept, ask_kept}
 use Rattle.windows.specs.declared.Window.{Window}
 use Rattle.windows.specs.declared.Windows.{Windows}
 use Rattle.windows.specs.declared.WindowRefusal.{WindowRefusal}
@@ -57,12 +57,12 @@ ends_all ws i h = kept_all end_of ws i h
 
 -- ---- what is kept of windows that are made
 
-pub kept_made : (ws : Windows) → check_windows ws ≡ Ok tt → kept_of ws ≡ kept_arrays (Ok (made_of (agreed ws)))
-unfolding kept_of kept_checked
+pub kept_made : (ws : Windows) → check_windows ws ≡ Ok tt → kept_windows ws ≡ Ok (made_of (agreed ws))
+unfolding kept_windows kept_checked
 kept_made ws is_made = simp is_made
 
-pub kept_refused : (ws : Windows) (why : WindowRefusal) → check_windows ws ≡ Err why → kept_of ws ≡ kept_arrays (Err why)
-unfolding kept_of kept_checked
+pub kept_refused : (ws : Windows) (why : WindowRefusal) → check_windows ws ≡ Err why → kept_windows ws ≡ Err why
+unfolding kept_windows kept_checked
 kept_refused ws why refused = simp refused
 
 -- ---- the answer
@@ -72,7 +72,7 @@ unfolding at_front
 in_front_lem minutes n e = take_at minutes _ n e
 
 -- the check can be told from what is kept
-check_told : (ws : Windows) (c : Result (Unit {0}) WindowRefusal) → check_windows ws ≡ c → check_kept (kept_checked c (agreed ws)) ≡ c
+check_told : (ws : Windows) (c : Result (Unit {0}) WindowRefusal) → check_windows ws ≡ c → check_kept (kept_arrays (kept_checked c (agreed ws))) ≡ c
 unfolding check_kept kept_checked
 check_told ws (Ok u) e =
     let m = made ws e in
@@ -82,21 +82,22 @@ check_told ws (Err TooManyWindows) e = refl
 check_told ws (Err NotInCalendar) e = refl
 
 pub kept_check : (ws : Windows) → check_kept (kept_of ws) ≡ check_windows ws
-unfolding kept_of
+unfolding kept_of kept_windows
 kept_check ws = check_told ws (check_windows ws) refl
 
-checked_number : (c : Result (Unit {0}) WindowRefusal) (ws : List Window) → (kept_checked c ws).number ≡ refusal_number c
+checked_number : (c : Result (Unit {0}) WindowRefusal) (ws : List Window) → (kept_arrays (kept_checked c ws)).number ≡ refusal_number c
 unfolding kept_checked
 checked_number (Ok u) ws = refl
 checked_number (Err why) ws = refl
 
 -- the number that is kept is that of the check
 pub kept_number : (ws : Windows) → (kept_of ws).number ≡ refusal_number (check_windows ws)
-unfolding kept_of
+unfolding kept_of kept_windows
 kept_number ws = checked_number (check_windows ws) (agreed ws)
 
 checked_answers : (c : Result (Unit {0}) WindowRefusal) (ws : List Window) (minute : ℕ)
-    → ask_checked c (take (kept_checked c ws).count (kept_checked c ws).starts) (take (kept_checked c ws).count (kept_checked c ws).ends) minute
+    → ask_checked c (take (kept_arrays (kept_checked c ws)).count (kept_arrays (kept_checked c ws)).starts)
+    (take (kept_arrays (kept_checked c ws)).count (kept_arrays (kept_checked c ws)).ends) minute
     ≡ ask_checked c (map start_of ws) (map end_of ws) minute
 unfolding ask_checked kept_checked
 checked_answers (Ok u) ws minute =
@@ -105,8 +106,8 @@ checked_answers (Err why) ws minute = refl
 
 -- what is kept of windows answers a question as the windows do
 pub kept_answers : (ws : Windows) (minute : ℕ) → ask_kept (kept_of ws) minute ≡ ask_windows ws minute
-unfolding ask_kept kept_of ask_windows
+unfolding ask_kept kept_of kept_windows ask_windows
 kept_answers ws minute =
-    let k : KeptArrays = kept_checked (check_windows ws) (agreed ws) in
+    let k : KeptArrays = kept_arrays (kept_windows ws) in
     ap (λ (c : Result (Unit {0}) WindowRefusal). ask_checked c (take k.count k.starts) (take k.count k.ends) minute) (check_told ws (check_windows ws) refl)
     ∙ checked_answers (check_windows ws) (agreed ws) minute

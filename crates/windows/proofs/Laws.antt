@@ -15,7 +15,7 @@ use Rattle.basics.specs.Lists.{In}
 use Rattle.basics.proofs.Tests.{either, fails, not_both, and_left, and_right, and_both, or_cases, or_left, or_right}
 use Rattle.calendar.specs.Calendar.{is_date}
 use Rattle.calendar.proofs.Dates.{numbers, minute_bound}
-use Rattle.windows.specs.Windows.{start_of, end_of, is_window, all_fit, agreed, check_windows, holds_minute, some_holds, nearer, nearest_start, next_after, ask_minutes, ask_checked, ask_windows, refusal_number, Fitting, InWindow, NextStart}
+use Rattle.windows.specs.Windows.{start_of, end_of, is_window, all_fit, agreed, check_windows, holds_minute, some_holds, nearer, nearest_start, next_after, ask_minutes, ask_checked, ask_windows, refusal_number, Fitting, AllFitting, SomeUnfitting, CheckedWindows, InWindow, NextStart}
 use Rattle.windows.specs.declared.Window.{Window}
 use Rattle.windows.specs.declared.Windows.{Windows}
 use Rattle.windows.specs.declared.WindowRefusal.{WindowRefusal}
@@ -50,16 +50,35 @@ unfolding all_fit
 all_fit_so [] h = refl
 all_fit_so (v ∷ ws) h = and_both (h v (inl refl)) (all_fit_so ws (λ w i. h w (inr i)))
 
+one_unfitting : (ws : List Window) → all_fit ws ≡ false → SomeUnfitting ws
+unfolding all_fit
+one_unfitting [] f = absurd (not_both refl f)
+one_unfitting (v ∷ ws) f = go (either (is_window v)) (λ u. one_unfitting ws u)
+  where
+    go : (is_window v ≡ true) ⊎ (is_window v ≡ false) → (all_fit ws ≡ false → SomeUnfitting ws) → SomeUnfitting (v ∷ ws)
+    go (inl t) rest = let (w, (i, unfitting)) = rest (ap (λ (b : Bool). b && all_fit ws) (sym t) ∙ f) in (w, (inr i, unfitting))
+    go (inr u) rest = (v, (inl refl, λ fit. not_both (fits_so v fit) u))
+
+-- what the check gives is so, and no other answer is given
+pub checked_windows_lem : (ws : Windows) → CheckedWindows ws (check_windows ws)
+unfolding check_windows
+checked_windows_lem ws = go (ltb 128 ws.count) (all_fit (agreed ws)) refl refl
+  where
+    go : (t u : Bool) → ltb 128 ws.count ≡ t → all_fit (agreed ws) ≡ u → CheckedWindows ws (cond t (Err TooManyWindows) (cond u (Ok tt) (Err NotInCalendar)))
+    go true u e f = ltb-true 128 ws.count e
+    go false true e f = (ltb-false 128 ws.count e, λ w i. fitting w (each_fits (agreed ws) f w i))
+    go false false e f = (ltb-false 128 ws.count e, one_unfitting (agreed ws) f)
+
 -- "More than 128 windows give 1", whatever they are
 pub too_many : (ws : Windows) → 128 < ws.count → refusal_number (check_windows ws) ≡ 1
 unfolding check_windows
 too_many ws h = simp (lt-ltb 128 ws.count h)
 
 -- windows are made exactly where there are at most 128 and each is one
-pub made_only : (ws : Windows) → check_windows ws ≡ Ok tt → (ws.count ≤ 128) × ((w : Window) → In w (agreed ws) → Fitting w)
+pub made_only : (ws : Windows) → check_windows ws ≡ Ok tt → (ws.count ≤ 128) × AllFitting (agreed ws)
 made_only ws e = let m = made ws e in (m.few, λ w i. fitting w (each_fits (agreed ws) m.fitting w i))
 
-pub made_always : (ws : Windows) → ws.count ≤ 128 → ((w : Window) → In w (agreed ws) → Fitting w) → check_windows ws ≡ Ok tt
+pub made_always : (ws : Windows) → ws.count ≤ 128 → AllFitting (agreed ws) → check_windows ws ≡ Ok tt
 unfolding check_windows
 made_always ws few h = simp (le-ltb 128 ws.count few, all_fit_so (agreed ws) (λ w i. fits_so w (h w i)))
 

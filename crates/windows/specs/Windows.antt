@@ -109,18 +109,22 @@ no_windows number = record { starts = replicate 128 0; ends = replicate 128 0; n
 abbrev pub made_of : List Window → KeptWindows
 made_of ws = record { starts = minute_places (map start_of ws); ends = minute_places (map end_of ws); count = length ws }
 
+unfoldable pub kept_checked : Result (Unit {0}) WindowRefusal → List Window → Result KeptWindows WindowRefusal
+kept_checked (Ok u) ws = Ok (made_of ws)
+kept_checked (Err why) ws = Err why
+
+-- windows that are not made keep nothing but why
+unfoldable pub kept_windows : Windows → Result KeptWindows WindowRefusal
+kept_windows ws = kept_checked (check_windows ws) (agreed ws)
+
 -- what is kept, as it stands in arrays
 abbrev pub kept_arrays : Result KeptWindows WindowRefusal → KeptArrays
 kept_arrays (Ok k) = record { starts = k.starts; ends = k.ends; number = 0; count = k.count }
 kept_arrays (Err why) = no_windows (window_refusal_number why)
 
-unfoldable pub kept_checked : Result (Unit {0}) WindowRefusal → List Window → KeptArrays
-kept_checked (Ok u) ws = kept_arrays (Ok (made_of ws))
-kept_checked (Err why) ws = kept_arrays (Err why)
-
 -- the number of the check, and of windows that are made how many there are and the minutes in which they start and end
 unfoldable pub kept_of : Windows → KeptArrays
-kept_of ws = kept_checked (check_windows ws) (agreed ws)
+kept_of ws = kept_arrays (kept_windows ws)
 
 -- the check by its number, whatever is kept: 17 is 17, and any other but 0 is 1
 unfoldable pub check_kept : KeptArrays → Result (Unit {0}) WindowRefusal
@@ -139,6 +143,19 @@ pub record Fitting (w : Window) : Type 0 where
   pub start_date : is_date w.start ≡ true
   pub end_date : is_date w.end ≡ true
   pub start_first : start_of w < end_of w
+
+-- each of the windows is so; or some one is not
+abbrev pub AllFitting : List Window → Type 0
+AllFitting ws = (w : Window) → In w ws → Fitting w
+
+abbrev pub SomeUnfitting : List Window → Type 0
+SomeUnfitting ws = (w : Window) × (In w ws × (Fitting w → ⊥))
+
+-- the check in words: at most 128 windows, and each is so; more than 128; or at most 128, and some one is not
+abbrev pub CheckedWindows : Windows → Result (Unit {0}) WindowRefusal → Type 0
+CheckedWindows ws (Ok made) = (ws.count ≤ 128) × AllFitting (agreed ws)
+CheckedWindows ws (Err TooManyWindows) = 128 < ws.count
+CheckedWindows ws (Err NotInCalendar) = (ws.count ≤ 128) × SomeUnfitting (agreed ws)
 
 -- the minute is in the window
 abbrev pub InWindow : ℕ → Window → Type 0

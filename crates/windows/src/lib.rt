@@ -2,9 +2,9 @@
 // not, when the next begins. A question looks at the kept minutes alone, and at no date.
 #![tactic(auto)]
 
-ghost use Rattle.std.specs.Prelude.{◌≡◌, ◌≤◌, ◌&&◌, cond, ltb, min};
+ghost use Rattle.std.specs.Prelude.{◌≡◌, ◌≤◌, ◌&&◌, [], cond, ltb, min};
 ghost use Rattle.std.specs.List.{filter, reduce};
-ghost use Rattle.windows.specs.Windows.{is_window, all_fit, agreed, check_windows, holds_minute, some_holds, nearest_start, ask_minutes, window_refusal_number, made_of, kept_of, kept_arrays, kept_in, ask_kept};
+ghost use Rattle.windows.specs.Windows.{is_window, all_fit, agreed, check_windows, holds_minute, some_holds, nearest_start, ask_minutes, window_refusal_number, made_of, kept_windows, kept_of, kept_arrays, kept_in, ask_kept};
 
 use calendar::Date;
 use refusals::Refused;
@@ -128,7 +128,7 @@ impl Windows {
     // Checks the windows, and keeps their minutes where they are made.
     #[tactic(auto, using(crate::proofs::Kept::kept_made, crate::proofs::Kept::kept_refused))]
     pub fn kept(&self) -> Result<KeptWindows, WindowRefusal>
-        ensures { kept_arrays result ≡ kept_of self.now }
+        ensures { result ≡ kept_windows self.now }
     {
         self.check()?;
         Ok(self.minutes())
@@ -210,6 +210,18 @@ pub fn ask_arrays(
 }
 
 impl KeptWindows {
+    // No window at all.
+    #[tactic(auto, unfolding(places::specs::Places::at_front))]
+    pub fn none() -> KeptWindows
+        ensures { result ≡ made_of [] }
+    {
+        KeptWindows {
+            starts: [0; 128],
+            ends: [0; 128],
+            count: 0,
+        }
+    }
+
     pub fn ask(&self, minute: u64) -> Result<WindowAnswer, WindowRefusal>
         ensures { result ≡ ask_kept (kept_arrays (Ok self.now)) minute }
     {
@@ -219,6 +231,7 @@ impl KeptWindows {
 
 // What is kept of windows, in arrays of numbers that a host lends: the figures are document 02's number, 0 where the windows are made, and how many
 // windows are kept.
+#[tactic(auto, unfolding(crate::specs::Windows::kept_of))]
 pub fn keep(
     windows: &Windows,
     starts: &mut [u64; 128],

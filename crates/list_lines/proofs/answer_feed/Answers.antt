@@ -6,12 +6,12 @@ use Rattle.texts.specs.Text.{put}
 use Rattle.list_lines.proofs.FeedsRead.{fed_register, fed_answer}
 use Rattle.list_lines.proofs.answer_feed.Goals as goal
 
-pub returns-in-Some-clause-group : goal.returns-in-Some-clause-group
-returns-in-Some-clause-group c =
-    fed_register c.args.group c.args.line.now c.in-Some.list c.in-Some.ensures c.feed_kept-fed.result c.feed_kept-fed.new.group c.feed_kept-fed.ensures
+pub returns-in-Some-clause-placed : goal.returns-in-Some-clause-placed
+returns-in-Some-clause-placed c =
+    fed_register c.args.placed.now c.args.line.now c.in-Some.list c.in-Some.ensures c.feed_kept-fed.result c.feed_kept-fed.new.placed c.feed_kept-fed.ensures
 
 pub returns-in-Some-clause-put : goal.returns-in-Some-clause-put
 returns-in-Some-clause-put c =
     c.put_fed.ensures
     ∙ ap (λ (t : List ℕ). put t c.args.out.now)
-    (fed_answer c.args.group c.args.line.now c.in-Some.list c.in-Some.ensures c.feed_kept-fed.result c.feed_kept-fed.new.group c.feed_kept-fed.ensures)
+    (fed_answer c.args.placed.now c.args.line.now c.in-Some.list c.in-Some.ensures c.feed_kept-fed.result c.feed_kept-fed.new.placed c.feed_kept-fed.ensures)

@@ -11,5 +11,5 @@ pub returns : goal.returns
 returns g c =
     c.search.ensures ∙ free_by_edges _ _ _ _ _ c.near_edges-near.ensures.edges
     ∙ sym
-    (searched (g.C.PlacedCells.made c.args.cells.now) (g.C.PlacedCells.cells c.args.cells.now) c.args.first c.args.last c.args.question
-    (ap (λ made. asked made c.args.question c.args.first c.args.last) (sym c.is_made.ensures) ∙ sym c.asked.ensures ∙ c.in_ok-asked.was {u = tt}))
+    (searched (g.C.PlacedCells.settings c.args.cells.now) (g.C.PlacedCells.cells c.args.cells.now) c.args.first c.args.last c.args.question
+    (ap (λ kept. asked kept c.args.question c.args.first c.args.last) (sym c.settings.ensures) ∙ sym c.asked.ensures ∙ c.in_ok-asked.was {u = tt}))

@@ -4,22 +4,24 @@
 use Rattle.std.specs.Prelude.{true, false, cond, List, [], ◌∷◌, ℕ, Option, Some, None}
 use Rattle.texts.specs.Text.{ascii}
 use Rattle.line_fields.specs.Fields.{begins, number_from}
-use Rattle.register.specs.declared.CellEntry.{CellEntry}
 use Rattle.report.specs.Report.{refusal_text, page_holding}
 use Rattle.report.specs.declared.ReportPage.{ReportPage}
 use Rattle.group_register.specs.Settings.{settings_from}
 use Rattle.group_register.specs.GroupRegister.{new_group_register, apply_in_group, group_page}
 use Rattle.group_register.specs.declared.GroupRegister.{GroupRegister}
 use Rattle.register_lines.specs.Answers.{first_register}
-use Rattle.register_lines.specs.Entries.{entry_of}
-use Rattle.register_lines.specs.declared.LinesTaken.{LinesTaken}
+use Rattle.positions.specs.PlacedTaken.{cell_entry}
+use Rattle.positions.specs.declared.Entry.{Entry}
+use Rattle.entry_lines.specs.Entries.{entry_of}
+use Rattle.entry_lines.specs.declared.LinesTaken.{LinesTaken}
 
 -- the register after at least one line
 abbrev pub lines_taken : GroupRegister → Option LinesTaken
 lines_taken g = Some (record { group = g; begun = true })
 
-unfoldable pub take_entry : GroupRegister → Option CellEntry → Option LinesTaken
-take_entry g (Some e) = lines_taken (apply_in_group g e).group
+-- a position "adds to no figure", and the report has nothing else of it: of its entry the register sees the slot
+unfoldable pub take_entry : GroupRegister → Option Entry → Option LinesTaken
+take_entry g (Some e) = lines_taken (apply_in_group g (cell_entry e)).group
 take_entry g None = None
 
 unfoldable pub take_settings : Option ℕ → Option LinesTaken
@@ -46,5 +48,5 @@ no_lines = Some (record { group = first_register; begun = false })
 
 -- the report, or "the one line `refused,1`" in its place
 unfoldable pub page_after : Option LinesTaken → ReportPage
-page_after None = page_holding refusal_text
+page_after None = page_holding (refusal_text 1)
 page_after (Some t) = group_page t.group

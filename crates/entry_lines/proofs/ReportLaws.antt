@@ -14,55 +14,55 @@ use Rattle.std.specs.Prelude.{Option, Some, None}
 use Rattle.texts.specs.Text.{ascii, decimal, field}
 use Rattle.line_fields.specs.Fields.{same_to, begins, number_from}
 use Rattle.line_fields.proofs.ReadBack.{number_read}
-use Rattle.register.specs.declared.CellEntry.{CellEntry}
 use Rattle.report.specs.Report.{refusal_text, page_holding}
 use Rattle.group_register.specs.Settings.{settings_from}
 use Rattle.group_register.specs.GroupHistory.{apply_all_in_group}
 use Rattle.group_register.specs.GroupRegister.{new_group_register, apply_in_group, group_page}
 use Rattle.group_register.specs.declared.GroupRegister.{GroupRegister}
 use Rattle.register_lines.specs.Answers.{first_register}
-use Rattle.register_lines.specs.Entries.{entry_of}
-use Rattle.register_lines.specs.Reports.{lines_taken, take_entry, take_settings, take_first, take_line, take_lines, no_lines, page_after}
-use Rattle.register_lines.specs.Written.{entry_line, register_line, entry_lines, EntryFits, EntriesFit}
-use Rattle.register_lines.specs.declared.LinesTaken.{LinesTaken}
-use Rattle.register_lines.proofs.EntriesRead.{entry_read}
+use Rattle.register_lines.specs.Written.{register_line}
+use Rattle.positions.specs.PlacedTaken.{cell_entry, cell_entries}
+use Rattle.positions.specs.declared.Entry.{Entry}
+use Rattle.positions.specs.declared.Entry.TheVariants.{OfCell, OfPosition}
+use Rattle.register_lines.proofs.EntriesRead.{entry_no_register, register_begins}
+use Rattle.entry_lines.specs.Entries.{entry_of}
+use Rattle.entry_lines.specs.Reports.{lines_taken, take_entry, take_settings, take_first, take_line, take_lines, no_lines, page_after}
+use Rattle.entry_lines.specs.Written.{entry_line, entry_lines, EntryFits, EntriesFit}
+use Rattle.entry_lines.specs.declared.LinesTaken.{LinesTaken}
+use Rattle.entry_lines.proofs.EntriesRead.{entry_read}
 
--- an entry line is no line that begins a register
-pub entry_no_register : (rest : List ℕ) → begins (ascii "register ") (ascii "entry " ++ rest) ≡ false
-unfolding begins same_to
-entry_no_register rest = of-both (λ (t : Bool). t ≡ false) (ltb (length (ascii "entry " ++ rest)) 9) refl refl
+no_register : (e : Entry) → begins (ascii "register ") (entry_line e) ≡ false
+unfolding field
+no_register (OfCell e) = entry_no_register (drop 6 (entry_line (OfCell e)))
+no_register (OfPosition e) = entry_no_register (drop 6 (entry_line (OfPosition e)))
 
 module _ (g : GroupRegister) where
-  entry_taken : (e : CellEntry) → EntryFits e → (begun : Bool)
-      → take_line (Some (record { group = g; begun = begun })) (entry_line e) ≡ lines_taken (apply_in_group g e).group
-  unfolding take_line take_first take_entry field
+  entry_taken : (e : Entry) → EntryFits e → (begun : Bool)
+      → take_line (Some (record { group = g; begun = begun })) (entry_line e) ≡ lines_taken (apply_in_group g (cell_entry e)).group
+  unfolding take_line take_first take_entry
   entry_taken e fits true = ap (take_entry g) (entry_read e fits)
-  entry_taken e fits false = simp (entry_no_register (drop 6 (entry_line e))) (ap (take_entry g) (entry_read e fits))
+  entry_taken e fits false = simp (no_register e) (ap (take_entry g) (entry_read e fits))
 
-entries_reported : (g : GroupRegister) (begun : Bool) (es : List CellEntry) → EntriesFit es
-    → page_after (take_lines (Some (record { group = g; begun = begun })) (entry_lines es)) ≡ group_page (apply_all_in_group g es)
+entries_reported : (g : GroupRegister) (begun : Bool) (es : List Entry) → EntriesFit es
+    → page_after (take_lines (Some (record { group = g; begun = begun })) (entry_lines es)) ≡ group_page (apply_all_in_group g (cell_entries es))
 unfolding page_after take_lines entry_lines apply_all_in_group
 entries_reported g begun [] fits = refl
 entries_reported g begun (e ∷ es) fits =
     ap (λ (t : Option LinesTaken). page_after (take_lines t (entry_lines es))) (entry_taken g e fits.0 begun)
-    ∙ entries_reported (apply_in_group g e).group _ es fits.1
+    ∙ entries_reported (apply_in_group g (cell_entry e)).group _ es fits.1
 
-pub report_of_entries : (es : List CellEntry) → EntriesFit es
-    → page_after (take_lines no_lines (entry_lines es)) ≡ group_page (apply_all_in_group first_register es)
+pub report_of_entries : (es : List Entry) → EntriesFit es
+    → page_after (take_lines no_lines (entry_lines es)) ≡ group_page (apply_all_in_group first_register (cell_entries es))
 report_of_entries es fits = entries_reported first_register false es fits
 
 -- ---- a first line `register SLOT`
-
-pub register_begins : (rest : List ℕ) → begins (ascii "register ") (ascii "register " ++ rest) ≡ true
-unfolding begins same_to
-register_begins rest = ap (λ (t : Bool). cond t false true) (le-ltb (length (ascii "register " ++ rest)) 9 (omega arith))
 
 settings_taken : (slot : ℕ) → slot ≤ 18446744073709551615 → take_line no_lines (register_line slot) ≡ lines_taken (new_group_register (settings_from slot))
 unfolding take_line take_first take_settings number_from field
 settings_taken slot small = rw (register_begins (decimal slot), number_read slot small) refl
 
-pub report_of_settings : (slot : ℕ) (es : List CellEntry) → slot ≤ 18446744073709551615 → EntriesFit es
-    → page_after (take_lines no_lines (register_line slot ∷ entry_lines es)) ≡ group_page (apply_all_in_group (new_group_register (settings_from slot)) es)
+pub report_of_settings : (slot : ℕ) (es : List Entry) → slot ≤ 18446744073709551615 → EntriesFit es
+    → page_after (take_lines no_lines (register_line slot ∷ entry_lines es)) ≡ group_page (apply_all_in_group (new_group_register (settings_from slot)) (cell_entries es))
 unfolding take_lines
 report_of_settings slot es small fits =
     ap (λ (t : Option LinesTaken). page_after (take_lines t (entry_lines es))) (settings_taken slot small)
@@ -87,7 +87,7 @@ refused_within t [] line behind other none = ap (λ (o : Option LinesTaken). tak
 refused_within t (next ∷ before) line behind other none = refused_within (take_line t next) before line behind other none
 
 pub no_half_report : (before : List (List ℕ)) (line : List ℕ) (behind : List (List ℕ)) → begins (ascii "register ") line ≡ false → entry_of line ≡ None
-    → page_after (take_lines no_lines (before ++ (line ∷ behind))) ≡ page_holding refusal_text
+    → page_after (take_lines no_lines (before ++ (line ∷ behind))) ≡ page_holding (refusal_text 1)
 unfolding page_after
 no_half_report before line behind other none = simp (refused_within no_lines before line behind other none)
 
@@ -98,7 +98,7 @@ abbrev Begun : Option LinesTaken → Type 0
 Begun None = Unit {0}
 Begun (Some t) = t.begun ≡ true
 
-entry_begins : (g : GroupRegister) (o : Option CellEntry) → Begun (take_entry g o)
+entry_begins : (g : GroupRegister) (o : Option Entry) → Begun (take_entry g o)
 unfolding take_entry
 entry_begins g (Some e) = refl
 entry_begins g None = tt
@@ -127,7 +127,7 @@ refused_behind t [] line behind begun none = ap (λ (o : Option LinesTaken). tak
 refused_behind t (next ∷ before) line behind begun none = refused_behind (take_line t next) before line behind (line_begins t next) none
 
 pub no_second_register : (first : List ℕ) (before : List (List ℕ)) (line : List ℕ) (behind : List (List ℕ)) → entry_of line ≡ None
-    → page_after (take_lines no_lines (first ∷ (before ++ (line ∷ behind)))) ≡ page_holding refusal_text
+    → page_after (take_lines no_lines (first ∷ (before ++ (line ∷ behind)))) ≡ page_holding (refusal_text 1)
 unfolding page_after take_lines
 no_second_register first before line behind none =
     simp (refused_behind (take_line no_lines first) before line behind (line_begins no_lines first) none)

@@ -1,0 +1,37 @@
+-- Entries as they are written on a line, in decimal: what a line must be read as. No function computes these.
+-- Assumes nothing.
+use Rattle.std.specs.Prelude.{List, [], ◌∷◌, ◌++◌, ℕ, ℤ, ◌≤◌, unsigned_abs}
+use Rattle.texts.specs.Text.{ascii, field}
+use Rattle.register_lines.specs.Written as cells
+use Rattle.positions.specs.declared.Entry.{Entry}
+use Rattle.positions.specs.declared.Entry.TheVariants.{OfCell, OfPosition}
+use Rattle.positions.specs.declared.Position.{Position}
+use Rattle.positions.specs.declared.PositionEntry.{PositionEntry}
+use Rattle.entry_lines.specs.Signed.{signed_text}
+
+-- `p CELL X Y`
+abbrev pub place_line : ℕ → Position → List ℕ
+place_line n p = ascii "p" ++ (field n ++ (signed_text p.x ++ signed_text p.y))
+
+abbrev pub entry_line : Entry → List ℕ
+entry_line (OfCell e) = cells.entry_line e
+entry_line (OfPosition e) = ascii "entry" ++ (field e.slot ++ (ascii " " ++ place_line e.cell e.position))
+
+unfoldable pub entry_lines : List Entry → List (List ℕ)
+entry_lines [] = []
+entry_lines (e ∷ es) = entry_line e ∷ entry_lines es
+
+-- a number with its sign lies within 2^63−1 either way; the others have 64 bits, and a cell's 32
+abbrev pub SignedFits : ℤ → Type 0
+SignedFits z = unsigned_abs z ≤ 9223372036854775807
+
+abbrev pub PlaceFits : PositionEntry → Type 0
+PlaceFits e = (e.slot ≤ 18446744073709551615) × (e.cell ≤ 4294967295) × SignedFits e.position.x × SignedFits e.position.y
+
+abbrev pub EntryFits : Entry → Type 0
+EntryFits (OfCell e) = cells.EntryFits e
+EntryFits (OfPosition e) = PlaceFits e
+
+abbrev pub EntriesFit : List Entry → Type 0
+EntriesFit [] = Unit {0}
+EntriesFit (e ∷ es) = EntryFits e × EntriesFit es

@@ -1,0 +1,282 @@
+// Entry lines of cells and of their positions (docs/PLANNING.md; document 02, E6 and E11), from their bytes to the entry, and the report of an input of
+// them. A line and a place in it are two parameters, as in `line_fields`.
+#![tactic(auto)]
+
+ghost use Rattle.std.specs.Prelude.{◌≡◌};
+ghost use Rattle.texts.specs.Text.{put};
+ghost use Rattle.positions.specs.PlacedTaken.{cell_entry};
+ghost use Rattle.entry_lines.specs.Signed.{signed_number, signed_field, sign_text, signed_text};
+ghost use Rattle.entry_lines.specs.Entries.{place_of, place_at, said_at, entry_said, entry_with, entry_at, entry_of};
+ghost use Rattle.entry_lines.specs.Reports.{lines_taken, take_entry, take_settings, take_first, take_line, no_lines, page_after};
+
+use group_register::{GroupRegister, RegisterSettings};
+use line_fields::NumberField;
+use positions::{Entry, Position, PositionEntry};
+use register::{Assignment, CellEntry, CellNumber, Change};
+use register_lines::LineChange;
+use report::ReportPage;
+use texts::Output;
+
+// A number with its sign that a field holds, if it does, and where the field ends.
+#[derive(Clone, Copy)]
+pub struct SignedField {
+    pub number: Option<i64>,
+    pub end: usize,
+}
+
+// What an entry says of its cell: an assignment or a release, or a position.
+#[derive(Clone, Copy)]
+pub enum Said {
+    Changed(Change),
+    Placed(Position),
+}
+
+// What a line says of a cell, and where that ends.
+#[derive(Clone, Copy)]
+pub struct LineSaid {
+    pub cell: CellNumber,
+    pub said: Said,
+    pub end: usize,
+}
+
+// The register after the lines of an input so far, and whether there were any.
+#[derive(Clone, Copy)]
+pub struct LinesTaken {
+    pub group: GroupRegister,
+    pub begun: bool,
+}
+
+// ---- numbers with a sign
+
+// A number with its sign: up to 2^63-1 either way.
+#[tactic(auto, unfolding(crate::specs::Signed::signed_number))]
+fn signed_number(negative: bool, number: Option<u64>) -> Option<i64>
+    ensures { result ≡ signed_number negative number }
+{
+    let value = number?;
+    if value > 9223372036854775807 {
+        return None;
+    }
+    let coordinate = value as i64;
+    Some(if negative { -coordinate } else { coordinate })
+}
+
+// The field from a place on, as a number that may have a minus sign.
+#[tactic(auto, unfolding(crate::specs::Signed::signed_field))]
+pub fn signed_field(line: &[u8], at: usize) -> SignedField
+    ensures { result ≡ signed_field line.now at }
+{
+    let negative = line_fields::begins_at(line, at, b"-");
+    let from = if negative {
+        line_fields::next_field(line, at)
+    } else {
+        at
+    };
+    let NumberField { number, end } = line_fields::number_field(line, from);
+    SignedField {
+        number: signed_number(negative, number),
+        end,
+    }
+}
+
+// A number behind a blank, with its sign.
+#[tactic(auto, using(texts::proofs::Putting::put_then), unfolding(crate::specs::Signed::sign_text))]
+fn put_sign(out: &mut Output<'_>, negative: bool, n: u64)
+    ensures { out.new ≡ put (sign_text negative n) out.old }
+{
+    if negative {
+        out.put_bytes(b" -");
+        out.put_number(n);
+    } else {
+        out.put_field(n);
+    }
+}
+
+pub fn put_signed(out: &mut Output<'_>, value: i64)
+    ensures { out.new ≡ put (signed_text value) out.old }
+{
+    put_sign(out, value < 0, value.unsigned_abs());
+}
+
+// ---- an entry, from its letter on
+
+#[tactic(auto, unfolding(crate::specs::Entries::place_of))]
+fn place_of(cell: Option<u64>, x: Option<i64>, y: Option<i64>, end: usize) -> Option<LineSaid>
+    ensures { result ≡ place_of cell x y end }
+{
+    let number = cell?;
+    if number > 4294967295 {
+        return None;
+    }
+    let position = Position { x: x?, y: y? };
+    Some(LineSaid {
+        cell: number as CellNumber,
+        said: Said::Placed(position),
+        end,
+    })
+}
+
+// `CELL X Y`
+#[tactic(auto, unfolding(crate::specs::Entries::place_at))]
+fn place_at(line: &[u8], at: usize) -> Option<LineSaid>
+    ensures { result ≡ place_at line.now at }
+{
+    let cell = line_fields::number_field(line, at);
+    let x = signed_field(line, line_fields::next_field(line, cell.end));
+    let y = signed_field(line, line_fields::next_field(line, x.end));
+    place_of(cell.number, x.number, y.number, y.end)
+}
+
+// `p CELL X Y`, or what crates/register_lines reads, from a place of a line on.
+#[tactic(auto, unfolding(crate::specs::Entries::said_at))]
+pub fn said_at(line: &[u8], at: usize) -> Option<LineSaid>
+    ensures { result ≡ said_at line.now at }
+{
+    if line_fields::begins_at(line, at, b"p ") {
+        return place_at(
+            line,
+            line_fields::next_field(line, line_fields::next_field(line, at)),
+        );
+    }
+    let LineChange { cell, change, end } = register_lines::change_at(line, at)?;
+    Some(LineSaid {
+        cell,
+        said: Said::Changed(change),
+        end,
+    })
+}
+
+// ---- an entry line
+
+pub fn entry_said(slot: u64, cell: CellNumber, said: Said) -> Entry
+    ensures { result ≡ entry_said slot cell said }
+{
+    match said {
+        Said::Changed(change) => Entry::OfCell(CellEntry { slot, cell, change }),
+        Said::Placed(position) => Entry::OfPosition(PositionEntry {
+            slot,
+            cell,
+            position,
+        }),
+    }
+}
+
+// The entry, where its last field ends the line.
+#[tactic(auto, unfolding(crate::specs::Entries::entry_with))]
+fn entry_with(slot: u64, said: Option<LineSaid>, length: usize) -> Option<Entry>
+    ensures { result ≡ entry_with slot said length }
+{
+    let whole = said?;
+    if whole.end == length {
+        return Some(entry_said(slot, whole.cell, whole.said));
+    }
+    None
+}
+
+// `SLOT` and what follows it, from a place of a line to its end.
+#[tactic(auto, unfolding(crate::specs::Entries::entry_at))]
+fn entry_at(line: &[u8], at: usize) -> Option<Entry>
+    ensures { result ≡ entry_at line.now at }
+{
+    let slot = line_fields::number_field(line, at);
+    let number = slot.number?;
+    let said = said_at(line, line_fields::next_field(line, slot.end));
+    entry_with(number, said, line.len())
+}
+
+// The entry that a line gives, without its LF.
+#[tactic(auto, unfolding(crate::specs::Entries::entry_of))]
+pub fn entry_of(line: &[u8]) -> Option<Entry>
+    ensures { result ≡ entry_of line.now }
+{
+    if line_fields::begins(line, b"entry ") {
+        return entry_at(line, 6);
+    }
+    None
+}
+
+// ---- a report of entry lines: the register after the lines so far, where each of them was an entry line, or the first began the register
+
+// What the register sees of an entry: of a position its slot alone, as of an assignment without a width, which is refused.
+fn cell_entry(entry: Entry) -> CellEntry
+    ensures { result ≡ cell_entry entry }
+{
+    match entry {
+        Entry::OfCell(entry) => entry,
+        Entry::OfPosition(PositionEntry { slot, cell, .. }) => CellEntry {
+            slot,
+            cell,
+            change: Change::Assign(Assignment {
+                carrier: 0,
+                width: 0,
+            }),
+        },
+    }
+}
+
+// Before any line.
+pub fn no_lines() -> Option<LinesTaken>
+    ensures { result ≡ no_lines }
+{
+    Some(LinesTaken {
+        group: register_lines::first_register(),
+        begun: false,
+    })
+}
+
+// After at least one line.
+fn lines_taken(group: GroupRegister) -> Option<LinesTaken>
+    ensures { result ≡ lines_taken group }
+{
+    Some(LinesTaken { group, begun: true })
+}
+
+#[tactic(auto, unfolding(crate::specs::Reports::take_entry))]
+fn take_entry(group: GroupRegister, entry: Option<Entry>) -> Option<LinesTaken>
+    ensures { result ≡ take_entry group entry }
+{
+    let given = entry?;
+    lines_taken(group_register::apply(group, cell_entry(given)).group)
+}
+
+#[tactic(auto, unfolding(crate::specs::Reports::take_settings))]
+fn take_settings(slot: Option<u64>) -> Option<LinesTaken>
+    ensures { result ≡ take_settings slot }
+{
+    let from = slot?;
+    lines_taken(GroupRegister::new(RegisterSettings::from_slot(from)))
+}
+
+// The first line, which may be `register SLOT`.
+#[tactic(auto, unfolding(crate::specs::Reports::take_first))]
+fn take_first(group: GroupRegister, line: &[u8]) -> Option<LinesTaken>
+    ensures { result ≡ take_first group line.now }
+{
+    if line_fields::begins(line, b"register ") {
+        return take_settings(line_fields::number_from(line, 9));
+    }
+    take_entry(group, entry_of(line))
+}
+
+// One more line, without its LF. A line that is none of these is not forgotten.
+#[tactic(auto, unfolding(crate::specs::Reports::take_line))]
+pub fn take_line(taken: Option<LinesTaken>, line: &[u8]) -> Option<LinesTaken>
+    ensures { result ≡ take_line taken line.now }
+{
+    let lines = taken?;
+    if lines.begun {
+        return take_entry(lines.group, entry_of(line));
+    }
+    take_first(lines.group, line)
+}
+
+// What is printed when the input ends.
+#[tactic(auto, unfolding(crate::specs::Reports::page_after))]
+pub fn page_after(taken: Option<LinesTaken>) -> ReportPage
+    ensures { result ≡ page_after taken }
+{
+    match taken {
+        Some(lines) => group_register::page(lines.group),
+        None => report::refusal(1),
+    }
+}

@@ -1,0 +1,2 @@
+-- What feeding a list to a register with positions computes.
+pub mod PlacedFeeding

@@ -1,0 +1,4 @@
+pub mod Turns
+mod NumbersRead
+pub mod WindowsRead
+pub mod Laws
