@@ -2,6 +2,8 @@
 -- Assumes nothing.
 use Rattle.std.specs.Prelude.{Some}
 use mathlib.Core.Path.{◌≡◌, refl}
+use mathlib.Core.Bool.{true, false}
+use mathlib.Core.List.{[], ◌∷◌, map}
 use Rattle.calendar.specs.Calendar.{is_leap, year_days, days_of_years, month_days, days_of_months, is_month, is_day, is_time, is_date, days_before, minute_of, to_minute, to_date, refusal}
 use Rattle.calendar.proofs.RoundTrip.{date, there_and_back}
 
@@ -16,6 +18,17 @@ leap_day = refl
 
 leap_day_back : to_date 15863794 ≡ Some (date 2000 2 29 12 34)
 leap_day_back = there_and_back (date 2000 2 29 12 34) 15863794 leap_day
+
+-- the days up to the end of each month, in a year that is no leap year and in one that is: so each month has its own length
+ends_of_months : map (days_of_months false) (1 ∷ 2 ∷ 3 ∷ 4 ∷ 5 ∷ 6 ∷ 7 ∷ 8 ∷ 9 ∷ 10 ∷ 11 ∷ 12 ∷ [])
+    ≡ (31 ∷ 59 ∷ 90 ∷ 120 ∷ 151 ∷ 181 ∷ 212 ∷ 243 ∷ 273 ∷ 304 ∷ 334 ∷ 365 ∷ [])
+unfolding days_of_months month_days
+ends_of_months = refl
+
+ends_in_a_leap_year : map (days_of_months true) (1 ∷ 2 ∷ 3 ∷ 4 ∷ 5 ∷ 6 ∷ 7 ∷ 8 ∷ 9 ∷ 10 ∷ 11 ∷ 12 ∷ [])
+    ≡ (31 ∷ 60 ∷ 91 ∷ 121 ∷ 152 ∷ 182 ∷ 213 ∷ 244 ∷ 274 ∷ 305 ∷ 335 ∷ 366 ∷ [])
+unfolding days_of_months month_days
+ends_in_a_leap_year = refl
 
 -- the last minute that has a date
 last_minute : to_minute (date 9999 12 31 23 59) ≡ Some 4223371679

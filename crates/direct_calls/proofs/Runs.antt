@@ -67,19 +67,26 @@ module _ (m : Memory) (f : FlatCall) (w : Written) where
   abbrev made : Answer
   made = call_of (shard_of m) (call_in m f)
 
-  -- the memory afterwards stands for the new shard, and the host is told the call's reply
+  -- the memory afterwards stands for the new shard, and the host is told the call's reply; a refusal leaves each number of the memory
   pub record IsCall (x : HostAnswer) : Type 0 where
     pub stands : shard_of x.memory ≡ made.shard
     pub told : Told made.reply made.reply.outcome w x
+    pub left : (why : Refusal) → made.reply.outcome ≡ Err why → x.memory ≡ m
 
   taken : (x : HostAnswer) → made.reply.outcome ≡ Ok tt → x.number ≡ 0 → shard_of x.memory ≡ made.shard → x.reply ≡ put_reply made.reply w → IsCall x
-  taken x e n s r = record { stands = s; told = subst (λ (o : Outcome). Told made.reply o w x) (sym e) (n, r) }
+  taken x e n s r =
+      record {
+        stands = s;
+        told = subst (λ (o : Outcome). Told made.reply o w x) (sym e) (n, r);
+        left = λ why refused. (let same : Ok tt ≡ Err why = sym e ∙ refused in cc);
+      }
 
   left_alone : (why : Refusal) → made.reply.outcome ≡ Err why → IsCall (left_by m m.fast (direct (refusal_number why) m.core m.table w))
   left_alone why e =
       record {
         stands = sym (refusal_leaves (shard_of m) (call_in m f) why e);
         told = subst (λ (o : Outcome). Told made.reply o w (left_by m m.fast (direct (refusal_number why) m.core m.table w))) (sym e) (refl, refl);
+        left = λ other refused. refl;
       }
 
   by_fast_lem : (o : Outcome) → made.reply.outcome ≡ o → (d : FastDirect ℕ) → FastStands m.setup m.committers m.delegates m.core m.fast m.table w made o d → IsCall (left_by_fast m d)
@@ -161,21 +168,31 @@ pub host_begins : (g : GroupSettings) (j : ℕ) (t : FlatGroupSettings) → leb 
     → shard_of (memory_of (flat_new t)) ≡ begun_from g j
 host_begins g j t known e = same_shard (flat_new t) ∙ new_stands t known ∙ ap begin_shard e
 
--- Where it hands back a shard that is not made, every call in place gives the number of the settings, 1 or 17, and writes nothing.
+-- Where it hands back a shard that is not made, a call in place gives the number of the settings, 1 or 17, writes nothing of a reply and leaves each number of
+-- the memory: so does every call after it.
 pub host_refuses : (t : FlatGroupSettings) → (flat_settings_number t ≡ 0 → ⊥) → (f : FlatCall) (w : Written)
     → ((host_call (memory_of (flat_new t)) f w).number ≡ flat_settings_number t) × ((host_call (memory_of (flat_new t)) f w).reply ≡ w)
+    × ((host_call (memory_of (flat_new t)) f w).memory ≡ memory_of (flat_new t))
 host_refuses t refused f w = go (marked_by_number t)
   where
     m : Memory
     m = memory_of (flat_new t)
 
-    told_refused : (why : Refusal) → (decoded_shard (flat_new t)).made ≡ Err why → Told (made m f w).reply (Err why) w (host_call m f w)
-    told_refused why e =
-        let unmade : (shard_of m).made ≡ Err why = ap (λ (s : Shard). s.made) (same_shard (flat_new t)) ∙ e in
-        let outcome : (made m f w).reply.outcome ≡ Err why =
-        ap (λ (r : Answer). r.reply.outcome) (unmade_refuses lowest_best (shard_of m) (call_in m f) why unmade) in
-        subst (λ (o : Outcome). Told (made m f w).reply o w (host_call m f w)) outcome (host_is_call m f w).told
+    is_call : IsCall m f w (host_call m f w)
+    is_call = host_is_call m f w
 
-    go : MarkedBy (decoded_shard (flat_new t)).made (flat_settings_number t) → ((host_call m f w).number ≡ flat_settings_number t) × ((host_call m f w).reply ≡ w)
+    refused_with : (why : Refusal) → (decoded_shard (flat_new t)).made ≡ Err why → (made m f w).reply.outcome ≡ Err why
+    refused_with why e =
+        let unmade : (shard_of m).made ≡ Err why = ap (λ (s : Shard). s.made) (same_shard (flat_new t)) ∙ e in
+        ap (λ (r : Answer). r.reply.outcome) (unmade_refuses lowest_best (shard_of m) (call_in m f) why unmade)
+
+    told_refused : (why : Refusal) → (made m f w).reply.outcome ≡ Err why → Told (made m f w).reply (Err why) w (host_call m f w)
+    told_refused why outcome = subst (λ (o : Outcome). Told (made m f w).reply o w (host_call m f w)) outcome is_call.told
+
+    go : MarkedBy (decoded_shard (flat_new t)).made (flat_settings_number t)
+        → ((host_call m f w).number ≡ flat_settings_number t) × ((host_call m f w).reply ≡ w) × ((host_call m f w).memory ≡ m)
     go (inl (_, none)) = absurd (refused none)
-    go (inr (why, (e, number))) = let (told, left) = told_refused why e in (told ∙ sym number, left)
+    go (inr (why, (e, number))) =
+        let outcome = refused_with why e in
+        let (told, left) = told_refused why outcome in
+        (told ∙ sym number, left, is_call.left why outcome)

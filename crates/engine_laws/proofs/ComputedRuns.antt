@@ -133,6 +133,11 @@ pub engine_sends : sent_of (entries_by engine (begun (three Paxos)) [] promised)
 unfolding in_runs
 engine_sends = refl
 
+-- in MultiPaxos the first leader asks for accepts at once
+pub engine_proposes : sent_of (entries_by engine (begun (three MultiPaxos)) [] (proposes 0 10 ∷ [])) ≡ (sends_one 0 to_all (Accept 0 (round_of 0 0) 10) ∷ [])
+unfolding in_runs
+engine_proposes = refl
+
 -- no majority has promised before 2 has: only then does 0 ask for accepts
 pub engine_accepts_late : sent_of (entries_by engine (begun five) [] heard_twice)
     ≡ (sends_none

@@ -51,6 +51,6 @@ feed_text p None = bad_line_text
 unfoldable pub kept_feeding_made : PlacedRegister → LineList → Feeding
 kept_feeding_made p l = cond l.too_large (not_fed NumberTooLarge p) (cond (ltb 8192 l.count) (not_fed OutsideLimits p) (feeding p (kept_entries l)))
 
--- before these, 1 of a register that is not made
+-- before these, the number of a register that is not made
 unfoldable pub kept_feeding : PlacedRegister → LineList → Feeding
 kept_feeding p l = cond (is_made p.group.settings) (kept_feeding_made p l) (feeding_in (Err (Unmade (unmade_by p.group.settings))) p)

@@ -176,7 +176,7 @@ enum {
 void chanbook_positions_new(struct chanbook_position positions[512]);
 
 /* An entry of a register whose host lends positions too: kinds 1 and 2 as in chanbook_register_entry, and a position, of which x and y are read and carrier and
-   width are not: the first of 2, 64, 21 and 16 whose cause holds, or 0; it adds to no figure. After 21 and 16 the slot is
+   width are not: the first of 1 or 17, 2, 64, 21 and 16 whose cause holds, or 0; it adds to no figure. After 21 and 16 the slot is
    seen. An assignment keeps its cell's position, and a release drops it. The positions overlap none of the register's arrays.
    Such a host gives every entry here, or a list by chanbook_placed_feed, and none by chanbook_register_entry or chanbook_feed, which would leave the
    positions where other cells stand.
@@ -244,7 +244,7 @@ struct chanbook_window_answer {
     uint64_t minute;
 };
 
-/* A minute asked of the windows: the number of their settings; then 17 for a minute past the year 9999, however large; then 65, 66 or 67. It looks at the
+/* A minute asked of the windows: the number of their settings, 1 where figures count more than 128; then 17 for a minute past the year 9999, however large; then 65, 66 or 67. It looks at the
    minutes alone, at no date and at no place behind the windows, and copies nothing. */
 struct chanbook_window_answer chanbook_windows_ask(const uint64_t starts[128], const uint64_t ends[128], const uint64_t figures[2], uint64_t minute);
 
