@@ -761,7 +761,7 @@ module _ (choices : Choices) (s : Settings) (cs : List MemberCall) (i : ℕ) whe
   pub accepts_while_accepted : is_some (get_last_accepted_round left.state.rounds.core.paxos.max_rv) ≡ false → left.state.rounds.core.paxos.accepted_set ≡ 0
   accepts_while_accepted e = none_counted (get_last_accepted_round core.paxos.max_rv) (subst (λ (b : Bool). T (not b)) (sym e) tt) counted.accepted_held
 
-  -- The numbers that calls add to or subtract from have room. That these are all of them is `run_by_right` (crates/sums/proofs/InRuns.antt).
+  -- The numbers that calls add to or subtract from have room. That nothing that is handed back depends on a sum's end is `run_by_right` (crates/sums).
   pub sums_have_room : Room left
   sums_have_room = has_room left ok
 

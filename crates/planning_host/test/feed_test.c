@@ -222,8 +222,10 @@ static void placed_lists(void)
     placed_refused(&p, placed_feed(&p, 4, 4, 5), &before, 2);
     fill_placed(0, MOST, 400);
     placed_refused(&p, placed_feed(&p, MOST, MOST, MOST), &before, 18);
-    p.office.settings[0] = before.office.settings[0] = 17;
+    p.office.settings[0] = before.office.settings[0] = 5;
     placed_refused(&p, placed_feed(&p, MOST, MOST, MOST), &before, 1);
+    p.office.settings[0] = before.office.settings[0] = 17;
+    placed_refused(&p, placed_feed(&p, MOST, MOST, MOST), &before, 17);
 }
 
 /* An office that was away joins two neighbours' lists and feeds the join: it holds the register of the office that heard every slot. */

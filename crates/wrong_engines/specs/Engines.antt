@@ -250,7 +250,7 @@ all_zero =
       response = ReadResponse (read_id 0) 0;
     }
 
--- in MultiPaxos it never proposes: a proposal that is taken does nothing
+-- in MultiPaxos and MultiPaxos3P it never proposes: a proposal that is taken does nothing
 unfoldable pub multi_paxos_never_proposes : AnyEngine
 multi_paxos_never_proposes shard c =
     cond (is_multi_paxos shard.settings.mode && is_proposal c) (if_taken (nothing shard) (call_of shard c)) (call_of shard c)
@@ -482,7 +482,7 @@ counts_forwards_as_accepts shard c =
     (leaving (with_paxos_half (with_accepted shard.settings.alive_replicas (paxos_of shard)) shard) (call_of shard c))
     (call_of shard c)
 
--- a process of any number is taken for one of the group
+-- a process of any number below 2^64-1 is taken for one of the group
 unfoldable pub takes_every_process : AnyEngine
 takes_every_process shard c = call_under (with_processes 18446744073709551615 shard.settings) shard c
 
