@@ -44,23 +44,13 @@ impl Prepared {
         ((shard.slot() - slot, shard.open_reads().count(), reply.sent().next().is_some()), number)
     }
 
-    /// Nanoseconds of one call on each shard, through the C boundary as a host takes it: in place, in every mode.
+    /// Nanoseconds of one call on each shard, through the C boundary as a host takes it: in place, in every mode. All calls fill the same reply.
     pub fn round(&mut self) -> u128 {
-        self.timed(sys::chanbook_call)
-    }
-
-    /// The same by value.
-    pub fn round_by_value(&mut self) -> u128 {
-        self.timed(by_value)
-    }
-
-    /// All calls fill the same reply.
-    fn timed(&mut self, call_on: impl Fn(&mut FlatShard, &FlatCall, &mut FlatReply)) -> u128 {
         let calls: Vec<FlatCall> = vec![self.call.into(); self.flat_shards.len()];
         let mut reply = FlatReply::default();
         let begin = Instant::now();
         for (shard, call) in self.flat_shards.iter_mut().zip(&calls) {
-            call_on(shard, call, &mut reply);
+            sys::chanbook_call(shard, call, &mut reply);
             black_box(&reply);
         }
         let time = begin.elapsed().as_nanos();
@@ -88,11 +78,6 @@ impl Prepared {
         }
         time
     }
-}
-
-fn by_value(shard: &mut FlatShard, call: &FlatCall, reply: &mut FlatReply) {
-    let answer = sys::chanbook_shard_call(*shard, *call);
-    (*shard, *reply) = (answer.shard, answer.reply);
 }
 
 /// A group of five, whose member 0 proposes slot after slot; every message is delivered, in the order of sending.
@@ -127,28 +112,19 @@ impl Cycle {
 
     /// Nanoseconds of so many slots, and the calls made, through the C boundary as a host takes it.
     pub fn run(&mut self, slots: u64) -> (u128, u64) {
-        self.run_by(sys::chanbook_call, slots)
-    }
-
-    /// The same by value.
-    pub fn run_by_value(&mut self, slots: u64) -> (u128, u64) {
-        self.run_by(by_value, slots)
-    }
-
-    fn run_by(&mut self, call_on: impl Fn(&mut FlatShard, &FlatCall, &mut FlatReply), slots: u64) -> (u128, u64) {
         let mut group: Vec<FlatShard> = self.members().iter().map(|shard| *shard.flat()).collect();
         let mut reply = FlatReply::default();
         let (mut calls, mut commits) = (0, 0);
         let begin = Instant::now();
         for slot in 0..slots {
             let v = 2 * self.settings.process_count * slot;
-            call_on(&mut group[0], &FlatCall { v, ..FlatCall::default() }, &mut reply);
+            sys::chanbook_call(&mut group[0], &FlatCall { v, ..FlatCall::default() }, &mut reply);
             calls += 1;
             self.collect(&reply);
             let requester = FlatOption { given: 1, n: requester(&self.settings, v).unwrap_or(0) };
             while let Some((to, message)) = self.queue.pop_front() {
                 let call = FlatCall { kind: 2, message, value_held: 1, requester, held_requester: requester, ..FlatCall::default() };
-                call_on(&mut group[to], &call, &mut reply);
+                sys::chanbook_call(&mut group[to], &call, &mut reply);
                 commits += reply.commit.given;
                 calls += 1;
                 self.collect(&reply);

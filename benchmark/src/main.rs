@@ -26,14 +26,13 @@ fn ratio(of: &Times, to: &Times) -> f64 {
     median(of.iter().zip(to).map(|(a, b)| a / b).collect())
 }
 
-fn print_row(name: &str, [bare, full, lent, in_crate, by_value]: &[Times; 5]) {
+fn print_row(name: &str, [bare, full, lent, in_crate]: &[Times; 4]) {
     println!(
-        "| {name} | {:.0} | {:.0} | {:.0} | {:.0} | {:.0} | {:.2} | {:.2} |",
+        "| {name} | {:.0} | {:.0} | {:.0} | {:.0} | {:.2} | {:.2} |",
         best(bare),
         best(full),
         best(lent),
         best(in_crate),
-        best(by_value),
         ratio(lent, bare),
         ratio(lent, full)
     );
@@ -54,14 +53,13 @@ fn time_case(case: &Case, runs: usize) {
     assert_eq!(full.effect(), effect, "{name}");
     assert_eq!(number != 0, *refused, "{name}: {number}");
 
-    let mut times: [Times; 5] = Default::default();
+    let mut times: [Times; 4] = Default::default();
     for run in 0..=runs {
         let sums = [
             sum_of_rounds(|| bare.round()),
             sum_of_rounds(|| full.round()),
             sum_of_rounds(|| lent.round()),
             sum_of_rounds(|| lent.round_in_crate()),
-            sum_of_rounds(|| lent.round_by_value()),
         ];
         // The first run fills the caches.
         if run > 0 {
@@ -77,10 +75,10 @@ fn time_cycle(name: &str, settings: &chanbook_shard::Settings, runs: usize) {
     let mut bare = original_bare::Cycle::new(settings);
     let mut full = original_full::Cycle::new(settings);
     let mut lent = lent::Cycle::new(settings);
-    let mut times: [Times; 5] = Default::default();
+    let mut times: [Times; 4] = Default::default();
     let mut calls = 0;
     for run in 0..=runs {
-        let sides = [bare.run(SLOTS), full.run(SLOTS), lent.run(SLOTS), lent.run_in_crate(SLOTS), lent.run_by_value(SLOTS)];
+        let sides = [bare.run(SLOTS), full.run(SLOTS), lent.run(SLOTS), lent.run_in_crate(SLOTS)];
         calls = sides[0].1;
         assert!(sides.iter().all(|side| side.1 == calls), "{name}: {sides:?}");
         if run > 0 {
@@ -96,8 +94,8 @@ fn main() {
     let arguments: Vec<String> = std::env::args().collect();
     let runs = arguments.get(1).and_then(|runs| runs.parse().ok()).unwrap_or(25);
     let part = arguments.get(2).map_or("", String::as_str);
-    println!("| call | bare | full | lent | crate | by value | lent / bare | lent / full |");
-    println!("|---|---|---|---|---|---|---|---|");
+    println!("| call | bare | full | lent | crate | lent / bare | lent / full |");
+    println!("|---|---|---|---|---|---|---|");
     for case in cases::all().iter().filter(|case| case.name.contains(part)) {
         time_case(case, runs);
     }

@@ -1,9 +1,7 @@
-//! Links the engine's libraries, which tools/static_libraries.sh proves, compiles and puts into target/staticlib. One is made anew where it is missing or
-//! older than a source.
-use std::fs;
+//! Links the engine's libraries, which tools/static_libraries.sh proves, compiles and puts into target/staticlib where one is missing or older than a source.
+use std::fs::{self, OpenOptions};
 use std::path::{Path, PathBuf};
-use std::process::Command;
-use std::time::SystemTime;
+use std::process::{Command, Stdio};
 
 /// The crates whose functions are exported; each is a library of its name.
 const LIBRARIES: [&str; 4] = ["host", "direct", "direct_fast", "planning_host"];
@@ -11,50 +9,39 @@ const LIBRARIES: [&str; 4] = ["host", "direct", "direct_fast", "planning_host"];
 /// The folders of a crate that `rt` reads.
 const READ: [&str; 3] = ["src", "specs", "proofs"];
 
-fn changed(path: &Path) -> Option<SystemTime> {
-    fs::metadata(path).and_then(|m| m.modified()).ok()
-}
-
-fn newest_below(folder: &Path) -> Option<SystemTime> {
-    let entries = fs::read_dir(folder).ok()?;
-    entries.flatten().map(|entry| entry.path()).filter_map(|path| if path.is_dir() { newest_below(&path) } else { changed(&path) }).max()
-}
-
-/// All that a library is made from. A crate's folder `out`, which `rt` writes, is not in it.
+/// All that a library may be made from.
 fn sources(root: &Path) -> Vec<PathBuf> {
     let crates = fs::read_dir(root.join("crates")).expect("the folder crates could not be read");
     let folders = crates.flatten().flat_map(|entry| READ.map(|name| entry.path().join(name)));
     folders.filter(|folder| folder.is_dir()).chain([root.join("crates.txt")]).collect()
 }
 
-fn newest_source(root: &Path) -> Option<SystemTime> {
-    sources(root).iter().filter_map(|path| if path.is_dir() { newest_below(path) } else { changed(path) }).max()
+/// The terminal, where there is one: of what a build script writes, cargo shows nothing before it fails.
+fn terminal() -> Stdio {
+    OpenOptions::new().write(true).open("/dev/tty").map_or_else(|_| Stdio::inherit(), Stdio::from)
 }
 
-fn prove_and_compile(root: &Path, name: &str) {
+fn prove_and_compile(root: &Path) {
     let status = Command::new(root.join("tools/static_libraries.sh"))
-        .arg(name)
+        .args(LIBRARIES)
+        .stdout(terminal())
+        .stderr(terminal())
         .status()
         .expect("tools/static_libraries.sh, which calls `rt`, the command of the Rattle kit, could not be started");
-    assert!(status.success(), "`tools/static_libraries.sh {name}` failed in {root:?}");
+    assert!(status.success(), "`tools/static_libraries.sh {}` failed", LIBRARIES.join(" "));
 }
 
 fn main() {
-    let here = PathBuf::from(std::env::var("CARGO_MANIFEST_DIR").unwrap());
-    let root = here.join("../..").canonicalize().unwrap();
+    // cargo starts this in the crate's folder. What it is to watch has no absolute path, so that a copy of the checkout watches its own files.
+    let root = Path::new("../..");
+    prove_and_compile(root);
     let folder = root.join("target/staticlib");
-    let newest = newest_source(&root);
-    println!("cargo:rustc-link-search=native={}", folder.display());
+    println!("cargo:rustc-link-search=native={}", folder.canonicalize().unwrap().display());
     for name in LIBRARIES {
-        let library = folder.join(format!("lib{name}.a"));
-        let built = changed(&library);
-        if built.is_none() || built < newest {
-            prove_and_compile(&root, name);
-        }
         println!("cargo:rustc-link-lib=static={name}");
-        println!("cargo:rerun-if-changed={}", library.display());
+        println!("cargo:rerun-if-changed={}", folder.join(format!("lib{name}.a")).display());
     }
-    for path in sources(&root) {
+    for path in sources(root) {
         println!("cargo:rerun-if-changed={}", path.display());
     }
 }

@@ -1,4 +1,4 @@
-//! `oracle compare`: long random runs beside a program that reads call lines and prints answers.
+//! `oracle compare`: long random runs beside programs that read call lines and print answers.
 use crate::calls::{MODES, Mode};
 use crate::counts::Counts;
 use crate::generate;
@@ -11,13 +11,13 @@ use std::io;
 use std::sync::mpsc::{SyncSender, sync_channel};
 use std::time::{Duration, Instant};
 
-pub const USAGE: &str = "oracle compare --replay PROGRAM (--seconds N | --calls N) [--seed S] [--mode NAME]";
+pub const USAGE: &str = "oracle compare --replay PROGRAM [--replay PROGRAM ..] (--seconds N | --calls N) [--seed S] [--mode NAME]";
 
-/// Lines of one run of the program. A difference is looked for within them, so they bound the work of shortening it.
+/// Lines of one run of a program. A difference is looked for within them, so they bound the work of shortening it.
 const BLOCK: usize = 20_000;
 
 pub struct Options {
-    program: String,
+    programs: Vec<String>,
     seconds: u64,
     calls: u64,
     seed: u64,
@@ -26,11 +26,11 @@ pub struct Options {
 
 impl Options {
     pub fn read(arguments: &[String]) -> Option<Options> {
-        let mut options = Options { program: String::new(), seconds: u64::MAX, calls: u64::MAX, seed: 1, mode: None };
+        let mut options = Options { programs: vec![], seconds: u64::MAX, calls: u64::MAX, seed: 1, mode: None };
         for pair in arguments.chunks(2) {
             let [name, value] = pair else { return None };
             match name.as_str() {
-                "--replay" => options.program = value.clone(),
+                "--replay" => options.programs.push(value.clone()),
                 "--seconds" => options.seconds = value.parse().ok()?,
                 "--calls" => options.calls = value.parse().ok()?,
                 "--seed" => options.seed = value.parse().ok()?,
@@ -39,11 +39,11 @@ impl Options {
             }
         }
         let bounded = options.seconds < u64::MAX || options.calls < u64::MAX;
-        (!options.program.is_empty() && bounded).then_some(options)
+        (!options.programs.is_empty() && bounded).then_some(options)
     }
 }
 
-/// Blocks of calls with the Rust's answers, made while the program works on the block before.
+/// Blocks of calls with the Rust's answers, made while the programs work on the block before.
 fn make_blocks(seed: u64, mode: Option<Mode>, blocks: SyncSender<Recording>) {
     for block in 0.. {
         let mut random = Random::new(seed.wrapping_mul(1_000_003).wrapping_add(block));
@@ -58,6 +58,7 @@ fn print_lines(title: &str, lines: &[u8]) {
 }
 
 pub fn report(program: &str, recording: &Recording, difference: &replay::Difference) -> io::Result<()> {
+    println!("the program that differs: {program}");
     match shrink::shortest(program, recording, difference.position)? {
         Some(short) => {
             let lines = short.parts.concat();
@@ -93,10 +94,10 @@ pub fn run(options: &Options) -> io::Result<bool> {
     std::thread::spawn(move || make_blocks(seed, mode, sender));
     while counts.lines() < options.calls && start.elapsed() < Duration::from_secs(options.seconds) {
         let recording = blocks.recv().expect("the Rust's side stopped");
-        if let Some(difference) = replay::compare(&options.program, &recording.lines, &recording.answers)? {
+        if let Some((program, difference)) = replay::compare_all(&options.programs, &recording.lines, &recording.answers)? {
             let call = counts.lines() + recording.line_at(difference.position) as u64 + 1;
             println!("difference at call {call} of seed {}", options.seed);
-            report(&options.program, &recording, &difference)?;
+            report(program, &recording, &difference)?;
             return Ok(false);
         }
         counts.add(&recording.counts);
@@ -104,6 +105,9 @@ pub fn run(options: &Options) -> io::Result<bool> {
     let seconds = start.elapsed().as_secs_f64();
     println!("{counts}");
     print_panics();
-    println!("seed {}: {} lines, no difference, {:.0} lines a second", options.seed, counts.lines(), counts.lines() as f64 / seconds);
+    let rate = counts.lines() as f64 / seconds;
+    for program in &options.programs {
+        println!("{program}, seed {}: {} lines, no difference, {rate:.0} lines a second", options.seed, counts.lines());
+    }
     Ok(true)
 }

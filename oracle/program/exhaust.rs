@@ -1,4 +1,5 @@
-//! `oracle exhaust`: from every state that the calls of a small alphabet reach in slot 0, every call of the alphabet, beside a program.
+//! `oracle exhaust`: from every state that the calls of a small alphabet reach in slot 0, every call of the alphabet, beside
+//! programs that read call lines and print answers.
 use crate::calls::{Call, Frame, MODES, Message, Mode, Promise, Round, Settings, State, Words};
 use crate::compare;
 use crate::counts::Counts;
@@ -8,15 +9,15 @@ use std::collections::{HashSet, VecDeque};
 use std::io;
 use std::time::{Duration, Instant};
 
-pub const USAGE: &str = "oracle exhaust --replay PROGRAM [--processes 2 | 3] [--mode NAME] [--states N] [--seconds N]";
+pub const USAGE: &str = "oracle exhaust --replay PROGRAM [--replay PROGRAM ..] [--processes 2 | 3] [--mode NAME] [--states N] [--seconds N]";
 
-/// Lines of one run of the program.
+/// Lines of one run of a program.
 const BLOCK: usize = 20_000;
 const A_DAY: u64 = 86_400;
 const VALUES: [usize; 2] = [1, 2];
 
 pub struct Options {
-    program: String,
+    programs: Vec<String>,
     processes: usize,
     mode: Option<Mode>,
     /// At most so many states for each settings.
@@ -27,11 +28,11 @@ pub struct Options {
 
 impl Options {
     pub fn read(arguments: &[String]) -> Option<Options> {
-        let mut options = Options { program: String::new(), processes: 2, mode: None, states: usize::MAX, seconds: A_DAY };
+        let mut options = Options { programs: vec![], processes: 2, mode: None, states: usize::MAX, seconds: A_DAY };
         for pair in arguments.chunks(2) {
             let [name, value] = pair else { return None };
             match name.as_str() {
-                "--replay" => options.program = value.clone(),
+                "--replay" => options.programs.push(value.clone()),
                 "--processes" => options.processes = value.parse().ok().filter(|count| (2..=3).contains(count))?,
                 "--mode" => options.mode = Some(*MODES.iter().find(|mode| format!("{mode:?}") == *value)?),
                 "--states" => options.states = value.parse().ok()?,
@@ -39,7 +40,7 @@ impl Options {
                 _ => return None,
             }
         }
-        (!options.program.is_empty()).then_some(options)
+        (!options.programs.is_empty()).then_some(options)
     }
 }
 
@@ -210,8 +211,8 @@ impl Explorer<'_> {
     fn compare(&mut self) -> io::Result<Equal> {
         let recording: Recording = std::mem::replace(&mut self.recorder, Recorder::new(&self.settings)).recording;
         self.counts.add(&recording.counts);
-        match replay::compare(&self.options.program, &recording.lines, &recording.answers)? {
-            Some(difference) => compare::report(&self.options.program, &recording, &difference).map(|()| false),
+        match replay::compare_all(&self.options.programs, &recording.lines, &recording.answers)? {
+            Some((program, difference)) => compare::report(program, &recording, &difference).map(|()| false),
             None => Ok(true),
         }
     }
@@ -279,6 +280,8 @@ pub fn run(options: &Options) -> io::Result<bool> {
     }
     println!("{counts}");
     compare::print_panics();
-    println!("{} processes: {} lines, no difference, {} seconds", options.processes, counts.lines(), start.elapsed().as_secs());
+    for program in &options.programs {
+        println!("{program}, {} processes: {} lines, no difference, {} seconds", options.processes, counts.lines(), start.elapsed().as_secs());
+    }
     Ok(true)
 }

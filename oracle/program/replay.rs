@@ -1,4 +1,4 @@
-//! The program under comparison: call lines in, answer lines out.
+//! The programs under comparison: call lines in, answer lines out.
 use std::io::{self, Read, Write};
 use std::process::{Command, Stdio};
 
@@ -56,4 +56,18 @@ pub fn compare(program: &str, lines: &[u8], expected: &[u8]) -> io::Result<Optio
         return Ok(Some(Difference { position: expected.len(), printed: format!("({status})").into_bytes() }));
     }
     Ok(difference)
+}
+
+/// Runs each program on the lines, beside each other. The first that differs, with its difference.
+pub fn compare_all<'a>(programs: &'a [String], lines: &[u8], expected: &[u8]) -> io::Result<Option<(&'a str, Difference)>> {
+    let compared: Vec<_> = std::thread::scope(|scope| {
+        let running: Vec<_> = programs.iter().map(|program| scope.spawn(|| compare(program, lines, expected))).collect();
+        running.into_iter().map(|one| one.join().expect("a comparison panicked")).collect()
+    });
+    for (program, difference) in programs.iter().zip(compared) {
+        if let Some(difference) = difference? {
+            return Ok(Some((program, difference)));
+        }
+    }
+    Ok(None)
 }

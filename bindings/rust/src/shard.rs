@@ -29,7 +29,7 @@ impl Shard {
     /// A new shard, at slot 0 and with no read open. Where the settings are outside the limits it is not made, and refuses every call with 1; or else,
     /// where a window has a date or a time that there is not, or an end that is not after its start, with 17.
     pub fn new(group: &GroupSettings) -> Shard {
-        Shard { flat: Box::new(sys::chanbook_shard_new(group.into())) }
+        Shard { flat: FlatShard::begun(&group.into()) }
     }
 
     /// Whether the shard is made, as its calls ask it. A shard read back with an unknown mode is not made either.

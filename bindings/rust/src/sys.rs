@@ -1,6 +1,6 @@
-//! The flat forms that cross `extern "C"`, as crates/flat, crates/calendar, crates/windows, crates/group_settings and crates/host declare them, and the
-//! functions that crates/host, crates/direct and crates/direct_fast export. A flat form has numbers only: 0 is no and any other number yes. Every flat form stands for some shard or
-//! call, whatever numbers are in it, and so a call on one is safe.
+//! The flat forms of shards, calls and replies, whose parts are lent to the functions that crates/host, crates/direct and crates/direct_fast export, as rows of
+//! numbers. Those of the parts are as crates/flat, crates/calendar, crates/windows and crates/group_settings declare them. A flat form has numbers only: 0 is
+//! no and any other number yes. Every flat form stands for some shard or call, whatever numbers are in it, and so a call on one is safe.
 //!
 //! [`Shard`](crate::Shard) is the interface for a host; these are for whoever keeps shards in memory of their own.
 #![allow(missing_docs)]
@@ -238,25 +238,31 @@ pub struct FlatReply {
     pub served_count: u64,
 }
 
-/// A shard after a call, and the call's reply.
-#[repr(C)]
-#[derive(Clone, Copy, Debug, PartialEq, Eq)]
-pub struct FlatAnswer {
-    pub shard: FlatShard,
-    pub reply: FlatReply,
-}
-
 unsafe extern "C" {
-    /// A shard as it begins. Its `made` is 0; 1 where the settings are outside the limits; or else 17 where a window does not fit.
-    pub safe fn chanbook_shard_new(group: FlatGroupSettings) -> FlatShard;
+    /// A shard as it begins, in rows of numbers that are parts of it: `setup` has the numbers of a shard up to `has_committers`, `answers` those of its
+    /// fast half up to the tables, and `values`, `epaxos` and `swift` are these. Every number is written. Gives the shard's `made`: 0; 1 where the settings
+    /// are outside the limits; or else 17 where a window does not fit.
+    ///
+    /// # Safety
+    ///
+    /// Each row can be written, and none overlaps another.
+    pub unsafe fn chanbook_shard_new(
+        group: FlatGroupSettings,
+        setup: *mut [u64; 10],
+        committers: *mut [u64; 64],
+        delegates: *mut [u64; 64],
+        core: *mut [u64; 18],
+        answers: *mut [u64; 5],
+        values: *mut [u64; 64],
+        epaxos: *mut [u64; 64],
+        swift: *mut [u64; 64],
+        reads: *mut [u64; 640],
+        served: *mut [u64; 512],
+    ) -> u64;
 
-    /// A call by value: the shard afterwards and the reply. It copies the shard; a host takes [`chanbook_call`], and the tests compare the two. Where it
-    /// is refused, the shard is as it was.
-    pub safe fn chanbook_shard_call(shard: FlatShard, call: FlatCall) -> FlatAnswer;
-
-    /// A call in place, on parts of a shard, of a call and of a reply as rows of numbers: `setup` has the numbers of a shard up to
-    /// `has_committers`, and `rest` a reply's commit and `served_count`. Gives 0 where the call is taken; of a message that is not sent only the
-    /// kind is written. Gives the number of a refusal, or [`PASSED_ON`] for a call that [`chanbook_fast_call`] takes: nothing at all is written then.
+    /// A call in place, on the same rows of a shard, and on those of a call and of a reply: `rest` has the reply's commit and `served_count`. Gives 0 where
+    /// the call is taken; of a message that is not sent only the kind is written. Gives the number of a refusal, or [`PASSED_ON`] for a call that
+    /// [`chanbook_fast_call`] takes: nothing at all is written then.
     ///
     /// # Safety
     ///
@@ -275,9 +281,8 @@ unsafe extern "C" {
         rest: *mut [u64; 5],
     ) -> u64;
 
-    /// The same for EPaxos and SwiftPaxos: proposals, Prepare, Accept, ForwardRequest and Commit. The fast half is lent besides: `answers` has its
-    /// numbers up to its tables, and `values`, `epaxos` and `swift` are these. Gives [`PASSED_ON`] for a call that [`chanbook_direct_call`] takes: a
-    /// new read, a message of a read or of an unknown kind, and all of the other modes.
+    /// The same for EPaxos and SwiftPaxos: proposals, Prepare, Accept, ForwardRequest and Commit. The fast half is lent besides. Gives [`PASSED_ON`] for a
+    /// call that [`chanbook_direct_call`] takes: a new read, a message of a read or of an unknown kind, and all of the other modes.
     ///
     /// # Safety
     ///
@@ -335,10 +340,32 @@ fn outcome(shard: &mut FlatShard, call: &FlatCall, reply: &mut FlatReply) -> u64
     direct_call(shard, call, reply)
 }
 
-// SAFETY, of both functions below: shard, call and reply are borrowed for as long as the call lasts, and have numbers only. The rows are parts of
+// SAFETY, of the three functions below: shard, call and reply are borrowed for as long as the call lasts, and have numbers only. The rows are parts of
 // them that do not overlap. `row` checks the length of a field that is handed over whole. The lengths of the other four are checked at the end of
 // this file: from the shard's first number to its committers, from the fast half's first number to its tables, the whole call, and from the reply's
 // commit to its end.
+
+/// A shard as it begins, in place, whatever stood there. Gives its `made`.
+pub fn chanbook_begin(shard: &mut FlatShard, group: &FlatGroupSettings) -> u64 {
+    let shard = &raw mut *shard;
+    // SAFETY: as above.
+    unsafe {
+        let fast = &raw mut (*shard).state.rounds.fast;
+        chanbook_shard_new(
+            *group,
+            shard.cast(),
+            &raw mut (*shard).settings.committers,
+            &raw mut (*shard).settings.delegates,
+            row(&raw mut (*shard).state.rounds.core),
+            fast.cast(),
+            &raw mut (*fast).fast_proposer_to_v,
+            &raw mut (*fast).epaxos_proposer_scores,
+            &raw mut (*fast).swift_proposer_scores,
+            row(&raw mut (*shard).state.table.reads),
+            row(&raw mut (*shard).state.table.served),
+        )
+    }
+}
 
 #[inline]
 fn fast_call(shard: &mut FlatShard, call: &FlatCall, reply: &mut FlatReply) -> u64 {
@@ -416,6 +443,15 @@ macro_rules! numbers {
 
 numbers!(FlatShard);
 numbers!(FlatCall);
+
+impl FlatShard {
+    /// A shard as it begins. Its `made` says whether it is made.
+    pub fn begun(group: &FlatGroupSettings) -> Box<FlatShard> {
+        let mut shard = Box::new(FlatShard::from_numbers([0; FlatShard::NUMBERS]));
+        chanbook_begin(&mut shard, group);
+        shard
+    }
+}
 
 // A place of another size or offset than C's would be read wrong on the other side.
 const _: () = {

@@ -1,13 +1,13 @@
-//! Every call both ways: as a host makes it, which is by `chanbook_fast_call` or by `chanbook_direct_call`, and by value, by `chanbook_shard_call`.
+//! Every call both ways: by `Shard::call`, with the crate's enums, and by `chanbook_call`, on numbers of which any may stand there.
 //! Outcome, sent messages, commit, served reads and the shard afterwards mean the same. The numbers need not be the same: any number but 0 is yes,
 //! and what stands under a `given` of 0 does not count. A call that is refused leaves every number of the shard, and of the reply all but those that
-//! say that there is nothing in it.
+//! say that there is nothing in it. What a call should answer is in recorded.rs.
 mod numbers;
 mod support;
 
 use chanbook_shard::sys::{
-    self, FlatAnswer, FlatCall, FlatCommit, FlatCore, FlatFast, FlatHeld, FlatMessage, FlatOption, FlatOutgoing, FlatPromise, FlatReply,
-    FlatRound, FlatServedRead, FlatShard,
+    self, FlatCall, FlatCommit, FlatCore, FlatFast, FlatHeld, FlatMessage, FlatOption, FlatOutgoing, FlatPromise, FlatReply, FlatRound,
+    FlatServedRead, FlatShard,
 };
 use chanbook_shard::{
     Call, ConsensusMessage, ConsensusMsg, Delivery, Destination, Outgoing, PFModeSetting, PaxosRound, ReadId, Refusal, Reply, RoundV, Said,
@@ -59,9 +59,16 @@ fn reply(f: &FlatReply) -> FlatReply {
     FlatReply { first: outgoing(f.first), second: outgoing(f.second), third: outgoing(f.third), commit: commit(f.commit), ..*f }
 }
 
-/// Every place of the tables counts, those past the open and the served reads too.
+/// Every place of the tables counts, those past the open and the served reads too. In a mode that there is not every mark is 1.
 fn shard(f: &FlatShard) -> FlatShard {
     let mut f = *f;
+    f.made = match f.made {
+        0 if f.settings.mode <= 5 => 0,
+        17 if f.settings.mode <= 5 => 17,
+        _ => 1,
+    };
+    f.settings.quorum = option(f.settings.quorum);
+    f.settings.has_committers = yes(f.settings.has_committers);
     let core = &mut f.state.rounds.core;
     core.last_v = option(core.last_v);
     core.slot_left_fast_path = yes(core.slot_left_fast_path);
@@ -150,10 +157,9 @@ fn call_in(f: &FlatCall) -> Option<Call> {
 
 // ---- both ways
 
-/// A shard that gets its calls by `chanbook_shard_call`, by `Shard::call`, and by `chanbook_call` with one reply for all of them.
+/// A shard that gets its calls by `Shard::call`, and by `chanbook_call` with one reply for all of them.
 #[derive(Clone)]
 struct BothWays {
-    copied: FlatShard,
     in_crate: Shard,
     lent: FlatShard,
     reply: FlatReply,
@@ -170,42 +176,39 @@ struct Met {
 }
 
 impl BothWays {
-    /// The reply is as if an earlier call had sent, committed and served.
+    /// In the crate the shard has 1 for yes and 0 for what is not given. The reply is as if an earlier call had sent, committed and served.
     fn new(flat: FlatShard) -> BothWays {
         let sent = FlatOutgoing { kind: 1, to: 7, ..FlatOutgoing::default() };
         let commit = FlatCommit { given: 1, slot: 7, v: 7, fast: 1 };
         let reply = FlatReply { outcome: 7, first: sent, second: sent, third: sent, commit, served_count: 7 };
-        BothWays { copied: flat, in_crate: Shard::from_flat(Box::new(flat)), lent: flat, reply }
+        BothWays { in_crate: Shard::from_flat(Box::new(shard(&flat))), lent: flat, reply }
     }
 
     fn call(&mut self, call: FlatCall, met: &mut Met) {
         let (before, reply_before) = (self.lent, self.reply);
-        let FlatAnswer { shard, reply: expected } = sys::chanbook_shard_call(self.copied, call);
-        self.copied = shard;
         sys::chanbook_call(&mut self.lent, &call, &mut self.reply);
-        assert_eq!(reply(&self.reply), expected, "{call:?}");
-        assert_eq!(differences(&self.lent, &self.copied), [], "{call:?}");
-        if expected.outcome != 0 {
+        if self.reply.outcome != 0 {
             assert!(self.lent.numbers() == before.numbers(), "refused, and yet written: {call:?}");
-            assert_eq!(self.reply, emptied(&reply_before, expected.outcome), "refused, and yet written: {call:?}");
+            assert_eq!(self.reply, emptied(&reply_before, self.reply.outcome), "refused, and yet written: {call:?}");
         }
+        let means = reply(&self.reply);
         match call_in(&call) {
-            Some(call) => self.call_in_crate(call, &expected),
-            None => assert_ne!(expected.outcome, 0, "{call:?}"),
+            Some(call) => self.call_in_crate(call, &means),
+            None => assert_ne!(means.outcome, 0, "{call:?}"),
         }
-        met.outcomes.insert(expected.outcome);
-        met.commits += expected.commit.given;
-        met.served += expected.served_count;
+        met.outcomes.insert(means.outcome);
+        met.commits += means.commit.given;
+        met.served += means.served_count;
         met.fast_changes += u64::from(self.lent.state.rounds.fast != before.state.rounds.fast);
-        met.fast_commits += expected.commit.fast;
+        met.fast_commits += means.commit.fast;
     }
 
-    fn call_in_crate(&mut self, call: Call, expected: &FlatReply) {
+    fn call_in_crate(&mut self, call: Call, means: &FlatReply) {
         let reply = self.in_crate.call(call);
-        assert_eq!(flat_reply(&reply), *expected, "{call:?}");
-        let served = &self.copied.state.table.served[..expected.served_count as usize];
+        assert_eq!(flat_reply(&reply), *means, "{call:?}");
+        let served = &self.lent.state.table.served[..means.served_count as usize];
         assert!(served.iter().map(served_read).eq(reply.served_reads), "{call:?}");
-        assert_eq!(differences(self.in_crate.flat(), &self.copied), [], "{call:?}");
+        assert_eq!(differences(&self.lent, self.in_crate.flat()), [], "{call:?}");
     }
 }
 

@@ -1,33 +1,21 @@
 //! Damaged frames and shards of any numbers. Each call ends; it is taken or gives a number from 1 to 12, or 17 where that is the shard's mark; a refusal leaves
-//! every number of the shard as it was and hands back the number alone. A host's way and `chanbook_shard_call` give the same number.
+//! every number of the shard as it was and hands back the number alone.
 mod numbers;
 mod support;
 
-use chanbook_shard::sys::{self, FlatAnswer, FlatCall, FlatGroupSettings, FlatReply, FlatSettings, FlatShard, FlatWindows};
+use chanbook_shard::sys::{self, FlatCall, FlatGroupSettings, FlatReply, FlatSettings, FlatShard, FlatWindows};
 use chanbook_shard::windows::Window;
-use chanbook_shard::{Call, LAST_SLOT, PFModeSetting, Refusal, Settings, Shard};
+use chanbook_shard::{Call, GroupSettings, LAST_SLOT, PFModeSetting, Refusal, Settings, Shard};
 use numbers::{AT_LIMITS, any_number};
 use std::collections::BTreeSet;
 use support::{Group, Random, all_modes, begun, five};
 
 /// The outcome of the call, once what must hold of every call was checked.
 fn checked(shard: &FlatShard, call: FlatCall) -> u64 {
-    let FlatAnswer { shard: after, reply } = sys::chanbook_shard_call(*shard, call);
-    let marked_17 = shard.made == 17 && shard.settings.mode <= 5;
-    assert!(if marked_17 { reply.outcome == 17 } else { reply.outcome <= 12 }, "{} on {call:?}", reply.outcome);
-    if reply.outcome != 0 {
-        assert_eq!(after.numbers(), shard.numbers(), "{call:?}");
-        let alone = FlatReply { outcome: reply.outcome, ..FlatReply::default() };
-        assert_eq!(reply, alone, "{call:?}");
-    }
-    assert_eq!(in_place(shard, call), reply.outcome, "{call:?}");
-    reply.outcome
-}
-
-/// The outcome of the call as a host makes it.
-fn in_place(shard: &FlatShard, call: FlatCall) -> u64 {
     let (mut after, mut reply) = (*shard, FlatReply::default());
     sys::chanbook_call(&mut after, &call, &mut reply);
+    let marked_17 = shard.made == 17 && shard.settings.mode <= 5;
+    assert!(if marked_17 { reply.outcome == 17 } else { reply.outcome <= 12 }, "{} on {call:?}", reply.outcome);
     if reply.outcome != 0 {
         assert_eq!(after.numbers(), shard.numbers(), "{call:?}");
         assert_eq!(reply, FlatReply { outcome: reply.outcome, ..FlatReply::default() }, "{call:?}");
@@ -143,15 +131,31 @@ fn a_shard_of_any_mark() {
     }
 }
 
+/// Every number is written, whatever stood in the memory before.
+#[test]
+fn a_shard_begins_in_any_memory() {
+    let mut random = Random(15);
+    for settings in all_modes().into_iter().map(five) {
+        let begun = begun(&settings);
+        for mark in [0, 1] {
+            let whole_mhz_from = LAST_SLOT + mark;
+            let group = (&GroupSettings::new(settings.clone(), whole_mhz_from)).into();
+            let mut shard = FlatShard::from_numbers(std::array::from_fn(|_| any_number(&mut random)));
+            assert_eq!(sys::chanbook_begin(&mut shard, &group), mark);
+            assert_eq!(shard.numbers(), FlatShard { made: mark, ..*begun.flat() }.numbers());
+        }
+    }
+}
+
 #[test]
 fn a_mode_that_there_is_not_is_outside_the_limits() {
     let known = begun(&Settings::all_live(5, 0, PFModeSetting::Paxos)).flat().settings;
     for mode in 6..9 {
         let unfit = FlatWindows::from([Window::default()].as_slice());
         let settings = FlatSettings { mode, ..known };
-        let shard = sys::chanbook_shard_new(FlatGroupSettings { settings, whole_mhz_from: LAST_SLOT, windows: unfit });
+        let shard = FlatShard::begun(&FlatGroupSettings { settings, whole_mhz_from: LAST_SLOT, windows: unfit });
         assert_eq!(shard.made, 1);
         assert_eq!(checked(&shard, Call::Propose(1).into()), 1);
-        assert_eq!(Shard::from_flat(Box::new(shard)).made(), Err(Refusal::SettingsOutsideLimits));
+        assert_eq!(Shard::from_flat(shard).made(), Err(Refusal::SettingsOutsideLimits));
     }
 }

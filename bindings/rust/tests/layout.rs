@@ -1,6 +1,7 @@
-//! The flat forms of this crate have the fields of crates/flat, of crates/calendar, crates/windows and crates/group_settings, of crates/host and of the C
-//! header, in the same order and of the same types. All are numbers and `#[repr(C)]`, and so equal fields are equal sizes and offsets. The two calls in place have the rows of the source and of
-//! the header, in the same order, and so have the functions of a register and of lists.
+//! The flat forms of this crate have the fields of the C header, in the same order and of the same types, and those of the parts have the fields of crates/flat,
+//! crates/calendar, crates/windows and crates/group_settings. All are numbers and `#[repr(C)]`, and so equal fields are equal sizes and offsets. The functions
+//! that begin a shard and make a call have the rows of the source and of the header, in the same order, and so have the functions of a register and of lists.
+//! A shard and a reply are whole in this crate and in the header alone: the source has their rows.
 
 use std::collections::BTreeMap;
 
@@ -10,6 +11,7 @@ const CALENDAR: &str = include_str!("../../../crates/calendar/src/lib.rt");
 const WINDOWS: &str = include_str!("../../../crates/windows/src/lib.rt");
 const GROUP_SETTINGS: &str = include_str!("../../../crates/group_settings/src/lib.rt");
 const HOST: &str = include_str!("../../../crates/host/src/lib.rt");
+const HOST_C: &str = include_str!("../../../crates/host_c/src/lib.rt");
 const DIRECT: &str = include_str!("../../../crates/direct/src/lib.rt");
 const DIRECT_FAST: &str = include_str!("../../../crates/direct_fast/src/lib.rt");
 const DIRECT_C: &str = include_str!("../../../crates/direct_c/src/lib.rt");
@@ -21,6 +23,25 @@ const PLANNING_HOST: &str = include_str!("../../../crates/planning_host/src/lib.
 const POSITION_ARRAYS: &str = include_str!("../../../crates/position_arrays/src/lib.rt");
 const REGISTER: &str = include_str!("../../../crates/register/src/lib.rt");
 const PLANNING_HEADER: &str = include_str!("../../../crates/planning_host/include/chanbook_planning.h");
+
+/// Where the arrays that are lent have their names.
+const ARRAYS: [&str; 5] = [
+    include_str!("../../../crates/arrays/src/lib.rt"),
+    include_str!("../../../crates/array_reads/src/lib.rt"),
+    include_str!("../../../crates/fast_arrays/src/lib.rt"),
+    include_str!("../../../crates/tables/src/lib.rt"),
+    include_str!("../../../crates/register_arrays/src/lib.rt"),
+];
+
+/// The source with `[u64; 18]` in place of `CoreArray`, and so on.
+fn spelled_out(source: &str) -> String {
+    let named = ARRAYS.iter().flat_map(|text| text.split("\npub type ").skip(1));
+    named.fold(source.to_string(), |text, rest| {
+        let (name, array) = rest.split(";\n").next().and_then(|declared| declared.split_once(" = ")).expect("a name and an array");
+        assert!(array.starts_with("[u64; "), "{name}");
+        text.replace(name, array)
+    })
+}
 
 /// `FlatOpenRead` for `chanbook_open_read`.
 fn flat_of(c_name: &str) -> String {
@@ -75,8 +96,11 @@ fn arguments<'a>(text: &'a str, opening: &str) -> Vec<&'a str> {
     list.split(',').map(str::trim).filter(|argument| !argument.is_empty()).collect()
 }
 
-/// `setup: *const [u64; 10]` for `const uint64_t setup[10]`.
+/// `setup: *const [u64; 10]` for `const uint64_t setup[10]`, and the settings of a group.
 fn row_in_c(argument: &str) -> String {
+    if let Some(name) = argument.strip_prefix("struct chanbook_group_settings ") {
+        return format!("{name}: FlatGroupSettings");
+    }
     let (kind, declared) = argument.split_once("uint64_t ").expect("a row of numbers");
     let (name, length) = declared.trim_end_matches(']').split_once('[').expect("a name and a length");
     let kind = if kind.is_empty() { "mut" } else { kind.trim_end() };
@@ -94,11 +118,13 @@ fn same_rows(function: &str, source: &str, count: usize) {
     let rows = arguments(MIRROR, &in_rust);
     assert_eq!(rows.len(), count, "{function}");
     assert_eq!(arguments(HEADER, &in_c).into_iter().map(row_in_c).collect::<Vec<_>>(), rows);
-    assert_eq!(arguments(source, &in_rust).into_iter().map(row_in_source).collect::<Vec<_>>(), rows);
+    assert_eq!(arguments(&spelled_out(source), &in_rust).into_iter().map(row_in_source).collect::<Vec<_>>(), rows);
 }
 
 #[test]
 fn the_rows_are_those_of_the_source_and_of_the_header() {
+    same_rows("chanbook_shard_new", HOST, 11);
+    same_rows("chanbook_shard_new", HOST_C, 11);
     same_rows("chanbook_direct_call", DIRECT, 11);
     same_rows("chanbook_direct_call", DIRECT_C, 11);
     same_rows("chanbook_fast_call", DIRECT_FAST, 15);
@@ -115,15 +141,20 @@ fn by_struct(fields: Vec<String>) -> BTreeMap<String, Vec<String>> {
     structs
 }
 
+/// What is whole in this crate and in the header alone.
+const OF_ROWS: [&str; 5] = ["FlatReply", "FlatRounds", "FlatShard", "FlatState", "FlatTable"];
+
 #[test]
 fn the_flat_forms_are_those_of_the_source() {
-    let mut source = fields_in_rust(FLAT);
+    let mut source = fields_in_rust(&spelled_out(FLAT));
     // dates and windows are numbers as they are, and have no other form in the source
     let flat = |field: String| field.replace("Date", "FlatDate").replace("Window", "FlatWindow");
     source.extend([CALENDAR, WINDOWS, GROUP_SETTINGS].into_iter().flat_map(fields_in_rust).map(flat));
-    source.extend(fields_in_rust(HOST));
-    assert!(source.contains(&"FlatReply.served_count: u64".to_string()), "read to the last one");
-    assert_eq!(by_struct(fields_in_rust(MIRROR)), by_struct(source));
+    assert!(source.contains(&"FlatCommit.fast: u64".to_string()), "read to the last one");
+    let (of_rows, parts): (BTreeMap<_, _>, BTreeMap<_, _>) =
+        by_struct(fields_in_rust(MIRROR)).into_iter().partition(|(name, _)| OF_ROWS.contains(&name.as_str()));
+    assert_eq!(parts, by_struct(source));
+    assert!(of_rows.into_keys().eq(OF_ROWS), "each of them is there");
 }
 
 #[test]
@@ -189,12 +220,13 @@ fn the_functions_of_a_register_are_those_of_the_source_and_of_the_header() {
         [("chanbook_register_new", 6), ("chanbook_register_entry", 10), ("chanbook_register_report", 3), ("chanbook_register_widened", 10)];
     let placed = [("chanbook_positions_new", 1), ("chanbook_placed_entry", 13), ("chanbook_conflicts", 12), ("chanbook_first_free", 12)];
     let windows = [("chanbook_minute_of", 1), ("chanbook_date_of", 1), ("chanbook_windows_new", 4), ("chanbook_windows_ask", 4)];
+    let host = spelled_out(PLANNING_HOST);
     for (function, count) in functions.into_iter().chain(placed).chain(windows) {
         let mirror = arguments(PLANNING_MIRROR, &format!("fn {function}("));
         assert_eq!(mirror.len(), count, "{function}");
         let header = arguments(PLANNING_HEADER, &format!(" {function}("));
         assert_eq!(header.into_iter().map(argument_in_c).collect::<Vec<_>>(), mirror);
-        let source = arguments(PLANNING_HOST, &format!("fn {function}("));
+        let source = arguments(&host, &format!("fn {function}("));
         let renamed = |argument: &&str| argument.replace("CellPosition", "FlatPosition").replace(": Date", ": FlatDate");
         assert_eq!(source.iter().map(renamed).collect::<Vec<_>>(), mirror);
     }
@@ -224,13 +256,14 @@ fn lent_in_c(argument: &str) -> String {
 
 #[test]
 fn the_functions_of_lists_are_those_of_the_source_and_of_the_header() {
+    let host = spelled_out(PLANNING_HOST);
     for (function, count) in [("chanbook_join", 12), ("chanbook_feed", 17)] {
         let mirror = arguments(PLANNING_MIRROR, &format!("fn {function}("));
         let types: Vec<_> = mirror.iter().map(|argument| argument.split_once(": ").expect("a type").1.to_string()).collect();
         assert_eq!(types.len(), count, "{function}");
         let header = arguments(PLANNING_HEADER, &format!(" {function}("));
         assert_eq!(header.into_iter().map(lent_in_c).collect::<Vec<_>>(), types);
-        let source = arguments(PLANNING_HOST, &format!("fn {function}("));
+        let source = arguments(&host, &format!("fn {function}("));
         assert_eq!(source.into_iter().flat_map(lent_in_source).collect::<Vec<_>>(), types);
     }
 }

@@ -6,15 +6,15 @@ use mathlib.Core.Path.{◌≡◌, refl, sym, ap, ap₂, ◌∙◌}
 use mathlib.Core.List.{List, [], ◌∷◌, ◌++◌}
 use native.Mathlib.Nat.{add-zero}
 use native.Mathlib.Omega.{arith}
-use lib.ListN.{length, get_or, set, take, drop, length-take, length-drop}
+use lib.ListN.{length, get_or, set, take, drop, replicate, length-take, length-drop}
 use lib.Seq.{set_out, paste}
 use Rattle.places.specs.Places.{at_front, without}
 use Rattle.places.proofs.Lists.{moved_down}
 use mir.Val.{bool_byte}
-use Rattle.read_tracker.specs.Reads.{read_id}
+use Rattle.read_tracker.specs.Reads.{read_id, new_table}
 use Rattle.read_tracker.specs.declared.OpenRead.{OpenRead}
 use Rattle.read_tracker.specs.declared.ServedRead.{ServedRead}
-use Rattle.array_reads.specs.Rows.{open_rows, served_rows, no_read}
+use Rattle.array_reads.specs.Rows.{open_rows, served_rows, table_of, no_read}
 use Rattle.flat.specs.Decode.{is_yes}
 use Rattle.array_reads.proofs.Strides.{of_row, rows_length, rows_at, rows_set, rows_three, rows_take, rows_drop}
 
@@ -141,3 +141,10 @@ served_set l i r e h =
     let two : 4 * i + 2 ≡ suc (suc (4 * i)) = omega arith in
     let three : 4 * i + 3 ≡ suc (suc (suc (4 * i))) = omega arith in
     simp (one, two, three) (rows_set 4 served_row served_rows served_none served_next i l stored refl (omega arith) ∙ simp yes_flag)
+
+-- ---- a new shard
+
+-- zeros are the places of the table as it begins
+pub zeros_new : table_of (replicate 640 0) (replicate 512 0) ≡ new_table
+unfolding open_rows served_rows
+zeros_new = refl

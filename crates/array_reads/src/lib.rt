@@ -6,16 +6,22 @@
 ghost use Rattle.std.specs.Prelude.{◌≡◌, ◌<◌, ◌≤◌, get_or, length, set, take};
 ghost use Rattle.places.specs.Places.{without, at_front};
 ghost use Rattle.serving.specs.Serving.{receive_ready, commit_slot};
+ghost use Rattle.read_tracker.specs.Reads.{new_table};
 ghost use Rattle.array_reads.specs.Rows.{open_rows, served_rows, reads_in, SameReads, tracked_in, no_read};
 
 use message::ReadId;
 use read_tracker::{OpenRead, ReadTracker, ServedRead};
 use serving::{Counted, OpenReads, ServedReads};
 
+// The arrays by name: of the open reads, and of the reads that the last call served.
+pub type OpenReadsArray = [u64; 640];
+
+pub type ServedReadsArray = [u64; 512];
+
 // The array of open reads, five numbers each, as a row of reads.
 #[derive(Drop)]
 struct OpenRows<'a> {
-    numbers: &'a mut [u64; 640],
+    numbers: &'a mut OpenReadsArray,
 }
 
 impl OpenReads for OpenRows<'_> {
@@ -41,7 +47,7 @@ impl OpenReads for OpenRows<'_> {
 // The array of served reads, four numbers each, as a row of reads.
 #[derive(Drop)]
 struct ServedRows<'a> {
-    numbers: &'a mut [u64; 512],
+    numbers: &'a mut ServedReadsArray,
 }
 
 impl ServedReads for ServedRows<'_> {
@@ -58,12 +64,12 @@ impl ServedReads for ServedRows<'_> {
 // There are 128 open reads, and 128 served ones. A proof knows how many numbers an array has where the array itself is passed on: these functions do
 // nothing but say it.
 #[tactic(auto, using(crate::proofs::Rows::open_length))]
-fn have_open(numbers: &[u64; 640])
+fn have_open(numbers: &OpenReadsArray)
     ensures { length (open_rows numbers.now) ≡ 128 }
 {}
 
 #[tactic(auto, using(crate::proofs::Rows::served_length))]
-fn have_served(numbers: &[u64; 512])
+fn have_served(numbers: &ServedReadsArray)
     ensures { length (served_rows numbers.now) ≡ 128 }
 {}
 
@@ -71,7 +77,7 @@ fn have_served(numbers: &[u64; 512])
 
 // The open read at place i.
 #[tactic(auto, using(crate::proofs::Rows::open_at))]
-fn open_at(open: &[u64; 640], i: usize) -> OpenRead
+fn open_at(open: &OpenReadsArray, i: usize) -> OpenRead
     requires { i < 128 }
     ensures { result ≡ get_or (open_rows «open».now) i no_read }
 {
@@ -87,7 +93,7 @@ fn open_at(open: &[u64; 640], i: usize) -> OpenRead
 
 // The read goes to place i, if there is such a place.
 #[tactic(auto, using(crate::proofs::Rows::open_set, crate::proofs::Rows::open_past))]
-fn put_open(open: &mut [u64; 640], i: usize, read: OpenRead)
+fn put_open(open: &mut OpenReadsArray, i: usize, read: OpenRead)
     ensures { open_rows «open».new ≡ set (open_rows «open».old) i read }
 {
     if i < 128 {
@@ -101,7 +107,7 @@ fn put_open(open: &mut [u64; 640], i: usize, read: OpenRead)
 }
 
 #[tactic(auto, using(crate::proofs::Rows::served_set))]
-fn put_served(served: &mut [u64; 512], i: usize, read: ServedRead)
+fn put_served(served: &mut ServedReadsArray, i: usize, read: ServedRead)
     requires { i < 128 }
     ensures { served_rows served.new ≡ set (served_rows served.old) i read }
 {
@@ -115,7 +121,7 @@ fn put_served(served: &mut [u64; 512], i: usize, read: ServedRead)
 // The first `open_places` reads without the one at place `at`: the later ones move one place down. Not places::remove_at: a read is five numbers, moved by
 // one copy_within.
 #[tactic(auto, using(crate::proofs::Rows::open_moved_down))]
-fn remove(open: &mut [u64; 640], at: usize, open_places: usize)
+fn remove(open: &mut OpenReadsArray, at: usize, open_places: usize)
     requires { (at < open_places) × (open_places ≤ 128) }
     ensures { open_rows «open».new ≡ at_front (without at (take open_places (open_rows «open».old))) (open_rows «open».old) }
 {
@@ -124,7 +130,7 @@ fn remove(open: &mut [u64; 640], at: usize, open_places: usize)
 
 // Puts an open read at place `at`. Where there is no such place, nothing changes. For a caller that has the open reads alone, which in this repository none
 // is but the method below: that is this one where both arrays are lent together.
-pub fn insert(open: &mut [u64; 640], at: u64, read: OpenRead)
+pub fn insert(open: &mut OpenReadsArray, at: u64, read: OpenRead)
     ensures { open_rows «open».new ≡ set (open_rows «open».old) at read }
 {
     put_open(open, at as usize, read);
@@ -133,12 +139,22 @@ pub fn insert(open: &mut [u64; 640], at: u64, read: OpenRead)
 // The arrays of the open and of the served reads, which are lent. Any numbers may stand in them.
 #[derive(Drop)]
 pub struct ReadArrays<'a> {
-    pub reads: &'a mut [u64; 640],
-    pub served: &'a mut [u64; 512],
+    pub reads: &'a mut OpenReadsArray,
+    pub served: &'a mut ServedReadsArray,
 }
 
 impl ReadArrays<'_> {
-    // The same in the array of open reads.
+    // The reads of a new shard: none.
+    #[tactic(auto, using(crate::proofs::Rows::zeros_new))]
+    pub fn clear(&mut self)
+        ensures same { SameReads self.old self.new }
+        ensures cleared { reads_in self.new ≡ new_table }
+    {
+        *self.reads = [0; 640];
+        *self.served = [0; 512];
+    }
+
+    // Puts an open read, as `insert` above does, into the array of open reads.
     pub fn insert(&mut self, at: u64, read: OpenRead)
         ensures same { SameReads self.old self.new }
         ensures reads { open_rows self.new.reads.now ≡ set (open_rows self.old.reads.now) at read }

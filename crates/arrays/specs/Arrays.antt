@@ -41,6 +41,21 @@ setup_of l =
       has_committers = at l 9;
     }
 
+-- the mark, and the settings without the two tables
+abbrev pub setup_numbers : ℕ → FlatSettings → List ℕ
+setup_numbers made f =
+    made
+    ∷ f.process_count
+    ∷ f.replica_count
+    ∷ f.my_pid
+    ∷ f.alive_replicas
+    ∷ f.first_leader
+    ∷ f.mode
+    ∷ f.quorum.given
+    ∷ f.quorum.n
+    ∷ f.has_committers
+    ∷ []
+
 -- with the two tables
 abbrev pub settings_of : Setup → List ℕ → List ℕ → FlatSettings
 settings_of s committers delegates =
@@ -112,8 +127,8 @@ message_of l =
       last_v = option l 17 18;
     }
 
-abbrev pub call_of : List ℕ → FlatCall
-call_of l =
+abbrev pub flat_call_of : List ℕ → FlatCall
+flat_call_of l =
     record {
       kind = at l 0;
       v = at l 1;
@@ -126,6 +141,27 @@ call_of l =
     }
 
 -- ---- replies
+
+abbrev pub outgoing_of : List ℕ → FlatOutgoing
+outgoing_of l =
+    record {
+      kind = at l 0;
+      to = at l 1;
+      first = option l 2 3;
+      message =
+          record {
+            kind = at l 4;
+            slot = at l 5;
+            round_group = at l 6;
+            leader = at l 7;
+            rv = record { fast = at l 8; proposer = at l 9; accept_round = round l 10 11 12; v = at l 13 };
+            v = at l 14;
+            id = at l 15;
+            next_readable_slot = at l 16;
+            src = at l 17;
+            last_v = option l 18 19;
+          };
+    }
 
 abbrev pub outgoing_numbers : FlatOutgoing → List ℕ
 outgoing_numbers f =
@@ -155,6 +191,10 @@ outgoing_numbers f =
 unfoldable pub put_message : Option Outgoing → List ℕ → List ℕ
 put_message None l = set l 0 0
 put_message (Some o) l = outgoing_numbers (encoded_outgoing (Some o))
+
+-- the commit, in front of the number of the reads that are served
+abbrev pub commit_row : List ℕ → FlatCommit
+commit_row l = record { given = at l 0; slot = at l 1; v = at l 2; fast = at l 3 }
 
 -- the commit, and the number of the reads that are served
 abbrev pub rest_numbers : Option CommittedSlot → ℕ → List ℕ

@@ -4,12 +4,26 @@
 #![tactic(auto)]
 
 ghost use Rattle.std.specs.Prelude.{◌≡◌, Some};
-ghost use Rattle.arrays.specs.Arrays.{setup_of, core_of, core_numbers, message_of, call_of, outgoing_numbers, put_message, rest_numbers};
+ghost use Rattle.arrays.specs.Arrays.{setup_of, setup_numbers, core_of, core_numbers, message_of, flat_call_of, outgoing_numbers, put_message, rest_numbers};
 ghost use Rattle.flat.specs.Encode.{encoded_outgoing};
 
 use calls::CommittedSlot;
-use flat::{FlatCall, FlatCore, FlatHeld, FlatMessage, FlatOption, FlatPromise, FlatRound};
+use flat::{
+    FlatCall, FlatCore, FlatHeld, FlatMessage, FlatOption, FlatPromise, FlatRound, FlatSettings,
+};
 use steps::Outgoing;
+use tables::PerProcess;
+
+// The arrays by name: of the settings without their tables, of the core, of a call, of a message of a reply, and of what a reply has besides messages.
+pub type SetupArray = [u64; 10];
+
+pub type CoreArray = [u64; 18];
+
+pub type CallArray = [u64; 25];
+
+pub type MessageArray = [u64; 20];
+
+pub type RestArray = [u64; 5];
 
 // The settings without their tables, and whether the shard is made. Flags and the mode are numbers, as the C interface has them: any may stand in a host's
 // array, and each is answered.
@@ -29,11 +43,11 @@ pub struct Setup {
 // The two tables of the settings, which are lent to be read.
 #[derive(Clone, Copy)]
 pub struct Tables<'a> {
-    pub committers: &'a [u64; 64],
-    pub delegates: &'a [u64; 64],
+    pub committers: &'a PerProcess,
+    pub delegates: &'a PerProcess,
 }
 
-pub fn setup_in(s: &[u64; 10]) -> Setup
+pub fn setup_in(s: &SetupArray) -> Setup
     ensures { result ≡ setup_of s.now }
 {
     let quorum = FlatOption {
@@ -53,7 +67,26 @@ pub fn setup_in(s: &[u64; 10]) -> Setup
     }
 }
 
-pub fn core_in(c: &[u64; 18]) -> FlatCore
+// The mark of a shard, and its settings without their tables.
+pub fn put_setup(s: &mut SetupArray, made: u64, f: FlatSettings)
+    ensures { s.new ≡ setup_numbers made f }
+{
+    let quorum = f.quorum;
+    *s = [
+        made,
+        f.process_count,
+        f.replica_count,
+        f.my_pid,
+        f.alive_replicas,
+        f.first_leader,
+        f.mode,
+        quorum.given,
+        quorum.n,
+        f.has_committers,
+    ];
+}
+
+pub fn core_in(c: &CoreArray) -> FlatCore
     ensures { result ≡ core_of c.now }
 {
     let last_v = FlatOption {
@@ -92,7 +125,7 @@ pub fn core_in(c: &[u64; 18]) -> FlatCore
     }
 }
 
-fn message_in(c: &[u64; 25]) -> FlatMessage
+fn message_in(c: &CallArray) -> FlatMessage
     ensures { result ≡ message_of c.now }
 {
     let accept_round = FlatRound {
@@ -124,8 +157,8 @@ fn message_in(c: &[u64; 25]) -> FlatMessage
     }
 }
 
-pub fn call_in(c: &[u64; 25]) -> FlatCall
-    ensures { result ≡ call_of c.now }
+pub fn call_in(c: &CallArray) -> FlatCall
+    ensures { result ≡ flat_call_of c.now }
 {
     let requester = FlatOption {
         given: c[20],
@@ -147,7 +180,7 @@ pub fn call_in(c: &[u64; 25]) -> FlatCall
     }
 }
 
-pub fn put_core(c: &mut [u64; 18], f: FlatCore)
+pub fn put_core(c: &mut CoreArray, f: FlatCore)
     ensures { c.new ≡ core_numbers f }
 {
     let last_v = f.last_v;
@@ -178,7 +211,7 @@ pub fn put_core(c: &mut [u64; 18], f: FlatCore)
 }
 
 // The numbers of a message that is sent.
-pub fn put_sent(out: &mut [u64; 20], sent: Outgoing)
+pub fn put_sent(out: &mut MessageArray, sent: Outgoing)
     ensures { out.new ≡ outgoing_numbers (encoded_outgoing (Some sent)) }
 {
     let f = flat::encode_outgoing(Some(sent));
@@ -213,7 +246,7 @@ pub fn put_sent(out: &mut [u64; 20], sent: Outgoing)
 
 // The message's numbers, or 0 as the kind of a message that is not sent.
 #[tactic(auto, unfolding(crate::specs::Arrays::put_message))]
-pub fn put_message(out: &mut [u64; 20], m: Option<Outgoing>)
+pub fn put_message(out: &mut MessageArray, m: Option<Outgoing>)
     ensures { out.new ≡ put_message m out.old }
 {
     match m {
@@ -227,7 +260,7 @@ pub fn put_message(out: &mut [u64; 20], m: Option<Outgoing>)
 }
 
 // The commit and the number of the reads that are served.
-pub fn put_rest(rest: &mut [u64; 5], commit: Option<CommittedSlot>, served_count: u64)
+pub fn put_rest(rest: &mut RestArray, commit: Option<CommittedSlot>, served_count: u64)
     ensures { rest.new ≡ rest_numbers commit served_count }
 {
     let f = flat::encode_commit(commit);

@@ -1,3 +1,4 @@
 pub mod Asked
 pub mod Decision
 pub mod Commits
+pub mod Replies

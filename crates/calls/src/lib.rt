@@ -1,5 +1,6 @@
 // Calls and replies, and what is decided of a call before it is handled: that it is refused, or what the handlers ask of the settings and of
-// its message. So a refusal costs no look at the tables of the settings.
+// its message. So a refusal costs no look at the tables of the settings. The replies before reads are served, and the answer to a ReadRequest, which calls
+// by value and calls on lent arrays share, stand at the end.
 #![tactic(auto)]
 
 // process_count and own are parameters of their own, here and in delivery, flat and flat_calls: they are all that is asked of the settings before a call is
@@ -8,12 +9,16 @@
 ghost use Rattle.std.specs.Prelude.{◌≡◌};
 ghost use Rattle.calls.specs.Asked.{asked_of, proposer_gathers, gatherer_in, heard_of, nothing_heard, heard_in};
 ghost use Rattle.calls.specs.Decision.{if_fit, read_fits, admission_of, unless_spent, if_made, decision_of};
+ghost use Rattle.calls.specs.Replies.{refused_reply, sent_reply, is_fast, committed_reply, next_readable, read_answer};
 
 use delivery::Delivery;
-use message::{ConsensusMsg, Outcome, PFMode, PaxosRound, Refusal, RoundV};
+use message::{
+    ConsensusMessage, ConsensusMsg, Outcome, PFMode, PaxosRound, ReadId, Refusal, RoundV,
+};
 use round_state::Member;
 use settings::Settings;
-use steps::{Asked, Core, Heard, Messages};
+use steps::{Asked, Core, Destination, Heard, Messages, Outgoing, no_messages};
+use tables::PerProcess;
 
 #[derive(Clone, Copy, PartialEq, Eq, Debug)]
 pub enum Call {
@@ -49,8 +54,8 @@ pub struct Taken {
 }
 
 // What the handlers ask of the settings.
-pub fn asked_of(settings: Settings) -> Asked
-    ensures { result ≡ asked_of settings }
+pub fn asked_of(settings: &Settings) -> Asked
+    ensures { result ≡ asked_of settings.now }
 {
     let member = Member {
         my_pid: settings.my_pid,
@@ -75,7 +80,7 @@ fn proposer_gathers(own: u64, mode: PFMode, round: PaxosRound) -> bool
 
 // Who gathers the answers to the message.
 #[tactic(auto, unfolding(crate::specs::Asked::gatherer_in))]
-pub fn gatherer_in(own: u64, mode: PFMode, delegates: &[u64; 64], msg: ConsensusMsg) -> u64
+pub fn gatherer_in(own: u64, mode: PFMode, delegates: &PerProcess, msg: ConsensusMsg) -> u64
     ensures { result ≡ gatherer_in own mode delegates.now msg }
 {
     match msg {
@@ -92,8 +97,8 @@ pub fn gatherer_in(own: u64, mode: PFMode, delegates: &[u64; 64], msg: Consensus
 }
 
 // What the handlers ask of the message.
-pub fn heard_of(settings: Settings, d: Delivery) -> Heard
-    ensures { result ≡ heard_of settings d }
+pub fn heard_of(settings: &Settings, d: Delivery) -> Heard
+    ensures { result ≡ heard_of settings.now d }
 {
     let Delivery {
         message,
@@ -125,8 +130,8 @@ fn nothing_heard() -> Heard
     }
 }
 
-fn heard_in(settings: Settings, call: Call) -> Heard
-    ensures { result ≡ heard_in settings call }
+fn heard_in(settings: &Settings, call: Call) -> Heard
+    ensures { result ≡ heard_in settings.now call }
 {
     match call {
         Call::Propose(_) | Call::StartRead { .. } => nothing_heard(),
@@ -167,7 +172,7 @@ fn admission(process_count: u64, own: u64, core: Core, call: Call) -> Outcome
 fn unless_spent(process_count: u64, own: u64, core: Core, call: Call) -> Outcome
     ensures { result ≡ unless_spent process_count own core call }
 {
-    if core.slot >= 9223372036854775807 {
+    if core.slot >= message::LARGEST_NUMBER {
         return Err(Refusal::NumberTooLarge);
     }
     admission(process_count, own, core, call)
@@ -185,11 +190,11 @@ fn if_made(made: Outcome, process_count: u64, own: u64, core: Core, call: Call) 
 #[tactic(auto, unfolding(crate::specs::Decision::decision_of))]
 pub fn decision_of(
     made: Outcome,
-    settings: Settings,
+    settings: &Settings,
     core: Core,
     call: Call,
 ) -> Result<Taken, Refusal>
-    ensures { result ≡ decision_of made settings core call }
+    ensures { result ≡ decision_of made settings.now core call }
 {
     if_made(made, settings.process_count, settings.my_pid, core, call)?;
     Ok(Taken {
@@ -197,4 +202,76 @@ pub fn decision_of(
         heard: heard_in(settings, call),
         call,
     })
+}
+
+pub fn refused_reply(why: Refusal) -> Reply
+    ensures { result ≡ refused_reply why }
+{
+    Reply {
+        outcome: Err(why),
+        messages: no_messages(),
+        commit: None,
+        served_count: 0,
+    }
+}
+
+pub fn sent_reply(messages: Messages) -> Reply
+    ensures { result ≡ sent_reply messages }
+{
+    Reply {
+        outcome: Ok(()),
+        messages,
+        commit: None,
+        served_count: 0,
+    }
+}
+
+// The fast mark of a commit, whoever asked for the value.
+pub fn is_fast(a: Asked, core: Core) -> bool
+    ensures { result ≡ is_fast a core }
+{
+    a.mode.has_fast_path() && !core.slot_left_fast_path
+}
+
+// The reply of a commit before reads are served.
+pub fn committed_reply(a: Asked, v: u64, core: Core, messages: Messages) -> Reply
+    ensures { result ≡ committed_reply a v core messages }
+{
+    Reply {
+        outcome: Ok(()),
+        messages,
+        commit: Some(CommittedSlot {
+            slot: core.slot,
+            v,
+            fast: is_fast(a, core),
+        }),
+        served_count: 0,
+    }
+}
+
+// The first slot that is not decided here yet: the own one, or the next while a value is held.
+fn next_readable(core: Core) -> u64
+    ensures { result ≡ next_readable core }
+{
+    if core.paxos.max_rv.is_some() {
+        return message::increment(core.slot);
+    }
+    core.slot
+}
+
+pub fn read_answer(own: u64, src: u64, id: ReadId, core: Core) -> Outgoing
+    ensures { result ≡ read_answer own src id core }
+{
+    let response = ConsensusMsg::ReadResponse {
+        id,
+        next_readable_slot: next_readable(core),
+    };
+    Outgoing {
+        destination: Destination::One(src),
+        message: ConsensusMessage {
+            msg: response,
+            src: own,
+            last_v: None,
+        },
+    }
 }

@@ -8,6 +8,7 @@ ghost use Rattle.places.specs.Places.{at_front};
 ghost use Rattle.catch_up.specs.Causes.{join_number};
 ghost use Rattle.catch_up.specs.Joining.{lent_list, lent_places, SamePlaces, some_above, too_large, counts_from, first_slot, outside, InLimits, checked_of, counts_within, differ, in_order, Gives, Joins, one_refused};
 
+use message::{LARGEST_NUMBER, LARGEST_SLOT};
 use refusals::Refused;
 
 // A list as a host lends it: slots, and the value beside each. Two slices in place of one of pairs: the C interface has them so.
@@ -49,16 +50,12 @@ struct Checked {
     outside: bool,
 }
 
-const LARGEST_SLOT: u64 = 9223372036854775806;
-
-const LARGEST_VALUE: u64 = 9223372036854775807;
-
 const MOST_ENTRIES: usize = 4096;
 
 const LEAST_PLACES: usize = 8192;
 
 // A list of the most entries that begins here ends with the largest slot.
-const LAST_BEGIN: u64 = 9223372036854771711;
+const LAST_BEGIN: u64 = LARGEST_SLOT - 4095;
 
 // Whether some number is above the limit.
 #[tactic(auto, unfolding(crate::specs::Joining::some_above))]
@@ -80,7 +77,7 @@ fn bits_of(values: &[u64]) -> u64
 fn value_above(values: &[u64]) -> bool
     ensures { result ≡ some_above 9223372036854775807 values.now }
 {
-    LARGEST_VALUE < bits_of(values)
+    LARGEST_NUMBER < bits_of(values)
 }
 
 // Whether t is the slot after s.

@@ -1,7 +1,7 @@
 -- An office that was away joins two lists of its group, feeds what `join` hands back to its register, and holds the register that the others hold. That
 -- lists which meet are joined is `joined_where_they_meet` (Runs.antt).
 -- Assumes nothing.
-use Rattle.std.proofs.Common.{◌≡◌, ◌∙◌, refl, sym, ap, subst, ⊎_elim, inl, ℕ, ◌+◌, ◌-◌, ◌≤◌, ◌<◌, true, false, List, [], ◌∷◌, length, get_or, Ok, arith}
+use Rattle.std.proofs.Common.{◌≡◌, ◌∙◌, refl, sym, ap, ⊎_elim, inl, ℕ, ◌+◌, ◌-◌, ◌≤◌, ◌<◌, true, false, List, [], ◌∷◌, length, get_or, Ok, arith}
 use lib.ListN.{get_or-eq_default}
 use Rattle.basics.proofs.Tests.{either}
 use Rattle.settings.specs.declared.Settings.{Settings}

@@ -28,7 +28,7 @@ use Rattle.message.specs.declared.ConsensusMsg.TheVariants.{Prepare, Accept, For
 use Rattle.delivery.specs.Admit.{is_ahead, is_own_slot, is_other_last, needs_value, other_last_value, value_awaited, ready, admit}
 use Rattle.delivery.specs.Limits.{numbers_fit, processes_fit}
 use Rattle.delivery.specs.declared.Delivery.{Delivery}
-use Rattle.core_calls.specs.CoreCall.{read_answer}
+use Rattle.calls.specs.Replies.{read_answer}
 use Rattle.steps.specs.Steps.{RoundsStep, one_message, map_step, with_change, change_rounds}
 use Rattle.message.specs.Messages.{msg_slot}
 use Rattle.fast_state.specs.Fast.{answers_of, in_quorum, is_unanswered, second_answer, epaxos_answered, epaxos_propose_v, swift_uncounted, swift_first, swift_answered, swift_own, swift_unanswered, swift_propose_v}
@@ -45,40 +45,53 @@ use Rattle.proposal.specs.Proposal.{not_allowed, electing, may_propose, proposal
 use Rattle.propose.specs.Propose.{propose_prepare, propose_accept, propose_classic, after_own_answer, own_answer, leads_from_start, propose_change, propose_fast}
 use Rattle.steps.specs.declared.Asked.{Asked}
 use Rattle.steps.specs.declared.Core.{Core}
+use Rattle.steps.specs.declared.Heard.{Heard}
 use Rattle.steps.specs.declared.Messages.{Messages}
 use Rattle.steps.specs.declared.Next.{Next}
 use Rattle.steps.specs.declared.Next.TheVariants.{Stays, Continues, Commits}
 use Rattle.steps.specs.declared.Rounds.{Rounds}
 use Rattle.calls.specs.Asked.{asked_of, heard_of}
+use Rattle.calls.specs.Decision.{if_fit, admission_of, unless_spent, if_made, decision_for, decision_of}
 use Rattle.calls.specs.declared.Call.{Call}
 use Rattle.calls.specs.declared.Call.TheVariants.{Propose, StartRead, Receive}
 use Rattle.consensus.specs.Answers.{refused, committed, finish_at, finish, sent}
-use Rattle.consensus.specs.Call.{proposing, propose, read, admitted, receive, dispatch, unless_spent, if_made, call_with}
-use Rattle.consensus.specs.FirstCause.{number_of, any_above, too_large, proposal_causes, not_allowed_causes, read_causes, causes, unmade, first_cause, handling_causes, is_spent}
-use Rattle.consensus.specs.Handle.{on_commit, on_read_request, on_read_response, start_read, after_insert, processed, process_message, handle}
+use Rattle.consensus.specs.Call.{state_call, in_shard, call_with}
+use Rattle.consensus.specs.FirstCause.{number_alone, number_of, any_above, too_large, proposal_causes, not_allowed_causes, read_causes, causes, unmade, first_cause, handling_causes, is_spent}
+use Rattle.consensus.specs.Handle.{on_commit, on_read_request, on_read_response, start_read, after_insert, proposing, processed, process_message, handle, handle_call}
 use Rattle.consensus.specs.Rows.{gives, first_of, then}
 use Rattle.consensus.specs.declared.Answer.{Answer}
 use Rattle.consensus.specs.declared.Shard.{Shard}
+use Rattle.consensus.specs.declared.State.{State}
+use Rattle.consensus.specs.declared.StateAnswer.{StateAnswer}
 use Rattle.consensus.proofs.Admitted.{above_test, numbers_cause, processes_cause, ahead_cause, slot_cause, last_cause, waits_cause}
 use Rattle.consensus.proofs.Entered.{with_mode, prepare_number, accept_number_lem, forward_number}
 use Rattle.consensus.proofs.Handled.{next_number, step_number, rounds_number, mapped_number, with_change_number}
 
 -- the call is taken and the number is 0, or it is refused, the shard is left, nothing is handed back but the number, and it is that number
 abbrev pub Gives : Shard → Answer → ℕ → Type 0
-Gives shard r n = ((r.reply.outcome ≡ Ok tt) × (n ≡ 0)) ⊎ ((why : Refusal) × (r ≡ refused why shard) × (n ≡ refusal_number why))
+Gives shard r n = ((r.reply.outcome ≡ Ok tt) × (n ≡ 0)) ⊎ ((why : Refusal) × (r ≡ number_alone why shard) × (n ≡ refusal_number why))
+
+-- the same of the state
+abbrev StateGives : State → StateAnswer → ℕ → Type 0
+StateGives state r n = ((r.reply.outcome ≡ Ok tt) × (n ≡ 0)) ⊎ ((why : Refusal) × (r ≡ refused why state) × (n ≡ refusal_number why))
+
+of_state : (shard : Shard) (r : StateAnswer) (n : ℕ) → StateGives shard.state r n → Gives shard (in_shard shard r) n
+of_state shard r n (inl taken) = inl taken
+of_state shard r n (inr (why, e, number)) = inr (why, ap (in_shard shard) e, number)
 
 -- ---- the end of a call
 
-ended_gives : (shard : Shard) (a : Asked) (held : Bool) (s : Rounds) (ms : Messages) (n : Next) → Gives shard (finish_at shard a held s ms n) (next_number held n)
+ended_gives : (state : State) (a : Asked) (held : Bool) (s : Rounds) (ms : Messages) (n : Next)
+    → StateGives state (finish_at state a held s ms n) (next_number held n)
 unfolding committed
-ended_gives shard a held s ms Stays = inl (refl, refl)
-ended_gives shard a held s ms Continues = inl (refl, refl)
-ended_gives shard a true s ms (Commits v) = inl (refl, refl)
-ended_gives shard a false s ms (Commits v) = inr (ValueNotHeld, refl, refl)
+ended_gives state a held s ms Stays = inl (refl, refl)
+ended_gives state a held s ms Continues = inl (refl, refl)
+ended_gives state a true s ms (Commits v) = inl (refl, refl)
+ended_gives state a false s ms (Commits v) = inr (ValueNotHeld, refl, refl)
 
-finish_gives : (shard : Shard) (a : Asked) (held : Bool) (step : Result RoundsStep Refusal) → Gives shard (finish shard a held step) (rounds_number held step)
-finish_gives shard a held (Ok step) = ended_gives shard a held step.state step.messages step.next
-finish_gives shard a held (Err why) = inr (why, refl, refl)
+finish_gives : (state : State) (a : Asked) (held : Bool) (step : Result RoundsStep Refusal) → StateGives state (finish state a held step) (rounds_number held step)
+finish_gives state a held (Ok step) = ended_gives state a held step.state step.messages step.next
+finish_gives state a held (Err why) = inr (why, refl, refl)
 
 -- ---- proposals
 
@@ -252,19 +265,32 @@ module _ (s : Settings) (v : ℕ) (rounds : Rounds) where
   proposed_number SwiftPaxos = swift_proposed
 
 module _ (choose : Choice) (shard : Shard) where
+  abbrev state : State
+  state = shard.state
+
   abbrev rounds : Rounds
   rounds = shard.state.rounds
 
-  proposal_gives : (v : ℕ) → Gives shard (propose shard v) (first_of (proposal_causes shard v))
-  unfolding propose first_of any_above
+  abbrev asked : Asked
+  asked = asked_of shard.settings
+
+  -- what is made of a call by what is decided of it
+  abbrev answered : Call → Outcome → StateAnswer
+  answered c o = state_call choose state (decision_for shard.settings c o)
+
+  abbrev admission : Call → Outcome
+  admission c = admission_of shard.settings.process_count shard.settings.my_pid rounds.core c
+
+  proposal_gives : (v : ℕ) → StateGives state (answered (Propose v) (admission (Propose v))) (first_of (proposal_causes shard v))
+  unfolding state_call handle_call admission_of first_of any_above
   proposal_gives v = by_cases (leb v 9223372036854775807) fit (λ e. simp (e, above_test 9223372036854775807 v) (inr (NumberTooLarge, refl, refl)))
     where
-      fit : leb v 9223372036854775807 ≡ true → Gives shard (propose shard v) (first_of (proposal_causes shard v))
+      fit : leb v 9223372036854775807 ≡ true → StateGives state (answered (Propose v) (admission (Propose v))) (first_of (proposal_causes shard v))
       fit e =
-          let step = proposing (asked_of shard.settings) v rounds in
+          let step = proposing asked v rounds in
           simp (e, above_test 9223372036854775807 v)
-          (subst (Gives shard (finish shard (asked_of shard.settings) true step)) (proposed_number shard.settings v rounds shard.settings.mode)
-          (finish_gives shard (asked_of shard.settings) true step))
+          (subst (StateGives state (finish state asked true step)) (proposed_number shard.settings v rounds shard.settings.mode)
+          (finish_gives state asked true step))
 
   -- ---- new reads
 
@@ -278,49 +304,57 @@ module _ (choose : Choice) (shard : Shard) where
       go false true = refl
       go false false = refl
 
-  read_gives : (tag arrival : ℕ) → Gives shard (read shard tag arrival) (first_of (read_causes shard tag arrival))
-  unfolding read start_read insert open_next first_of
+  read_gives : (tag arrival : ℕ) → StateGives state (answered (StartRead tag arrival) (admission (StartRead tag arrival))) (first_of (read_causes shard tag arrival))
+  unfolding state_call handle_call admission_of start_read insert open_next first_of
   read_gives tag arrival =
-      subst (λ (t : Bool). Gives shard (read shard tag arrival) (cond t 2 (cond (leb 128 rounds.core.tracker.open_count) 12 (cond (ltb 9223372036854775807 rounds.core.tracker.next_id) 12 0))))
+      subst
+      (λ (t : Bool). StateGives state (answered (StartRead tag arrival) (admission (StartRead tag arrival)))
+      (cond t 2 (cond (leb 128 rounds.core.tracker.open_count) 12 (cond (ltb 9223372036854775807 rounds.core.tracker.next_id) 12 0))))
       (sym (read_large tag arrival))
-      (go (leb tag 9223372036854775807 && leb arrival 9223372036854775806) (leb 128 rounds.core.tracker.open_count) (ltb 9223372036854775807 rounds.core.tracker.next_id))
+      (by_fit (leb tag 9223372036854775807 && leb arrival 9223372036854775806))
     where
       some : Opening
       some = opening rounds.core.tracker tag arrival (not (is_some rounds.core.paxos.max_rv))
 
-      go : (fit full spent : Bool)
-          → Gives shard
-          (cond fit
-          (after_insert shard (insert_opened rounds.core.tracker shard.state.table (cond full (Err NoRoomForRead) (cond spent (Err NoRoomForRead) (Ok some)))))
-          (refused NumberTooLarge shard))
-          (cond (not fit) 2 (cond full 12 (cond spent 12 0)))
-      go false full spent = inr (NumberTooLarge, refl, refl)
-      go true true spent = inr (NoRoomForRead, refl, refl)
-      go true false true = inr (NoRoomForRead, refl, refl)
-      go true false false = inl (refl, refl)
+      -- a new read that fits, by whether there is room
+      opened : Result Opening Refusal → StateAnswer
+      opened o = after_insert state asked (insert_opened rounds.core.tracker state.table o)
+
+      by_room : (full spent : Bool) → StateGives state (opened (cond full (Err NoRoomForRead) (cond spent (Err NoRoomForRead) (Ok some)))) (cond full 12 (cond spent 12 0))
+      by_room true spent = inr (NoRoomForRead, refl, refl)
+      by_room false true = inr (NoRoomForRead, refl, refl)
+      by_room false false = inl (refl, refl)
+
+      by_fit : (fit : Bool)
+          → StateGives state (answered (StartRead tag arrival) (if_fit fit))
+          (cond (not fit) 2 (cond (leb 128 rounds.core.tracker.open_count) 12 (cond (ltb 9223372036854775807 rounds.core.tracker.next_id) 12 0)))
+      by_fit false = inr (NumberTooLarge, refl, refl)
+      by_fit true = by_room (leb 128 rounds.core.tracker.open_count) (ltb 9223372036854775807 rounds.core.tracker.next_id)
 
   -- ---- messages
 
   module _ (d : Delivery) where
-    abbrev number_in : ConsensusMsg → ℕ
-    number_in m = rounds_number d.said.value_held (processed choose (asked_of shard.settings) (heard_of shard.settings d) m rounds)
+    abbrev heard : Heard
+    heard = heard_of shard.settings d
 
-    process_gives : (m : ConsensusMsg) → d.message.msg ≡ m → (n : ℕ) → number_in m ≡ n → Gives shard (process_message choose shard d) n
+    abbrev number_in : ConsensusMsg → ℕ
+    number_in m = rounds_number d.said.value_held (processed choose asked heard m rounds)
+
+    process_gives : (m : ConsensusMsg) → d.message.msg ≡ m → (n : ℕ) → number_in m ≡ n → StateGives state (process_message choose state asked heard d) n
     unfolding process_message
     process_gives m e n q =
-        let step = processed choose (asked_of shard.settings) (heard_of shard.settings d) d.message.msg rounds in
-        subst (Gives shard (finish shard (asked_of shard.settings) d.said.value_held step)) (ap number_in e ∙ q)
-        (finish_gives shard (asked_of shard.settings) d.said.value_held step)
+        let step = processed choose asked heard d.message.msg rounds in
+        subst (StateGives state (finish state asked d.said.value_held step)) (ap number_in e ∙ q) (finish_gives state asked d.said.value_held step)
 
-    handle_gives : (m : ConsensusMsg) → d.message.msg ≡ m → Gives shard (handle choose shard d m) (first_of (handling_causes choose shard.settings rounds d m))
+    handle_gives : (m : ConsensusMsg) → d.message.msg ≡ m → StateGives state (handle choose state asked heard d m) (first_of (handling_causes choose shard.settings rounds d m))
     unfolding handle on_commit on_read_request on_read_response committed first_of
     handle_gives (Prepare slot round rv) e = process_gives (Prepare slot round rv) e _ (prepare_number choose shard.settings rounds d slot round rv e)
     handle_gives (Accept slot round v) e = process_gives (Accept slot round v) e _ (accept_number_lem choose shard.settings rounds d slot round v e)
     handle_gives (ForwardRequest v) e = process_gives (ForwardRequest v) e _ (forward_number choose shard.settings rounds d v)
-    handle_gives (Commit slot v) e = of-both (λ (r : Answer). Gives shard r 0) (ltb slot rounds.core.slot) (inl (refl, refl)) (inl (refl, refl))
+    handle_gives (Commit slot v) e = of-both (λ (r : StateAnswer). StateGives state r 0) (ltb slot rounds.core.slot) (inl (refl, refl)) (inl (refl, refl))
     handle_gives (ReadRequest id) e = go (eqb d.message.src shard.settings.my_pid)
       where
-        go : (t : Bool) → Gives shard (cond t (refused Panic shard) (sent shard (one_message (read_answer shard.settings.my_pid d.message.src id rounds.core)))) (cond t 8 0)
+        go : (t : Bool) → StateGives state (cond t (refused Panic state) (sent state (one_message (read_answer shard.settings.my_pid d.message.src id rounds.core)))) (cond t 8 0)
         go true = inr (Panic, refl, refl)
         go false = inl (refl, refl)
     handle_gives (ReadResponse id next) e = inl (refl, refl)
@@ -331,8 +365,8 @@ module _ (choose : Choice) (shard : Shard) where
     abbrev awaited : Bool
     awaited = slot_own && needs_value shard.settings.my_pid d.message.msg && not d.said.value_held
 
-    receive_gives : Gives shard (receive choose shard d) (first_of (causes choose shard (Receive d)))
-    unfolding receive admit ready other_last_value value_awaited first_of then
+    receive_gives : StateGives state (answered (Receive d) (admission (Receive d))) (first_of (causes choose shard (Receive d)))
+    unfolding state_call handle_call admission_of admit ready other_last_value value_awaited first_of then
     receive_gives =
         simp (numbers_cause d, processes_cause shard.settings.process_count d, ahead_cause rounds.core, slot_cause rounds.core, last_cause rounds.core, waits_cause shard.settings.my_pid)
         (go (numbers_fit d) (processes_fit shard.settings.process_count d) (is_ahead rounds.core (msg_slot d.message.msg))
@@ -342,8 +376,8 @@ module _ (choose : Choice) (shard : Shard) where
         rest = first_of (handling_causes choose shard.settings rounds d d.message.msg)
 
         go : (numbers processes ahead other wait : Bool)
-            → Gives shard
-            (admitted choose shard d
+            → StateGives state
+            (answered (Receive d)
             (cond numbers
             (cond processes (cond ahead (Err SlotAhead) (cond other (Err OtherLastValue) (cond wait (Err ValueNotHeld) (Ok tt)))) (Err NoSuchProcess))
             (Err NumberTooLarge)))
@@ -357,28 +391,29 @@ module _ (choose : Choice) (shard : Shard) where
 
   -- ---- every call
 
-  dispatch_gives : (c : Call) → Gives shard (dispatch choose shard c) (first_of (causes choose shard c))
-  unfolding dispatch
-  dispatch_gives (Propose v) = proposal_gives v
-  dispatch_gives (StartRead tag arrival) = read_gives tag arrival
-  dispatch_gives (Receive d) = receive_gives d
+  admission_gives : (c : Call) → StateGives state (answered c (admission c)) (first_of (causes choose shard c))
+  admission_gives (Propose v) = proposal_gives v
+  admission_gives (StartRead tag arrival) = read_gives tag arrival
+  admission_gives (Receive d) = receive_gives d
 
-  marked_gives : (c : Call) (o : Outcome) → Gives shard (if_made choose shard c o) (first_of (then (unmade o) (gives 2 (is_spent shard) ∷ causes choose shard c)))
-  unfolding unless_spent first_of then
+  marked_gives : (c : Call) (o : Outcome)
+      → StateGives state (answered c (if_made o shard.settings.process_count shard.settings.my_pid rounds.core c))
+      (first_of (then (unmade o) (gives 2 (is_spent shard) ∷ causes choose shard c)))
+  unfolding state_call unless_spent first_of then
   marked_gives c (Ok tt) = spent (is_spent shard)
     where
-      spent : (t : Bool) → Gives shard (cond t (refused NumberTooLarge shard) (dispatch choose shard c)) (cond t 2 (first_of (causes choose shard c)))
+      spent : (t : Bool) → StateGives state (answered c (cond t (Err NumberTooLarge) (admission c))) (cond t 2 (first_of (causes choose shard c)))
       spent true = inr (NumberTooLarge, refl, refl)
-      spent false = dispatch_gives c
+      spent false = admission_gives c
   marked_gives c (Err why) = inr (why, refl, refl)
 
   -- Every call on every shard, whatever stands in it: taken where the number is 0, and else refused with that number, the shard as it was. It is said of each
   -- kind of call by itself, so that an engine which treats one kind otherwise is refused there.
   pub first_cause_lem : (c : Call) → Gives shard (call_with choose shard c) (first_cause choose shard c)
-  unfolding call_with first_cause
-  first_cause_lem (Propose v) = marked_gives (Propose v) shard.made
-  first_cause_lem (StartRead tag arrival) = marked_gives (StartRead tag arrival) shard.made
-  first_cause_lem (Receive d) = marked_gives (Receive d) shard.made
+  unfolding call_with decision_of first_cause
+  first_cause_lem (Propose v) = of_state shard _ _ (marked_gives (Propose v) shard.made)
+  first_cause_lem (StartRead tag arrival) = of_state shard _ _ (marked_gives (StartRead tag arrival) shard.made)
+  first_cause_lem (Receive d) = of_state shard _ _ (marked_gives (Receive d) shard.made)
 
   -- The number that a call hands back, 0 where it is taken.
   pub number_is_first_cause : (c : Call) → number_of (call_with choose shard c).reply.outcome ≡ first_cause choose shard c

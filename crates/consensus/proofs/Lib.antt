@@ -1,5 +1,3 @@
-pub mod NoReads
-pub mod ByParts
 pub mod Admitted
 pub mod Handled
 pub mod HandledAccept
@@ -10,3 +8,4 @@ pub mod FirstCause
 pub mod Refusals
 pub mod Reading
 pub mod Held
+pub mod Decided

@@ -26,14 +26,14 @@ use Rattle.steps.specs.declared.Rounds.{Rounds}
 use Rattle.delivery.specs.declared.Delivery.{Delivery}
 use Rattle.calls.specs.declared.Call.{Call}
 use Rattle.calls.specs.declared.Call.TheVariants.{Propose, StartRead, Receive}
-use Rattle.consensus.specs.Call.{call_with, call_of, after_calls, new_shard, dispatch, unless_spent, if_made}
-use Rattle.consensus.specs.FirstCause.{number_of, committers_outside, quorum_outside, mode_outside, some_outside, settings_causes, admission_causes, handling_causes, causes, first_cause, is_spent, unmade, ignored, all_causes, ByFirstCause, MadeBySettings, OfSettings}
-use Rattle.consensus.specs.Answers.{refused}
+use Rattle.calls.specs.Decision.{admission_of, unless_spent, if_made, decision_for, decision_of}
+use Rattle.consensus.specs.Call.{state_call, in_shard, call_with, call_of, after_calls, new_shard}
+use Rattle.consensus.specs.FirstCause.{number_alone, number_of, committers_outside, quorum_outside, mode_outside, some_outside, settings_causes, admission_causes, handling_causes, causes, first_cause, is_spent, unmade, ignored, all_causes, ByFirstCause, MadeBySettings, OfSettings}
 use Rattle.consensus.specs.Panics.{Facts, prepare_panics, accept_panics}
 use Rattle.consensus.specs.Rows.{Row, then, NoneHolds, FirstHolds, first_of}
 use Rattle.consensus.specs.declared.Answer.{Answer}
 use Rattle.consensus.specs.declared.Shard.{Shard}
-use Rattle.consensus.proofs.ByParts.{by_parts}
+use Rattle.consensus.proofs.Decided.{mark_kept}
 use Rattle.consensus.proofs.FirstCause.{Gives, first_cause_lem}
 use Rattle.settings.specs.Settings.{counts_fit, members_fit, committers_fit, quorum_fits, mode_fits, within_limits}
 use Rattle.sets.specs.Sets.{size, fits}
@@ -204,22 +204,32 @@ module _ (choose : Choice) (shard : Shard) where
       go (inr (why, e, first)) = absurd (not_none (all_causes choose shard c) (refusal_number why) first none)
 
   -- and refused with each number where that is the first cause's.
-  pub refused_where_first : (c : Call) (why : Refusal) → FirstHolds (all_causes choose shard c) (refusal_number why) → call_with choose shard c ≡ refused why shard
+  pub refused_where_first : (c : Call) (why : Refusal) → FirstHolds (all_causes choose shard c) (refusal_number why) → call_with choose shard c ≡ number_alone why shard
   refused_where_first c why first = go (by_first_cause c)
     where
-      go : ByFirstCause choose shard c (call_with choose shard c) → call_with choose shard c ≡ refused why shard
+      go : ByFirstCause choose shard c (call_with choose shard c) → call_with choose shard c ≡ number_alone why shard
       go (inl (_, none)) = absurd (not_none (all_causes choose shard c) (refusal_number why) first none)
-      go (inr (w, e, other)) = e ∙ ap (λ (x : Refusal). refused x shard) (same_refusal w why (first_same (all_causes choose shard c) (refusal_number w) (refusal_number why) other first))
+      go (inr (w, e, other)) = e ∙ ap (λ (x : Refusal). number_alone x shard) (same_refusal w why (first_same (all_causes choose shard c) (refusal_number w) (refusal_number why) other first))
+
+  -- what is made of a call by what is decided of it
+  abbrev answered : Call → Outcome → Answer
+  answered c o = in_shard shard (state_call choose shard.state (decision_for shard.settings c o))
 
   -- An unmade shard refuses every call with the number that it was marked with.
-  pub unmade_refuses : (c : Call) (why : Refusal) → shard.made ≡ Err why → call_with choose shard c ≡ refused why shard
-  unfolding call_with
-  unmade_refuses c why e = ap (if_made choose shard c) e
+  pub unmade_refuses : (c : Call) (why : Refusal) → shard.made ≡ Err why → call_with choose shard c ≡ number_alone why shard
+  unfolding call_with decision_of state_call
+  unmade_refuses c why e =
+      ap (λ (o : Outcome). answered c (if_made o shard.settings.process_count shard.settings.my_pid shard.state.rounds.core c)) e
 
   -- A spent slot refuses every call with 2.
-  pub spent_refuses : (c : Call) → shard.made ≡ Ok tt → is_spent shard ≡ true → call_with choose shard c ≡ refused NumberTooLarge shard
-  unfolding call_with unless_spent
-  spent_refuses c e f = ap (if_made choose shard c) e ∙ ap (λ (t : Bool). cond t (refused NumberTooLarge shard) (dispatch choose shard c)) f
+  pub spent_refuses : (c : Call) → shard.made ≡ Ok tt → is_spent shard ≡ true → call_with choose shard c ≡ number_alone NumberTooLarge shard
+  unfolding call_with decision_of state_call unless_spent
+  spent_refuses c e f =
+      ap (λ (o : Outcome). answered c (if_made o shard.settings.process_count shard.settings.my_pid shard.state.rounds.core c)) e
+      ∙ ap
+      (λ (t : Bool).
+      answered c (cond t (Err NumberTooLarge) (admission_of shard.settings.process_count shard.settings.my_pid shard.state.rounds.core c)))
+      f
 
 -- ---- settings
 
@@ -306,17 +316,14 @@ new_by_settings s = go (within_limits s) (settings_number_lem s) (none_or_first 
 
 -- ---- a shard from its making on, through any list of calls
 
--- no call changes the mark
-mark_stays : (shard : Shard) (c : Call) → (call_of shard c).shard.made ≡ shard.made
-mark_stays shard c = ap (λ (r : Answer). r.shard.made) (sym (by_parts shard c))
-
+-- no list of calls changes the mark
 pub marked_once : (shard : Shard) (cs : List Call) → (after_calls shard cs).made ≡ shard.made
 unfolding after_calls
 marked_once shard [] = refl
-marked_once shard (c ∷ cs) = marked_once (call_of shard c).shard cs ∙ mark_stays shard c
+marked_once shard (c ∷ cs) = marked_once (call_of shard c).shard cs ∙ mark_kept lowest_best shard c
 
 -- what refuses every call stays as it is
-refusing_stays : (shard : Shard) (why : Refusal) → ((c : Call) → call_of shard c ≡ refused why shard) → (cs : List Call) → after_calls shard cs ≡ shard
+refusing_stays : (shard : Shard) (why : Refusal) → ((c : Call) → call_of shard c ≡ number_alone why shard) → (cs : List Call) → after_calls shard cs ≡ shard
 unfolding after_calls
 refusing_stays shard why all [] = refl
 refusing_stays shard why all (c ∷ cs) =
@@ -331,5 +338,5 @@ made_or_unmade s cs = go (new_by_settings s)
         let made = marked_once (new_shard s) cs ∙ e in inl (none, made, λ spent c. spent_refuses lowest_best (after_calls (new_shard s) cs) c made spent)
     go (inr (e, first)) = subst (OfSettings s) (sym (refusing_stays (new_shard s) SettingsOutsideLimits all cs)) (inr (first, refl, all))
       where
-        all : (c : Call) → call_of (new_shard s) c ≡ refused SettingsOutsideLimits (new_shard s)
+        all : (c : Call) → call_of (new_shard s) c ≡ number_alone SettingsOutsideLimits (new_shard s)
         all c = unmade_refuses lowest_best (new_shard s) c SettingsOutsideLimits e

@@ -4,4 +4,3 @@ pub mod Call
 pub mod Rows
 pub mod Panics
 pub mod FirstCause
-pub mod ByParts

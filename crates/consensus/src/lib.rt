@@ -1,18 +1,40 @@
 // The shard and its calls: what the Rust's consensus.rs does around the handlers. A call takes the shard by value and hands back the next
-// one with its reply. It is first decided whether the call is taken; then it works on the parts of the state that it changes.
+// one with its reply. It is decided whether the call is taken, it is handled, and the last step of its handler becomes the answer. All of this works on the
+// state, which is what calls change, so that the settings stay where they are.
 #![tactic(auto)]
 
-ghost use Rattle.std.specs.Prelude.{◌≡◌};
-ghost use Rattle.consensus.specs.Call.{new_core, new_state, new_shard, call_of};
+ghost use Rattle.std.specs.Prelude.{◌≡◌, not};
+ghost use Rattle.fast_state.specs.Adopt.{lowest_best};
+ghost use Rattle.steps.specs.Steps.{on_rounds};
+ghost use Rattle.consensus.specs.Answers.{with_rounds, with_tracker, track, refused, sent, served, committed, finish};
+ghost use Rattle.consensus.specs.Handle.{on_commit, on_read_request, on_read_response, after_insert, start_read, proposing, processed, process_message, handle, handle_call};
+ghost use Rattle.consensus.specs.Call.{new_core, new_state, new_shard, state_call, call_of};
 
-use calls::{Call, Reply};
+use calls::{Call, CommittedSlot, Reply, Taken};
 use delivery::Delivery;
 use fast_state::{FastState, PaxosFamilyRoundState};
-use message::{Outcome, Refusal};
-use read_tracker::{ReadTable, ReadTracker};
+use message::{ConsensusMsg, Outcome, ReadId, Refusal};
+use read_tracker::{Inserted, ReadTable, ReadTracker};
+use serving::Tracked;
 use settings::Settings;
-use state_calls::State;
-use steps::{Core, Rounds};
+use steps::{
+    Asked, Core, CoreStep, Heard, Messages, Next, Rounds, RoundsStep, Step, no_messages,
+    one_message,
+};
+
+// Everything that calls change: core and fast half, and the table of the reads.
+#[derive(Clone, Copy)]
+pub struct State {
+    pub rounds: Rounds,
+    pub table: ReadTable,
+}
+
+// What a call makes of the state, and its reply.
+#[derive(Clone, Copy)]
+pub struct StateAnswer {
+    pub state: State,
+    pub reply: Reply,
+}
 
 // A shard. One whose settings are outside the limits is not made, and remembers why.
 #[derive(Clone, Copy)]
@@ -53,6 +75,249 @@ fn new_state(settings: Settings) -> State
     }
 }
 
+fn with_rounds(mut state: State, rounds: Rounds) -> State
+    ensures { result ≡ with_rounds state rounds }
+{
+    state.rounds = rounds;
+    state
+}
+
+fn with_tracker(mut core: Core, tracker: ReadTracker) -> Core
+    ensures { result ≡ with_tracker tracker core }
+{
+    core.tracker = tracker;
+    core
+}
+
+// Rounds with their reads counted anew.
+fn track(rounds: Rounds, tracker: ReadTracker) -> Rounds
+    ensures { result ≡ track tracker rounds }
+{
+    Rounds {
+        core: with_tracker(rounds.core, tracker),
+        fast: rounds.fast,
+    }
+}
+
+// A refusal hands back its number alone and leaves the state.
+fn refused(state: State, why: Refusal) -> StateAnswer
+    ensures { result ≡ refused why state }
+{
+    StateAnswer {
+        state,
+        reply: calls::refused_reply(why),
+    }
+}
+
+fn sent(state: State, messages: Messages) -> StateAnswer
+    ensures { result ≡ sent state messages }
+{
+    StateAnswer {
+        state,
+        reply: calls::sent_reply(messages),
+    }
+}
+
+// These rounds and what has become of the reads, with the number of those that are served.
+fn served(
+    rounds: Rounds,
+    reads: Tracked,
+    messages: Messages,
+    commit: Option<CommittedSlot>,
+) -> StateAnswer
+    ensures { result ≡ served rounds reads messages commit }
+{
+    StateAnswer {
+        state: State {
+            rounds: track(rounds, reads.tracker),
+            table: reads.table,
+        },
+        reply: Reply {
+            outcome: Ok(()),
+            messages,
+            commit,
+            served_count: reads.served_count,
+        },
+    }
+}
+
+// The commit of a value, and the reads that it has made ready.
+#[tactic(auto, unfolding(crate::specs::Answers::committed))]
+fn committed(state: State, a: Asked, v: u64, s: Rounds, messages: Messages) -> StateAnswer
+    ensures { result ≡ committed state a v s messages }
+{
+    let next = paxos_family::next_slot(a, v, s);
+    let majority = a.member.quorums.majority;
+    let reads = serving::commit_slot(s.core.tracker, state.table, majority, next.core.slot);
+    let commit = CommittedSlot {
+        slot: s.core.slot,
+        v,
+        fast: calls::is_fast(a, s.core),
+    };
+    served(next, reads, messages, Some(commit))
+}
+
+// A step becomes an answer. What is refused leaves the old state, and a commit needs its value.
+fn finish(state: State, a: Asked, held: bool, step: Result<RoundsStep, Refusal>) -> StateAnswer
+    ensures { result ≡ finish state a held step }
+{
+    match step {
+        Ok(step) => match step.next {
+            Next::Stays | Next::Continues => sent(with_rounds(state, step.state), step.messages),
+            Next::Commits(v) if held => committed(state, a, v, step.state, step.messages),
+            Next::Commits(_) => refused(state, Refusal::ValueNotHeld),
+        },
+        Err(why) => refused(state, why),
+    }
+}
+
+// A Commit of an older slot does nothing. The own slot's commits, from any source and at any member.
+#[tactic(auto, unfolding(crate::specs::Handle::on_commit))]
+fn on_commit(state: State, a: Asked, slot: u64, v: u64) -> StateAnswer
+    ensures { result ≡ on_commit state a slot v }
+{
+    if slot < state.rounds.core.slot {
+        return sent(state, no_messages());
+    }
+    committed(state, a, v, state.rounds, no_messages())
+}
+
+// Answered at any member. The Rust's sink asserts that nothing is sent to oneself.
+#[tactic(auto, unfolding(crate::specs::Handle::on_read_request))]
+fn on_read_request(state: State, a: Asked, src: u64, id: ReadId) -> StateAnswer
+    ensures { result ≡ on_read_request state a src id }
+{
+    let own = a.member.my_pid;
+    if src == own {
+        return refused(state, Refusal::Panic);
+    }
+    let core = state.rounds.core;
+    sent(state, one_message(calls::read_answer(own, src, id, core)))
+}
+
+// A response counts, of an older slot too.
+#[tactic(auto, unfolding(crate::specs::Handle::on_read_response))]
+fn on_read_response(state: State, a: Asked, id: ReadId, fast: bool) -> StateAnswer
+    ensures { result ≡ on_read_response state a id fast }
+{
+    let core = state.rounds.core;
+    let majority = a.member.quorums.majority;
+    let reads = serving::receive_ready(core.tracker, state.table, id, majority, core.slot, fast);
+    served(state.rounds, reads, no_messages(), None)
+}
+
+fn after_insert(state: State, a: Asked, inserted: Result<Inserted, Refusal>) -> StateAnswer
+    ensures { result ≡ after_insert state a inserted }
+{
+    match inserted {
+        Err(why) => refused(state, why),
+        Ok(ins) => {
+            let request = ConsensusMsg::ReadRequest { id: ins.id };
+            let message = a.sends(state.rounds.core, steps::to_all(), request);
+            StateAnswer {
+                state: State {
+                    rounds: track(state.rounds, ins.tracker),
+                    table: ins.table,
+                },
+                reply: calls::sent_reply(one_message(message)),
+            }
+        }
+    }
+}
+
+// A new read, which everyone is asked for. The own answer counts at once where nothing is held.
+#[tactic(auto, unfolding(crate::specs::Handle::start_read))]
+fn start_read(state: State, a: Asked, tag: u64, arrival_slot: u64) -> StateAnswer
+    ensures { result ≡ start_read state a tag arrival_slot }
+{
+    let core = state.rounds.core;
+    let local_ready = core.paxos.max_rv.is_none();
+    let inserted = read_tracker::insert(core.tracker, state.table, tag, arrival_slot, local_ready);
+    after_insert(state, a, inserted)
+}
+
+// A step of the core, with the fast half as it is.
+fn on_rounds(fast: FastState, step: CoreStep) -> RoundsStep
+    ensures { result ≡ on_rounds fast step }
+{
+    Step {
+        state: Rounds {
+            core: step.state,
+            fast,
+        },
+        messages: step.messages,
+        next: step.next,
+    }
+}
+
+#[tactic(auto, unfolding(crate::specs::Handle::proposing))]
+fn proposing(a: Asked, v: u64, s: Rounds) -> Result<RoundsStep, Refusal>
+    ensures { result ≡ proposing a v s }
+{
+    if a.mode.has_fast_path() {
+        return propose::propose_fast(a, v, s);
+    }
+    let step = propose::propose_classic(a, v, s.core)?;
+    Ok(on_rounds(s.fast, step))
+}
+
+#[tactic(auto, unfolding(crate::specs::Handle::processed))]
+fn processed(a: Asked, heard: Heard, msg: ConsensusMsg, s: Rounds) -> Result<RoundsStep, Refusal>
+    ensures { result ≡ processed lowest_best a heard msg s }
+{
+    if a.mode.has_fast_path() {
+        return paxos_family::process_fast(a, heard, msg, s);
+    }
+    let step = paxos_family::process_classic(a, heard, msg, s.core)?;
+    Ok(on_rounds(s.fast, step))
+}
+
+#[tactic(auto, unfolding(crate::specs::Handle::process_message))]
+fn process_message(state: State, a: Asked, heard: Heard, d: Delivery) -> StateAnswer
+    ensures { result ≡ process_message lowest_best state a heard d }
+{
+    let step = processed(a, heard, d.message.msg, state.rounds);
+    finish(state, a, d.said.value_held, step)
+}
+
+// The Rust's full_process_message.
+#[tactic(auto, unfolding(crate::specs::Handle::handle))]
+fn handle(state: State, a: Asked, heard: Heard, d: Delivery, msg: ConsensusMsg) -> StateAnswer
+    ensures { result ≡ handle lowest_best state a heard d msg }
+{
+    match msg {
+        ConsensusMsg::Prepare { .. }
+        | ConsensusMsg::Accept { .. }
+        | ConsensusMsg::ForwardRequest { .. } => process_message(state, a, heard, d),
+        ConsensusMsg::Commit { slot, v } => on_commit(state, a, slot, v),
+        ConsensusMsg::ReadRequest { id } => on_read_request(state, a, d.message.src, id),
+        ConsensusMsg::ReadResponse { id, .. } => on_read_response(state, a, id, d.said.fast),
+    }
+}
+
+// A call that is taken. The host holds the value that it proposes.
+#[tactic(auto, unfolding(crate::specs::Handle::handle_call))]
+fn handle_call(state: State, a: Asked, heard: Heard, call: Call) -> StateAnswer
+    ensures { result ≡ handle_call lowest_best state a heard call }
+{
+    match call {
+        Call::Propose(v) => finish(state, a, true, proposing(a, v, state.rounds)),
+        Call::StartRead { tag, arrival_slot } => start_read(state, a, tag, arrival_slot),
+        Call::Receive(d) => handle(state, a, heard, d, d.message.msg),
+    }
+}
+
+// A call that is decided on. A shard that is lent takes its state out for it, and writes it back.
+#[tactic(auto, unfolding(crate::specs::Call::state_call))]
+pub fn state_call(state: State, decision: Result<Taken, Refusal>) -> StateAnswer
+    ensures { result ≡ state_call lowest_best state decision }
+{
+    match decision {
+        Err(why) => refused(state, why),
+        Ok(taken) => handle_call(state, taken.asked, taken.heard, taken.call),
+    }
+}
+
 impl Shard {
     // A shard as it begins. Settings outside the limits give one that is not made.
     #[tactic(auto, unfolding(crate::specs::Call::new_shard))]
@@ -75,12 +340,12 @@ impl Shard {
     }
 
     // A call, whole.
-    #[tactic(auto, using(crate::proofs::ByParts::by_parts))]
+    #[tactic(auto, unfolding(crate::specs::Call::call_with))]
     pub fn call(mut self, call: Call) -> Answer
         ensures { result ≡ call_of self call }
     {
-        let decision = calls::decision_of(self.made, self.settings, self.state.rounds.core, call);
-        let answer = state_calls::state_call(self.state, decision);
+        let decision = calls::decision_of(self.made, &self.settings, self.state.rounds.core, call);
+        let answer = state_call(self.state, decision);
         self.state = answer.state;
         Answer {
             shard: self,

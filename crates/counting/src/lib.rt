@@ -9,6 +9,7 @@ use arrays::Setup;
 use flat::{FlatCore, FlatMessage};
 use message::{PFMode, PaxosRound};
 use round_state::{Member, accept_fits, get_last_accepted_round};
+use tables::PerProcess;
 
 // setup, c and m are parameters of their own: they are the flat forms of three arrays that a host lends, and each question reads one or two of them.
 
@@ -109,7 +110,7 @@ fn completes(setup: Setup, c: FlatCore, m: FlatMessage) -> bool
 
 // Whether the member gathers the promises of the round. That a fast value's proposer may gather them is left to the handlers.
 #[tactic(auto, unfolding(crate::specs::Counting::gathers))]
-fn gathers(setup: Setup, delegates: &[u64; 64], m: FlatMessage) -> bool
+fn gathers(setup: Setup, delegates: &PerProcess, m: FlatMessage) -> bool
     ensures { result ≡ gathers setup delegates.now m }
 {
     m.rv.fast == 0
@@ -118,7 +119,7 @@ fn gathers(setup: Setup, delegates: &[u64; 64], m: FlatMessage) -> bool
 
 // Whether a promise is counted, and the majority is not reached with this one.
 #[tactic(auto, unfolding(crate::specs::Counting::counts_promise))]
-fn counts_promise(setup: Setup, delegates: &[u64; 64], c: FlatCore, m: FlatMessage) -> bool
+fn counts_promise(setup: Setup, delegates: &PerProcess, c: FlatCore, m: FlatMessage) -> bool
     ensures { result ≡ counts_promise setup delegates.now c m }
 {
     gathers(setup, delegates, m)
@@ -129,12 +130,12 @@ fn counts_promise(setup: Setup, delegates: &[u64; 64], c: FlatCore, m: FlatMessa
 
 // Whether the message is only counted.
 #[tactic(auto, unfolding(crate::specs::Counting::counts))]
-pub fn counts(setup: Setup, delegates: &[u64; 64], c: FlatCore, m: FlatMessage) -> bool
+pub fn counts(setup: Setup, delegates: &PerProcess, c: FlatCore, m: FlatMessage) -> bool
     ensures { result ≡ counts setup delegates.now c m }
 {
     match m.kind {
-        2 => counts_accept(setup, c, m),
-        1 => counts_promise(setup, delegates, c, m),
+        flat::ACCEPT => counts_accept(setup, c, m),
+        flat::PREPARE => counts_promise(setup, delegates, c, m),
         _ => false,
     }
 }
@@ -144,7 +145,7 @@ pub fn counts(setup: Setup, delegates: &[u64; 64], c: FlatCore, m: FlatMessage) 
 pub fn with_counted(setup: Setup, mut c: FlatCore, m: FlatMessage) -> FlatCore
     ensures { result ≡ with_counted setup c m }
 {
-    if m.kind == 2 {
+    if m.kind == flat::ACCEPT {
         c.accepted_set = accepts_with(setup, c, m);
         c.slot_left_fast_path = 1;
         return c;

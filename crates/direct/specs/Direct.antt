@@ -6,9 +6,9 @@ use Rattle.array_reads.specs.Rows.{table_of}
 use Rattle.array_reads.specs.declared.ReadArrays.{ReadArrays}
 use Rattle.arrays.specs.Arrays.{core_of, core_numbers}
 use Rattle.arrays.specs.declared.Setup.{Setup}
-use Rattle.core_calls.specs.Replies.{sent_reply}
+use Rattle.calls.specs.Replies.{sent_reply}
 use Rattle.counting.specs.Counting.{round_in, counts, with_counted}
-use Rattle.direct_core.specs.Handled.{Written, put_reply, put_served, CallOutcome, call_number, Left, asked_in, put_step, handled_by, answer_request}
+use Rattle.direct_core.specs.Handled.{Written, put_reply, put_served, CallOutcome, call_number, Left, NoHalf, asked_in, put_step, handled_by, answer_request}
 use Rattle.direct_core.specs.Lent.{Array, came, left}
 use Rattle.direct_core.specs.declared.NotTaken.TheVariants.{Refused, PassedOn}
 use Rattle.message.specs.Modes.{has_fast_path, mode_of_number}
@@ -65,47 +65,48 @@ majority_of s = (row_of s.replica_count).majority
 
 -- ---- what a call leaves
 
--- what is told of it is its outcome, and of the call of a host the number
-pub record Direct (A : Type 0) : Type 0 where
+-- what is told of it is its outcome, and of the call of a host the number; with the fast half, where one is lent
+pub record Direct (A Half : Type 0) : Type 0 where
   pub told : A
   pub core : List ℕ
+  pub half : Half
   pub table : ReadTable
   pub reply : Written
 
-abbrev pub direct : {A : Type 0} → A → List ℕ → ReadTable → Written → Direct A
-direct told core table reply = record { told = told; core = core; table = table; reply = reply }
+abbrev pub direct : {A : Type 0} → A → List ℕ → ReadTable → Written → Direct A NoHalf
+direct told core table reply = record { told = told; core = core; half = tt; table = table; reply = reply }
 
 -- ---- a new read
 
 -- everyone is asked for the read
-abbrev pub opened_as : Setup → FlatCore → ReadTable → Opening → Written → Direct CallOutcome
+abbrev pub opened_as : Setup → FlatCore → ReadTable → Opening → Written → Direct CallOutcome NoHalf
 opened_as s c table o w =
     direct (Ok tt) (core_numbers (with_tracker o.tracker c)) (inserted (tracker_of c) table o).table
     (put_reply (sent_reply (one_message (sends (asked_in s) (decoded_core c) to_all (ReadRequest o.read.id)))) w)
 
 -- by whether there is room
-unfoldable pub opened : Setup → Result Opening Refusal → List ℕ → ReadTable → Written → Direct CallOutcome
+unfoldable pub opened : Setup → Result Opening Refusal → List ℕ → ReadTable → Written → Direct CallOutcome NoHalf
 opened s (Ok o) core table w = opened_as s (core_of core) table o w
 opened s (Err why) core table w = direct (Err (Refused why)) core table w
 
 -- the own answer counts where nothing is held
-abbrev pub open_read : Setup → List ℕ → ReadTable → FlatCall → Written → Direct CallOutcome
+abbrev pub open_read : Setup → List ℕ → ReadTable → FlatCall → Written → Direct CallOutcome NoHalf
 open_read s core table f w =
     opened s (open_next (tracker_of (core_of core)) f.v f.arrival_slot (eqb (core_of core).max_rv.given 0)) core table w
 
 -- ---- a response, and a commit where reads are open
 
 -- nothing is sent or committed
-abbrev pub counted : FlatCore → Written → Tracked → Direct CallOutcome
+abbrev pub counted : FlatCore → Written → Tracked → Direct CallOutcome NoHalf
 counted c w t = direct (Ok tt) (core_numbers (with_tracker t.tracker c)) t.table (put_served t.served_count w)
 
-unfoldable pub count_response : Setup → List ℕ → ReadTable → FlatCall → Written → Direct CallOutcome
+unfoldable pub count_response : Setup → List ℕ → ReadTable → FlatCall → Written → Direct CallOutcome NoHalf
 count_response s core table f w =
     counted (core_of core) w
     (receive_ready (tracker_of (core_of core)) table (read_id f.message.id) (majority_of s) (core_of core).slot (is_yes f.fast))
 
 -- where no read is open nothing changes
-unfoldable pub response : Setup → List ℕ → ReadTable → FlatCall → Written → Direct CallOutcome
+unfoldable pub response : Setup → List ℕ → ReadTable → FlatCall → Written → Direct CallOutcome NoHalf
 response s core table f w =
     cond (eqb (core_of core).open_count 0) (direct (Ok tt) core table (put_served 0 w)) (count_response s core table f w)
 
@@ -124,18 +125,25 @@ served_by c rest t = serving (core_numbers (with_tracker t.tracker c)) t.table (
 unfoldable pub serve_ready : Setup → List ℕ → ReadTable → List ℕ → Serving
 serve_ready s core table rest = served_by (core_of core) rest (commit_slot (tracker_of (core_of core)) table (majority_of s) (core_of core).slot)
 
-abbrev pub with_serving : Written → Serving → Direct CallOutcome
-with_serving w v = direct (Ok tt) v.core v.table (record { first = w.first; second = w.second; third = w.third; rest = v.rest })
+abbrev pub with_serving : {Half : Type 0} → Half → Written → Serving → Direct CallOutcome Half
+with_serving half w v =
+    record {
+      told = Ok tt;
+      core = v.core;
+      half = half;
+      table = v.table;
+      reply = record { first = w.first; second = w.second; third = w.third; rest = v.rest };
+    }
 
 -- by whether reads may be ready, or the call is refused
-unfoldable pub served_after : Setup → ReadTable → Result Bool Refusal → List ℕ → Written → Direct CallOutcome
-served_after s table (Ok true) core w = with_serving w (serve_ready s core table w.rest)
-served_after s table (Ok false) core w = direct (Ok tt) core table w
-served_after s table (Err why) core w = direct (Err (Refused why)) core table w
+unfoldable pub served_after : {Half : Type 0} → Setup → ReadTable → Result Bool Refusal → List ℕ → Half → Written → Direct CallOutcome Half
+served_after s table (Ok true) core half w = with_serving half w (serve_ready s core table w.rest)
+served_after s table (Ok false) core half w = record { told = Ok tt; core = core; half = half; table = table; reply = w }
+served_after s table (Err why) core half w = record { told = Err (Refused why); core = core; half = half; table = table; reply = w }
 
 -- what is left of a call after the reads that became ready are served
-abbrev pub served : Setup → ReadTable → Left → Direct CallOutcome
-served s table l = served_after s table l.handled l.core l.reply
+abbrev pub served : {Half : Type 0} → Setup → ReadTable → Left Half → Direct CallOutcome Half
+served s table l = served_after s table l.handled l.core l.half l.reply
 
 -- ---- calls
 
@@ -145,6 +153,10 @@ is_response f = not (eqb f.kind 0) && eqb f.message.kind 6
 -- a proposal, a Prepare, an Accept, a ForwardRequest or a Commit
 unfoldable pub concerns_slot : FlatCall → Bool
 concerns_slot f = eqb f.kind 0 || (leb 1 f.message.kind && leb f.message.kind 4)
+
+-- whether the fast half has a part in the call: in EPaxos and SwiftPaxos, in what concerns a slot and is no new read
+unfoldable pub fast_half_acts : Setup → FlatCall → Bool
+fast_half_acts s f = not (eqb f.kind 1) && (has_fast_path (mode_of_number s.mode) && concerns_slot f)
 
 -- a Prepare, an Accept or a Commit
 unfoldable pub names_slot : ℕ → Bool
@@ -159,40 +171,40 @@ unfoldable pub is_older : FlatCore → FlatMessage → Bool
 is_older c m = names_slot m.kind && (ltb m.slot c.slot || of_older_round c m)
 
 -- a message in the classic modes
-unfoldable pub handled : Setup → List ℕ → List ℕ → List ℕ → ReadTable → FlatCall → Written → Direct CallOutcome
+unfoldable pub handled : Setup → List ℕ → List ℕ → List ℕ → ReadTable → FlatCall → Written → Direct CallOutcome NoHalf
 handled s committers delegates core table f w =
     cond (is_older (core_of core) f.message) (direct (Ok tt) core table (put_served 0 w))
     (cond (counts s delegates (core_of core) f.message) (direct (Ok tt) (core_numbers (with_counted s (core_of core) f.message)) table (put_served 0 w))
     (served s table (handled_by s committers delegates core f w)))
 
 -- EPaxos and SwiftPaxos are passed on
-unfoldable pub slot_call : Setup → List ℕ → List ℕ → List ℕ → ReadTable → FlatCall → Written → Direct CallOutcome
+unfoldable pub slot_call : Setup → List ℕ → List ℕ → List ℕ → ReadTable → FlatCall → Written → Direct CallOutcome NoHalf
 slot_call s committers delegates core table f w =
     cond (has_fast_path (mode_of_number s.mode)) (direct (Err PassedOn) core table w)
     (cond (eqb f.kind 0) (served s table (put_step (propose_classic (asked_in s) f.v (decoded_core (core_of core))) core w))
     (handled s committers delegates core table f w))
 
 -- a call that is not refused and no new read
-unfoldable pub taken : Setup → List ℕ → List ℕ → List ℕ → ReadTable → FlatCall → Written → Direct CallOutcome
+unfoldable pub taken : Setup → List ℕ → List ℕ → List ℕ → ReadTable → FlatCall → Written → Direct CallOutcome NoHalf
 taken s committers delegates core table f w =
     cond (is_response f) (response s core table f w)
     (cond (concerns_slot f) (slot_call s committers delegates core table f w) (served s table (answer_request s core f.message w)))
 
 -- by the refusal, if there is one
-unfoldable pub unless_refused : Setup → List ℕ → List ℕ → Outcome → List ℕ → ReadTable → FlatCall → Written → Direct CallOutcome
+unfoldable pub unless_refused : Setup → List ℕ → List ℕ → Outcome → List ℕ → ReadTable → FlatCall → Written → Direct CallOutcome NoHalf
 unless_refused s committers delegates (Ok tt) core table f w =
     cond (eqb f.kind 1) (open_read s core table f w) (taken s committers delegates core table f w)
 unless_refused s committers delegates (Err why) core table f w = direct (Err (Refused why)) core table w
 
 -- refusals come first
-abbrev pub call_made : Setup → List ℕ → List ℕ → List ℕ → ReadTable → FlatCall → Written → Direct CallOutcome
+abbrev pub call_made : Setup → List ℕ → List ℕ → List ℕ → ReadTable → FlatCall → Written → Direct CallOutcome NoHalf
 call_made s committers delegates core table f w = unless_refused s committers delegates (refusal_of s (core_of core) f) core table f w
 
 -- with the number that a host gets
-abbrev pub numbered : Direct CallOutcome → Direct ℕ
-numbered d = direct (call_number d.told) d.core d.table d.reply
+abbrev pub numbered : {Half : Type 0} → Direct CallOutcome Half → Direct ℕ Half
+numbered d = record { told = call_number d.told; core = d.core; half = d.half; table = d.table; reply = d.reply }
 
-unfoldable pub direct_call : Setup → List ℕ → List ℕ → List ℕ → ReadTable → FlatCall → Written → Direct ℕ
+unfoldable pub direct_call : Setup → List ℕ → List ℕ → List ℕ → ReadTable → FlatCall → Written → Direct ℕ NoHalf
 direct_call s committers delegates core table f w = numbered (call_made s committers delegates core table f w)
 
 -- what is not taken leaves the arrays of the reads as they were, number for number; the equation says that of the others. A clause, since it compares before and

@@ -1,1 +1,2 @@
 pub mod Direct
+pub mod Stands

@@ -4,32 +4,34 @@
 
 ghost use Rattle.std.specs.Prelude.{◌≡◌, OnErr, Ok};
 ghost use Rattle.array_reads.specs.Rows.{reads_in, SameReads};
-ghost use Rattle.arrays.specs.Arrays.{setup_of, core_of, call_of};
+ghost use Rattle.arrays.specs.Arrays.{setup_of, core_of, flat_call_of};
 ghost use Rattle.direct_core.specs.Lent.{came, left};
 ghost use Rattle.direct_core.specs.Handled.{reply_came, reply_left, reply_in, SameReply};
 ghost use Rattle.direct.specs.Direct.{reads_came, reads_left, tracker_of, with_tracker, direct, open_read, count_response, response, serving, serve_ready, is_response, concerns_slot, names_slot, of_older_round, is_older, handled, slot_call, taken, call_made, direct_call, SameNumbers, LeftUnlessTaken};
+ghost use Rattle.direct.specs.Stands.{DirectStands};
 
-use array_reads::ReadArrays;
-use arrays::{Setup, Tables};
-use direct_core::{
-    ACCEPT, COMMIT, NEW_READ, NotTaken, PREPARE, PROPOSAL, READ_RESPONSE, ReplyArrays,
+use array_reads::{OpenReadsArray, ReadArrays, ServedReadsArray};
+use arrays::{CallArray, CoreArray, MessageArray, RestArray, Setup, SetupArray, Tables};
+use direct_core::{NotTaken, ReplyArrays};
+use flat::{
+    ACCEPT, COMMIT, FlatCall, FlatCore, FlatMessage, NEW_READ, PREPARE, PROPOSAL, READ_RESPONSE,
 };
-use flat::{FlatCall, FlatCore, FlatMessage};
 use message::{ConsensusMsg, PFMode, ReadId};
 use read_tracker::{Opening, ReadTracker};
+use tables::PerProcess;
 
 // setup, tables, core and reply are parameters of their own, here, in direct_core and in direct_fast: half of the functions take two or three of them, core is
 // changed in some and read in others, and a struct of all would be lent and taken apart in each contract.
 
-// What is done with the reads (`open_read`, `count_response`, `serve_ready`, `with_tracker`) has twins in state_calls. Those take a state with its table of
-// 128 reads of either kind by value and hand it back; here the numbers that change are written where they stand. What both decide is one: `open_next` of a
-// tracker, and the walks of crates/serving.
+// What is done with the reads (`open_read`, `count_response`, `serve_ready`, `with_tracker`) has twins in consensus (`start_read`, `on_read_response`,
+// `committed`, `with_tracker`). Those take a state with its table of 128 reads of either kind by value and hand it back; here the numbers that change are
+// written where they stand. What both decide is one: `open_next` of a tracker, and the walks of crates/serving.
 
 // A new read, which everyone is asked for. The own answer counts at once where nothing is held.
 #[tactic(auto, unfolding(crate::specs::Direct::opened))]
 fn open_read(
     setup: Setup,
-    core: &mut [u64; 18],
+    core: &mut CoreArray,
     reads: &mut ReadArrays<'_>,
     f: FlatCall,
     reply: &mut ReplyArrays<'_>,
@@ -73,7 +75,7 @@ fn with_tracker(mut c: FlatCore, tracker: ReadTracker) -> FlatCore
 #[tactic(auto, unfolding(crate::specs::Direct::count_response))]
 fn count_response(
     setup: Setup,
-    core: &mut [u64; 18],
+    core: &mut CoreArray,
     reads: &mut ReadArrays<'_>,
     f: FlatCall,
     reply: &mut ReplyArrays<'_>,
@@ -95,7 +97,7 @@ fn count_response(
 #[tactic(auto, unfolding(crate::specs::Direct::response))]
 fn response(
     setup: Setup,
-    core: &mut [u64; 18],
+    core: &mut CoreArray,
     reads: &mut ReadArrays<'_>,
     f: FlatCall,
     reply: &mut ReplyArrays<'_>,
@@ -116,9 +118,9 @@ fn response(
 #[tactic(auto, unfolding(crate::specs::Direct::serve_ready))]
 pub fn serve_ready(
     setup: Setup,
-    core: &mut [u64; 18],
+    core: &mut CoreArray,
     reads: &mut ReadArrays<'_>,
-    rest: &mut [u64; 5],
+    rest: &mut RestArray,
 )
     ensures same { SameReads reads.old reads.new }
     ensures written { serving core.new (reads_in reads.new) rest.new ≡ serve_ready setup core.old (reads_in reads.old) rest.old }
@@ -179,7 +181,7 @@ pub fn is_older(c: FlatCore, m: FlatMessage) -> bool
 
 // Takes the core out for this question alone, so that the compiler loads only the numbers that it asks for.
 #[tactic(auto, unfolding(crate::specs::Direct::is_older))]
-fn is_older_in(core: &[u64; 18], m: FlatMessage) -> bool
+fn is_older_in(core: &CoreArray, m: FlatMessage) -> bool
     ensures { result ≡ is_older (core_of core.now) m }
 {
     is_older(arrays::core_in(core), m)
@@ -191,7 +193,7 @@ fn is_older_in(core: &[u64; 18], m: FlatMessage) -> bool
 fn handled(
     setup: Setup,
     tables: Tables<'_>,
-    core: &mut [u64; 18],
+    core: &mut CoreArray,
     reads: &mut ReadArrays<'_>,
     f: FlatCall,
     reply: &mut ReplyArrays<'_>,
@@ -223,7 +225,7 @@ fn handled(
 fn slot_call(
     setup: Setup,
     tables: Tables<'_>,
-    core: &mut [u64; 18],
+    core: &mut CoreArray,
     reads: &mut ReadArrays<'_>,
     f: FlatCall,
     reply: &mut ReplyArrays<'_>,
@@ -248,7 +250,7 @@ fn slot_call(
 fn taken(
     setup: Setup,
     tables: Tables<'_>,
-    core: &mut [u64; 18],
+    core: &mut CoreArray,
     reads: &mut ReadArrays<'_>,
     f: FlatCall,
     reply: &mut ReplyArrays<'_>,
@@ -272,16 +274,16 @@ fn taken(
 // A call on the parts of a shard.
 #[tactic(auto, unfolding(crate::specs::Direct::unless_refused))]
 fn call_made(
-    setup: &[u64; 10],
+    setup: &SetupArray,
     tables: Tables<'_>,
-    core: &mut [u64; 18],
+    core: &mut CoreArray,
     reads: &mut ReadArrays<'_>,
-    call: &[u64; 25],
+    call: &CallArray,
     reply: &mut ReplyArrays<'_>,
 ) -> Result<(), NotTaken>
     ensures same { SameReads reads.old reads.new × SameReply reply.old reply.new }
     ensures written { direct result core.new (reads_in reads.new) (reply_in reply.new)
-        ≡ call_made (setup_of setup.now) tables.entry.committers.now tables.entry.delegates.now core.old (reads_in reads.old) (call_of call.now) (reply_in reply.old) }
+        ≡ call_made (setup_of setup.now) tables.entry.committers.now tables.entry.delegates.now core.old (reads_in reads.old) (flat_call_of call.now) (reply_in reply.old) }
     ensures refused { OnErr result (SameNumbers reads.old reads.new) }
 {
     flat_calls::refusal(setup, core, call)?;
@@ -293,24 +295,27 @@ fn call_made(
     taken(s, tables, core, reads, f, reply)
 }
 
-// A call on the parts of a shard. 0: it was taken, and core, reads and reply are written. 1 to 12: it is refused with this number. 255: it has to go to
-// the fast half.
+// A call on the parts of a shard: what is left in the arrays stands for the engine's call of the shard that they stood for (`stands`), and which numbers are left
+// is `direct_call` (`rest_value`). 0: it was taken, and core, reads and reply are written. 1 to 12, or 17: it is refused with this number. 255: it has to go to
+// the fast half, and nothing is written.
 #[tactic(auto, unfolding(crate::specs::Direct::direct_call))]
 pub fn chanbook_direct_call(
-    setup: &[u64; 10],
-    committers: &[u64; 64],
-    delegates: &[u64; 64],
-    core: &mut [u64; 18],
-    reads: &mut [u64; 640],
-    served: &mut [u64; 512],
-    call: &[u64; 25],
-    first: &mut [u64; 20],
-    second: &mut [u64; 20],
-    third: &mut [u64; 20],
-    rest: &mut [u64; 5],
+    setup: &SetupArray,
+    committers: &PerProcess,
+    delegates: &PerProcess,
+    core: &mut CoreArray,
+    reads: &mut OpenReadsArray,
+    served: &mut ServedReadsArray,
+    call: &CallArray,
+    first: &mut MessageArray,
+    second: &mut MessageArray,
+    third: &mut MessageArray,
+    rest: &mut RestArray,
 ) -> u64
+    ensures stands { DirectStands (setup_of setup.now) committers.now delegates.now (came core) (reads_came reads served) (flat_call_of call.now)
+        (reply_came first second third rest) (direct result (left core) (reads_left reads served) (reply_left first second third rest)) }
     ensures rest_value { direct result (left core) (reads_left reads served) (reply_left first second third rest)
-        ≡ direct_call (setup_of setup.now) committers.now delegates.now (came core) (reads_came reads served) (call_of call.now)
+        ≡ direct_call (setup_of setup.now) committers.now delegates.now (came core) (reads_came reads served) (flat_call_of call.now)
         (reply_came first second third rest) }
     ensures left_unless_taken { LeftUnlessTaken result reads × LeftUnlessTaken result served }
 {

@@ -1,3 +1,2 @@
-pub mod Stands
-pub mod FastStands
 pub mod Runs
+pub mod Told

@@ -6,8 +6,7 @@ use Rattle.arrays.specs.Arrays.{settings_of, core_of, core_numbers, put_message,
 use Rattle.arrays.specs.declared.Setup.{Setup}
 use Rattle.calls.specs.Asked.{asked_of, heard_of}
 use Rattle.calls.specs.declared.Reply.{Reply}
-use Rattle.core_calls.specs.CoreCall.{CoreAnswer, core_committed, core_on_commit, read_answer}
-use Rattle.core_calls.specs.Replies.{sent_reply}
+use Rattle.calls.specs.Replies.{sent_reply, read_answer}
 use Rattle.message.specs.Refusals.{refusal_number}
 use Rattle.message.specs.declared.Refusal.{Refusal}
 use Rattle.message.specs.declared.Refusal.TheVariants.{ValueNotHeld, Panic}
@@ -21,6 +20,8 @@ use Rattle.flat.specs.Encode.{encoded_core}
 use Rattle.flat.specs.Decode.{is_yes, decoded_core, decoded_delivery, decoded_msg, decoded_settings, decoded_source}
 use Rattle.flat.specs.declared.FlatCall.{FlatCall}
 use Rattle.flat.specs.declared.FlatMessage.{FlatMessage}
+use Rattle.direct_core.specs.CoreAnswers.{core_committed, core_on_commit}
+use Rattle.direct_core.specs.declared.CoreAnswer.{CoreAnswer}
 use Rattle.direct_core.specs.declared.NotTaken.{NotTaken}
 use Rattle.direct_core.specs.declared.NotTaken.TheVariants.{Refused, PassedOn}
 use Rattle.direct_core.specs.declared.ReplyArrays.{ReplyArrays}
@@ -92,14 +93,19 @@ call_number (Err why) = not_taken_number why
 
 -- ---- what is left
 
--- whether reads may be ready, or the refusal; the core and the reply
-pub record Left : Type 0 where
+-- whether reads may be ready, or the refusal; the core and the reply; and the fast half, where one is lent
+pub record Left (Half : Type 0) : Type 0 where
   pub handled : Result Bool Refusal
   pub core : List ℕ
+  pub half : Half
   pub reply : Written
 
-abbrev pub leaves : Result Bool Refusal → List ℕ → Written → Left
-leaves handled core reply = record { handled = handled; core = core; reply = reply }
+-- none is lent to `chanbook_direct_call`
+abbrev pub NoHalf : Type 0
+NoHalf = Unit {0}
+
+abbrev pub leaves : Result Bool Refusal → List ℕ → Written → Left NoHalf
+leaves handled core reply = record { handled = handled; core = core; half = tt; reply = reply }
 
 -- no read is to be served
 abbrev pub no_reads : Outcome → Result Bool Refusal
@@ -107,21 +113,21 @@ no_reads (Ok tt) = Ok false
 no_reads (Err why) = Err why
 
 -- a refusal writes nothing
-abbrev pub refused_with : Refusal → List ℕ → Written → Left
+abbrev pub refused_with : Refusal → List ℕ → Written → Left NoHalf
 refused_with why core w = leaves (Err why) core w
 
 -- ---- the answer of the core
 
 -- to a call that is taken
-abbrev pub put_taken : CoreAnswer → Written → Left
-put_taken a w = leaves (Ok a.deeper) (core_numbers (encoded_core a.state)) (put_reply a.reply w)
+abbrev pub put_taken : CoreAnswer → Written → Left NoHalf
+put_taken a w = leaves (Ok a.reads_open) (core_numbers (encoded_core a.core)) (put_reply a.reply w)
 
 -- what the answer leaves, by whether it is a refusal
-unfoldable pub put_outcome : CoreAnswer → Outcome → List ℕ → Written → Left
+unfoldable pub put_outcome : CoreAnswer → Outcome → List ℕ → Written → Left NoHalf
 put_outcome a (Ok tt) core w = put_taken a w
 put_outcome a (Err why) core w = refused_with why core w
 
-abbrev pub put_answer : CoreAnswer → List ℕ → Written → Left
+abbrev pub put_answer : CoreAnswer → List ℕ → Written → Left NoHalf
 put_answer a core w = put_outcome a a.reply.outcome core w
 
 -- ---- what the handlers ask of the setup and hear of a message
@@ -137,33 +143,33 @@ heard_in s committers delegates f =
 -- ---- a proposal
 
 -- a step that is not refused and commits nothing
-abbrev pub put_uncommitted : CoreStep → Written → Left
+abbrev pub put_uncommitted : CoreStep → Written → Left NoHalf
 put_uncommitted s w = leaves (Ok false) (core_numbers (encoded_core s.state)) (put_reply (sent_reply s.messages) w)
 
 -- the step of a proposal, which commits nothing
-unfoldable pub put_step : Result CoreStep Refusal → List ℕ → Written → Left
+unfoldable pub put_step : Result CoreStep Refusal → List ℕ → Written → Left NoHalf
 put_step (Ok s) core w = put_uncommitted s w
 put_step (Err why) core w = refused_with why core w
 
 -- ---- a Commit, and what the rounds handle
 
 -- a commit needs its value
-abbrev pub put_decided : Asked → Bool → ℕ → CoreStep → List ℕ → Written → Left
+abbrev pub put_decided : Asked → Bool → ℕ → CoreStep → List ℕ → Written → Left NoHalf
 put_decided a held v s core w = cond held (put_answer (core_committed a v s.state s.messages) core w) (refused_with ValueNotHeld core w)
 
 -- by what comes after the step
-unfoldable pub put_next : Asked → Bool → CoreStep → Next → List ℕ → Written → Left
+unfoldable pub put_next : Asked → Bool → CoreStep → Next → List ℕ → Written → Left NoHalf
 put_next a held s Stays core w = put_uncommitted s w
 put_next a held s Continues core w = put_uncommitted s w
 put_next a held s (Commits v) core w = put_decided a held v s core w
 
 -- the step of a message
-unfoldable pub put_processed : Asked → Bool → Result CoreStep Refusal → List ℕ → Written → Left
+unfoldable pub put_processed : Asked → Bool → Result CoreStep Refusal → List ℕ → Written → Left NoHalf
 put_processed a held (Ok s) core w = put_next a held s s.next core w
 put_processed a held (Err why) core w = refused_with why core w
 
 -- a Commit has no round, and goes to the core at once
-unfoldable pub handled_by : Setup → List ℕ → List ℕ → List ℕ → FlatCall → Written → Left
+unfoldable pub handled_by : Setup → List ℕ → List ℕ → List ℕ → FlatCall → Written → Left NoHalf
 handled_by s committers delegates core f w =
     cond (eqb f.message.kind 4) (put_answer (core_on_commit (asked_in s) f.message.slot f.message.v (decoded_core (core_of core))) core w)
     (put_processed (asked_in s) (is_yes f.value_held)
@@ -174,11 +180,11 @@ handled_by s committers delegates core f w =
 -- ---- a ReadRequest
 
 -- the core is left as it is; one's own request is refused, since nothing is sent to oneself
-abbrev pub requested_by : Setup → List ℕ → FlatMessage → ℕ → Written → Left
+abbrev pub requested_by : Setup → List ℕ → FlatMessage → ℕ → Written → Left NoHalf
 requested_by s core m src w =
     cond (eqb src s.my_pid) (refused_with Panic core w)
     (leaves (Ok false) core
     (put_reply (sent_reply (one_message (read_answer s.my_pid src (record { 0 = m.id }) (decoded_core (core_of core))))) w))
 
-unfoldable pub answer_request : Setup → List ℕ → FlatMessage → Written → Left
+unfoldable pub answer_request : Setup → List ℕ → FlatMessage → Written → Left NoHalf
 answer_request s core m w = requested_by s core m (decoded_source s.process_count s.my_pid m) w

@@ -1,2 +1,3 @@
 pub mod Lent
+pub mod CoreAnswers
 pub mod Handled

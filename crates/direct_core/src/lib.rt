@@ -8,34 +8,17 @@ ghost use Rattle.arrays.specs.Arrays.{core_of};
 ghost use Rattle.direct_core.specs.Handled.{reply_in, SameReply, put_reply, put_served, not_taken_number, call_number, leaves, no_reads, put_taken, put_answer, asked_in, put_step, put_processed, handled_by, answer_request};
 ghost use Rattle.direct_core.specs.declared.NotTaken.TheVariants.{Refused};
 ghost use Rattle.propose.specs.Propose.{propose_classic};
-ghost use Rattle.core_calls.specs.Replies.{sent_reply};
+ghost use Rattle.calls.specs.Replies.{sent_reply};
+ghost use Rattle.direct_core.specs.CoreAnswers.{core_sends, core_committed, core_on_commit};
 ghost use Rattle.steps.specs.Steps.{one_message};
 ghost use Rattle.flat.specs.Decode.{decoded_core};
 
-use arrays::{Setup, Tables};
+use arrays::{CoreArray, MessageArray, RestArray, Setup, Tables};
 use calls::Reply;
-use core_calls::CoreAnswer;
-use flat::{FlatCall, FlatMessage};
+use flat::{COMMIT, FlatCall, FlatMessage};
 use message::{Outcome, ReadId, Refusal};
 use refusals::Refused;
-use steps::{Asked, CoreStep, Messages, Next, Outgoing};
-
-// The kinds of a call and of a message are numbers of the C interface, here, in counting and in flat_calls: any may stand in a host's array, and each is
-// answered.
-
-// The kinds of a call. Any other number is a message.
-pub const PROPOSAL: u64 = 0;
-
-pub const NEW_READ: u64 = 1;
-
-// Kinds of a message.
-pub const PREPARE: u64 = 1;
-
-pub const ACCEPT: u64 = 2;
-
-pub const COMMIT: u64 = 4;
-
-pub const READ_RESPONSE: u64 = 6;
+use steps::{Asked, Core, CoreStep, Messages, Next, Outgoing, no_messages};
 
 // Why a call is not taken: it is refused, or has to go to the other of the two functions for hosts.
 #[derive(Clone, Copy, PartialEq, Eq, Debug)]
@@ -71,13 +54,55 @@ pub fn call_number(outcome: Result<(), NotTaken>) -> u64
     refusals::refusal(outcome)
 }
 
+// What a call makes of the core, and its reply before reads are served. Where reads were open as it committed, some may have become ready.
+#[derive(Clone, Copy)]
+pub struct CoreAnswer {
+    pub core: Core,
+    pub reply: Reply,
+    pub reads_open: bool,
+}
+
+// The core with what is sent.
+pub fn core_sends(core: Core, messages: Messages) -> CoreAnswer
+    ensures { result ≡ core_sends core messages }
+{
+    CoreAnswer {
+        core,
+        reply: calls::sent_reply(messages),
+        reads_open: false,
+    }
+}
+
+// The commit of a value, before reads are served.
+#[tactic(auto, unfolding(crate::specs::CoreAnswers::core_committed))]
+pub fn core_committed(a: Asked, v: u64, core: Core, messages: Messages) -> CoreAnswer
+    ensures { result ≡ core_committed a v core messages }
+{
+    CoreAnswer {
+        core: paxos_family::next_core(a, v, core),
+        reply: calls::committed_reply(a, v, core, messages),
+        reads_open: core.tracker.open_count > 0,
+    }
+}
+
+// A Commit of an older slot does nothing. The own slot's commits, from any source and at any member.
+#[tactic(auto, unfolding(crate::specs::CoreAnswers::core_on_commit))]
+fn core_on_commit(a: Asked, slot: u64, v: u64, core: Core) -> CoreAnswer
+    ensures { result ≡ core_on_commit a slot v core }
+{
+    if slot < core.slot {
+        return core_sends(core, no_messages());
+    }
+    core_committed(a, v, core, no_messages())
+}
+
 // The arrays of a reply, which are lent: three messages, and the rest. Any numbers may stand in them.
 #[derive(Drop)]
 pub struct ReplyArrays<'a> {
-    pub first: &'a mut [u64; 20],
-    pub second: &'a mut [u64; 20],
-    pub third: &'a mut [u64; 20],
-    pub rest: &'a mut [u64; 5],
+    pub first: &'a mut MessageArray,
+    pub second: &'a mut MessageArray,
+    pub third: &'a mut MessageArray,
+    pub rest: &'a mut RestArray,
 }
 
 impl ReplyArrays<'_> {
@@ -136,13 +161,13 @@ impl ReplyArrays<'_> {
 // What the core answers to a call that is taken, written into the arrays. Hands back whether open reads may have become ready, so that they have to be
 // served.
 #[inline(always)]
-pub fn put_taken(core: &mut [u64; 18], reply: &mut ReplyArrays<'_>, a: CoreAnswer) -> bool
+pub fn put_taken(core: &mut CoreArray, reply: &mut ReplyArrays<'_>, a: CoreAnswer) -> bool
     ensures same { SameReply reply.old reply.new }
     ensures written { leaves (Ok result) core.new (reply_in reply.new) ≡ put_taken a (reply_in reply.old) }
 {
-    arrays::put_core(core, flat::encode_core(a.state));
+    arrays::put_core(core, flat::encode_core(a.core));
     reply.put_reply(a.reply);
-    a.deeper
+    a.reads_open
 }
 
 // What the core answers, by whether it is a refusal, which writes nothing. Without `inline`, since it has two callers, the references of the reply stand in
@@ -150,7 +175,7 @@ pub fn put_taken(core: &mut [u64; 18], reply: &mut ReplyArrays<'_>, a: CoreAnswe
 #[inline(always)]
 #[tactic(auto, unfolding(crate::specs::Handled::put_outcome))]
 pub fn put_answer(
-    core: &mut [u64; 18],
+    core: &mut CoreArray,
     reply: &mut ReplyArrays<'_>,
     a: CoreAnswer,
 ) -> Result<bool, Refusal>
@@ -165,7 +190,7 @@ pub fn put_answer(
 #[tactic(auto, unfolding(crate::specs::Handled::answer_request))]
 pub fn answer_request(
     setup: Setup,
-    core: &[u64; 18],
+    core: &CoreArray,
     message: FlatMessage,
     reply: &mut ReplyArrays<'_>,
 ) -> Outcome
@@ -178,13 +203,13 @@ pub fn answer_request(
         return Err(Refusal::Panic);
     }
     let decoded = flat::decode_core(arrays::core_in(core));
-    reply.put_sent(core_calls::read_answer(own, src, ReadId(message.id), decoded));
+    reply.put_sent(calls::read_answer(own, src, ReadId(message.id), decoded));
     Ok(())
 }
 
 // A proposal. It commits nothing, so that nothing but the core and the messages is to be written.
 #[tactic(auto, unfolding(crate::specs::Handled::put_step))]
-pub fn propose(setup: Setup, core: &mut [u64; 18], v: u64, reply: &mut ReplyArrays<'_>) -> Outcome
+pub fn propose(setup: Setup, core: &mut CoreArray, v: u64, reply: &mut ReplyArrays<'_>) -> Outcome
     ensures same { SameReply reply.old reply.new }
     ensures written { leaves (no_reads result) core.new (reply_in reply.new)
         ≡ put_step (propose_classic (asked_in setup) v (decoded_core (core_of core.old))) core.old (reply_in reply.old) }
@@ -202,7 +227,7 @@ pub fn propose(setup: Setup, core: &mut [u64; 18], v: u64, reply: &mut ReplyArra
 fn put_processed(
     asked: Asked,
     held: bool,
-    core: &mut [u64; 18],
+    core: &mut CoreArray,
     reply: &mut ReplyArrays<'_>,
     step: CoreStep,
 ) -> Result<bool, Refusal>
@@ -213,7 +238,7 @@ fn put_processed(
         if !held {
             return Err(Refusal::ValueNotHeld);
         }
-        let decided = core_calls::core_committed(asked, v, step.state, step.messages);
+        let decided = core_committed(asked, v, step.state, step.messages);
         return put_answer(core, reply, decided);
     }
     arrays::put_core(core, flat::encode_core(step.state));
@@ -226,7 +251,7 @@ fn put_processed(
 pub fn handle(
     setup: Setup,
     tables: Tables<'_>,
-    core: &mut [u64; 18],
+    core: &mut CoreArray,
     f: FlatCall,
     reply: &mut ReplyArrays<'_>,
 ) -> Result<bool, Refusal>
@@ -238,7 +263,7 @@ pub fn handle(
     let decoded = flat::decode_core(arrays::core_in(core));
     let message = f.message;
     if message.kind == COMMIT {
-        let committed = core_calls::core_on_commit(asked, message.slot, message.v, decoded);
+        let committed = core_on_commit(asked, message.slot, message.v, decoded);
         return put_answer(core, reply, committed);
     }
     let heard = flat_calls::heard_of(setup, tables, f);

@@ -3,18 +3,18 @@
 -- Assumes nothing.
 use Rattle.std.specs.Prelude.{Bool, cond, not, ◌&&◌, ◌||◌, List, ℕ, eqb, Result, Ok, Err}
 use Rattle.arrays.specs.Arrays.{core_of}
+use Rattle.arrays.specs.FastArrays.{FastArrays, fast_arrays}
 use Rattle.arrays.specs.declared.Setup.{Setup}
-use Rattle.direct.specs.Direct.{direct, Direct, numbered, served, concerns_slot, is_older}
-use Rattle.direct_core.specs.Handled.{Written, put_served, CallOutcome, Left, leaves, put_taken, asked_in, heard_in}
+use Rattle.direct.specs.Direct.{Direct, numbered, served, fast_half_acts, is_older}
+use Rattle.direct_core.specs.Handled.{Written, put_served, CallOutcome, Left, put_taken, asked_in, heard_in}
 use Rattle.direct_core.specs.Lent.{Array, came, left}
 use Rattle.direct_core.specs.declared.NotTaken.TheVariants.{Refused, PassedOn}
-use Rattle.fast_arrays.specs.FastArrays.{FastArrays, fast_arrays, answers_in, put_after}
+use Rattle.fast_arrays.specs.FastArrays.{answers_in, put_after}
 use Rattle.fast_calls.specs.FastCall.{fast_finish}
 use Rattle.fast_calls.specs.declared.FastAnswer.{FastAnswer}
 use Rattle.fast_state.specs.Adopt.{lowest_best}
 use Rattle.fast_state.specs.Fast.{unchanged}
 use Rattle.fast_state.specs.declared.FastAnswers.{FastAnswers}
-use Rattle.message.specs.Modes.{has_fast_path, mode_of_number}
 use Rattle.message.specs.Outcomes.{Outcome}
 use Rattle.message.specs.declared.Refusal.{Refusal}
 use Rattle.paxos_family.specs.Process.{process_change}
@@ -58,67 +58,47 @@ fast_answer s committers delegates core fast f =
 -- ---- what is written
 
 -- the core and the reply, as in the classic modes, and the fast half
-pub record FastLeft : Type 0 where
-  pub common : Left
-  pub fast : FastArrays
-
-abbrev pub fast_leaves : Result Bool Refusal → List ℕ → FastArrays → Written → FastLeft
-fast_leaves handled core fast reply = record { common = leaves handled core reply; fast = fast }
+abbrev pub fast_leaves : Result Bool Refusal → List ℕ → FastArrays → Written → Left FastArrays
+fast_leaves handled core fast reply = record { handled = handled; core = core; half = fast; reply = reply }
 
 -- a call that is taken
-abbrev pub put_fast : FastAnswer → FastArrays → Written → FastLeft
-put_fast x fast w = record { common = put_taken x.answer w; fast = put_after x.after fast }
+abbrev pub put_fast : FastAnswer → FastArrays → Written → Left FastArrays
+put_fast x fast w = fast_leaves (put_taken x.answer w).handled (put_taken x.answer w).core (put_after x.after fast) (put_taken x.answer w).reply
 
 -- a refusal writes nothing
-unfoldable pub put_answered : Result FastAnswer Refusal → List ℕ → FastArrays → Written → FastLeft
+unfoldable pub put_answered : Result FastAnswer Refusal → List ℕ → FastArrays → Written → Left FastArrays
 put_answered (Ok x) core fast w = put_fast x fast w
 put_answered (Err why) core fast w = fast_leaves (Err why) core fast w
 
 -- the answer of the fast half to a call that is not too old
-abbrev pub fast_written : Setup → List ℕ → List ℕ → List ℕ → FastArrays → FlatCall → Written → FastLeft
+abbrev pub fast_written : Setup → List ℕ → List ℕ → List ℕ → FastArrays → FlatCall → Written → Left FastArrays
 fast_written s committers delegates core fast f w =
     put_answered (fast_answer s committers delegates (decoded_core (core_of core)) fast f) core fast w
 
 -- what a call leaves
-pub record FastDirect (A : Type 0) : Type 0 where
-  pub direct : Direct A
-  pub fast : FastArrays
-
-abbrev pub fast_direct : {A : Type 0} → A → List ℕ → FastArrays → ReadTable → Written → FastDirect A
-fast_direct told core fast table reply = record { direct = direct told core table reply; fast = fast }
+abbrev pub fast_direct : {A : Type 0} → A → List ℕ → FastArrays → ReadTable → Written → Direct A FastArrays
+fast_direct told core fast table reply = record { told = told; core = core; half = fast; table = table; reply = reply }
 
 -- ---- calls
-
--- the fast half is as the answer left it
-abbrev pub fast_served : Setup → ReadTable → FastLeft → FastDirect CallOutcome
-fast_served s table l = record { direct = served s table l.common; fast = l.fast }
 
 -- a message that is too old does nothing
 unfoldable pub is_old : FlatCore → FlatCall → Bool
 is_old c f = not (eqb f.kind 0) && is_older c f.message
 
-unfoldable pub fast_handled : Setup → List ℕ → List ℕ → List ℕ → FastArrays → ReadTable → FlatCall → Written → FastDirect CallOutcome
+unfoldable pub fast_handled : Setup → List ℕ → List ℕ → List ℕ → FastArrays → ReadTable → FlatCall → Written → Direct CallOutcome FastArrays
 fast_handled s committers delegates core fast table f w =
     cond (is_old (core_of core) f) (fast_direct (Ok tt) core fast table (put_served 0 w))
-    (fast_served s table (fast_written s committers delegates core fast f w))
-
--- in EPaxos and SwiftPaxos, in what concerns a slot and is no new read
-unfoldable pub fast_half_acts : Setup → FlatCall → Bool
-fast_half_acts s f = not (eqb f.kind 1) && (has_fast_path (mode_of_number s.mode) && concerns_slot f)
+    (served s table (fast_written s committers delegates core fast f w))
 
 -- by the refusal, if there is one
-unfoldable pub fast_unless_refused : Setup → List ℕ → List ℕ → Outcome → List ℕ → FastArrays → ReadTable → FlatCall → Written → FastDirect CallOutcome
+unfoldable pub fast_unless_refused : Setup → List ℕ → List ℕ → Outcome → List ℕ → FastArrays → ReadTable → FlatCall → Written → Direct CallOutcome FastArrays
 fast_unless_refused s committers delegates (Ok tt) core fast table f w = fast_handled s committers delegates core fast table f w
 fast_unless_refused s committers delegates (Err why) core fast table f w = fast_direct (Err (Refused why)) core fast table w
 
-unfoldable pub fast_made : Setup → List ℕ → List ℕ → List ℕ → FastArrays → ReadTable → FlatCall → Written → FastDirect CallOutcome
+unfoldable pub fast_made : Setup → List ℕ → List ℕ → List ℕ → FastArrays → ReadTable → FlatCall → Written → Direct CallOutcome FastArrays
 fast_made s committers delegates core fast table f w =
     cond (fast_half_acts s f) (fast_unless_refused s committers delegates (refusal_of s (core_of core) f) core fast table f w)
     (fast_direct (Err PassedOn) core fast table w)
 
--- with the number that a host gets
-abbrev pub fast_numbered : FastDirect CallOutcome → FastDirect ℕ
-fast_numbered d = record { direct = numbered d.direct; fast = d.fast }
-
-unfoldable pub fast_call : Setup → List ℕ → List ℕ → List ℕ → FastArrays → ReadTable → FlatCall → Written → FastDirect ℕ
-fast_call s committers delegates core fast table f w = fast_numbered (fast_made s committers delegates core fast table f w)
+unfoldable pub fast_call : Setup → List ℕ → List ℕ → List ℕ → FastArrays → ReadTable → FlatCall → Written → Direct ℕ FastArrays
+fast_call s committers delegates core fast table f w = numbered (fast_made s committers delegates core fast table f w)

@@ -1,1 +1,2 @@
 pub mod DirectFast
+pub mod FastStands

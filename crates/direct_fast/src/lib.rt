@@ -4,25 +4,28 @@
 
 ghost use Rattle.std.specs.Prelude.{◌≡◌, Ok, OnErr};
 ghost use Rattle.array_reads.specs.Rows.{reads_in, SameReads};
-ghost use Rattle.arrays.specs.Arrays.{setup_of, call_of};
+ghost use Rattle.arrays.specs.Arrays.{setup_of, flat_call_of};
 ghost use Rattle.direct_core.specs.Lent.{came, left};
 ghost use Rattle.direct_core.specs.Handled.{reply_came, reply_left, reply_in, SameReply};
-ghost use Rattle.direct.specs.Direct.{reads_came, reads_left, SameNumbers, LeftUnlessTaken};
+ghost use Rattle.direct.specs.Direct.{reads_came, reads_left, fast_half_acts, SameNumbers, LeftUnlessTaken};
+ghost use Rattle.direct.specs.Stands.{memory_with};
 ghost use Rattle.fast_arrays.specs.FastArrays.{half_in, SameHalf};
-ghost use Rattle.direct_fast.specs.DirectFast.{half_came, half_left, fast_step, holds_value, fast_answer, fast_leaves, put_fast, fast_written, fast_direct, fast_handled, is_old, fast_half_acts, fast_made, fast_call};
+ghost use Rattle.direct_fast.specs.DirectFast.{half_came, half_left, fast_step, holds_value, fast_answer, fast_leaves, put_fast, fast_written, fast_direct, fast_handled, is_old, fast_made, fast_call};
+ghost use Rattle.direct_fast.specs.FastStands.{FastStands};
 
-use array_reads::ReadArrays;
-use arrays::{Setup, Tables};
-use direct_core::{COMMIT, NEW_READ, NotTaken, PROPOSAL, ReplyArrays};
-use fast_arrays::FastHalf;
+use array_reads::{OpenReadsArray, ReadArrays, ServedReadsArray};
+use arrays::{CallArray, CoreArray, MessageArray, RestArray, Setup, SetupArray, Tables};
+use direct_core::{NotTaken, ReplyArrays};
+use fast_arrays::{AnswersArray, FastHalf};
 use fast_calls::FastAnswer;
 use fast_state::{FastAnswers, FastTables};
-use flat::{FlatCall, FlatCore};
+use flat::{COMMIT, FlatCall, FlatCore, NEW_READ, PROPOSAL};
 use message::{PFMode, Refusal};
 use steps::{Asked, ChangeStep, Core};
+use tables::PerProcess;
 
 // Whether the fast half has a part in the call: in EPaxos and SwiftPaxos, in what concerns a slot and is no new read.
-#[tactic(auto, unfolding(crate::specs::DirectFast::fast_half_acts))]
+#[tactic(auto, unfolding(direct::specs::Direct::fast_half_acts))]
 fn fast_half_acts(setup: Setup, f: FlatCall) -> bool
     ensures { result ≡ fast_half_acts setup f }
 {
@@ -110,7 +113,7 @@ fn fast_answer(
 
 // What is answered to a call that is taken, written into the arrays. Hands back whether open reads may have become ready.
 fn put_fast(
-    core: &mut [u64; 18],
+    core: &mut CoreArray,
     half: &mut FastHalf<'_>,
     reply: &mut ReplyArrays<'_>,
     x: FastAnswer,
@@ -127,7 +130,7 @@ fn put_fast(
 fn fast_written(
     setup: Setup,
     tables: Tables<'_>,
-    core: &mut [u64; 18],
+    core: &mut CoreArray,
     half: &mut FastHalf<'_>,
     f: FlatCall,
     reply: &mut ReplyArrays<'_>,
@@ -146,7 +149,7 @@ fn fast_written(
 fn fast_handled(
     setup: Setup,
     tables: Tables<'_>,
-    core: &mut [u64; 18],
+    core: &mut CoreArray,
     half: &mut FastHalf<'_>,
     reads: &mut ReadArrays<'_>,
     f: FlatCall,
@@ -170,17 +173,17 @@ fn fast_handled(
 // A call on the parts of a shard. What the fast half has no part in is passed on.
 #[tactic(auto, unfolding(crate::specs::DirectFast::fast_made, crate::specs::DirectFast::fast_unless_refused))]
 fn fast_made(
-    setup: &[u64; 10],
+    setup: &SetupArray,
     tables: Tables<'_>,
-    core: &mut [u64; 18],
+    core: &mut CoreArray,
     half: &mut FastHalf<'_>,
     reads: &mut ReadArrays<'_>,
-    call: &[u64; 25],
+    call: &CallArray,
     reply: &mut ReplyArrays<'_>,
 ) -> Result<(), NotTaken>
     ensures same { SameHalf half.old half.new × SameReads reads.old reads.new × SameReply reply.old reply.new }
     ensures written { fast_direct result core.new (half_in half.new) (reads_in reads.new) (reply_in reply.new)
-        ≡ fast_made (setup_of setup.now) tables.entry.committers.now tables.entry.delegates.now core.old (half_in half.old) (reads_in reads.old) (call_of call.now)
+        ≡ fast_made (setup_of setup.now) tables.entry.committers.now tables.entry.delegates.now core.old (half_in half.old) (reads_in reads.old) (flat_call_of call.now)
         (reply_in reply.old) }
     ensures refused { OnErr result (SameNumbers reads.old reads.new) }
 {
@@ -193,29 +196,34 @@ fn fast_made(
     fast_handled(s, tables, core, half, reads, f, reply)
 }
 
-// A call on the parts of a shard. 0: it was taken, and core, fast half, reads and reply are written. 1 to 12: it is refused with this number. 255: it
-// goes to `chanbook_direct_call`, since the fast half has no part in it.
+// A call on the parts of a shard: what is left in the arrays stands for the engine's call of the shard that they stood for (`stands`), and which numbers are left
+// is `fast_call` (`rest_value`). 0: it was taken, and core, fast half, reads and reply are written. 1 to 12, or 17: it is refused with this number. 255: it goes
+// to `chanbook_direct_call`, since the fast half has no part in it, and nothing is written.
 #[tactic(auto, unfolding(crate::specs::DirectFast::fast_call))]
 pub fn chanbook_fast_call(
-    setup: &[u64; 10],
-    committers: &[u64; 64],
-    delegates: &[u64; 64],
-    core: &mut [u64; 18],
-    answers: &mut [u64; 5],
-    values: &mut [u64; 64],
-    epaxos: &mut [u64; 64],
-    swift: &mut [u64; 64],
-    reads: &mut [u64; 640],
-    served: &mut [u64; 512],
-    call: &[u64; 25],
-    first: &mut [u64; 20],
-    second: &mut [u64; 20],
-    third: &mut [u64; 20],
-    rest: &mut [u64; 5],
+    setup: &SetupArray,
+    committers: &PerProcess,
+    delegates: &PerProcess,
+    core: &mut CoreArray,
+    answers: &mut AnswersArray,
+    values: &mut PerProcess,
+    epaxos: &mut PerProcess,
+    swift: &mut PerProcess,
+    reads: &mut OpenReadsArray,
+    served: &mut ServedReadsArray,
+    call: &CallArray,
+    first: &mut MessageArray,
+    second: &mut MessageArray,
+    third: &mut MessageArray,
+    rest: &mut RestArray,
 ) -> u64
+    ensures stands { FastStands
+        (memory_with (setup_of setup.now) committers.now delegates.now (came core) (half_came answers values epaxos swift) (reads_came reads served))
+        (flat_call_of call.now) (reply_came first second third rest)
+        (fast_direct result (left core) (half_left answers values epaxos swift) (reads_left reads served) (reply_left first second third rest)) }
     ensures rest_value { fast_direct result (left core) (half_left answers values epaxos swift) (reads_left reads served) (reply_left first second third rest)
         ≡ fast_call (setup_of setup.now) committers.now delegates.now (came core) (half_came answers values epaxos swift)
-        (reads_came reads served) (call_of call.now) (reply_came first second third rest) }
+        (reads_came reads served) (flat_call_of call.now) (reply_came first second third rest) }
     ensures left_unless_taken { LeftUnlessTaken result reads × LeftUnlessTaken result served }
 {
     let tables = Tables {

@@ -54,7 +54,7 @@ fn signed_number(negative: bool, number: Option<u64>) -> Option<i64>
     ensures { result ≡ signed_number negative number }
 {
     let value = number?;
-    if value > 9223372036854775807 {
+    if value > message::LARGEST_NUMBER {
         return None;
     }
     let coordinate = value as i64;

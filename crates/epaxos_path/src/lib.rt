@@ -8,6 +8,7 @@ ghost use Rattle.fast_state.specs.Adopt.{lowest_best};
 use fast_state::{FastAnswers, FastChange};
 use message::{PaxosRound, Refusal, RoundV};
 use steps::{Asked, ChangeStep, Core, CoreStep, Heard};
+use tables::PerProcess;
 
 // asked, heard and round are parameters of their own: 4 of these 6 functions take one or two of the three, and a struct of them is no plainer (accept tells of
 // a trial).
@@ -67,8 +68,8 @@ fn epaxos_decide(
     v: u64,
     core: Core,
     change: FastChange,
-    values: &[u64; 64],
-    scores: &[u64; 64],
+    values: &PerProcess,
+    scores: &PerProcess,
 ) -> Result<CoreStep, Refusal>
     ensures { result ≡ epaxos_decide lowest_best asked heard round v core change values.now scores.now }
 {
@@ -89,8 +90,8 @@ pub fn epaxos_answer(
     rv: RoundV,
     core: Core,
     answers: FastAnswers,
-    values: &[u64; 64],
-    scores: &[u64; 64],
+    values: &PerProcess,
+    scores: &PerProcess,
 ) -> Result<ChangeStep, Refusal>
     ensures { result ≡ epaxos_answer lowest_best asked heard round rv core answers values.now scores.now }
 {

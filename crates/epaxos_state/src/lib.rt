@@ -10,6 +10,7 @@ ghost use Rattle.fast_state.specs.Adopt.{better, best_below, lowest_best, adopte
 use fast_state::{Best, Entry, FastAnswers, FastChange};
 use message::Refusal;
 use round_state::Member;
+use tables::PerProcess;
 
 // A proposer's EPaxos score after an answer: one less from the proposer itself, and else one more.
 #[tactic(auto, unfolding(fast_state::specs::Fast::score_after))]
@@ -26,7 +27,7 @@ fn score_after(src: u64, proposer: u64, score: u64) -> u64
 // would be made for one call and taken apart in each contract. So are source, proposer and value, which come from the message and from what it promises.
 fn epaxos_counted(
     answers: FastAnswers,
-    scores: &[u64; 64],
+    scores: &PerProcess,
     me: Member,
     src: u64,
     proposer: u64,
@@ -54,7 +55,7 @@ fn epaxos_counted(
 #[tactic(auto, unfolding(fast_state::specs::Fast::epaxos_answered))]
 pub fn epaxos_answered(
     answers: FastAnswers,
-    scores: &[u64; 64],
+    scores: &PerProcess,
     me: Member,
     src: u64,
     proposer: u64,
@@ -72,7 +73,7 @@ pub fn epaxos_answered(
 #[tactic(auto, unfolding(fast_state::specs::Fast::epaxos_propose_v))]
 pub fn epaxos_propose_v(
     answers: FastAnswers,
-    scores: &[u64; 64],
+    scores: &PerProcess,
     me: Member,
     v: u64,
 ) -> Result<FastChange, Refusal>
@@ -90,7 +91,7 @@ pub fn epaxos_can_commit(answers: FastAnswers, me: Member) -> bool
     sets::size(answers.fast_proposers) == 1 && answers.fast_preaccepted >= me.quorums.epaxos
 }
 
-fn unless_changed(table: &[u64; 64], changed: u64, to: u64, p: u64) -> u64
+fn unless_changed(table: &PerProcess, changed: u64, to: u64, p: u64) -> u64
     ensures { result ≡ cond (eqb p changed) to (look_up table.now p) }
 {
     if p == changed {
@@ -101,7 +102,7 @@ fn unless_changed(table: &[u64; 64], changed: u64, to: u64, p: u64) -> u64
 
 // The value of a proposer after a change.
 #[tactic(auto, unfolding(fast_state::specs::Adopt::value_in))]
-fn value_in(entry: Entry, values: &[u64; 64], p: u64) -> u64
+fn value_in(entry: Entry, values: &PerProcess, p: u64) -> u64
     ensures { result ≡ value_in entry values.now p }
 {
     match entry {
@@ -114,7 +115,7 @@ fn value_in(entry: Entry, values: &[u64; 64], p: u64) -> u64
 
 // The score of a proposer after a change.
 #[tactic(auto, unfolding(fast_state::specs::Adopt::score_in))]
-fn score_in(entry: Entry, scores: &[u64; 64], p: u64) -> u64
+fn score_in(entry: Entry, scores: &PerProcess, p: u64) -> u64
     ensures { result ≡ score_in entry scores.now p }
 {
     match entry {
@@ -143,7 +144,7 @@ fn better(best: Best, present: bool, score: u64, p: u64) -> Best
 
 // The best score, with the lowest proposer that has it.
 #[tactic(auto, unfolding(fast_state::specs::Adopt::best_below))]
-fn best(proposers: u64, entry: Entry, scores: &[u64; 64]) -> Best
+fn best(proposers: u64, entry: Entry, scores: &PerProcess) -> Best
     ensures { result ≡ best_below proposers (score_in entry scores.now) 64 }
 {
     let mut best = Best {
@@ -159,7 +160,7 @@ fn best(proposers: u64, entry: Entry, scores: &[u64; 64]) -> Best
 }
 
 #[tactic(auto, unfolding(fast_state::specs::Adopt::adopted))]
-fn adopted(entry: Entry, values: &[u64; 64], proposer: Option<u64>) -> Option<u64>
+fn adopted(entry: Entry, values: &PerProcess, proposer: Option<u64>) -> Option<u64>
     ensures { Ok result ≡ adopted (value_in entry values.now) proposer }
 {
     proposer.map(|p| value_in(entry, values, p))
@@ -169,8 +170,8 @@ fn adopted(entry: Entry, values: &[u64; 64], proposer: Option<u64>) -> Option<u6
 #[tactic(auto, unfolding(fast_state::specs::Adopt::epaxos_try_adopt))]
 pub fn epaxos_try_adopt(
     change: FastChange,
-    values: &[u64; 64],
-    scores: &[u64; 64],
+    values: &PerProcess,
+    scores: &PerProcess,
     me: Member,
 ) -> Result<Option<u64>, Refusal>
     ensures { result ≡ epaxos_try_adopt_after lowest_best me change values.now scores.now }

@@ -1,25 +1,14 @@
--- The fast half of a shard as arrays of numbers: the five numbers of the answers, and the three tables by proposer.
+-- The fast half of a shard in arrays that are lent: what stands there, and what a call leaves.
 -- Assumes nothing.
-use Rattle.std.specs.Prelude.{List, [], ◌∷◌, ◌≡◌, ℕ, get_or, replicate}
+use Rattle.std.specs.Prelude.{List, [], ◌∷◌, ◌≡◌, ℕ, replicate}
+use Rattle.arrays.specs.FastArrays.{FastArrays, fast_arrays, fast_of}
 use Rattle.fast_calls.specs.declared.After.{After}
 use Rattle.fast_calls.specs.declared.After.TheVariants.{Changed, Cleared}
 use Rattle.fast_state.specs.Fast.{answers_of, to_v_after, epaxos_scores_after, swift_scores_after}
 use Rattle.fast_state.specs.declared.FastAnswers.{FastAnswers}
 use Rattle.fast_state.specs.declared.FastChange.{FastChange}
-use Rattle.fast_state.specs.declared.FastState.{FastState}
 use Rattle.flat.specs.Encode.{encoded_option}
-use Rattle.flat.specs.Decode.{decoded_fast}
-use Rattle.flat.specs.declared.FlatFast.{FlatFast}
 use Rattle.fast_arrays.specs.declared.FastHalf.{FastHalf}
-
-pub record FastArrays : Type 0 where
-  pub answers : List ℕ
-  pub values : List ℕ
-  pub epaxos : List ℕ
-  pub swift : List ℕ
-
-abbrev pub fast_arrays : List ℕ → List ℕ → List ℕ → List ℕ → FastArrays
-fast_arrays answers values epaxos swift = record { answers = answers; values = values; epaxos = epaxos; swift = swift }
 
 -- what stands in the lent arrays
 abbrev pub half_in : FastHalf → FastArrays
@@ -32,23 +21,6 @@ SameHalf h k =
     × (k.values.ghost_name ≡ h.values.ghost_name)
     × (k.epaxos.ghost_name ≡ h.epaxos.ghost_name)
     × (k.swift.ghost_name ≡ h.swift.ghost_name)
-
--- ---- what the arrays stand for
-
-abbrev pub fast_in : FastArrays → FlatFast
-fast_in w =
-    record {
-      fast_answer_set = get_or w.answers 0 0;
-      fast_preaccepted = get_or w.answers 1 0;
-      fast_proposers = get_or w.answers 2 0;
-      swift_leader_answer = record { given = get_or w.answers 3 0; n = get_or w.answers 4 0 };
-      fast_proposer_to_v = w.values;
-      epaxos_proposer_scores = w.epaxos;
-      swift_proposer_scores = w.swift;
-    }
-
-abbrev pub fast_of : FastArrays → FastState
-fast_of w = decoded_fast (fast_in w)
 
 -- the answers alone, whatever stands in the tables
 abbrev pub answers_in : List ℕ → FastAnswers

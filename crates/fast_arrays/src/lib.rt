@@ -7,18 +7,22 @@ ghost use Rattle.fast_arrays.specs.FastArrays.{half_in, SameHalf, answers_in, an
 use fast_calls::After;
 use fast_state::{FastAnswers, FastChange};
 use flat::FlatOption;
+use tables::PerProcess;
+
+// The answers on the fast path, without their tables.
+pub type AnswersArray = [u64; 5];
 
 // The arrays of a fast half, which are lent. Any numbers may stand in them. Three tables of numbers, as a host lends them (C interface), and none of structs.
 #[derive(Drop)]
 pub struct FastHalf<'a> {
-    pub answers: &'a mut [u64; 5],
-    pub values: &'a mut [u64; 64],
-    pub epaxos: &'a mut [u64; 64],
-    pub swift: &'a mut [u64; 64],
+    pub answers: &'a mut AnswersArray,
+    pub values: &'a mut PerProcess,
+    pub epaxos: &'a mut PerProcess,
+    pub swift: &'a mut PerProcess,
 }
 
 // Functions with names and no From, as those of arrays: the numbers stand in an array that is lent.
-pub fn answers_in(a: &[u64; 5]) -> FastAnswers
+pub fn answers_in(a: &AnswersArray) -> FastAnswers
     ensures { result ≡ answers_in a.now }
 {
     let leader_answer = FlatOption {
@@ -33,7 +37,7 @@ pub fn answers_in(a: &[u64; 5]) -> FastAnswers
     }
 }
 
-fn put_answers(a: &mut [u64; 5], answers: FastAnswers)
+fn put_answers(a: &mut AnswersArray, answers: FastAnswers)
     ensures { a.new ≡ answers_numbers answers }
 {
     let answer = answers.swift_leader_answer;
@@ -56,7 +60,8 @@ impl FastHalf<'_> {
         change.entry.put(self.values, self.epaxos, self.swift);
     }
 
-    fn clear(&mut self)
+    // No answer, as in a new shard and after a commit.
+    pub fn clear(&mut self)
         ensures same { SameHalf self.old self.new }
         ensures cleared { half_in self.new ≡ cleared }
     {

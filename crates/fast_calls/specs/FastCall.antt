@@ -1,7 +1,8 @@
 -- The end of a call in EPaxos or SwiftPaxos: what it makes of the core, and what becomes of the fast half.
 -- Assumes nothing.
 use Rattle.std.specs.Prelude.{Bool, cond, Result, Ok, Err}
-use Rattle.core_calls.specs.CoreCall.{CoreAnswer, sends_from, core_committed}
+use Rattle.direct_core.specs.CoreAnswers.{core_sends, core_committed}
+use Rattle.direct_core.specs.declared.CoreAnswer.{CoreAnswer}
 use Rattle.fast_state.specs.declared.FastChange.{FastChange}
 use Rattle.message.specs.declared.Refusal.{Refusal}
 use Rattle.message.specs.declared.Refusal.TheVariants.{ValueNotHeld}
@@ -20,8 +21,8 @@ answers_with answer after = record { answer = answer; after = after }
 
 -- a commit clears the fast half and needs its value; else the step's change is made
 abbrev pub fast_finish_at : Asked → Bool → Core → Messages → FastChange → Next → Result FastAnswer Refusal
-fast_finish_at a held s messages change Stays = Ok (answers_with (sends_from s messages) (Changed change))
-fast_finish_at a held s messages change Continues = Ok (answers_with (sends_from s messages) (Changed change))
+fast_finish_at a held s messages change Stays = Ok (answers_with (core_sends s messages) (Changed change))
+fast_finish_at a held s messages change Continues = Ok (answers_with (core_sends s messages) (Changed change))
 fast_finish_at a held s messages change (Commits v) = cond held (Ok (answers_with (core_committed a v s messages) Cleared)) (Err ValueNotHeld)
 
 -- a step becomes an answer, as in the classic modes

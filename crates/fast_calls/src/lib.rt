@@ -4,7 +4,7 @@
 ghost use Rattle.std.specs.Prelude.{◌≡◌};
 ghost use Rattle.fast_calls.specs.FastCall.{fast_finish};
 
-use core_calls::CoreAnswer;
+use direct_core::CoreAnswer;
 use fast_state::FastChange;
 use message::Refusal;
 use steps::{Asked, ChangeStep, Next};
@@ -34,11 +34,11 @@ pub fn fast_finish(
     let step = step?;
     match step.next {
         Next::Stays | Next::Continues => Ok(FastAnswer {
-            answer: core_calls::sends_from(step.core, step.messages),
+            answer: direct_core::core_sends(step.core, step.messages),
             after: After::Changed(step.change),
         }),
         Next::Commits(v) if held => Ok(FastAnswer {
-            answer: core_calls::core_committed(asked, v, step.core, step.messages),
+            answer: direct_core::core_committed(asked, v, step.core, step.messages),
             after: After::Cleared,
         }),
         Next::Commits(_) => Err(Refusal::ValueNotHeld),

@@ -9,6 +9,7 @@ ghost use Rattle.fast_state.specs.RoundState.{new_round_state};
 
 use message::{PaxosRound, Refusal};
 use round_state::{Member, PaxosState};
+use tables::PerProcess;
 
 // EPaxos and SwiftPaxos state. The Rust's map from proposers to values is an array by process, with the set of those present. Three tables of numbers, here and
 // in FastTables, and none of structs: a host lends them as arrays of numbers (C interface), and each mode reads its own.
@@ -17,9 +18,9 @@ pub struct FastState {
     pub fast_answer_set: u64,
     pub fast_preaccepted: u64,
     pub fast_proposers: u64,
-    pub fast_proposer_to_v: [u64; 64],
-    pub epaxos_proposer_scores: [u64; 64],
-    pub swift_proposer_scores: [u64; 64],
+    pub fast_proposer_to_v: PerProcess,
+    pub epaxos_proposer_scores: PerProcess,
+    pub swift_proposer_scores: PerProcess,
     pub swift_leader_answer: Option<u64>,
 }
 
@@ -35,9 +36,9 @@ pub struct FastAnswers {
 // The three tables by proposer, where they stand: in a state, or in memory that a host lends.
 #[derive(Clone, Copy)]
 pub struct FastTables<'a> {
-    pub values: &'a [u64; 64],
-    pub epaxos_scores: &'a [u64; 64],
-    pub swift_scores: &'a [u64; 64],
+    pub values: &'a PerProcess,
+    pub epaxos_scores: &'a PerProcess,
+    pub swift_scores: &'a PerProcess,
 }
 
 // What a call changes in the tables: nothing, the value of a proposer, or its value and its score. "Nothing" is a case of its own, and no None: it is
@@ -116,7 +117,7 @@ impl FastAnswers {
 impl Entry {
     // Writes the entry into the tables, which are lent, since a host keeps them in memory of its own.
     #[tactic(auto, unfolding(crate::specs::Fast::to_v_after, crate::specs::Fast::epaxos_scores_after, crate::specs::Fast::swift_scores_after))]
-    pub fn put(self, values: &mut [u64; 64], epaxos: &mut [u64; 64], swift: &mut [u64; 64])
+    pub fn put(self, values: &mut PerProcess, epaxos: &mut PerProcess, swift: &mut PerProcess)
         ensures values { values.new ≡ to_v_after self values.old }
         ensures epaxos { epaxos.new ≡ epaxos_scores_after self epaxos.old }
         ensures swift { swift.new ≡ swift_scores_after self swift.old }

@@ -2,9 +2,8 @@
 -- Assumes nothing.
 use Rattle.std.specs.Prelude.{Option, None, Some}
 use Rattle.message.specs.declared.PaxosRound.{PaxosRound}
-use mathlib.Core.Path.{◌≡◌, refl, ap, ap₂}
+use mathlib.Core.Path.{◌≡◌, refl, ap}
 use mathlib.Core.Bool.{Bool, true, false}
-use mathlib.Core.List.{List, [], ◌∷◌, map}
 use mathlib.Core.Logic.{inl, inr}
 use Prim.Native.Nat.{ℕ}
 use lib.Dec.{leb}
@@ -14,14 +13,9 @@ use Rattle.message.specs.declared.ConsensusMsg.{ConsensusMsg}
 use Rattle.message.specs.declared.ConsensusMsg.TheVariants.{Prepare, Accept, ForwardRequest, Commit, ReadRequest, ReadResponse}
 use Rattle.message.specs.declared.RoundV.{RoundV}
 use Rattle.message.specs.declared.RoundV.TheVariants.{FastV, PaxosV}
-use Rattle.fast_state.specs.declared.FastState.{FastState}
-use Rattle.read_tracker.specs.declared.OpenRead.{OpenRead}
-use Rattle.read_tracker.specs.declared.ReadTable.{ReadTable}
-use Rattle.read_tracker.specs.declared.ServedRead.{ServedRead}
 use Rattle.steps.specs.declared.Core.{Core}
-use Rattle.steps.specs.declared.Rounds.{Rounds}
-use Rattle.flat.specs.Encode.{encoded_bool, encoded_outcome, encoded_made, encoded_option, encoded_round, encoded_promise, encoded_held, encoded_core, encoded_fast, encoded_rounds, encoded_open, encoded_served, encoded_table, encoded_msg, with_source, encoded_message}
-use Rattle.flat.specs.Decode.{is_yes, decoded_option, decoded_round, decoded_promise, decoded_held, decoded_made, IsMark, decoded_core, decoded_fast, decoded_rounds, decoded_open, decoded_served, decoded_table, decoded_msg, decoded_source, decoded_message}
+use Rattle.flat.specs.Encode.{encoded_bool, encoded_outcome, encoded_made, encoded_option, encoded_round, encoded_promise, encoded_held, encoded_core, encoded_msg, with_source, encoded_message}
+use Rattle.flat.specs.Decode.{is_yes, decoded_option, decoded_round, decoded_promise, decoded_held, decoded_made, IsMark, decoded_core, decoded_msg, decoded_source, decoded_message}
 use Rattle.flat.specs.declared.FlatOption.{FlatOption}
 
 -- in a mode that there is, the mark that a shard begins with crosses to numbers and back: 1 comes back as 1, and 17 as 17
@@ -31,7 +25,7 @@ mark_encoded o mode (inl made) known = simp (made, known)
 mark_encoded o mode (inr (inl outside)) known = simp (outside, known)
 mark_encoded o mode (inr (inr unfit)) known = simp (unfit, known)
 
-yes_encoded : (b : Bool) → is_yes (encoded_bool b) ≡ b
+pub yes_encoded : (b : Bool) → is_yes (encoded_bool b) ≡ b
 yes_encoded true = refl
 yes_encoded false = refl
 
@@ -59,18 +53,6 @@ pub core_encoded : (c : Core) → decoded_core (encoded_core c) ≡ c
 core_encoded c =
     simp (value_encoded c.last_v, yes_encoded c.slot_left_fast_path, round_encoded c.paxos.round, held_encoded c.paxos.max_rv)
 
-fast_encoded : (f : FastState) → decoded_fast (encoded_fast f) ≡ f
-fast_encoded f = simp (value_encoded f.swift_leader_answer)
-
-pub rounds_encoded : (r : Rounds) → decoded_rounds (encoded_rounds r) ≡ r
-rounds_encoded r = ap₂ (λ (c : Core) (f : FastState). record { core = c; fast = f }) (core_encoded r.core) (fast_encoded r.fast)
-
-open_encoded : (r : OpenRead) → decoded_open (encoded_open r) ≡ r
-open_encoded r = simp (yes_encoded r.local_ready)
-
-served_encoded : (r : ServedRead) → decoded_served (encoded_served r) ≡ r
-served_encoded r = simp (yes_encoded r.fast)
-
 -- ---- messages
 
 -- the message's own fields, with whatever source and last value
@@ -95,15 +77,3 @@ source_encoded count own (ReadResponse id next) src last = refl
 -- a message that one member sends, handed in as it stands at another, is the message that was sent
 pub message_encoded : (count own : ℕ) (m : ConsensusMessage) → decoded_message count own (encoded_message m) ≡ m
 message_encoded count own m = simp (msg_encoded m.msg, source_encoded count own m.msg, value_encoded m.last_v)
-
--- ---- tables
-
-all_encoded : {A B : Type 0} (f : A → B) (g : B → A) → ((x : A) → g (f x) ≡ x) → (l : List A) → map g (map f l) ≡ l
-all_encoded f g same [] = refl
-all_encoded f g same (x ∷ l) = ap₂ (λ (y : _) (ys : List _). y ∷ ys) (same x) (all_encoded f g same l)
-
-pub table_encoded : (t : ReadTable) → decoded_table (encoded_table t) ≡ t
-table_encoded t =
-    ap₂ (λ (reads : List OpenRead) (served : List ServedRead). record { reads = reads; served = served })
-    (all_encoded encoded_open decoded_open open_encoded t.reads)
-    (all_encoded encoded_served decoded_served served_encoded t.served)

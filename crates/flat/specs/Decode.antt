@@ -1,6 +1,6 @@
 -- What the flat forms stand for. 0 is no, and any other number yes.
 -- Assumes nothing.
-use Rattle.std.specs.Prelude.{◌≡◌, ◌⊎◌, Bool, cond, not, ◌&&◌, map, ℕ, eqb, ltb, leb, Option, None, Some, Ok, Err}
+use Rattle.std.specs.Prelude.{◌≡◌, ◌⊎◌, Bool, cond, not, ◌&&◌, ℕ, eqb, ltb, leb, Option, None, Some, Ok, Err}
 use Rattle.message.specs.Modes.{mode_of_number}
 use Rattle.message.specs.Outcomes.{Outcome}
 use Rattle.message.specs.declared.PaxosRound.{PaxosRound}
@@ -13,10 +13,8 @@ use Rattle.message.specs.declared.RoundV.TheVariants.{FastV, PaxosV}
 use Rattle.settings.specs.declared.Settings.{Settings}
 use Rattle.fast_state.specs.declared.FastState.{FastState}
 use Rattle.read_tracker.specs.declared.OpenRead.{OpenRead}
-use Rattle.read_tracker.specs.declared.ReadTable.{ReadTable}
 use Rattle.read_tracker.specs.declared.ServedRead.{ServedRead}
 use Rattle.steps.specs.declared.Core.{Core}
-use Rattle.steps.specs.declared.Rounds.{Rounds}
 use Rattle.calls.specs.declared.Call.{Call}
 use Rattle.calls.specs.declared.Call.TheVariants.{Propose, StartRead, Receive}
 use Rattle.delivery.specs.declared.Delivery.{Delivery}
@@ -29,10 +27,8 @@ use Rattle.flat.specs.declared.FlatOpenRead.{FlatOpenRead}
 use Rattle.flat.specs.declared.FlatOption.{FlatOption}
 use Rattle.flat.specs.declared.FlatPromise.{FlatPromise}
 use Rattle.flat.specs.declared.FlatRound.{FlatRound}
-use Rattle.flat.specs.declared.FlatRounds.{FlatRounds}
 use Rattle.flat.specs.declared.FlatServedRead.{FlatServedRead}
 use Rattle.flat.specs.declared.FlatSettings.{FlatSettings}
-use Rattle.flat.specs.declared.FlatTable.{FlatTable}
 
 abbrev pub is_yes : ℕ → Bool
 is_yes n = not (eqb n 0)
@@ -105,9 +101,6 @@ decoded_fast f =
       swift_leader_answer = decoded_option f.swift_leader_answer;
     }
 
-abbrev pub decoded_rounds : FlatRounds → Rounds
-decoded_rounds f = record { core = decoded_core f.core; fast = decoded_fast f.fast }
-
 abbrev pub decoded_open : FlatOpenRead → OpenRead
 decoded_open f =
     record {
@@ -120,9 +113,6 @@ decoded_open f =
 
 abbrev pub decoded_served : FlatServedRead → ServedRead
 decoded_served f = record { id = record { 0 = f.id }; tag = f.tag; waited_for = f.waited_for; fast = is_yes f.fast }
-
-abbrev pub decoded_table : FlatTable → ReadTable
-decoded_table f = record { reads = map decoded_open f.reads; served = map decoded_served f.served }
 
 -- ---- calls
 

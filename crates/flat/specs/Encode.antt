@@ -1,6 +1,6 @@
 -- The flat forms that the engine writes: 1 for yes, and 0 for what is not given.
 -- Assumes nothing.
-use Rattle.std.specs.Prelude.{Bool, cond, map, ℕ, leb, Option, None, Some, Ok, Err}
+use Rattle.std.specs.Prelude.{Bool, cond, ℕ, leb, Option, None, Some, Ok, Err}
 use Rattle.message.specs.Outcomes.{Outcome}
 use Rattle.message.specs.declared.PaxosRound.{PaxosRound}
 use Rattle.steps.specs.declared.Outgoing.{Outgoing}
@@ -11,29 +11,17 @@ use Rattle.message.specs.declared.ConsensusMsg.{ConsensusMsg}
 use Rattle.message.specs.declared.ConsensusMsg.TheVariants.{Prepare, Accept, ForwardRequest, Commit, ReadRequest, ReadResponse}
 use Rattle.message.specs.declared.RoundV.{RoundV}
 use Rattle.message.specs.declared.RoundV.TheVariants.{FastV, PaxosV}
-use Rattle.fast_state.specs.declared.FastState.{FastState}
-use Rattle.read_tracker.specs.declared.OpenRead.{OpenRead}
-use Rattle.read_tracker.specs.declared.ReadTable.{ReadTable}
-use Rattle.read_tracker.specs.declared.ServedRead.{ServedRead}
 use Rattle.steps.specs.declared.Core.{Core}
 use Rattle.steps.specs.declared.Destination.{Destination}
 use Rattle.steps.specs.declared.Destination.TheVariants.{One, All}
-use Rattle.steps.specs.declared.Rounds.{Rounds}
-use Rattle.calls.specs.declared.Reply.{Reply}
 use Rattle.flat.specs.declared.FlatCommit.{FlatCommit}
 use Rattle.flat.specs.declared.FlatCore.{FlatCore}
-use Rattle.flat.specs.declared.FlatFast.{FlatFast}
 use Rattle.flat.specs.declared.FlatHeld.{FlatHeld}
 use Rattle.flat.specs.declared.FlatMessage.{FlatMessage}
-use Rattle.flat.specs.declared.FlatOpenRead.{FlatOpenRead}
 use Rattle.flat.specs.declared.FlatOption.{FlatOption}
 use Rattle.flat.specs.declared.FlatOutgoing.{FlatOutgoing}
 use Rattle.flat.specs.declared.FlatPromise.{FlatPromise}
-use Rattle.flat.specs.declared.FlatReply.{FlatReply}
 use Rattle.flat.specs.declared.FlatRound.{FlatRound}
-use Rattle.flat.specs.declared.FlatRounds.{FlatRounds}
-use Rattle.flat.specs.declared.FlatServedRead.{FlatServedRead}
-use Rattle.flat.specs.declared.FlatTable.{FlatTable}
 
 abbrev pub encoded_bool : Bool → ℕ
 encoded_bool b = cond b 1 0
@@ -87,31 +75,6 @@ encoded_core core =
       next_id = core.tracker.next_id;
       open_count = core.tracker.open_count;
     }
-
-abbrev pub encoded_fast : FastState → FlatFast
-encoded_fast fast =
-    record {
-      fast_answer_set = fast.fast_answer_set;
-      fast_preaccepted = fast.fast_preaccepted;
-      fast_proposers = fast.fast_proposers;
-      swift_leader_answer = encoded_option fast.swift_leader_answer;
-      fast_proposer_to_v = fast.fast_proposer_to_v;
-      epaxos_proposer_scores = fast.epaxos_proposer_scores;
-      swift_proposer_scores = fast.swift_proposer_scores;
-    }
-
-abbrev pub encoded_rounds : Rounds → FlatRounds
-encoded_rounds rounds = record { core = encoded_core rounds.core; fast = encoded_fast rounds.fast }
-
-abbrev pub encoded_open : OpenRead → FlatOpenRead
-encoded_open r =
-    record { id = r.id.0; tag = r.tag; arrival_slot = r.arrival_slot; ready_count = r.ready_count; local_ready = encoded_bool r.local_ready }
-
-abbrev pub encoded_served : ServedRead → FlatServedRead
-encoded_served r = record { id = r.id.0; tag = r.tag; waited_for = r.waited_for; fast = encoded_bool r.fast }
-
-abbrev pub encoded_table : ReadTable → FlatTable
-encoded_table t = record { reads = map encoded_open t.reads; served = map encoded_served t.served }
 
 -- ---- replies
 
@@ -183,14 +146,3 @@ encoded_outgoing (Some o) = encoded_to o.destination (encoded_message o.message)
 unfoldable pub encoded_commit : Option CommittedSlot → FlatCommit
 encoded_commit None = record { given = 0; slot = 0; v = 0; fast = 0 }
 encoded_commit (Some commit) = record { given = 1; slot = commit.slot; v = commit.v; fast = encoded_bool commit.fast }
-
-abbrev pub encoded_reply : Reply → FlatReply
-encoded_reply r =
-    record {
-      outcome = encoded_outcome r.outcome;
-      first = encoded_outgoing r.messages.first;
-      second = encoded_outgoing r.messages.second;
-      third = encoded_outgoing r.messages.third;
-      commit = encoded_commit r.commit;
-      served_count = r.served_count;
-    }

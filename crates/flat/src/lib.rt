@@ -3,20 +3,20 @@
 // Functions with names and no From: hosts read their definitions by these names, and a message is read with two numbers besides.
 #![tactic(auto)]
 
-ghost use Rattle.std.specs.Prelude.{ℕ, ◌≡◌, ◌<◌, length, slice_index_or};
-ghost use Rattle.flat.specs.Decode.{is_yes, decoded_option, decoded_round, decoded_promise, decoded_held, decoded_made, decoded_settings, decoded_core, decoded_fast, decoded_rounds, decoded_open, decoded_served, decoded_table, decoded_msg, is_known, decoded_source, decoded_message, decoded_delivery, decoded_call};
-ghost use Rattle.flat.specs.Encode.{encoded_bool, encoded_outcome, encoded_made, encoded_option, encoded_round, encoded_promise, encoded_held, encoded_core, encoded_fast, encoded_rounds, encoded_open, encoded_served, encoded_table, encoded_msg, encoded_message, encoded_to, encoded_outgoing, encoded_commit, encoded_reply, no_promise, no_message};
+ghost use Rattle.std.specs.Prelude.{◌≡◌};
+ghost use Rattle.flat.specs.Decode.{is_yes, decoded_option, decoded_round, decoded_promise, decoded_held, decoded_made, decoded_settings, decoded_core, decoded_msg, is_known, decoded_source, decoded_message, decoded_delivery};
+ghost use Rattle.flat.specs.Encode.{encoded_bool, encoded_outcome, encoded_made, encoded_option, encoded_round, encoded_promise, encoded_held, encoded_core, encoded_msg, encoded_message, encoded_to, encoded_outgoing, encoded_commit, no_promise, no_message};
 
-use calls::{Call, CommittedSlot, Reply};
+use calls::CommittedSlot;
 use delivery::{Delivery, Said};
-use fast_state::FastState;
 use message::{
     ConsensusMessage, ConsensusMsg, Outcome, PFMode, PaxosRound, ReadId, Refusal, RoundV,
 };
-use read_tracker::{OpenRead, ReadTable, ReadTracker, ServedRead};
+use read_tracker::ReadTracker;
 use round_state::PaxosState;
 use settings::Settings;
-use steps::{Core, Destination, Outgoing, Rounds};
+use steps::{Core, Destination, Outgoing};
+use tables::PerProcess;
 
 // A number, if it is given.
 #[repr(C)]
@@ -64,8 +64,8 @@ pub struct FlatSettings {
     pub mode: u64,
     pub quorum: FlatOption,
     pub has_committers: u64,
-    pub committers: [u64; 64],
-    pub delegates: [u64; 64],
+    pub committers: PerProcess,
+    pub delegates: PerProcess,
 }
 
 #[repr(C)]
@@ -82,7 +82,8 @@ pub struct FlatCore {
     pub open_count: u64,
 }
 
-// Three tables of numbers, as a host lends them in arrays (C interface), and none of structs.
+// Three tables of numbers, as a host lends them in arrays (C interface), and none of structs. They are changed where they stand (crates/fast_arrays): no function
+// makes this form, or the two of reads (crates/array_reads), whole, and definitions alone have them.
 #[repr(C)]
 #[derive(Clone, Copy)]
 pub struct FlatFast {
@@ -90,16 +91,9 @@ pub struct FlatFast {
     pub fast_preaccepted: u64,
     pub fast_proposers: u64,
     pub swift_leader_answer: FlatOption,
-    pub fast_proposer_to_v: [u64; 64],
-    pub epaxos_proposer_scores: [u64; 64],
-    pub swift_proposer_scores: [u64; 64],
-}
-
-#[repr(C)]
-#[derive(Clone, Copy)]
-pub struct FlatRounds {
-    pub core: FlatCore,
-    pub fast: FlatFast,
+    pub fast_proposer_to_v: PerProcess,
+    pub epaxos_proposer_scores: PerProcess,
+    pub swift_proposer_scores: PerProcess,
 }
 
 #[repr(C)]
@@ -119,14 +113,6 @@ pub struct FlatServedRead {
     pub tag: u64,
     pub waited_for: u64,
     pub fast: u64,
-}
-
-// The count of the open reads is the core's, as with ReadTable and its tracker: a call that opens and serves no read copies the core and no table (C interface).
-#[repr(C)]
-#[derive(Clone, Copy)]
-pub struct FlatTable {
-    pub reads: [FlatOpenRead; 128],
-    pub served: [FlatServedRead; 128],
 }
 
 // Kind: 1 Prepare, 2 Accept, 3 ForwardRequest, 4 Commit, 5 ReadRequest, 6 ReadResponse.
@@ -169,7 +155,27 @@ pub struct FlatOutgoing {
     pub message: FlatMessage,
 }
 
-// Kinds of a message that goes out.
+// The kinds of a call and of a message are numbers of the C interface, here and in the crates over arrays: any may stand in a host's array, and each is answered.
+
+// The kinds of a call. Any other number is a message.
+pub const PROPOSAL: u64 = 0;
+
+pub const NEW_READ: u64 = 1;
+
+// The kinds of a message.
+pub const PREPARE: u64 = 1;
+
+pub const ACCEPT: u64 = 2;
+
+pub const FORWARD_REQUEST: u64 = 3;
+
+pub const COMMIT: u64 = 4;
+
+pub const READ_REQUEST: u64 = 5;
+
+pub const READ_RESPONSE: u64 = 6;
+
+// Where a message goes.
 const TO_ONE: u64 = 1;
 
 const TO_ALL: u64 = 2;
@@ -181,18 +187,6 @@ pub struct FlatCommit {
     pub slot: u64,
     pub v: u64,
     pub fast: u64,
-}
-
-// The outcome is 0, or the number of the refusal.
-#[repr(C)]
-#[derive(Clone, Copy)]
-pub struct FlatReply {
-    pub outcome: u64,
-    pub first: FlatOutgoing,
-    pub second: FlatOutgoing,
-    pub third: FlatOutgoing,
-    pub commit: FlatCommit,
-    pub served_count: u64,
 }
 
 pub fn is_yes(n: u64) -> bool
@@ -299,55 +293,6 @@ pub fn decode_core(f: FlatCore) -> Core
         slot_left_fast_path: is_yes(f.slot_left_fast_path),
         paxos,
         tracker,
-    }
-}
-
-fn decode_fast(f: FlatFast) -> FastState
-    ensures { result ≡ decoded_fast f }
-{
-    let fast_proposer_to_v = f.fast_proposer_to_v;
-    let epaxos_proposer_scores = f.epaxos_proposer_scores;
-    let swift_proposer_scores = f.swift_proposer_scores;
-    FastState {
-        fast_answer_set: f.fast_answer_set,
-        fast_preaccepted: f.fast_preaccepted,
-        fast_proposers: f.fast_proposers,
-        fast_proposer_to_v,
-        epaxos_proposer_scores,
-        swift_proposer_scores,
-        swift_leader_answer: decode_option(f.swift_leader_answer),
-    }
-}
-
-pub fn decode_rounds(f: FlatRounds) -> Rounds
-    ensures { result ≡ decoded_rounds f }
-{
-    Rounds {
-        core: decode_core(f.core),
-        fast: decode_fast(f.fast),
-    }
-}
-
-fn decode_open(f: FlatOpenRead) -> OpenRead
-    ensures { result ≡ decoded_open f }
-{
-    OpenRead {
-        id: ReadId(f.id),
-        tag: f.tag,
-        arrival_slot: f.arrival_slot,
-        ready_count: f.ready_count,
-        local_ready: is_yes(f.local_ready),
-    }
-}
-
-fn decode_served(f: FlatServedRead) -> ServedRead
-    ensures { result ≡ decoded_served f }
-{
-    ServedRead {
-        id: ReadId(f.id),
-        tag: f.tag,
-        waited_for: f.waited_for,
-        fast: is_yes(f.fast),
     }
 }
 
@@ -473,100 +418,6 @@ pub fn encode_core(core: Core) -> FlatCore
     }
 }
 
-fn encode_fast(fast: FastState) -> FlatFast
-    ensures { result ≡ encoded_fast fast }
-{
-    let fast_proposer_to_v = fast.fast_proposer_to_v;
-    let epaxos_proposer_scores = fast.epaxos_proposer_scores;
-    let swift_proposer_scores = fast.swift_proposer_scores;
-    FlatFast {
-        fast_answer_set: fast.fast_answer_set,
-        fast_preaccepted: fast.fast_preaccepted,
-        fast_proposers: fast.fast_proposers,
-        swift_leader_answer: encode_option(fast.swift_leader_answer),
-        fast_proposer_to_v,
-        epaxos_proposer_scores,
-        swift_proposer_scores,
-    }
-}
-
-pub fn encode_rounds(rounds: Rounds) -> FlatRounds
-    ensures { result ≡ encoded_rounds rounds }
-{
-    FlatRounds {
-        core: encode_core(rounds.core),
-        fast: encode_fast(rounds.fast),
-    }
-}
-
-fn encode_open(read: OpenRead) -> FlatOpenRead
-    ensures { result ≡ encoded_open read }
-{
-    FlatOpenRead {
-        id: read.id.0,
-        tag: read.tag,
-        arrival_slot: read.arrival_slot,
-        ready_count: read.ready_count,
-        local_ready: encode_bool(read.local_ready),
-    }
-}
-
-fn encode_served(read: ServedRead) -> FlatServedRead
-    ensures { result ≡ encoded_served read }
-{
-    FlatServedRead {
-        id: read.id.0,
-        tag: read.tag,
-        waited_for: read.waited_for,
-        fast: encode_bool(read.fast),
-    }
-}
-
-// Puts what `make` gives for each element of `from` into its place of `to`. By array::map, which proves too, a table of reads took twice as long.
-// By the index and no zip of `iter_mut` and `iter`: `each` speaks of a place of both, so the index is there in any case.
-fn put_each<A: Copy, B: Copy, F: Fn(A) -> B>(from: &[A], to: &mut [B], make: F)
-    requires long { length to.old ≡ length from.now }
-    requires callable { F.IsAlwaysCallable make }
-    ensures long { length to.new ≡ length from.now }
-    ensures each { (i : ℕ) (d : A) (e : B) → i < length from.now → F.post make (slice_index_or from.now i d) (slice_index_or to.new i e) }
-{
-    for i in 0..from.len() {
-        to[i] = make(from[i]);
-    }
-}
-
-pub fn decode_table(f: FlatTable) -> ReadTable
-    ensures { result ≡ decoded_table f }
-{
-    let mut table = ReadTable::new();
-    put_each(&f.reads, &mut table.reads, decode_open);
-    put_each(&f.served, &mut table.served, decode_served);
-    table
-}
-
-pub fn encode_table(table: ReadTable) -> FlatTable
-    ensures { result ≡ encoded_table table }
-{
-    let mut f = FlatTable {
-        reads: [FlatOpenRead {
-            id: 0,
-            tag: 0,
-            arrival_slot: 0,
-            ready_count: 0,
-            local_ready: 0,
-        }; 128],
-        served: [FlatServedRead {
-            id: 0,
-            tag: 0,
-            waited_for: 0,
-            fast: 0,
-        }; 128],
-    };
-    put_each(&table.reads, &mut f.reads, encode_open);
-    put_each(&table.served, &mut f.served, encode_served);
-    f
-}
-
 // A message of a kind that there is not is read as a ReadRequest, which `decode_source` makes the engine refuse.
 #[tactic(auto, unfolding(crate::specs::Decode::decoded_msg))]
 pub fn decode_msg(f: FlatMessage) -> ConsensusMsg
@@ -577,22 +428,22 @@ pub fn decode_msg(f: FlatMessage) -> ConsensusMsg
         leader: f.leader,
     };
     match f.kind {
-        1 => ConsensusMsg::Prepare {
+        PREPARE => ConsensusMsg::Prepare {
             slot: f.slot,
             round,
             rv: decode_promise(f.rv),
         },
-        2 => ConsensusMsg::Accept {
+        ACCEPT => ConsensusMsg::Accept {
             slot: f.slot,
             round,
             v: f.v,
         },
-        3 => ConsensusMsg::ForwardRequest { v: f.v },
-        4 => ConsensusMsg::Commit {
+        FORWARD_REQUEST => ConsensusMsg::ForwardRequest { v: f.v },
+        COMMIT => ConsensusMsg::Commit {
             slot: f.slot,
             v: f.v,
         },
-        6 => ConsensusMsg::ReadResponse {
+        READ_RESPONSE => ConsensusMsg::ReadResponse {
             id: ReadId(f.id),
             next_readable_slot: f.next_readable_slot,
         },
@@ -604,7 +455,7 @@ pub fn decode_msg(f: FlatMessage) -> ConsensusMsg
 pub fn is_known(kind: u64) -> bool
     ensures { result ≡ is_known kind }
 {
-    1 <= kind && kind <= 6
+    PREPARE <= kind && kind <= READ_RESPONSE
 }
 
 // The source of a message. One of a kind that there is not counts as the member's own: a ReadRequest of its own is refused with 8, after 2 and 3.
@@ -646,20 +497,6 @@ pub fn decode_delivery(process_count: u64, own: u64, f: FlatCall) -> Delivery
     }
 }
 
-#[tactic(auto, unfolding(crate::specs::Decode::decoded_call))]
-pub fn decode_call(process_count: u64, own: u64, f: FlatCall) -> Call
-    ensures { result ≡ decoded_call process_count own f }
-{
-    match f.kind {
-        0 => Call::Propose(f.v),
-        1 => Call::StartRead {
-            tag: f.v,
-            arrival_slot: f.arrival_slot,
-        },
-        _ => Call::Receive(decode_delivery(process_count, own, f)),
-    }
-}
-
 fn no_message() -> FlatMessage
     ensures { result ≡ no_message }
 {
@@ -685,7 +522,7 @@ fn encode_msg(msg: ConsensusMsg) -> FlatMessage
     let none = no_message();
     match msg {
         ConsensusMsg::Prepare { slot, round, rv } => FlatMessage {
-            kind: 1,
+            kind: PREPARE,
             slot,
             round_group: round.round_group,
             leader: round.leader,
@@ -693,22 +530,26 @@ fn encode_msg(msg: ConsensusMsg) -> FlatMessage
             ..none
         },
         ConsensusMsg::Accept { slot, round, v } => FlatMessage {
-            kind: 2,
+            kind: ACCEPT,
             slot,
             round_group: round.round_group,
             leader: round.leader,
             v,
             ..none
         },
-        ConsensusMsg::ForwardRequest { v } => FlatMessage { kind: 3, v, ..none },
+        ConsensusMsg::ForwardRequest { v } => FlatMessage {
+            kind: FORWARD_REQUEST,
+            v,
+            ..none
+        },
         ConsensusMsg::Commit { slot, v } => FlatMessage {
-            kind: 4,
+            kind: COMMIT,
             slot,
             v,
             ..none
         },
         ConsensusMsg::ReadRequest { id } => FlatMessage {
-            kind: 5,
+            kind: READ_REQUEST,
             id: id.0,
             ..none
         },
@@ -716,7 +557,7 @@ fn encode_msg(msg: ConsensusMsg) -> FlatMessage
             id,
             next_readable_slot,
         } => FlatMessage {
-            kind: 6,
+            kind: READ_RESPONSE,
             id: id.0,
             next_readable_slot,
             ..none
@@ -786,19 +627,5 @@ pub fn encode_commit(commit: Option<CommittedSlot>) -> FlatCommit
             v,
             fast: encode_bool(fast),
         },
-    }
-}
-
-pub fn encode_reply(reply: Reply) -> FlatReply
-    ensures { result ≡ encoded_reply reply }
-{
-    let messages = reply.messages;
-    FlatReply {
-        outcome: encode_outcome(reply.outcome),
-        first: encode_outgoing(messages.first),
-        second: encode_outgoing(messages.second),
-        third: encode_outgoing(messages.third),
-        commit: encode_commit(reply.commit),
-        served_count: reply.served_count,
     }
 }

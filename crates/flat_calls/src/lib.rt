@@ -3,7 +3,7 @@
 #![tactic(auto)]
 
 ghost use Rattle.std.specs.Prelude.{◌≡◌, cond, [], None, Some, option_copied};
-ghost use Rattle.arrays.specs.Arrays.{settings_of, setup_of, core_of, call_of};
+ghost use Rattle.arrays.specs.Arrays.{settings_of, setup_of, core_of, flat_call_of};
 ghost use Rattle.calls.specs.Asked.{asked_of, heard_of};
 ghost use Rattle.calls.specs.Decision.{admission_of};
 ghost use Rattle.delivery.specs.Admit.{admit, ready};
@@ -11,11 +11,12 @@ ghost use Rattle.delivery.specs.Limits.{numbers_fit, processes_fit};
 ghost use Rattle.flat.specs.Decode.{is_yes, decoded_call, decoded_core, decoded_delivery, decoded_settings};
 ghost use Rattle.flat_calls.specs.Refusals.{is_small, is_below, is_plain, unfit, refusal_of};
 
-use arrays::{Setup, Tables};
+use arrays::{CallArray, CoreArray, Setup, SetupArray, Tables};
 use flat::{FlatCall, FlatCore};
 use message::{Outcome, PFMode, PaxosRound, Refusal};
 use round_state::Member;
 use steps::{Asked, Heard};
+use tables::PerProcess;
 
 // Whether a message has no large number at all, whatever its kind: neither its own nor what the host adds to it. Nearly all have none, and this is
 // one test of all bits together.
@@ -55,30 +56,30 @@ fn is_plain(n: u64, f: FlatCall) -> bool
 }
 
 // Each question reads the call for itself, so that what it does not ask is not read.
-fn is_plain_in(n: u64, call: &[u64; 25]) -> bool
-    ensures { result ≡ is_plain n (call_of call.now) }
+fn is_plain_in(n: u64, call: &CallArray) -> bool
+    ensures { result ≡ is_plain n (flat_call_of call.now) }
 {
     is_plain(n, arrays::call_in(call))
 }
 
 // Refusal 2: whether no number is too large.
-fn numbers_fit_in(process_count: u64, own: u64, call: &[u64; 25]) -> bool
-    ensures { result ≡ numbers_fit (decoded_delivery process_count own (call_of call.now)) }
+fn numbers_fit_in(process_count: u64, own: u64, call: &CallArray) -> bool
+    ensures { result ≡ numbers_fit (decoded_delivery process_count own (flat_call_of call.now)) }
 {
     flat::decode_delivery(process_count, own, arrays::call_in(call)).numbers_fit()
 }
 
 // Refusal 3: whether every process number is below the count.
-fn processes_fit_in(process_count: u64, own: u64, call: &[u64; 25]) -> bool
-    ensures { result ≡ processes_fit process_count (decoded_delivery process_count own (call_of call.now)) }
+fn processes_fit_in(process_count: u64, own: u64, call: &CallArray) -> bool
+    ensures { result ≡ processes_fit process_count (decoded_delivery process_count own (flat_call_of call.now)) }
 {
     flat::decode_delivery(process_count, own, arrays::call_in(call)).processes_fit(process_count)
 }
 
 // Refusals 2 and 3. Not delivery's `admit`, which is a Delivery's, by value, and asks all: here one test of all numbers comes first, which has no like there,
 // and each question reads the call out of the array for itself.
-fn unfit(process_count: u64, own: u64, call: &[u64; 25]) -> Outcome
-    ensures { result ≡ unfit (numbers_fit (decoded_delivery process_count own (call_of call.now))) (processes_fit process_count (decoded_delivery process_count own (call_of call.now))) }
+fn unfit(process_count: u64, own: u64, call: &CallArray) -> Outcome
+    ensures { result ≡ unfit (numbers_fit (decoded_delivery process_count own (flat_call_of call.now))) (processes_fit process_count (decoded_delivery process_count own (flat_call_of call.now))) }
 {
     if is_plain_in(process_count, call) {
         return Ok(());
@@ -117,8 +118,8 @@ fn ready(process_count: u64, own: u64, core: FlatCore, f: FlatCall) -> Outcome
     Ok(())
 }
 
-fn ready_in(process_count: u64, own: u64, core: &[u64; 18], call: &[u64; 25]) -> Outcome
-    ensures { result ≡ ready own (decoded_core (core_of core.now)) (decoded_delivery process_count own (call_of call.now)) }
+fn ready_in(process_count: u64, own: u64, core: &CoreArray, call: &CallArray) -> Outcome
+    ensures { result ≡ ready own (decoded_core (core_of core.now)) (decoded_delivery process_count own (flat_call_of call.now)) }
 {
     ready(
         process_count,
@@ -130,8 +131,8 @@ fn ready_in(process_count: u64, own: u64, core: &[u64; 18], call: &[u64; 25]) ->
 
 // A message: 2, 3, then 5, or 4 before 6.
 #[tactic(auto, unfolding(delivery::specs::Admit::admit))]
-fn message_refusal(process_count: u64, own: u64, core: &[u64; 18], call: &[u64; 25]) -> Outcome
-    ensures { result ≡ admit process_count own (decoded_core (core_of core.now)) (decoded_delivery process_count own (call_of call.now)) }
+fn message_refusal(process_count: u64, own: u64, core: &CoreArray, call: &CallArray) -> Outcome
+    ensures { result ≡ admit process_count own (decoded_core (core_of core.now)) (decoded_delivery process_count own (flat_call_of call.now)) }
 {
     unfit(process_count, own, call)?;
     ready_in(process_count, own, core, call)
@@ -139,13 +140,13 @@ fn message_refusal(process_count: u64, own: u64, core: &[u64; 18], call: &[u64; 
 
 // A proposal and a new read are refused for their numbers.
 #[tactic(auto, unfolding(calls::specs::Decision::admission_of, flat::specs::Decode::decoded_call))]
-fn call_refusal(process_count: u64, own: u64, core: &[u64; 18], call: &[u64; 25]) -> Outcome
-    ensures { result ≡ admission_of process_count own (decoded_core (core_of core.now)) (decoded_call process_count own (call_of call.now)) }
+fn call_refusal(process_count: u64, own: u64, core: &CoreArray, call: &CallArray) -> Outcome
+    ensures { result ≡ admission_of process_count own (decoded_core (core_of core.now)) (decoded_call process_count own (flat_call_of call.now)) }
 {
     let f = arrays::call_in(call);
     let fits = match f.kind {
-        0 => limits::is_number(f.v),
-        1 => limits::is_number(f.v) && limits::is_slot(f.arrival_slot),
+        flat::PROPOSAL => limits::is_number(f.v),
+        flat::NEW_READ => limits::is_number(f.v) && limits::is_slot(f.arrival_slot),
         _ => return message_refusal(process_count, own, core, call),
     };
     if fits {
@@ -157,13 +158,13 @@ fn call_refusal(process_count: u64, own: u64, core: &[u64; 18], call: &[u64; 25]
 // Why a call is refused before it is handled: 1 of a shard that is not made, 2 of one whose slots are spent, and then what refuses the call. Not by calls'
 // `if_made` and `unless_spent`, which go on to a Call by value: they hand a made shard's call to `admit`, and this one to the questions above.
 #[tactic(auto, unfolding(calls::specs::Decision::unless_spent))]
-pub fn refusal(setup: &[u64; 10], core: &[u64; 18], call: &[u64; 25]) -> Outcome
-    ensures { result ≡ refusal_of (setup_of setup.now) (core_of core.now) (call_of call.now) }
+pub fn refusal(setup: &SetupArray, core: &CoreArray, call: &CallArray) -> Outcome
+    ensures { result ≡ refusal_of (setup_of setup.now) (core_of core.now) (flat_call_of call.now) }
 {
     let s = arrays::setup_in(setup);
     flat::decode_made(s.made, s.mode)?;
     let c = arrays::core_in(core);
-    if c.slot >= 9223372036854775807 {
+    if c.slot >= message::LARGEST_NUMBER {
         return Err(Refusal::NumberTooLarge);
     }
     call_refusal(s.process_count, s.my_pid, core, call)
@@ -189,7 +190,7 @@ pub fn asked_of(setup: Setup) -> Asked
 }
 
 // The table of committers, where committers are given.
-fn table_given(flag: u64, table: &[u64; 64]) -> Option<&[u64; 64]>
+fn table_given(flag: u64, table: &PerProcess) -> Option<&PerProcess>
     ensures { option_copied result ≡ cond (is_yes flag) (Some table.now) None }
 {
     flat::is_yes(flag).then_some(table)

@@ -30,11 +30,10 @@ use Rattle.message.specs.declared.Refusal.TheVariants.{SettingsOutsideLimits}
 use Rattle.settings.specs.Settings.{counts_fit, members_fit, committers_fit, mode_fits, within_limits}
 use Rattle.settings.specs.declared.Settings.{Settings}
 use Rattle.settings.proofs.Limits.{within_counts, within_members}
-use Rattle.fast_state.specs.Adopt.{Choice}
 use Rattle.quorum.specs.Quorum.{row_of}
 use Rattle.settings.specs.Questions.{quorums_of, delegate_of, delegate_in}
-use Rattle.consensus.specs.Answers.{refused}
-use Rattle.consensus.specs.Call.{new_shard, if_made, call_with}
+use Rattle.consensus.proofs.Refusals.{unmade_refuses}
+use Rattle.consensus.specs.Call.{new_shard}
 use Rattle.consensus.specs.declared.Answer.{Answer}
 use Rattle.calls.specs.declared.Call.{Call}
 use Rattle.calls.specs.declared.Call.TheVariants.{Propose, StartRead, Receive}
@@ -229,10 +228,6 @@ made_refines s claimed =
 abbrev Unmade : Shard → Type 0
 Unmade shard = (why : Refusal) × (shard.made ≡ Err why)
 
-unmade_call : (choose : Choice) (shard : Shard) (u : Unmade shard) (c : Call) → call_with choose shard c ≡ refused u.0 shard
-unfolding call_with
-unmade_call choose shard u c = ap (if_made choose shard c) u.1
-
 unmade_refines : (s : Settings) → within_limits (member_settings s 0) ≡ false → Refines (unmade_setup s) (engine_of s)
 unfolding new_shard
 unmade_refines s outside =
@@ -242,10 +237,10 @@ unmade_refines s outside =
       Valid = λ i shard. Unmade shard;
       initial_view = λ i l. begun_view s i;
       initial_valid = λ i l. (SettingsOutsideLimits, ap (λ (t : Bool). cond t (Ok tt) (Err SettingsOutsideLimits)) (limits_same s i l ∙ outside));
-      answer_valid = λ c x u. subst (λ (r : Answer). Unmade r.shard) (sym (unmade_call c.choose x u c.of_member.call)) u;
+      answer_valid = λ c x u. subst (λ (r : Answer). Unmade r.shard) (sym (unmade_refuses c.choose x c.of_member.call u.0 u.1)) u;
       answer_as_model = λ c x u.
           subst (λ (r : Answer). AsModel meaning_of (unmade_setup s) c.of_member.member (view_shard x) (kind_of c.of_member.call) (seen_answer r))
-          (sym (unmade_call c.choose x u c.of_member.call))
+          (sym (unmade_refuses c.choose x c.of_member.call u.0 u.1))
           (refuse_as_model (unmade_setup s) c.of_member.member (view_shard x) (kind_of c.of_member.call));
     }
 

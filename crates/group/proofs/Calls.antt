@@ -11,9 +11,9 @@ use Prim.Native.Nat.{ℕ, ◌≤◌, ◌<◌}
 use native.Mathlib.Nat.{lt_of_lt_of_le}
 use native.Mathlib.Numerals.{add-one}
 use native.Mathlib.Omega.{arith}
-use lib.Dec.{eqb, ltb, leb}
-use borrow.Author.Tests.{ltb-true, ltb-false, leb-false, eq-eqb}
-use Rattle.basics.proofs.Tests.{either, not_both}
+use lib.Dec.{eqb, ltb}
+use borrow.Author.Tests.{ltb-true, ltb-false, eq-eqb}
+use Rattle.basics.proofs.Tests.{either, of-both, not_both}
 use Rattle.message.specs.Messages.{msg_slot}
 use Rattle.message.specs.Modes.{has_fast_path, is_multi_paxos, is_swift_paxos}
 use Rattle.message.specs.Promises.{value_of, accept_round_of}
@@ -26,7 +26,7 @@ use Rattle.message.specs.declared.PFMode.TheVariants.{Paxos, MultiPaxos, MultiPa
 use Rattle.message.specs.declared.PaxosRound.{PaxosRound}
 use Rattle.message.specs.declared.ReadId.{ReadId}
 use Rattle.message.specs.declared.Refusal.{Refusal}
-use Rattle.message.specs.declared.Refusal.TheVariants.{NumberTooLarge, NoSuchProcess, OtherLastValue, SlotAhead, ValueNotHeld, Panic}
+use Rattle.message.specs.declared.Refusal.TheVariants.{NumberTooLarge, NoSuchProcess, OtherLastValue, SlotAhead, ValueNotHeld}
 use Rattle.message.specs.declared.RoundV.{RoundV}
 use Rattle.message.specs.declared.RoundV.TheVariants.{FastV, PaxosV}
 use Rattle.round_state.specs.Paxos.{get_last_accepted_round}
@@ -42,28 +42,29 @@ use Rattle.read_tracker.specs.declared.Inserted.{Inserted}
 use Rattle.accept.specs.Accept.{accepting}
 use Rattle.paxos_family.specs.Process.{on_accept, process_classic, on_fast_prepare, on_fast_accept, process_change, process_fast}
 use Rattle.propose.specs.Propose.{propose_classic, propose_change, propose_fast}
-use Rattle.steps.specs.Steps.{RoundsStep, CoreStep, no_messages, one_message, stays, map_step, with_change, on_rounds, change_rounds}
+use Rattle.steps.specs.Steps.{RoundsStep, CoreStep, no_messages, stays, map_step, with_change, on_rounds, change_rounds}
 use Rattle.steps.specs.declared.ChangeStep.{ChangeStep}
 use Rattle.steps.specs.declared.Core.{Core}
-use Rattle.steps.specs.declared.Destination.TheVariants.{One}
 use Rattle.steps.specs.declared.Heard.{Heard}
 use Rattle.steps.specs.declared.Messages.{Messages}
 use Rattle.steps.specs.declared.Next.{Next}
 use Rattle.steps.specs.declared.Next.TheVariants.{Stays, Continues, Commits}
 use Rattle.steps.specs.declared.Rounds.{Rounds}
 use Rattle.delivery.specs.Admit.{is_ahead, other_last_value, value_awaited, ready, admit}
-use Rattle.consensus.specs.Answers.{refused, sent, nothing, committed, finish_at, finish}
-use Rattle.consensus.specs.Call.{proposing, propose, read, admitted, receive, dispatch, unless_spent, if_made, call_with}
+use Rattle.consensus.proofs.Decided.{admission, handled, by_decision, settings_kept}
+use Rattle.consensus.specs.Answers.{nothing, committed, finish_at, finish}
+use Rattle.consensus.specs.Call.{in_shard, call_with}
 use Rattle.calls.specs.Asked.{gatherer_of, heard_of, gatherer_in}
-use Rattle.core_calls.specs.CoreCall.{next_readable}
-use Rattle.consensus.specs.Handle.{on_commit, on_read_request, on_read_response, after_insert, read_inserted, start_read, processed, process_message, handle}
-use Rattle.delivery.specs.Limits.{is_number, is_slot, numbers_fit, processes_fit}
+use Rattle.calls.specs.Decision.{admission_of}
+use Rattle.consensus.specs.Handle.{on_commit, on_read_request, on_read_response, after_insert, read_inserted, start_read, proposing, processed, process_message, handle, handle_call}
+use Rattle.delivery.specs.Limits.{numbers_fit, processes_fit}
 use Rattle.consensus.specs.declared.Answer.{Answer}
 use Rattle.calls.specs.declared.Call.{Call}
 use Rattle.calls.specs.declared.Call.TheVariants.{Propose, StartRead, Receive}
 use Rattle.delivery.specs.declared.Delivery.{Delivery}
 use Rattle.consensus.specs.declared.Shard.{Shard}
-use Rattle.state_calls.specs.declared.State.{State}
+use Rattle.consensus.specs.declared.State.{State}
+use Rattle.consensus.specs.declared.StateAnswer.{StateAnswer}
 use Rattle.agreement.specs.Engine.{Kind, proposes, delivers, reads, Engine}
 use Rattle.agreement.specs.Engine as engine
 use Rattle.agreement.specs.Model.{View, Answers, quiet, refuse, advanced}
@@ -199,8 +200,12 @@ record StepFollows (s : Settings) (step : Result RoundsStep Refusal) (r : model.
   seen_as : IfOk step (λ x. SeenAs (setup_of s) (answers_for s.mode x.state.fast) x.state.core x.messages x.next r)
 
 module _ (s : Settings) (i : ℕ) (made : Outcome) (state : State) where
+  -- what is seen of an answer of the member's shard
+  abbrev seen_of : StateAnswer → model.Outcome
+  seen_of r = seen_answer (in_shard (shard_of s i made state) r)
+
   commit_seen : (v : ℕ) (rounds : Rounds) (ms : Messages) → rounds.core.slot < 9223372036854775807
-      → seen_answer (committed (shard_of s i made state) (asked_by s i) v rounds ms)
+      → seen_of (committed state (asked_by s i) v rounds ms)
       ≡ record { view = advanced (setup_of s).voters.start (view_of (answers_for s.mode rounds.fast) rounds.core); outgoing = meanings meaning_of (envelopes ms); decision = model.decided rounds.core.slot v; taken = true }
   unfolding committed commit_slot
   commit_seen v rounds ms l = λ z. record {
@@ -221,14 +226,13 @@ module _ (s : Settings) (i : ℕ) (made : Outcome) (state : State) where
   }
 
   finish_seen : (held : Bool) (step : Result RoundsStep Refusal) (r : model.Outcome) → StepFollows s step r → IfOk step (λ x. x.state.core.slot < 9223372036854775807)
-      → (seen_answer (finish (shard_of s i made state) (asked_by s i) held step) ≡ r)
-      ⊎ (seen_answer (finish (shard_of s i made state) (asked_by s i) held step) ≡ refuse (view_shard (shard_of s i made state)))
+      → (seen_of (finish state (asked_by s i) held step) ≡ r) ⊎ (seen_of (finish state (asked_by s i) held step) ≡ refuse (view_shard (shard_of s i made state)))
   finish_seen held (Err why) r f l = inr refl
   finish_seen held (Ok step) r f l = go step.next held f.seen_as
     where
       go : (n : Next) (held : Bool) → SeenAs (setup_of s) (answers_for s.mode step.state.fast) step.state.core step.messages n r
-          → (seen_answer (finish_at (shard_of s i made state) (asked_by s i) held step.state step.messages n) ≡ r)
-          ⊎ (seen_answer (finish_at (shard_of s i made state) (asked_by s i) held step.state step.messages n) ≡ refuse (view_shard (shard_of s i made state)))
+          → (seen_of (finish_at state (asked_by s i) held step.state step.messages n) ≡ r)
+          ⊎ (seen_of (finish_at state (asked_by s i) held step.state step.messages n) ≡ refuse (view_shard (shard_of s i made state)))
       go Stays held e = inl e
       go Continues held e = absurd e
       go (Commits v) true e = inl (commit_seen v step.state step.messages l ∙ e)
@@ -326,8 +330,8 @@ module _ (s : Settings) (i : ℕ) (claimed : NotSwift s.mode) (choose : Choice) 
     fits : FastFits fast_state
     fits = lasts.fast_fits
 
-    abbrev as_model : Kind ConsensusMessage → Answer → Type 0
-    as_model k r = AsModel meaning_of (setup_of s) i (view_shard shard) k (seen_answer r)
+    abbrev as_model : Kind ConsensusMessage → StateAnswer → Type 0
+    as_model k r = AsModel meaning_of (setup_of s) i (view_shard shard) k (seen_of s i made state r)
 
     -- the slot of a step is that of the shard, which has one after it
     has_room : (step : Result RoundsStep Refusal) → IfOk step (λ x. x.state.core.slot ≡ core.slot) → IfOk step (λ x. x.state.core.slot < 9223372036854775807)
@@ -336,12 +340,12 @@ module _ (s : Settings) (i : ℕ) (claimed : NotSwift s.mode) (choose : Choice) 
     -- a step that is the model's ends as the model's call, or is refused
     deliver_ends : (held : Bool) (source : ℕ) (message : ConsensusMessage) (host : model.Host) (step : Result RoundsStep Refusal)
         → StepFollows s step (outcome (setup_of s) (view_shard shard) (deliver i source (meaning_of message) host)) → IfOk step (λ x. x.state.core.slot ≡ core.slot)
-        → as_model (delivers source message) (finish shard (asked_by s i) held step)
+        → as_model (delivers source message) (finish state (asked_by s i) held step)
     deliver_ends held source message host step f same =
         go (finish_seen s i made state held step (outcome (setup_of s) (view_shard shard) (deliver i source (meaning_of message) host)) f (has_room step same))
       where
         result : model.Outcome
-        result = seen_answer (finish shard (asked_by s i) held step)
+        result = seen_of s i made state (finish state (asked_by s i) held step)
 
         go : (result ≡ outcome (setup_of s) (view_shard shard) (deliver i source (meaning_of message) host)) ⊎ (result ≡ refuse (view_shard shard))
             → AsModel meaning_of (setup_of s) i (view_shard shard) (delivers source message) result
@@ -482,40 +486,40 @@ module _ (s : Settings) (i : ℕ) (claimed : NotSwift s.mode) (choose : Choice) 
               (lifted (setup_of s) fast_state (Ok (stays core no_messages)) (quiet (view_of (answers_in fast_state) core)) (record { seen_as = refl })))
 
       processed_step : (m : ConsensusMsg) → d.message.msg ≡ m
-          → process_message choose shard d ≡ finish shard (asked_by s i) d.said.value_held (processed choose (asked_by s i) h m state.rounds)
+          → process_message choose state (asked_by s i) h d ≡ finish state (asked_by s i) d.said.value_held (processed choose (asked_by s i) h m state.rounds)
       unfolding process_message
-      processed_step m e = ap (λ (m : ConsensusMsg). finish shard (asked_by s i) d.said.value_held (processed choose (asked_by s i) h m state.rounds)) e
+      processed_step m e = ap (λ (m : ConsensusMsg). finish state (asked_by s i) d.said.value_held (processed choose (asked_by s i) h m state.rounds)) e
 
       -- a message whose step is the model's, with some host, is handled as the model's call
       processed_ok : (m : ConsensusMsg) → d.message.msg ≡ m → (host : model.Host)
           → StepFollows s (processed choose (asked_by s i) h m state.rounds)
           (outcome (setup_of s) (view_shard shard) (deliver i d.message.src (meaning_of (record { msg = m; src = d.message.src; last_v = d.message.last_v })) host))
-          → as_model (kind_of (Receive d)) (process_message choose shard d)
+          → as_model (kind_of (Receive d)) (process_message choose state (asked_by s i) h d)
       processed_ok m e host f =
           subst (as_model (delivers d.message.src d.message)) (sym (processed_step m e))
-          (subst (λ (x : ConsensusMsg). as_model (delivers d.message.src (record { msg = x; src = d.message.src; last_v = d.message.last_v })) (finish shard (asked_by s i) d.said.value_held (processed choose (asked_by s i) h m state.rounds))) (sym e)
+          (subst (λ (x : ConsensusMsg). as_model (delivers d.message.src (record { msg = x; src = d.message.src; last_v = d.message.last_v })) (finish state (asked_by s i) d.said.value_held (processed choose (asked_by s i) h m state.rounds))) (sym e)
           (deliver_ends d.said.value_held d.message.src (record { msg = m; src = d.message.src; last_v = d.message.last_v }) host (processed choose (asked_by s i) h m state.rounds) f (same_slot m e)))
 
-      on_prepare_lem : (slot : ℕ) (round : PaxosRound) (rv : RoundV) → d.message.msg ≡ Prepare slot round rv → as_model (kind_of (Receive d)) (process_message choose shard d)
+      on_prepare_lem : (slot : ℕ) (round : PaxosRound) (rv : RoundV) → d.message.msg ≡ Prepare slot round rv → as_model (kind_of (Receive d)) (process_message choose state (asked_by s i) h d)
       on_prepare_lem slot round rv e = let k = prepare_ok slot round rv e in processed_ok (Prepare slot round rv) e k.0 k.1
 
-      on_accept_lem : (slot : ℕ) (round : PaxosRound) (v : ℕ) → d.message.msg ≡ Accept slot round v → as_model (kind_of (Receive d)) (process_message choose shard d)
+      on_accept_lem : (slot : ℕ) (round : PaxosRound) (v : ℕ) → d.message.msg ≡ Accept slot round v → as_model (kind_of (Receive d)) (process_message choose state (asked_by s i) h d)
       on_accept_lem slot round v e = processed_ok (Accept slot round v) e (record { allows = true; requester = process_number d.said.requester; adoptee = 0 }) (accept_ok slot round v e)
 
-      on_forward : (v : ℕ) → d.message.msg ≡ ForwardRequest v → as_model (kind_of (Receive d)) (process_message choose shard d)
+      on_forward : (v : ℕ) → d.message.msg ≡ ForwardRequest v → as_model (kind_of (Receive d)) (process_message choose state (asked_by s i) h d)
       unfolding outcome model.on_message
       on_forward v e = processed_ok (ForwardRequest v) e (record { allows = true; requester = 0; adoptee = 0 }) (forward_ok v)
 
-    commit_older : (slot v : ℕ) → ltb slot core.slot ≡ true → on_commit shard slot v ≡ nothing shard
+    commit_older : (slot v : ℕ) → ltb slot core.slot ≡ true → on_commit state (asked_by s i) slot v ≡ nothing state
     unfolding on_commit
     commit_older slot v e = simp e
 
-    commit_own : (slot v : ℕ) → ltb slot core.slot ≡ false → on_commit shard slot v ≡ committed shard (asked_by s i) v state.rounds no_messages
+    commit_own : (slot v : ℕ) → ltb slot core.slot ≡ false → on_commit state (asked_by s i) slot v ≡ committed state (asked_by s i) v state.rounds no_messages
     unfolding on_commit
     commit_own slot v e = simp e
 
     on_commit_lem : (source : ℕ) (last : Option ℕ) (slot v : ℕ) → slot ≤ core.slot
-        → as_model (delivers source (record { msg = Commit slot v; src = source; last_v = last })) (on_commit shard slot v)
+        → as_model (delivers source (record { msg = Commit slot v; src = source; last_v = last })) (on_commit state (asked_by s i) slot v)
     unfolding outcome model.on_message model.on_commit
     on_commit_lem source last slot v le = go (either (ltb slot core.slot))
       where
@@ -523,47 +527,36 @@ module _ (s : Settings) (i : ℕ) (claimed : NotSwift s.mode) (choose : Choice) 
         host = record { allows = true; requester = 0; adoptee = 0 }
 
         go : (ltb slot core.slot ≡ true) ⊎ (ltb slot core.slot ≡ false)
-            → as_model (delivers source (record { msg = Commit slot v; src = source; last_v = last })) (on_commit shard slot v)
-        go (inl e) = inl (host, ap seen_answer (commit_older slot v e) ∙ simp e)
+            → as_model (delivers source (record { msg = Commit slot v; src = source; last_v = last })) (on_commit state (asked_by s i) slot v)
+        go (inl e) = inl (host, ap (seen_of s i made state) (commit_older slot v e) ∙ simp e)
         go (inr e) =
             let ge : core.slot ≤ slot = ltb-false slot core.slot e in
             let same : slot ≡ core.slot = omega arith in
             let q : eqb slot core.slot ≡ true = eq-eqb slot core.slot same in
-            inl (host, ap seen_answer (commit_own slot v e) ∙ commit_seen s i made state v state.rounds no_messages room ∙ simp (e, q))
+            inl (host, ap (seen_of s i made state) (commit_own slot v e) ∙ commit_seen s i made state v state.rounds no_messages room ∙ simp (e, q))
 
-    on_read_request_lem : (source : ℕ) (message : ConsensusMessage) (id : ReadId) → meaning_of message ≡ model.other → as_model (delivers source message) (on_read_request shard source id)
+    on_read_request_lem : (source : ℕ) (message : ConsensusMessage) (id : ReadId) → meaning_of message ≡ model.other
+        → as_model (delivers source message) (on_read_request state (asked_by s i) source id)
     unfolding on_read_request
-    on_read_request_lem source message id no_part = go (eqb source i)
-      where
-        go : (t : Bool)
-            → as_model (delivers source message)
-            (cond t (refused Panic shard)
-            (sent shard (one_message (record { destination = One source; message = record { msg = ReadResponse id (next_readable core); src = i; last_v = None } }))))
-        go true = inr (no_part, refl, refl, tt)
-        go false = inr (no_part, refl, refl, (refl, tt))
+    on_read_request_lem source message id no_part =
+        of-both (as_model (delivers source message)) (eqb source i) (inr (no_part, refl, refl, tt)) (inr (no_part, refl, refl, (refl, tt)))
 
-    on_read_response_lem : (source : ℕ) (message : ConsensusMessage) (id : ReadId) (fast : Bool) → meaning_of message ≡ model.other → as_model (delivers source message) (on_read_response shard id fast)
+    on_read_response_lem : (source : ℕ) (message : ConsensusMessage) (id : ReadId) (fast : Bool) → meaning_of message ≡ model.other
+        → as_model (delivers source message) (on_read_response state (asked_by s i) id fast)
     unfolding on_read_response
     on_read_response_lem source message id fast no_part = inr (no_part, refl, refl, tt)
 
-    handled : (d : Delivery) → Admitted s.process_count core d → (m : ConsensusMsg) → d.message.msg ≡ m → as_model (kind_of (Receive d)) (handle choose shard d m)
+    message_handled : (d : Delivery) → Admitted s.process_count core d → (m : ConsensusMsg) → d.message.msg ≡ m
+        → as_model (kind_of (Receive d)) (handle choose state (asked_by s i) (heard_of (member_settings s i) d) d m)
     unfolding handle
-    handled d adm (Prepare slot round rv) e = on_prepare_lem d adm slot round rv e
-    handled d adm (Accept slot round v) e = on_accept_lem d adm slot round v e
-    handled d adm (ForwardRequest v) e = on_forward d adm v e
-    handled d adm (Commit slot v) e =
-        subst (λ (m : ConsensusMsg). as_model (delivers d.message.src (record { msg = m; src = d.message.src; last_v = d.message.last_v })) (on_commit shard slot v)) (sym e)
+    message_handled d adm (Prepare slot round rv) e = on_prepare_lem d adm slot round rv e
+    message_handled d adm (Accept slot round v) e = on_accept_lem d adm slot round v e
+    message_handled d adm (ForwardRequest v) e = on_forward d adm v e
+    message_handled d adm (Commit slot v) e =
+        subst (λ (m : ConsensusMsg). as_model (delivers d.message.src (record { msg = m; src = d.message.src; last_v = d.message.last_v })) (on_commit state (asked_by s i) slot v)) (sym e)
         (on_commit_lem d.message.src d.message.last_v slot v (slot_of core slot (not_ahead_of d adm (Commit slot v) e)))
-    handled d adm (ReadRequest id) e = on_read_request_lem d.message.src d.message id (meaning_is d.message (ReadRequest id) e)
-    handled d adm (ReadResponse id next) e = on_read_response_lem d.message.src d.message id d.said.fast (meaning_is d.message (ReadResponse id next) e)
-
-    received : (d : Delivery) → as_model (kind_of (Receive d)) (receive choose shard d)
-    unfolding receive
-    received d = go (admit s.process_count i core d) refl
-      where
-        go : (o : Outcome) → admit s.process_count i core d ≡ o → as_model (kind_of (Receive d)) (admitted choose shard d o)
-        go (Ok tt) e = handled d (admitted_facts s.process_count i core d e) d.message.msg refl
-        go (Err why) e = refuse_as_model (setup_of s) i (view_shard shard) (kind_of (Receive d))
+    message_handled d adm (ReadRequest id) e = on_read_request_lem d.message.src d.message id (meaning_is d.message (ReadRequest id) e)
+    message_handled d adm (ReadResponse id next) e = on_read_response_lem d.message.src d.message id d.said.fast (meaning_is d.message (ReadResponse id next) e)
 
     -- ---- proposals
 
@@ -592,44 +585,28 @@ module _ (s : Settings) (i : ℕ) (claimed : NotSwift s.mode) (choose : Choice) 
             (λ x. model.on_propose (setup_of s) i x v)
             (fast_propose_follows choose picks_best s i (not_swift s.mode claimed) epaxos own_small fast_state fits leader_small v core ok single))
 
-    propose_ends : (v : ℕ) → as_model (proposes v) (finish shard (asked_by s i) true (proposing (asked_by s i) v state.rounds))
+    propose_ends : (v : ℕ) → as_model (proposes v) (finish state (asked_by s i) true (proposing (asked_by s i) v state.rounds))
     unfolding outcome
     propose_ends v = go (finish_seen s i made state true (proposing (asked_by s i) v state.rounds) (model.on_propose (setup_of s) i (view_shard shard) v) (propose_ok v) (has_room _ (proposed_slot choose shard lasts limits room v)))
       where
         result : model.Outcome
-        result = seen_answer (finish shard (asked_by s i) true (proposing (asked_by s i) v state.rounds))
+        result = seen_of s i made state (finish state (asked_by s i) true (proposing (asked_by s i) v state.rounds))
 
         go : (result ≡ model.on_propose (setup_of s) i (view_shard shard) v) ⊎ (result ≡ refuse (view_shard shard)) → AsModel meaning_of (setup_of s) i (view_shard shard) (proposes v) result
         go (inl r) = (record { allows = true; requester = 0; adoptee = 0 }, r)
         go (inr r) = (record { allows = false; requester = 0; adoptee = 0 }, r)
 
-    proposal : (v : ℕ) → as_model (proposes v) (propose shard v)
-    unfolding propose
-    proposal v = go (is_number v)
-      where
-        go : (t : Bool) → as_model (proposes v) (cond t (finish shard (asked_by s i) true (proposing (asked_by s i) v state.rounds)) (refused NumberTooLarge shard))
-        go true = propose_ends v
-        go false = refuse_as_model (setup_of s) i (view_shard shard) (proposes v)
-
     -- ---- reads
 
-    new_read_lem : (tag arrival : ℕ) → as_model reads (read shard tag arrival)
-    unfolding read start_read
-    new_read_lem tag arrival = go (is_number tag && is_slot arrival)
-      where
-        opened : (r : Result Inserted Refusal) → as_model reads (after_insert shard r)
-        opened (Err why) = (refl, refl, tt)
-        opened (Ok ins) = (refl, refl, (refl, tt))
+    read_opened : (r : Result Inserted Refusal) → as_model reads (after_insert state (asked_by s i) r)
+    read_opened (Err why) = (refl, refl, tt)
+    read_opened (Ok ins) = (refl, refl, (refl, tt))
 
-        go : (t : Bool) → as_model reads (cond t (after_insert shard (read_inserted shard tag arrival)) (refused NumberTooLarge shard))
-        go true = opened (read_inserted shard tag arrival)
-        go false = (refl, refl, tt)
-
-    dispatched : (c : Call) → as_model (kind_of c) (dispatch choose shard c)
-    unfolding dispatch
-    dispatched (Propose v) = proposal v
-    dispatched (StartRead tag arrival) = new_read_lem tag arrival
-    dispatched (Receive d) = received d
+    call_handled : (c : Call) → admission shard c ≡ Ok tt → AsModel meaning_of (setup_of s) i (view_shard shard) (kind_of c) (seen_answer (handled choose shard c))
+    unfolding admission_of handle_call start_read
+    call_handled (Propose v) e = propose_ends v
+    call_handled (StartRead tag arrival) e = read_opened (read_inserted state tag arrival)
+    call_handled (Receive d) e = message_handled d (admitted_facts s.process_count i core d e) d.message.msg refl
 
 -- ---- every call
 
@@ -646,32 +623,27 @@ pub record CallOk (s : Settings) (i : ℕ) (shard : Shard) (k : Kind ConsensusMe
   pub as_model_lem : AsModel meaning_of (setup_of s) i (view_shard shard) k (seen_answer r)
   pub valid : Valid s i r.shard
 
-not_spent_as_model : (s : Settings) (i : ℕ) → NotSwift s.mode → (choose : Choice) → PicksBest choose → (made : Outcome) (state : State) → Lasts (shard_of s i made state) → made ≡ Ok tt → (c : Call)
-    → AsModel meaning_of (setup_of s) i (view_shard (shard_of s i made state)) (kind_of c) (seen_answer (unless_spent choose (shard_of s i made state) c))
-unfolding unless_spent
-not_spent_as_model s i claimed choose picks_best made state lasts done c = go (leb 9223372036854775807 state.rounds.core.slot) refl
-  where
-    go : (t : Bool) → leb 9223372036854775807 state.rounds.core.slot ≡ t
-        → AsModel meaning_of (setup_of s) i (view_shard (shard_of s i made state)) (kind_of c) (seen_answer (cond t (refused NumberTooLarge (shard_of s i made state)) (dispatch choose (shard_of s i made state) c)))
-    go true e = refuse_as_model (setup_of s) i (view_shard (shard_of s i made state)) (kind_of c)
-    go false e = dispatched s i claimed choose picks_best (lasts.made_within done) made state lasts done (leb-false 9223372036854775807 state.rounds.core.slot e) c
+member_call : (s : Settings) (i : ℕ) → NotSwift s.mode → (choose : Choice) → PicksBest choose → (made : Outcome) (state : State) (c : Call) → Lasts (shard_of s i made state)
+    → AsModel meaning_of (setup_of s) i (view_shard (shard_of s i made state)) (kind_of c) (seen_answer (call_with choose (shard_of s i made state) c))
+member_call s i claimed choose picks_best made state c lasts =
+    by_decision choose (shard_of s i made state) (λ r. AsModel meaning_of (setup_of s) i (view_shard (shard_of s i made state)) (kind_of c) (seen_answer r)) c
+    (λ why. refuse_as_model (setup_of s) i (view_shard (shard_of s i made state)) (kind_of c))
+    (λ done room e. call_handled s i claimed choose picks_best (lasts.made_within done) made state lasts done room c e)
 
 -- Each call is the model's, and the shard stays valid.
 pub call_ok : (s : Settings) (i : ℕ) → NotSwift s.mode → (choose : Choice) → PicksBest choose → (shard : Shard) → Valid s i shard → (c : Call) → CallOk s i shard (kind_of c) (call_with choose shard c)
-unfolding call_with
 call_ok s i claimed choose picks_best shard valid c =
-    record { as_model_lem = go shard.made refl; valid = record { own_settings = left.same_settings ∙ valid.own_settings; lasting = left.lasts } }
+    record { as_model_lem = seen_as; valid = record { own_settings = settings_kept choose shard c ∙ valid.own_settings; lasting = left.lasts } }
   where
     left : CallLasts shard (call_with choose shard c)
     left = call_lasts choose shard valid.lasting c
 
-    go : (o : Outcome) → shard.made ≡ o → AsModel meaning_of (setup_of s) i (view_shard shard) (kind_of c) (seen_answer (if_made choose shard c o))
-    go (Ok tt) e =
-        subst
-        (λ (x : Settings).
-        (y : Lasts (record { made = shard.made; settings = x; state = shard.state }))
-        → AsModel meaning_of (setup_of s) i (view_shard (record { made = shard.made; settings = x; state = shard.state })) (kind_of c) (seen_answer (unless_spent choose (record { made = shard.made; settings = x; state = shard.state }) c)))
+    with_settings : Settings → Shard
+    with_settings x = record { made = shard.made; settings = x; state = shard.state }
+
+    seen_as : AsModel meaning_of (setup_of s) i (view_shard shard) (kind_of c) (seen_answer (call_with choose shard c))
+    seen_as =
+        subst (λ (x : Settings). (y : Lasts (with_settings x)) → AsModel meaning_of (setup_of s) i (view_shard (with_settings x)) (kind_of c) (seen_answer (call_with choose (with_settings x) c)))
         (sym valid.own_settings)
-        (λ y. not_spent_as_model s i claimed choose picks_best shard.made shard.state y e c)
+        (member_call s i claimed choose picks_best shard.made shard.state c)
         valid.lasting
-    go (Err why) e = refuse_as_model (setup_of s) i (view_shard shard) (kind_of c)

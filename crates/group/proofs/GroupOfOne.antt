@@ -23,11 +23,13 @@ use Rattle.steps.specs.declared.Next.TheVariants.{Stays, Continues, Commits}
 use Rattle.steps.specs.declared.Outgoing.{Outgoing}
 use Rattle.steps.specs.declared.Rounds.{Rounds}
 use Rattle.consensus.specs.Answers.{finish_at, finish}
-use Rattle.consensus.specs.Call.{proposing, call_of}
+use Rattle.consensus.specs.Call.{call_of}
+use Rattle.consensus.specs.Handle.{proposing}
 use Rattle.calls.specs.Asked.{asked_of}
 use Rattle.calls.specs.declared.Call.{Call}
 use Rattle.calls.specs.declared.Reply.{Reply}
 use Rattle.consensus.specs.declared.Shard.{Shard}
+use Rattle.consensus.specs.declared.State.{State}
 use Rattle.basics.specs.Lists.{In}
 use Rattle.group.specs.Claim.{begun, ours, MemberCall, Entry, entry_of, after_call, entries_from, entries, Reaches, SentTo, WasSent, MayStand, LegalFrom, Legal}
 use Rattle.group.proofs.Sending.{ToAll}
@@ -61,16 +63,13 @@ keeps a =
       propose_accept_lem = λ v core t p k. tt;
     }
 
-propose_to_all : (shard : Shard) (v : ℕ) → CallToAll (finish shard (asked_of shard.settings) true (proposing (asked_of shard.settings) v shard.state.rounds)).reply
-propose_to_all shard v =
-    finish_holds (λ r. CallToAll r.reply) shard a true (proposing a v shard.state.rounds) (λ why. ((tt, tt), refl))
-    (proposing_holds a Any Any Any (λ round. ⊥) (λ round v. ⊥) Any MessageToAll (keeps a) (λ step. CallToAll (finish_at shard a true step.state step.messages step.next).reply) (λ core t. tt) v tt shard.state.rounds Any tt (any_holds _)
+propose_to_all : (state : State) (a : Asked) (v : ℕ) → CallToAll (finish state a true (proposing a v state.rounds)).reply
+propose_to_all state a v =
+    finish_holds (λ r. CallToAll r.reply) state a true (proposing a v state.rounds) (λ why. ((tt, tt), refl))
+    (proposing_holds a Any Any Any (λ round. ⊥) (λ round v. ⊥) Any MessageToAll (keeps a) (λ step. CallToAll (finish_at state a true step.state step.messages step.next).reply) (λ core t. tt) v tt state.rounds Any tt (any_holds _)
     (λ step t q. go _ step.messages _ step.next q.0.1) (λ step t q. go _ step.messages _ step.next q.1) tt)
   where
-    a : Asked
-    a = asked_of shard.settings
-
-    go : (s : Rounds) (ms : Messages) (held : Option RoundV) (n : Next) → EndsUncommitted MessageToAll ms held n → CallToAll (finish_at shard a true s ms n).reply
+    go : (s : Rounds) (ms : Messages) (held : Option RoundV) (n : Next) → EndsUncommitted MessageToAll ms held n → CallToAll (finish_at state a true s ms n).reply
     go s ms held Stays q = (q.0, refl)
     go s ms held Continues q = absurd q
     go s ms held (Commits v) q = absurd q
@@ -115,7 +114,7 @@ nothing_sent past q m member z w =
 
 call_to_all : (past : List Entry) → RunToAll past → (shard : Shard) (member : ℕ) → member ≡ 0 → (c : Call) → MayStand past member c → CallToAll (call_of shard c).reply
 call_to_all past q shard member z =
-    call_holds lowest_best shard (λ c r. MayStand past member c → CallToAll r.reply) (λ c why m. ((tt, tt), refl)) (λ v m. propose_to_all shard v) (λ tag arrival ins e m. ((tt, tt), refl))
+    call_holds lowest_best shard (λ c r. MayStand past member c → CallToAll r.reply) (λ c why m. ((tt, tt), refl)) (λ v m. propose_to_all shard.state (asked_of shard.settings) v) (λ tag arrival ins e m. ((tt, tt), refl))
     (λ d m. absurd (nothing_sent past q d.message member z m))
 
 run_to_all : (shards : ℕ → Shard) (past : List Entry) → RunToAll past → (cs : List MemberCall) → LegalFrom 1 ours shards past cs → RunToAll (entries_from ours shards past cs)

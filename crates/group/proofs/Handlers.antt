@@ -4,13 +4,12 @@
 -- nothing, and nothing is asked of it.
 -- Assumes nothing.
 use Rattle.std.specs.Prelude.{Option, None, Some, Result, Ok, Err, is_some, IfOk}
-use Rattle.message.specs.Outcomes.{Outcome}
 use mathlib.Core.Path.{◌≡◌, refl, sym, subst}
 use mathlib.Core.Logic.{◌⊎◌, inl, inr}
 use mathlib.Core.Bool.{Bool, true, false, cond, not, ◌&&◌, ◌||◌}
 use mathlib.Core.List.{List, []}
 use Prim.Native.Nat.{ℕ}
-use lib.Dec.{T, eqb, eqb→eq, leb, T_not}
+use lib.Dec.{T, eqb, eqb→eq, T_not}
 use Rattle.basics.proofs.Tests.{of-both}
 use Rattle.sets.specs.Sets.{is_empty}
 use Rattle.message.specs.Modes.{has_fast_path, is_multi_paxos, is_swift_paxos}
@@ -22,7 +21,6 @@ use Rattle.message.specs.declared.PFMode.{PFMode}
 use Rattle.message.specs.declared.PFMode.TheVariants.{Paxos, MultiPaxos, MultiPaxos3P, EPaxos, Pando, SwiftPaxos}
 use Rattle.message.specs.declared.PaxosRound.{PaxosRound}
 use Rattle.message.specs.declared.Refusal.{Refusal}
-use Rattle.message.specs.declared.Refusal.TheVariants.{NumberTooLarge}
 use Rattle.message.specs.declared.RoundV.{RoundV}
 use Rattle.message.specs.declared.RoundV.TheVariants.{FastV, PaxosV}
 use Rattle.round_state.specs.Paxos.{get_v, held_after_promise, is_prepared, paxos_can_commit, with_held, goto_round, receive_promise, paxos_propose_v, accept_fits, after_accept, receive_accept, accept_own, self_accept, adopt_from_epaxos}
@@ -51,17 +49,19 @@ use Rattle.steps.specs.declared.Next.TheVariants.{Stays, Continues, Commits}
 use Rattle.steps.specs.declared.Outgoing.{Outgoing}
 use Rattle.steps.specs.declared.Rounds.{Rounds}
 use Rattle.swift_path.specs.Swift.{swift_commits, after_step, after_swift_answer, swift_answer, swift_client_prepare, after_client_accept, client_accept, leader_answered, from_leader, accept_answered, after_accept_answer, swift_accept, swift_client_accept, after_replica_answer, swift_answered_accept}
-use Rattle.delivery.specs.Admit.{admit}
-use Rattle.delivery.specs.Limits.{is_number, is_slot}
 use Rattle.delivery.specs.declared.Delivery.{Delivery}
-use Rattle.calls.specs.Asked.{asked_of}
+use Rattle.calls.specs.Asked.{asked_of, heard_of}
 use Rattle.calls.specs.declared.Call.{Call}
 use Rattle.calls.specs.declared.Call.TheVariants.{Propose, StartRead, Receive}
+use Rattle.consensus.proofs.Decided.{handled, by_decision}
 use Rattle.consensus.specs.Answers.{refused, finish_at, finish}
-use Rattle.consensus.specs.Call.{proposing, propose, read, admitted, receive, dispatch, unless_spent, if_made, call_with}
-use Rattle.consensus.specs.Handle.{after_insert, read_inserted, start_read, processed, handle}
+use Rattle.consensus.specs.Call.{in_shard, call_with}
+use Rattle.consensus.specs.FirstCause.{number_alone}
+use Rattle.consensus.specs.Handle.{proposing, after_insert, read_inserted, start_read, processed, handle, handle_call}
 use Rattle.consensus.specs.declared.Answer.{Answer}
 use Rattle.consensus.specs.declared.Shard.{Shard}
+use Rattle.consensus.specs.declared.State.{State}
+use Rattle.consensus.specs.declared.StateAnswer.{StateAnswer}
 use Rattle.basics.specs.Lists.{In}
 use Rattle.agreement.proofs.Tests.{by_test, and_both, neqb→ne}
 use Rattle.group.specs.Claim.{listed, messages_of}
@@ -668,33 +668,25 @@ module _ (a : Asked) (Source : ℕ → Type 0) (Enters : PaxosRound → Type 0) 
 -- ---- calls
 
 -- What holds of a refusal and of the end of every step that is taken holds of the end of the call.
-pub finish_holds : (P : Answer → Type 0) (shard : Shard) (a : Asked) (held : Bool) (r : Result RoundsStep Refusal) → ((why : Refusal) → P (refused why shard))
-    → IfOk r (λ step. P (finish_at shard a held step.state step.messages step.next)) → P (finish shard a held r)
-finish_holds P shard a held (Ok step) refuses q = q
-finish_holds P shard a held (Err why) refuses q = refuses why
+pub finish_holds : (P : StateAnswer → Type 0) (state : State) (a : Asked) (held : Bool) (r : Result RoundsStep Refusal) → ((why : Refusal) → P (refused why state))
+    → IfOk r (λ step. P (finish_at state a held step.state step.messages step.next)) → P (finish state a held r)
+finish_holds P state a held (Ok step) refuses q = q
+finish_holds P state a held (Err why) refuses q = refuses why
 
 -- Every call is refused, or a proposal, a new read or a message is handled.
-pub call_holds : (choose : Choice) (shard : Shard) (P : Call → Answer → Type 0) → ((c : Call) (why : Refusal) → P c (refused why shard))
-    → ((v : ℕ) → P (Propose v) (finish shard (asked_of shard.settings) true (proposing (asked_of shard.settings) v shard.state.rounds)))
-    → ((tag arrival : ℕ) (ins : Inserted) → read_inserted shard tag arrival ≡ Ok ins → P (StartRead tag arrival) (after_insert shard (Ok ins)))
-    → ((d : Delivery) → P (Receive d) (handle choose shard d d.message.msg)) → (c : Call) → P c (call_with choose shard c)
-unfolding call_with unless_spent dispatch propose read start_read receive
-call_holds choose shard P refuses proposes reads receives c = made shard.made
+pub call_holds : (choose : Choice) (shard : Shard) (P : Call → Answer → Type 0) → ((c : Call) (why : Refusal) → P c (number_alone why shard))
+    → ((v : ℕ) → P (Propose v) (in_shard shard (finish shard.state (asked_of shard.settings) true (proposing (asked_of shard.settings) v shard.state.rounds))))
+    → ((tag arrival : ℕ) (ins : Inserted) → read_inserted shard.state tag arrival ≡ Ok ins → P (StartRead tag arrival) (in_shard shard (after_insert shard.state (asked_of shard.settings) (Ok ins))))
+    → ((d : Delivery) → P (Receive d) (in_shard shard (handle choose shard.state (asked_of shard.settings) (heard_of shard.settings d) d d.message.msg)))
+    → (c : Call) → P c (call_with choose shard c)
+unfolding handle_call start_read
+call_holds choose shard P refuses proposes reads receives c = by_decision choose shard (P c) c (refuses c) (λ made room admitted. taken c)
   where
-    opened : (tag arrival : ℕ) (r : Result Inserted Refusal) → read_inserted shard tag arrival ≡ r → P (StartRead tag arrival) (after_insert shard r)
+    opened : (tag arrival : ℕ) (r : Result Inserted Refusal) → read_inserted shard.state tag arrival ≡ r → P (StartRead tag arrival) (in_shard shard (after_insert shard.state (asked_of shard.settings) r))
     opened tag arrival (Err why) e = refuses (StartRead tag arrival) why
     opened tag arrival (Ok ins) e = reads tag arrival ins e
 
-    received : (d : Delivery) (o : Outcome) → P (Receive d) (admitted choose shard d o)
-    received d (Ok tt) = receives d
-    received d (Err why) = refuses (Receive d) why
-
-    dispatched : (c : Call) → P c (dispatch choose shard c)
-    dispatched (Propose v) = of-both (P (Propose v)) (is_number v) (proposes v) (refuses (Propose v) NumberTooLarge)
-    dispatched (StartRead tag arrival) =
-        of-both (P (StartRead tag arrival)) (is_number tag && is_slot arrival) (opened tag arrival (read_inserted shard tag arrival) refl) (refuses (StartRead tag arrival) NumberTooLarge)
-    dispatched (Receive d) = received d (admit shard.settings.process_count shard.settings.my_pid shard.state.rounds.core d)
-
-    made : (o : Outcome) → P c (if_made choose shard c o)
-    made (Ok tt) = of-both (P c) (leb 9223372036854775807 shard.state.rounds.core.slot) (refuses c NumberTooLarge) (dispatched c)
-    made (Err why) = refuses c why
+    taken : (c : Call) → P c (handled choose shard c)
+    taken (Propose v) = proposes v
+    taken (StartRead tag arrival) = opened tag arrival (read_inserted shard.state tag arrival) refl
+    taken (Receive d) = receives d

@@ -59,6 +59,7 @@ use Rattle.paxos_family.specs.Commit.{commit_slot}
 use Rattle.propose.specs.Propose.{electing, proposal_round, may_propose}
 use Rattle.steps.specs.declared.Asked.{Asked}
 use Rattle.steps.specs.declared.Core.{Core}
+use Rattle.steps.specs.declared.Heard.{Heard}
 use Rattle.steps.specs.declared.Messages.{Messages}
 use Rattle.steps.specs.declared.Next.{Next}
 use Rattle.steps.specs.declared.Next.TheVariants.{Stays, Continues, Commits}
@@ -68,14 +69,17 @@ use Rattle.delivery.specs.Admit.{ready, admit}
 use Rattle.delivery.specs.Limits.{is_number, is_slot, round_numbers, rv_numbers, msg_numbers, number_given, numbers_fit, rv_processes, msg_processes, requester_below, processes_fit}
 use Rattle.delivery.specs.declared.Delivery.{Delivery}
 use Rattle.calls.specs.Asked.{asked_of, heard_of}
+use Rattle.calls.specs.Decision.{admission_of}
 use Rattle.calls.specs.declared.Call.{Call}
 use Rattle.calls.specs.declared.Call.TheVariants.{Propose, StartRead, Receive}
-use Rattle.consensus.specs.Answers.{with_state, committed, finish_at, finish}
-use Rattle.consensus.specs.Call.{new_core, new_shard, proposing, propose, read, admitted, receive, dispatch, unless_spent, if_made, call_with}
-use Rattle.consensus.specs.Handle.{on_commit, on_read_request, on_read_response, after_insert, read_inserted, start_read, processed, process_message, handle}
+use Rattle.consensus.proofs.Decided.{admission, handled, by_decision, settings_kept}
+use Rattle.consensus.specs.Answers.{with_rounds, track, sent, committed, finish_at, finish}
+use Rattle.consensus.specs.Call.{new_core, new_shard, with_state, in_shard, call_with}
+use Rattle.consensus.specs.Handle.{on_commit, on_read_request, on_read_response, after_insert, read_inserted, start_read, proposing, processed, process_message, handle, handle_call}
 use Rattle.consensus.specs.declared.Answer.{Answer}
 use Rattle.consensus.specs.declared.Shard.{Shard}
-use Rattle.state_calls.specs.StateCall.{with_tracker}
+use Rattle.consensus.specs.declared.State.{State}
+use Rattle.consensus.specs.declared.StateAnswer.{StateAnswer}
 use Rattle.basics.specs.Lists.{In}
 use Rattle.agreement.proofs.Tests.{by_test, and_both, is_true}
 use Rattle.group.specs.Claim.{member_settings, begun, Choices, later_choices, MemberCall, after_call, plus_commit}
@@ -344,7 +348,6 @@ served_by r = take r.reply.served_count r.shard.state.table.served
 pub record CallLasts (old : Shard) (r : Answer) : Type 0 where
   pub lasts : Lasts r.shard
   pub cleared : ClearedBy r.reply.commit r.shard
-  pub same_settings : r.shard.settings ≡ old.settings
   pub slot_moves : r.shard.state.rounds.core.slot ≡ plus_commit r.reply.commit old.state.rounds.core.slot
   pub of_own_slot : OfSlot old.state.rounds.core.slot r.reply.commit
   pub served_rising : Rising 0 (served_ids (served_by r)) old.state.rounds.core.tracker.next_id
@@ -387,20 +390,18 @@ module _ (choose : Choice) (shard : Shard) (k : Lasts shard) where
   abbrev asked : Asked
   asked = asked_of s
 
-  same_lasts : (r : Answer) → r.shard ≡ shard → ◌≡◌ {A = Option CommittedSlot × ℕ} (r.reply.commit, r.reply.served_count) (None, 0) → CallLasts shard r
-  same_lasts r e both =
-      let f : r.reply.commit ≡ None = ap (λ (x : Option CommittedSlot × ℕ). x.0) both in
-      let none : r.reply.served_count ≡ 0 = ap (λ (x : Option CommittedSlot × ℕ). x.1) both in
-      record {
-        lasts = subst Lasts (sym e) k;
-        cleared = subst (λ (c : Option CommittedSlot). ClearedBy c r.shard) (sym f) tt;
-        same_settings = ap (λ (x : Shard). x.settings) e;
-        slot_moves = ap (λ (x : Shard). x.state.rounds.core.slot) e ∙ sym (ap (λ (c : Option CommittedSlot). plus_commit c shard.state.rounds.core.slot) f);
-        of_own_slot = subst (OfSlot shard.state.rounds.core.slot) (sym f) tt;
-        served_rising = subst (λ (n : ℕ). Rising 0 (served_ids (take n r.shard.state.table.served)) shard.state.rounds.core.tracker.next_id) (sym none) (omega arith);
-      }
+  abbrev state : State
+  state = shard.state
 
-  module _ (limits : within_limits s ≡ true) (room : shard.state.rounds.core.slot < 9223372036854775807) where
+  abbrev StateLasts : StateAnswer → Type 0
+  StateLasts r = CallLasts shard (in_shard shard r)
+
+  -- where the state stays
+  same_lasts : (outcome : Outcome) (ms : Messages)
+      → StateLasts (record { state = state; reply = record { outcome = outcome; messages = ms; commit = None; served_count = 0 } })
+  same_lasts outcome ms = record { lasts = k; cleared = tt; slot_moves = refl; of_own_slot = tt; served_rising = omega arith }
+
+  module _ (limits : within_limits s ≡ true) (room : state.rounds.core.slot < 9223372036854775807) where
     pub own_small : s.my_pid < 64
     own_small = let few = few_processes s limits in let below = own_below s limits in omega arith
 
@@ -408,29 +409,36 @@ module _ (choose : Choice) (shard : Shard) (k : Lasts shard) where
     own_counts t = (own_below s limits, λ e. is_true (is_replica s) t)
 
     abbrev pub Fits : Rounds → Type 0
-    Fits rounds = RoundsFit (CountedIn s) (LeadsIn shard.made) asked own_counts own_small shard.state.rounds.core shard.state.rounds.fast rounds
+    Fits rounds = RoundsFit (CountedIn s) (LeadsIn shard.made) asked own_counts own_small state.rounds.core state.rounds.fast rounds
 
-    as_it_is : CoreFits (CountedIn s) (LeadsIn shard.made) asked own_counts own_small shard.state.rounds.core shard.state.rounds.core
+    as_it_is : CoreFits (CountedIn s) (LeadsIn shard.made) asked own_counts own_small state.rounds.core state.rounds.core
     as_it_is = record { same_slot = refl; same_tracker = refl; state_fits = k.sets_fit }
 
-    stays_lasts : (rounds : Rounds) → Fits rounds → Lasts (record { made = shard.made; settings = s; state = record { rounds = rounds; table = shard.state.table } })
-    stays_lasts rounds f =
+    stays_lasts : (rounds : Rounds) (ms : Messages) → Fits rounds → StateLasts (sent (with_rounds state rounds) ms)
+    stays_lasts rounds ms f =
         record {
-          made_within = k.made_within;
-          slot_fits = let e = f.core_fits.same_slot in omega arith;
-          sets_fit = f.core_fits.state_fits;
-          fast_fits = f.fast_fits;
-          fast_as_new = λ e. f.same_fast e ∙ k.fast_as_new e;
-          reads_fit = subst (λ (t : ReadTracker). ReadsFit t shard.state.table) (sym f.core_fits.same_tracker) k.reads_fit;
+          lasts =
+              record {
+                made_within = k.made_within;
+                slot_fits = let e = f.core_fits.same_slot in omega arith;
+                sets_fit = f.core_fits.state_fits;
+                fast_fits = f.fast_fits;
+                fast_as_new = λ e. f.same_fast e ∙ k.fast_as_new e;
+                reads_fit = subst (λ (t : ReadTracker). ReadsFit t state.table) (sym f.core_fits.same_tracker) k.reads_fit;
+              };
+          cleared = tt;
+          slot_moves = f.core_fits.same_slot;
+          of_own_slot = tt;
+          served_rising = omega arith;
         }
 
     -- with other reads
     reads_last : (tracker : ReadTracker) (table : ReadTable) → ReadsFit tracker table
-        → Lasts (with_state shard (record { rounds = record { core = with_tracker tracker shard.state.rounds.core; fast = shard.state.rounds.fast }; table = table }))
+        → Lasts (with_state shard (record { rounds = track tracker state.rounds; table = table }))
     reads_last tracker table f =
         record { made_within = k.made_within; slot_fits = k.slot_fits; sets_fit = k.sets_fit; fast_fits = k.fast_fits; fast_as_new = k.fast_as_new; reads_fit = f }
 
-    commit_lasts : (v : ℕ) (rounds : Rounds) (ms : Messages) → Fits rounds → CallLasts shard (committed shard asked v rounds ms)
+    commit_lasts : (v : ℕ) (rounds : Rounds) (ms : Messages) → Fits rounds → StateLasts (committed state asked v rounds ms)
     unfolding committed commit_slot
     commit_lasts v rounds ms f =
         record {
@@ -441,63 +449,54 @@ module _ (choose : Choice) (shard : Shard) (k : Lasts shard) where
                 sets_fit = new_sets_fit s shard.made (λ e. leader_below s limits);
                 fast_fits = of-both FastFits (has_fast_path s.mode) no_answers_fit f.fast_fits;
                 fast_as_new = λ e. cleared (has_fast_path s.mode) (λ d. d);
-                reads_fit = commit_reads_fit rounds.core.tracker shard.state.table (quorums_of s).majority _ (low_majority s limits) reads;
+                reads_fit = commit_reads_fit rounds.core.tracker state.table (quorums_of s).majority _ (low_majority s limits) reads;
               };
           cleared = record { paxos_new = refl; fast_new = cleared (has_fast_path s.mode) (λ d. d); on_fast_path_lem = refl };
-          same_settings = refl;
           slot_moves = let e = f.core_fits.same_slot in let n = increment_next rounds.core.slot (omega arith) in omega arith;
           of_own_slot = f.core_fits.same_slot;
           served_rising =
-              subst (λ (t : ReadTracker). Rising 0 (served_ids (served_by (committed shard asked v rounds ms))) t.next_id) f.core_fits.same_tracker
-              (commit_slot_in_order rounds.core.tracker shard.state.table (quorums_of s).majority _ reads.in_order).1;
+              subst (λ (t : ReadTracker). Rising 0 (served_ids (served_by (in_shard shard (committed state asked v rounds ms)))) t.next_id) f.core_fits.same_tracker
+              (commit_slot_in_order rounds.core.tracker state.table (quorums_of s).majority _ reads.in_order).1;
         }
       where
-        reads : ReadsFit rounds.core.tracker shard.state.table
-        reads = subst (λ (t : ReadTracker). ReadsFit t shard.state.table) (sym f.core_fits.same_tracker) k.reads_fit
+        reads : ReadsFit rounds.core.tracker state.table
+        reads = subst (λ (t : ReadTracker). ReadsFit t state.table) (sym f.core_fits.same_tracker) k.reads_fit
 
         cleared : (t : Bool) → (t ≡ false → has_fast_path s.mode ≡ false) → cond t no_answers rounds.fast ≡ no_answers
         cleared true e = refl
         cleared false e = f.same_fast (e refl) ∙ k.fast_as_new (e refl)
 
-    finish_lasts : (held : Bool) (r : Result RoundsStep Refusal) → IfOk r (λ step. Fits step.state) → CallLasts shard (finish shard asked held r)
-    finish_lasts held (Err why) f = same_lasts _ refl refl
+    finish_lasts : (held : Bool) (r : Result RoundsStep Refusal) → IfOk r (λ step. Fits step.state) → StateLasts (finish state asked held r)
+    finish_lasts held (Err why) f = same_lasts _ _
     finish_lasts held (Ok step) f = go step.next
       where
-        go : (n : Next) → CallLasts shard (finish_at shard asked held step.state step.messages n)
-        go Stays = record { lasts = stays_lasts step.state f; cleared = tt; same_settings = refl; slot_moves = f.core_fits.same_slot; of_own_slot = tt; served_rising = omega arith }
-        go Continues = record { lasts = stays_lasts step.state f; cleared = tt; same_settings = refl; slot_moves = f.core_fits.same_slot; of_own_slot = tt; served_rising = omega arith }
-        go (Commits v) = of-both (CallLasts shard) held (commit_lasts v step.state step.messages f) (same_lasts _ refl refl)
+        go : (n : Next) → StateLasts (finish_at state asked held step.state step.messages n)
+        go Stays = stays_lasts step.state step.messages f
+        go Continues = stays_lasts step.state step.messages f
+        go (Commits v) = of-both StateLasts held (commit_lasts v step.state step.messages f) (same_lasts _ _)
 
-    slot_stays : (r : Result RoundsStep Refusal) → IfOk r (λ step. Fits step.state) → IfOk r (λ step. step.state.core.slot ≡ shard.state.rounds.core.slot)
+    slot_stays : (r : Result RoundsStep Refusal) → IfOk r (λ step. Fits step.state) → IfOk r (λ step. step.state.core.slot ≡ state.rounds.core.slot)
     slot_stays r = IfOk-weaker r (λ step. Fits step.state) _ (λ step f. f.core_fits.same_slot)
 
-    pub proposed_fits : (v : ℕ) → IfOk (proposing asked v shard.state.rounds) (λ step. Fits step.state)
+    pub proposed_fits : (v : ℕ) → IfOk (proposing asked v state.rounds) (λ step. Fits step.state)
     proposed_fits v =
-        proposing_fits (CountedIn s) (LeadsIn shard.made) asked own_counts own_small shard.state.rounds.core
-        (λ core t. (let g = proposal_group s core t in omega arith, λ e. proposal_leader s limits core)) v shard.state.rounds k.fast_fits as_it_is
+        proposing_fits (CountedIn s) (LeadsIn shard.made) asked own_counts own_small state.rounds.core
+        (λ core t. (let g = proposal_group s core t in omega arith, λ e. proposal_leader s limits core)) v state.rounds k.fast_fits as_it_is
 
-    pub proposed_slot : (v : ℕ) → IfOk (proposing asked v shard.state.rounds) (λ step. step.state.core.slot ≡ shard.state.rounds.core.slot)
+    pub proposed_slot : (v : ℕ) → IfOk (proposing asked v state.rounds) (λ step. step.state.core.slot ≡ state.rounds.core.slot)
     proposed_slot v = slot_stays _ (proposed_fits v)
 
-    propose_lasts : (v : ℕ) → CallLasts shard (propose shard v)
-    unfolding propose
-    propose_lasts v = of-both (CallLasts shard) (is_number v) (finish_lasts true (proposing asked v shard.state.rounds) (proposed_fits v)) (same_lasts _ refl refl)
-
-    read_lasts : (tag arrival : ℕ) → CallLasts shard (read shard tag arrival)
-    unfolding read start_read
+    read_lasts : (tag arrival : ℕ) → StateLasts (start_read state asked tag arrival)
+    unfolding start_read
     read_lasts tag arrival =
-        of-both (CallLasts shard) (is_number tag && is_slot arrival)
-        (go (read_inserted shard tag arrival)
-        (insert_reads_fit shard.state.rounds.core.tracker shard.state.table tag arrival (not (is_some shard.state.rounds.core.paxos.max_rv)) k.reads_fit))
-        (same_lasts _ refl refl)
+        go (read_inserted state tag arrival) (insert_reads_fit state.rounds.core.tracker state.table tag arrival (not (is_some state.rounds.core.paxos.max_rv)) k.reads_fit)
       where
-        go : (r : Result Inserted Refusal) → IfOk r (λ ins. ReadsFit ins.tracker ins.table) → CallLasts shard (after_insert shard r)
-        go (Err why) f = same_lasts _ refl refl
+        go : (r : Result Inserted Refusal) → IfOk r (λ ins. ReadsFit ins.tracker ins.table) → StateLasts (after_insert state asked r)
+        go (Err why) f = same_lasts _ _
         go (Ok ins) f =
             record {
               lasts = reads_last ins.tracker ins.table f;
               cleared = tt;
-              same_settings = refl;
               slot_moves = refl;
               of_own_slot = tt;
               served_rising = omega arith;
@@ -507,67 +506,58 @@ module _ (choose : Choice) (shard : Shard) (k : Lasts shard) where
       source : d.message.src < s.process_count
       source = ltb-true d.message.src s.process_count (source_below s.process_count d processes).0
 
-      source_counts : T (source_taken asked (heard_of s d)) → CountedIn s d.message.src
+      abbrev heard : Heard
+      heard = heard_of s d
+
+      source_counts : T (source_taken asked heard) → CountedIn s d.message.src
       source_counts t = (source, λ e. live (or_cases (is_live_replica s d.message.src) (is_swift_paxos s.mode) (is_true (is_live_replica s d.message.src || is_swift_paxos s.mode) t)) e)
         where
           live : (is_live_replica s d.message.src ≡ true) ⊎ (is_swift_paxos s.mode ≡ true) → is_swift_paxos s.mode ≡ false → is_live_replica s d.message.src ≡ true
           live (inl h) e = h
           live (inr h) e = absurd (not_both h e)
 
-      pub message_processed_fits : IfOk (processed choose asked (heard_of s d) d.message.msg shard.state.rounds) (λ step. Fits step.state)
+      pub message_processed_fits : IfOk (processed choose asked heard d.message.msg state.rounds) (λ step. Fits step.state)
       message_processed_fits =
           let few = few_processes s limits in let l = source in
-          processed_fits (CountedIn s) (LeadsIn shard.made) asked own_counts own_small shard.state.rounds.core choose (heard_of s d) (omega arith) source_counts d.message.msg
-          (message_fits (LeadsIn shard.made) s.process_count few (λ p below e. omega arith) d.message.msg (message_numbers d numbers) (source_below s.process_count d processes).1) shard.state.rounds k.fast_fits as_it_is
+          processed_fits (CountedIn s) (LeadsIn shard.made) asked own_counts own_small state.rounds.core choose heard (omega arith) source_counts d.message.msg
+          (message_fits (LeadsIn shard.made) s.process_count few (λ p below e. omega arith) d.message.msg (message_numbers d numbers) (source_below s.process_count d processes).1) state.rounds k.fast_fits as_it_is
 
-      pub processed_slot : IfOk (processed choose asked (heard_of s d) d.message.msg shard.state.rounds) (λ step. step.state.core.slot ≡ shard.state.rounds.core.slot)
+      pub processed_slot : IfOk (processed choose asked heard d.message.msg state.rounds) (λ step. step.state.core.slot ≡ state.rounds.core.slot)
       processed_slot = slot_stays _ message_processed_fits
 
-      process_lasts : CallLasts shard (process_message choose shard d)
+      process_lasts : StateLasts (process_message choose state asked heard d)
       unfolding process_message
-      process_lasts = finish_lasts d.said.value_held (processed choose asked (heard_of s d) d.message.msg shard.state.rounds) message_processed_fits
+      process_lasts = finish_lasts d.said.value_held (processed choose asked heard d.message.msg state.rounds) message_processed_fits
 
-      handle_lasts : (m : ConsensusMsg) → CallLasts shard (handle choose shard d m)
+      handle_lasts : (m : ConsensusMsg) → StateLasts (handle choose state asked heard d m)
       unfolding handle on_commit on_read_request on_read_response
       handle_lasts (Prepare slot round rv) = process_lasts
       handle_lasts (Accept slot round v) = process_lasts
       handle_lasts (ForwardRequest v) = process_lasts
       handle_lasts (Commit slot v) =
-          of-both (CallLasts shard) (ltb slot shard.state.rounds.core.slot) (same_lasts _ refl refl)
-          (commit_lasts v shard.state.rounds _ (record { core_fits = as_it_is; fast_fits = k.fast_fits; same_fast = λ e. refl }))
-      handle_lasts (ReadRequest id) = of-both (CallLasts shard) (eqb d.message.src s.my_pid) (same_lasts _ refl refl) (same_lasts _ refl refl)
+          of-both StateLasts (ltb slot state.rounds.core.slot) (same_lasts _ _)
+          (commit_lasts v state.rounds _ (record { core_fits = as_it_is; fast_fits = k.fast_fits; same_fast = λ e. refl }))
+      handle_lasts (ReadRequest id) = of-both StateLasts (eqb d.message.src s.my_pid) (same_lasts _ _) (same_lasts _ _)
       handle_lasts (ReadResponse id next) =
           record {
             lasts =
                 reads_last _ _
-                (ready_reads_fit shard.state.rounds.core.tracker shard.state.table id (quorums_of s).majority shard.state.rounds.core.slot d.said.fast (low_majority s limits) k.reads_fit);
+                (ready_reads_fit state.rounds.core.tracker state.table id (quorums_of s).majority state.rounds.core.slot d.said.fast (low_majority s limits) k.reads_fit);
             cleared = tt;
-            same_settings = refl;
             slot_moves = refl;
             of_own_slot = tt;
             served_rising =
-                (receive_ready_in_order shard.state.rounds.core.tracker shard.state.table id (quorums_of s).majority shard.state.rounds.core.slot d.said.fast k.reads_fit.in_order).1;
+                (receive_ready_in_order state.rounds.core.tracker state.table id (quorums_of s).majority state.rounds.core.slot d.said.fast k.reads_fit.in_order).1;
           }
 
-    dispatch_lasts : (c : Call) → CallLasts shard (dispatch choose shard c)
-    unfolding dispatch receive
-    dispatch_lasts (Propose v) = propose_lasts v
-    dispatch_lasts (StartRead tag arrival) = read_lasts tag arrival
-    dispatch_lasts (Receive d) = go (admit s.process_count s.my_pid shard.state.rounds.core d) refl
-      where
-        go : (o : Outcome) → admit s.process_count s.my_pid shard.state.rounds.core d ≡ o → CallLasts shard (admitted choose shard d o)
-        go (Ok tt) e = let n = numbers_of s.process_count s.my_pid shard.state.rounds.core d e in handle_lasts d n.0 n.1 d.message.msg
-        go (Err why) e = same_lasts _ refl refl
+    handled_lasts : (c : Call) → admission shard c ≡ Ok tt → CallLasts shard (handled choose shard c)
+    unfolding admission_of handle_call
+    handled_lasts (Propose v) e = finish_lasts true (proposing asked v state.rounds) (proposed_fits v)
+    handled_lasts (StartRead tag arrival) e = read_lasts tag arrival
+    handled_lasts (Receive d) e = let n = numbers_of s.process_count s.my_pid state.rounds.core d e in handle_lasts d n.0 n.1 d.message.msg
 
   pub call_lasts : (c : Call) → CallLasts shard (call_with choose shard c)
-  unfolding call_with unless_spent
-  call_lasts c = go shard.made refl
-    where
-      go : (o : Outcome) → shard.made ≡ o → CallLasts shard (if_made choose shard c o)
-      go (Ok tt) e =
-          by_test (CallLasts shard) (leb 9223372036854775807 shard.state.rounds.core.slot) _ _ (λ t. same_lasts _ refl refl)
-          (λ t. dispatch_lasts (k.made_within e) (nleb→lt 9223372036854775807 shard.state.rounds.core.slot t) c)
-      go (Err why) e = same_lasts _ refl refl
+  call_lasts c = by_decision choose shard (CallLasts shard) c (λ why. same_lasts _ _) (λ made room e. handled_lasts (k.made_within made) room c e)
 
 -- ---- sums and differences
 
@@ -691,7 +681,7 @@ call_keeps choose s shards k c =
       lasting = λ j. of-both Lasts (eqb j c.member) left.lasts (k.lasting j);
       settings_stay = λ j.
           by_test (λ (x : Shard). x.settings ≡ member_settings s j) (eqb j c.member) (call_with choose (shards c.member) c.call).shard (shards j)
-          (λ t. subst (λ (i : ℕ). (call_with choose (shards c.member) c.call).shard.settings ≡ member_settings s i) (sym (eqb→eq j c.member t)) (left.same_settings ∙ k.settings_stay c.member))
+          (λ t. subst (λ (i : ℕ). (call_with choose (shards c.member) c.call).shard.settings ≡ member_settings s i) (sym (eqb→eq j c.member t)) (settings_kept choose (shards c.member) c.call ∙ k.settings_stay c.member))
           (λ t. k.settings_stay j);
     }
   where

@@ -27,11 +27,13 @@ use Rattle.steps.specs.declared.Rounds.{Rounds}
 use Rattle.delivery.specs.declared.Delivery.{Delivery}
 use Rattle.calls.specs.Asked.{asked_of, heard_of}
 use Rattle.calls.specs.declared.Call.{Call}
+use Rattle.calls.specs.declared.Reply.{Reply}
 use Rattle.consensus.specs.Answers.{committed, finish_at, finish}
-use Rattle.consensus.specs.Call.{proposing, call_with}
-use Rattle.consensus.specs.Handle.{on_commit, on_read_request, on_read_response, processed, process_message, handle}
-use Rattle.consensus.specs.declared.Answer.{Answer}
+use Rattle.consensus.specs.Call.{call_with}
+use Rattle.consensus.specs.Handle.{proposing, on_commit, on_read_request, on_read_response, processed, process_message, handle}
 use Rattle.consensus.specs.declared.Shard.{Shard}
+use Rattle.consensus.specs.declared.State.{State}
+use Rattle.consensus.specs.declared.StateAnswer.{StateAnswer}
 use Rattle.basics.specs.Lists.{In}
 use Rattle.basics.proofs.Tests.{of-both}
 use Rattle.agreement.proofs.Tests.{by_test, neqb→ne}
@@ -136,18 +138,38 @@ module _ (a : Asked) where
 
 -- ---- calls
 
-abbrev CallSends : ℕ → Answer → Type 0
-CallSends own r = TwoAtMost (FromOwn own) r.reply.messages
+abbrev CallSends : ℕ → Reply → Type 0
+CallSends own reply = TwoAtMost (FromOwn own) reply.messages
 
-finish_sends : (own : ℕ) (shard : Shard) (a : Asked) (held : Bool) (r : Result RoundsStep Refusal) → IfOk r (RoundsEnd own) → CallSends own (finish shard a held r)
-unfolding committed
-finish_sends own shard a held (Err why) q = (tt, tt)
-finish_sends own shard a held (Ok step) q = go step.next q
-  where
-    go : (n : Next) → Ends (FromOwn own) step.messages step.state.core.paxos.max_rv n → CallSends own (finish_at shard a held step.state step.messages n)
-    go Stays q = q.0
-    go Continues q = absurd q
-    go (Commits v) q = of-both (CallSends own) held q.0 (tt, tt)
+module _ (state : State) (a : Asked) where
+  abbrev Sent : Reply → Type 0
+  Sent = CallSends a.member.my_pid
+
+  finish_sends : (held : Bool) (r : Result RoundsStep Refusal) → IfOk r (RoundsEnd a.member.my_pid) → Sent (finish state a held r).reply
+  unfolding committed
+  finish_sends held (Err why) q = (tt, tt)
+  finish_sends held (Ok step) q = go step.next q
+    where
+      go : (n : Next) → Ends (FromOwn a.member.my_pid) step.messages step.state.core.paxos.max_rv n → Sent (finish_at state a held step.state step.messages n).reply
+      go Stays q = q.0
+      go Continues q = absurd q
+      go (Commits v) q = of-both (λ (r : StateAnswer). Sent r.reply) held q.0 (tt, tt)
+
+  module _ (choose : Choice) (h : Heard) (d : Delivery) where
+    process_sends : Sent (process_message choose state a h d).reply
+    unfolding process_message
+    process_sends = finish_sends d.said.value_held (processed choose a h d.message.msg state.rounds) (processed_ends a choose h d.message.msg state.rounds)
+
+    handle_sends : (m : ConsensusMsg) → Sent (handle choose state a h d m).reply
+    unfolding handle on_commit committed on_read_request on_read_response
+    handle_sends (Prepare slot round rv) = process_sends
+    handle_sends (Accept slot round v) = process_sends
+    handle_sends (ForwardRequest v) = process_sends
+    handle_sends (Commit slot v) = of-both (λ (r : StateAnswer). Sent r.reply) (ltb slot state.rounds.core.slot) (tt, tt) (tt, tt)
+    handle_sends (ReadRequest id) =
+        by_test (λ (r : StateAnswer). Sent r.reply) (eqb d.message.src a.member.my_pid) _ _ (λ t. (tt, tt))
+        (λ t. (record { source = refl; to_others = neqb→ne d.message.src a.member.my_pid t; commit_to_all = tt }, tt))
+    handle_sends (ReadResponse id next) = (tt, tt)
 
 module _ (choose : Choice) (shard : Shard) where
   abbrev number : ℕ
@@ -156,27 +178,11 @@ module _ (choose : Choice) (shard : Shard) where
   abbrev asked : Asked
   asked = asked_of shard.settings
 
-  process_sends : (d : Delivery) → CallSends number (process_message choose shard d)
-  unfolding process_message
-  process_sends d =
-      finish_sends number shard asked d.said.value_held (processed choose asked (heard_of shard.settings d) d.message.msg shard.state.rounds)
-      (processed_ends asked choose (heard_of shard.settings d) d.message.msg shard.state.rounds)
-
-  handle_sends : (d : Delivery) (m : ConsensusMsg) → CallSends number (handle choose shard d m)
-  unfolding handle on_commit committed on_read_request on_read_response
-  handle_sends d (Prepare slot round rv) = process_sends d
-  handle_sends d (Accept slot round v) = process_sends d
-  handle_sends d (ForwardRequest v) = process_sends d
-  handle_sends d (Commit slot v) = of-both (CallSends number) (ltb slot shard.state.rounds.core.slot) (tt, tt) (tt, tt)
-  handle_sends d (ReadRequest id) =
-      by_test (CallSends number) (eqb d.message.src number) _ _ (λ t. (tt, tt)) (λ t. (record { source = refl; to_others = neqb→ne d.message.src number t; commit_to_all = tt }, tt))
-  handle_sends d (ReadResponse id next) = (tt, tt)
-
-  call_sends : (c : Call) → CallSends number (call_with choose shard c)
+  call_sends : (c : Call) → CallSends number (call_with choose shard c).reply
   call_sends =
-      call_holds choose shard (λ c. CallSends number) (λ c why. (tt, tt))
-      (λ v. finish_sends number shard asked true (proposing asked v shard.state.rounds) (proposing_ends asked v shard.state.rounds))
-      (λ tag arrival ins e. (record { source = refl; to_others = tt; commit_to_all = tt }, tt)) (λ d. handle_sends d d.message.msg)
+      call_holds choose shard (λ c r. CallSends number r.reply) (λ c why. (tt, tt)) (λ v. finish_sends shard.state asked true (proposing asked v shard.state.rounds) (proposing_ends asked v shard.state.rounds))
+      (λ tag arrival ins e. (record { source = refl; to_others = tt; commit_to_all = tt }, tt))
+      (λ d. handle_sends shard.state asked choose (heard_of shard.settings d) d d.message.msg)
 
   -- ---- what is claimed
 

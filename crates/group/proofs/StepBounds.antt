@@ -38,8 +38,7 @@ use Rattle.steps.specs.declared.ChangeStep.{ChangeStep}
 use Rattle.steps.specs.declared.Core.{Core}
 use Rattle.steps.specs.declared.Heard.{Heard}
 use Rattle.steps.specs.declared.Rounds.{Rounds}
-use Rattle.consensus.specs.Call.{proposing}
-use Rattle.consensus.specs.Handle.{processed}
+use Rattle.consensus.specs.Handle.{proposing, processed}
 use Rattle.agreement.proofs.Tests.{by_test, neqb→ne}
 use Rattle.group.proofs.View.{LeaderIn}
 use Rattle.group.proofs.Answering.{FastFits, size_bound, stored, stored_length, ProposerFits}

@@ -11,7 +11,7 @@ ghost use Rattle.group_arrays.specs.GroupColumns.{settings_in, group_of, after_g
 
 use group_register::RegisterSettings;
 use register::{CellNumber, entry_number};
-use register_arrays::{Columns, entry_from_numbers};
+use register_arrays::{Columns, FiguresArray, entry_from_numbers};
 use stored_arrays::StoredColumns;
 
 // A function and no `From`: neither RegisterSettings nor an array of numbers is a type of this crate.
@@ -59,7 +59,7 @@ pub fn apply_group_entry(
 
 // The report at the start of out, or the line `refused,1` or `refused,17` of a register that is not made, zeros after it; and its length.
 #[tactic(auto, unfolding(crate::specs::GroupColumns::group_report_in))]
-pub fn put_group_page(settings: &[u64; 2], figures: &[u64; 5], out: &mut [u8; 116]) -> u64
+pub fn put_group_page(settings: &[u64; 2], figures: &FiguresArray, out: &mut [u8; 116]) -> u64
     ensures { (out.new, result) ≡ group_report_in settings.now figures.now }
 {
     let kept = settings_in(settings);

@@ -4,8 +4,8 @@ use Rattle.std.proofs.Common.{◌≡◌, ◌+◌, ◌<◌, ◌≤◌, refl, ap, 
 use borrow.Author.Tests.{lt-ltb, le-ltb}
 use Rattle.message.specs.declared.Refusal.TheVariants.{NoSuchProcess}
 use Rattle.settings.specs.declared.Settings.{Settings}
+use Rattle.calls.specs.Replies.{refused_reply}
 use Rattle.calls.specs.declared.Call.{Call}
-use Rattle.consensus.specs.Answers.{refused}
 use Rattle.consensus.specs.Call.{call_of}
 use Rattle.consensus.specs.declared.Shard.{Shard}
 use Rattle.group.specs.Claim.{begun}
@@ -27,6 +27,6 @@ pub called_within : (d : Shard) (g : Group) (i : ℕ) (c : Call) → i < 64 → 
 unfolding called
 called_within d g i c h = simp (lt-ltb i 64 h)
 
-pub called_past : (d : Shard) (g : Group) (i : ℕ) (c : Call) → 64 ≤ i → called d g i c ≡ record { group = g; reply = (refused NoSuchProcess d).reply }
+pub called_past : (d : Shard) (g : Group) (i : ℕ) (c : Call) → 64 ≤ i → called d g i c ≡ record { group = g; reply = refused_reply NoSuchProcess }
 unfolding called
 called_past d g i c h = simp (le-ltb i 64 h)

@@ -4,7 +4,7 @@
 use Rattle.std.specs.Prelude.{cond, List, [], ◌∷◌, ℕ, zero, suc, ltb, get_or, set, replicate}
 use Rattle.message.specs.declared.Refusal.TheVariants.{NoSuchProcess}
 use Rattle.settings.specs.declared.Settings.{Settings}
-use Rattle.consensus.specs.Answers.{refused}
+use Rattle.calls.specs.Replies.{refused_reply}
 use Rattle.consensus.specs.Call.{call_of}
 use Rattle.consensus.specs.declared.Answer.{Answer}
 use Rattle.calls.specs.declared.Call.{Call}
@@ -30,7 +30,7 @@ replaced g i a = record { group = record { members = set g.members i a.shard }; 
 
 -- a call on a member; a number above 63 is none, and gives 3
 unfoldable pub called : Shard → Group → ℕ → Call → GroupAnswer
-called d g i c = cond (ltb i 64) (replaced g i (call_of (shard_at d g i) c)) (record { group = g; reply = (refused NoSuchProcess d).reply })
+called d g i c = cond (ltb i 64) (replaced g i (call_of (shard_at d g i) c)) (record { group = g; reply = refused_reply NoSuchProcess })
 
 -- ---- runs of a group
 

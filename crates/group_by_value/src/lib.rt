@@ -5,11 +5,10 @@ ghost use Rattle.std.specs.Prelude.{◌≡◌, ◌<◌};
 ghost use Rattle.group.specs.Claim.{member_settings};
 ghost use Rattle.group_by_value.specs.Group.{new_group, shard_at, called};
 
-use calls::{Call, CommittedSlot, Reply};
+use calls::{Call, Reply};
 use consensus::Shard;
-use message::{Outcome, Refusal};
+use message::Refusal;
 use settings::Settings;
-use steps::{Messages, Outgoing};
 
 #[derive(Clone, Copy)]
 pub struct Group {
@@ -70,16 +69,7 @@ impl Group {
         }
         GroupAnswer {
             group: self,
-            reply: Reply {
-                outcome: Err(Refusal::NoSuchProcess),
-                messages: Messages {
-                    first: None,
-                    second: None,
-                    third: None,
-                },
-                commit: None,
-                served_count: 0,
-            },
+            reply: calls::refused_reply(Refusal::NoSuchProcess),
         }
     }
 }

@@ -52,7 +52,7 @@ impl RegisterSettings {
     pub fn from_slot(slot: u64) -> RegisterSettings
         ensures { result ≡ settings_from slot }
     {
-        if slot > 9223372036854775806 {
+        if slot > message::LARGEST_SLOT {
             return RegisterSettings {
                 number: 1,
                 whole_mhz_from: slot,
@@ -159,7 +159,7 @@ pub fn gives_odd_width(whole_mhz_from: u64, next_slot: u64, entry: CellEntry) ->
     ensures { result ≡ gives_odd_width whole_mhz_from next_slot entry }
 {
     is_odd(whole_mhz_from, entry)
-        && entry.slot <= 9223372036854775806
+        && entry.slot <= message::LARGEST_SLOT
         && next_slot <= entry.slot
         && change_assignable(entry.change)
 }

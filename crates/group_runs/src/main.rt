@@ -13,6 +13,7 @@ use run_checks::{Log, next_random};
 use settings::Settings;
 use std::{fmt, io};
 use steps::Messages;
+use tables::PerProcess;
 
 const RUNS: u64 = 1000;
 
@@ -35,8 +36,8 @@ struct Counts {
     calls: u64,
     commits: u64,
     failed: u64,
-    refusals: [u64; 64],
-    on_answers: [u64; 64],
+    refusals: PerProcess,
+    on_answers: PerProcess,
     otherwise: u64,
 }
 
@@ -77,14 +78,14 @@ fn remainder(x: u64, n: u64) -> u64 {
 }
 
 // One more in the place n of a table, where it has that place.
-fn count_in(table: &mut [u64; 64], n: u64) {
+fn count_in(table: &mut PerProcess, n: u64) {
     if let Some(count) = table.get_mut(n as usize) {
         *count = count.saturating_add(1);
     }
 }
 
 // A number below n for each process, from the generator.
-fn random_table(seed: u64, n: u64) -> [u64; 64] {
+fn random_table(seed: u64, n: u64) -> PerProcess {
     let mut table = [0; 64];
     let mut x = seed;
     for entry in table.iter_mut() {

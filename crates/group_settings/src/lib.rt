@@ -50,7 +50,7 @@ impl GroupSettings {
         if !settings.within_limits() {
             return Err(Refusal::SettingsOutsideLimits);
         }
-        if self.whole_mhz_from > 9223372036854775806 {
+        if self.whole_mhz_from > message::LARGEST_SLOT {
             return Err(Refusal::SettingsOutsideLimits);
         }
         windows_outcome(&self.windows)

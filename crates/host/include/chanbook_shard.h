@@ -1,6 +1,7 @@
 /* Chanbook's shard engine for a host in C, C++ or Rust. Link libhost.a, libdirect.a and libdirect_fast.a, which
    tools/static_libraries.sh writes to target/staticlib.
-   A host begins a shard with chanbook_shard_new and makes its calls with chanbook_call.
+   A host keeps a shard in a struct of its own, begins it with chanbook_begin and makes its calls with chanbook_call. Both lend the struct to the libraries,
+   part by part, and nothing of it is copied.
 
    Every field is a number. 0 is no and any other number yes: a host tests such a field for 0, never for 1. A field that is not given is 0 where the
    engine writes it.
@@ -202,7 +203,7 @@ struct chanbook_call {
 
 enum { CHANBOOK_NO_MESSAGE = 0, CHANBOOK_TO_ONE = 1, CHANBOOK_TO_ALL = 2 };
 
-/* To the process `to`, or to every other process, with the one that is served first. */
+/* CHANBOOK_TO_ONE: to the process `to`. CHANBOOK_TO_ALL: to every other process, and to the one in `first`, if it is given, before the others. */
 struct chanbook_outgoing {
     uint64_t kind;
     uint64_t to;
@@ -210,6 +211,7 @@ struct chanbook_outgoing {
     struct chanbook_message message;
 };
 
+/* given: whether the call commits; then in which slot, which value, and whether on the fast path. */
 struct chanbook_commit {
     uint64_t given;
     uint64_t slot;
@@ -217,7 +219,7 @@ struct chanbook_commit {
     uint64_t fast;
 };
 
-/* outcome: 0, or the refusal's number. The messages are to be sent in this order. */
+/* outcome: 0, or the refusal's number. The messages are to be sent in this order. served_count: how many reads the call has served. */
 struct chanbook_reply {
     uint64_t outcome;
     struct chanbook_outgoing first;
@@ -227,23 +229,19 @@ struct chanbook_reply {
     uint64_t served_count;
 };
 
-/* A shard after a call, and the call's reply. */
-struct chanbook_answer {
-    struct chanbook_shard shard;
-    struct chanbook_reply reply;
-};
-
-/* A shard as it begins from the settings of its group, of which it keeps the engine's alone. Its `made` is 0; 1 where the settings are outside the
-   limits, more than 128 windows among them; or else 17 where a window has a date or a time that there is not, or an end that is not after its start. */
-struct chanbook_shard chanbook_shard_new(struct chanbook_group_settings group);
-
-/* A call by value. It copies the shard; a host takes chanbook_call below, which changes the shard in place. The tests compare the two. */
-struct chanbook_answer chanbook_shard_call(struct chanbook_shard shard, struct chanbook_call call);
+/* A shard as it begins from the settings of its group, of which it keeps the engine's alone, in rows of numbers that are parts of the shard: `setup` is the
+   shard from its start up to has_committers, `answers` the fast half up to its tables, and `values`, `epaxos` and `swift` are these. Every number of the
+   rows is written, whatever stood there. No row may overlap another.
+   Gives the shard's `made`: 0; 1 where the settings are outside the limits, more than 128 windows among them; or else 17 where a window has a date or a
+   time that there is not, or an end that is not after its start. */
+uint64_t chanbook_shard_new(
+    struct chanbook_group_settings group, uint64_t setup[10], uint64_t committers[64], uint64_t delegates[64], uint64_t core[18],
+    uint64_t answers[5], uint64_t values[64], uint64_t epaxos[64], uint64_t swift[64], uint64_t reads[640], uint64_t served[512]);
 
 enum { CHANBOOK_PASSED_ON = 255 };
 
-/* A call in place, on parts of a shard, of a call and of a reply as rows of numbers: `setup` is the shard from its start up to has_committers,
-   `rest` is the reply's commit and served_count. No row that is written may overlap another.
+/* A call in place, on the same rows of a shard, and on those of a call and of a reply: `rest` is the reply's commit and served_count. No row that is written
+   may overlap another.
    0: the call is taken. Core, reads and reply are written; of a message that is not sent only the kind is written.
    A refusal's number: nothing at all is written.
    CHANBOOK_PASSED_ON: nothing is written, and the call is one of those that chanbook_fast_call takes. */
@@ -252,7 +250,7 @@ uint64_t chanbook_direct_call(
     uint64_t served[512], const uint64_t call[25], uint64_t first[20], uint64_t second[20], uint64_t third[20], uint64_t rest[5]);
 
 /* The same for EPaxos and SwiftPaxos: proposals, Prepare, Accept, ForwardRequest and Commit. The fast half is lent besides, and written where the
-   call is taken: `answers` is the fast half up to its tables, and `values`, `epaxos` and `swift` are these.
+   call is taken.
    CHANBOOK_PASSED_ON: nothing is written, and the call is one of those that chanbook_direct_call takes: a new read, a message of a read or of an
    unknown kind, and all of the other modes. */
 uint64_t chanbook_fast_call(
@@ -264,6 +262,16 @@ uint64_t chanbook_fast_call(
 static inline uint64_t *chanbook_rest(struct chanbook_reply *reply)
 {
     return (uint64_t *)reply + offsetof(struct chanbook_reply, commit) / sizeof(uint64_t);
+}
+
+/* A shard as it begins, in place, whatever stood there; gives its `made`. */
+static inline uint64_t chanbook_begin(struct chanbook_shard *s, struct chanbook_group_settings group)
+{
+    struct chanbook_fast *fast = &s->state.rounds.fast;
+    return chanbook_shard_new(
+        group, (uint64_t *)s, s->settings.committers, s->settings.delegates, (uint64_t *)&s->state.rounds.core, (uint64_t *)fast,
+        fast->fast_proposer_to_v, fast->epaxos_proposer_scores, fast->swift_proposer_scores, (uint64_t *)s->state.table.reads,
+        (uint64_t *)s->state.table.served);
 }
 
 static inline uint64_t chanbook_direct_on(struct chanbook_shard *s, const struct chanbook_call *call, struct chanbook_reply *reply)

@@ -1,2 +1,2 @@
-pub mod Shards
-pub mod Calls
+pub mod Memory
+pub mod Begun

@@ -1,8 +1,7 @@
 -- What a call on the leader's shard does, in a group that is led in its starting round: the engine's call, seen as the model's.
 -- Assumes nothing.
-use Rattle.std.specs.Prelude.{None, Some, Ok, Err}
+use Rattle.std.specs.Prelude.{None, Some, Ok}
 use Rattle.std.proofs.lemmas.Bool.{and_right as right_fails}
-use Rattle.message.specs.Outcomes.{Outcome}
 use mathlib.Core.Path.{◌≡◌, refl, sym, ap, subst, ◌∙◌}
 use mathlib.Core.Logic.{◌⊎◌, inl, inr}
 use mathlib.Core.Bool.{Bool, true, false, cond, not, ◌&&◌}
@@ -30,8 +29,9 @@ use Rattle.fast_state.specs.Adopt.{lowest_best}
 use Rattle.delivery.specs.declared.Delivery.{Delivery}
 use Rattle.calls.specs.declared.Call.{Call}
 use Rattle.calls.specs.declared.Call.TheVariants.{Propose, StartRead, Receive}
-use Rattle.consensus.specs.Answers.{refused}
-use Rattle.consensus.specs.Call.{if_made, call_with, call_of}
+use Rattle.consensus.proofs.Decided.{by_decision}
+use Rattle.consensus.specs.Call.{call_of}
+use Rattle.consensus.specs.FirstCause.{number_alone}
 use Rattle.consensus.specs.declared.Shard.{Shard}
 use Rattle.agreement.specs.Model.{View, Message, prepare, accept, commit, other, Host, undecided, refuse, quiet, on_accept, on_propose, on_message}
 use Rattle.agreement.specs.Model as model
@@ -95,13 +95,10 @@ numbers_within s i limits =
 
 -- a shard that was not made refuses its calls; where one was made, the settings are within the limits
 pub made_or_refused : (s : Settings) (i : ℕ) (shard : Shard) → Valid s i shard → (c : Call)
-    → ((why : Refusal) × (call_of shard c ≡ refused why shard)) ⊎ (within_limits (member_settings s i) ≡ true)
-unfolding call_with
-made_or_refused s i shard valid c = go shard.made refl
-  where
-    go : (o : Outcome) → shard.made ≡ o → ((why : Refusal) × (call_of shard c ≡ refused why shard)) ⊎ (within_limits (member_settings s i) ≡ true)
-    go (Ok tt) e = inr (valid_within s i shard valid e)
-    go (Err why) e = inl (why, ap (if_made lowest_best shard c) e)
+    → ((why : Refusal) × (call_of shard c ≡ number_alone why shard)) ⊎ (within_limits (member_settings s i) ≡ true)
+made_or_refused s i shard valid c =
+    by_decision lowest_best shard (λ r. ((why : Refusal) × (r ≡ number_alone why shard)) ⊎ (within_limits (member_settings s i) ≡ true)) c (λ why. inl (why, refl))
+    (λ made room admitted. inr (valid_within s i shard valid made))
 
 -- ---- a step, seen as the model's
 

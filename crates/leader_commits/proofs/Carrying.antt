@@ -28,6 +28,7 @@ use Rattle.propose.specs.Propose.{proposal_round, may_propose}
 use Rattle.steps.specs.Steps.{CoreStep, no_messages, one_message, held_v, on_rounds}
 use Rattle.steps.specs.declared.Asked.{Asked}
 use Rattle.steps.specs.declared.Core.{Core}
+use Rattle.steps.specs.declared.Heard.{Heard}
 use Rattle.steps.specs.declared.Next.{Next}
 use Rattle.steps.specs.declared.Next.TheVariants.{Stays, Continues, Commits}
 use Rattle.steps.specs.declared.Outgoing.{Outgoing}
@@ -36,11 +37,13 @@ use Rattle.calls.specs.Asked.{asked_of, heard_of}
 use Rattle.calls.specs.declared.Call.{Call}
 use Rattle.calls.specs.declared.Call.TheVariants.{Propose, StartRead, Receive}
 use Rattle.consensus.specs.Answers.{refused, sent, nothing, committed, finish_at, finish}
-use Rattle.consensus.specs.Call.{proposing, call_of}
-use Rattle.core_calls.specs.CoreCall.{read_answer}
-use Rattle.consensus.specs.Handle.{on_commit, on_read_request, on_read_response, processed, process_message, handle}
+use Rattle.calls.specs.Replies.{read_answer}
+use Rattle.consensus.specs.Call.{in_shard, call_of}
+use Rattle.consensus.specs.Handle.{on_commit, on_read_request, on_read_response, proposing, processed, process_message, handle}
 use Rattle.consensus.specs.declared.Answer.{Answer}
 use Rattle.consensus.specs.declared.Shard.{Shard}
+use Rattle.consensus.specs.declared.State.{State}
+use Rattle.consensus.specs.declared.StateAnswer.{StateAnswer}
 use Rattle.fast_state.specs.Adopt.{lowest_best}
 use Rattle.agreement.proofs.Tests.{nor_both, is_true}
 use Rattle.group.proofs.Handlers.{Any, any_holds, TwoAtMost, Ends, ends, Keeps, Comes, processed_holds, proposing_holds, finish_holds, call_holds}
@@ -89,7 +92,6 @@ last_after None last = last
 last_after (Some commit) last = Some commit.v
 
 pub record CallCarries (shard : Shard) (c : Call) (r : Answer) : Type 0 where
-  pub same_made : r.shard.made ≡ shard.made
   pub last_value : r.shard.state.rounds.core.last_v ≡ last_after r.reply.commit shard.state.rounds.core.last_v
   pub accepts : TwoAtMost (Carries shard c) r.reply.messages
 
@@ -109,20 +111,26 @@ module _ (shard : Shard) (multi : is_multi_paxos shard.settings.mode ≡ true) w
   fast_path_lem : T (has_fast_path shard.settings.mode) → ⊥
   fast_path_lem t = subst T (no_fast_path shard.settings.mode multi) t
 
-  refuses_carries : (c : Call) (why : Refusal) → CallCarries shard c (refused why shard)
-  refuses_carries c why = record { same_made = refl; last_value = refl; accepts = (tt, tt) }
+  abbrev state : State
+  state = shard.state
+
+  abbrev Left : Call → StateAnswer → Type 0
+  Left c r = CallCarries shard c (in_shard shard r)
+
+  refuses_carries : (c : Call) (why : Refusal) → Left c (refused why state)
+  refuses_carries c why = record { last_value = refl; accepts = (tt, tt) }
 
   -- the same core, and messages that carry what they should
   finish_carries : (c : Call) (held : Bool) (step : CoreStep) → SameCore core.slot core.last_v (AskedFor shard c) step.state
-      → Ends (Carries shard c) step.messages step.state.paxos.max_rv step.next → CallCarries shard c (finish shard asked held (Ok (on_rounds shard.state.rounds.fast step)))
+      → Ends (Carries shard c) step.messages step.state.paxos.max_rv step.next → Left c (finish state asked held (Ok (on_rounds state.rounds.fast step)))
   unfolding committed commit_slot
   finish_carries c held step k q = go step.next held q
     where
       go : (n : Next) (held : Bool) → Ends (Carries shard c) step.messages step.state.paxos.max_rv n
-          → CallCarries shard c (finish_at shard asked held (on_rounds shard.state.rounds.fast step).state step.messages n)
-      go Stays held q = record { same_made = refl; last_value = k.1; accepts = q.0 }
+          → Left c (finish_at state asked held (on_rounds state.rounds.fast step).state step.messages n)
+      go Stays held q = record { last_value = k.1; accepts = q.0 }
       go Continues held q = absurd q
-      go (Commits v) true q = record { same_made = refl; last_value = refl; accepts = q.0 }
+      go (Commits v) true q = record { last_value = refl; accepts = q.0 }
       go (Commits v) false q = refuses_carries c ValueNotHeld
 
   -- no Prepare is asked, and what is proposed is the call's
@@ -160,21 +168,21 @@ module _ (shard : Shard) (multi : is_multi_paxos shard.settings.mode ≡ true) w
         propose_accept_lem = λ v d t p k. (k.0, k.1, subst (λ (x : Call). AskedFor shard x (proposal_round asked d) v) (sym p) (starts d t, refl));
       }
 
-  proposal_carries : (v : ℕ) → CallCarries shard (Propose v) (finish shard asked true (proposing asked v shard.state.rounds))
+  proposal_carries : (v : ℕ) → Left (Propose v) (finish state asked true (proposing asked v state.rounds))
   proposal_carries v =
-      finish_holds (CallCarries shard (Propose v)) shard asked true (proposing asked v shard.state.rounds) (refuses_carries (Propose v))
+      finish_holds (Left (Propose v)) state asked true (proposing asked v state.rounds) (refuses_carries (Propose v))
       (proposing_holds asked Any Any (Proposes (Propose v)) (λ round. ⊥) (AskedFor shard (Propose v)) (SameCore core.slot core.last_v (AskedFor shard (Propose v))) (Carries shard (Propose v)) (keeps (Propose v))
-      (λ step. CallCarries shard (Propose v) (finish shard asked true (Ok step))) (λ d t. tt) v refl shard.state.rounds Any tt (any_holds _) (λ step t q. absurd (fast_path_lem t))
+      (λ step. Left (Propose v) (finish state asked true (Ok step))) (λ d t. tt) v refl state.rounds Any tt (any_holds _) (λ step t q. absurd (fast_path_lem t))
       (λ step t q. finish_carries (Propose v) true step q.0 (ends (Carries shard (Propose v)) _ _ step.next q.1)) (refl, refl))
 
   module _ (d : Delivery) (no_prepare : NoPrepare (Receive d)) where
-    abbrev Left : Answer → Type 0
-    Left r = CallCarries shard (Receive d) r
+    abbrev heard : Heard
+    heard = heard_of shard.settings d
 
     -- an Accept is handled where it is not older
     comes : (m : ConsensusMsg) → d.message.msg ≡ m
         → Comes asked Any Any (Proposes (Receive d)) (λ round. ⊥) (AskedFor shard (Receive d)) (SameCore core.slot core.last_v (AskedFor shard (Receive d))) (Carries shard (Receive d)) (keeps (Receive d))
-        (heard_of shard.settings d) (λ t. tt) core m
+        heard (λ t. tt) core m
     unfolding is_older
     comes (Prepare slot round rv) e = absurd (no_prepare slot round rv e)
     comes (Accept slot round v) e =
@@ -184,31 +192,31 @@ module _ (shard : Shard) (multi : is_multi_paxos shard.settings.mode ≡ true) w
     comes (ReadRequest id) e = tt
     comes (ReadResponse id next) e = tt
 
-    process_carries : Left (process_message lowest_best shard d)
+    process_carries : Left (Receive d) (process_message lowest_best state asked heard d)
     unfolding process_message
     process_carries =
-        finish_holds Left shard asked d.said.value_held (processed lowest_best asked (heard_of shard.settings d) d.message.msg shard.state.rounds) (refuses_carries (Receive d))
+        finish_holds (Left (Receive d)) state asked d.said.value_held (processed lowest_best asked heard d.message.msg state.rounds) (refuses_carries (Receive d))
         (processed_holds asked Any Any (Proposes (Receive d)) (λ round. ⊥) (AskedFor shard (Receive d)) (SameCore core.slot core.last_v (AskedFor shard (Receive d))) (Carries shard (Receive d)) (keeps (Receive d))
-        (heard_of shard.settings d) (λ t. tt) (λ step. Left (finish shard asked d.said.value_held (Ok step))) lowest_best shard.state.rounds Any tt (λ p v w. any_holds _) (λ p v l w. any_holds _)
+        heard (λ t. tt) (λ step. Left (Receive d) (finish state asked d.said.value_held (Ok step))) lowest_best state.rounds Any tt (λ p v w. any_holds _) (λ p v l w. any_holds _)
         (λ step t q. absurd (fast_path_lem t)) (λ step t q. finish_carries (Receive d) d.said.value_held step q.0 q.1) d.message.msg (comes d.message.msg refl) (refl, refl))
 
-    handle_carries : (m : ConsensusMsg) → Left (handle lowest_best shard d m)
+    handle_carries : (m : ConsensusMsg) → Left (Receive d) (handle lowest_best state asked heard d m)
     unfolding handle on_commit committed commit_slot on_read_request on_read_response
     handle_carries (Prepare slot round rv) = process_carries
     handle_carries (Accept slot round v) = process_carries
     handle_carries (ForwardRequest v) = process_carries
     handle_carries (Commit slot v) =
-        of-both Left (ltb slot core.slot) {x = nothing shard} {y = committed shard asked v shard.state.rounds no_messages}
-        (record { same_made = refl; last_value = refl; accepts = (tt, tt) })
-        (record { same_made = refl; last_value = refl; accepts = (tt, tt) })
+        of-both (Left (Receive d)) (ltb slot core.slot) {x = nothing state} {y = committed state asked v state.rounds no_messages}
+        (record { last_value = refl; accepts = (tt, tt) })
+        (record { last_value = refl; accepts = (tt, tt) })
     handle_carries (ReadRequest id) =
-        of-both Left (eqb d.message.src shard.settings.my_pid) {x = refused Panic shard}
-        {y = sent shard (one_message (read_answer shard.settings.my_pid d.message.src id core))}
+        of-both (Left (Receive d)) (eqb d.message.src shard.settings.my_pid) {x = refused Panic state}
+        {y = sent state (one_message (read_answer shard.settings.my_pid d.message.src id core))}
         (refuses_carries (Receive d) Panic)
-        (record { same_made = refl; last_value = refl; accepts = (tt, tt) })
-    handle_carries (ReadResponse id next) = record { same_made = refl; last_value = refl; accepts = (tt, tt) }
+        (record { last_value = refl; accepts = (tt, tt) })
+    handle_carries (ReadResponse id next) = record { last_value = refl; accepts = (tt, tt) }
 
   pub call_carries : (c : Call) → NoPrepare c → CallCarries shard c (call_of shard c)
   call_carries =
       call_holds lowest_best shard (λ c r. NoPrepare c → CallCarries shard c r) (λ c why none. refuses_carries c why) (λ v none. proposal_carries v)
-      (λ tag arrival ins e none. record { same_made = refl; last_value = refl; accepts = (tt, tt) }) (λ d none. handle_carries d none d.message.msg)
+      (λ tag arrival ins e none. record { last_value = refl; accepts = (tt, tt) }) (λ d none. handle_carries d none d.message.msg)

@@ -31,7 +31,7 @@ use Rattle.consensus.specs.FirstCause.{any_above, any_from, too_large, given_num
 use Rattle.consensus.specs.Panics.{Facts, fits_held, leads, accept_panics}
 use Rattle.consensus.specs.Rows.{Row, then, first_of}
 use Rattle.consensus.specs.declared.Shard.{Shard}
-use Rattle.state_calls.specs.declared.State.{State}
+use Rattle.consensus.specs.declared.State.{State}
 use Rattle.group.specs.Claim.{member_settings}
 use Rattle.leader_commits.specs.Answers.{requesters_in, host_causes}
 

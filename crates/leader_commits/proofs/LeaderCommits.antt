@@ -20,7 +20,7 @@ use Rattle.settings.specs.declared.Settings.{Settings}
 use Rattle.calls.specs.Commits.{committed_slot}
 use Rattle.calls.specs.declared.Call.{Call}
 use Rattle.calls.specs.declared.Call.TheVariants.{Propose, StartRead, Receive}
-use Rattle.consensus.specs.Answers.{refused}
+use Rattle.consensus.specs.FirstCause.{number_alone}
 use Rattle.consensus.specs.Call.{call_of}
 use Rattle.consensus.specs.declared.Answer.{Answer}
 use Rattle.agreement.specs.Model.{undecided, decided}
@@ -140,7 +140,7 @@ module _ (s : Settings) (terms : Terms s) (cs : List MemberCall) (legal : Legal 
       follows : Follows s terms P
       follows shards past k c stands done = go (made_or_refused s c.member (shards c.member) (k.valid c.member) c.call)
         where
-          go : ((why : Refusal) × (call_of (shards c.member) c.call ≡ refused why (shards c.member))) ⊎ (within_limits (member_settings s c.member) ≡ true) → Numbers s
+          go : ((why : Refusal) × (call_of (shards c.member) c.call ≡ number_alone why (shards c.member))) ⊎ (within_limits (member_settings s c.member) ≡ true) → Numbers s
           go (inl (why, e)) = absurd (not_both done (ap (λ (r : Answer). is_done r.reply.outcome) e))
           go (inr limits) = numbers_within s c.member limits
 

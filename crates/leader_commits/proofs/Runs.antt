@@ -27,7 +27,8 @@ use Rattle.steps.specs.declared.Outgoing.{Outgoing}
 use Rattle.delivery.specs.declared.Delivery.{Delivery}
 use Rattle.calls.specs.declared.Call.{Call}
 use Rattle.calls.specs.declared.Call.TheVariants.{Propose, StartRead, Receive}
-use Rattle.consensus.specs.Answers.{refused}
+use Rattle.consensus.proofs.Decided.{mark_kept}
+use Rattle.consensus.specs.FirstCause.{number_alone}
 use Rattle.consensus.specs.Call.{new_shard, call_of}
 use Rattle.consensus.specs.declared.Shard.{Shard}
 use Rattle.agreement.specs.Model.{View}
@@ -163,13 +164,13 @@ module _ (s : Settings) (terms : Terms s) where
     abbrev step : Step
     step = step_of shards c
 
-    refused_seen : (why : Refusal) → call_of old c.call ≡ refused why old → seen_in step ≡ model.refuse (view_before step)
+    refused_seen : (why : Refusal) → call_of old c.call ≡ number_alone why old → seen_in step ≡ model.refuse (view_before step)
     refused_seen why e = ap seen_answer e
 
     kept : Kept start l i (seen_in step)
     kept = go (made_or_refused s i old (k.valid i) c.call)
       where
-        go : ((why : Refusal) × (call_of old c.call ≡ refused why old)) ⊎ (within_limits (member_settings s i) ≡ true) → Kept start l i (seen_in step)
+        go : ((why : Refusal) × (call_of old c.call ≡ number_alone why old)) ⊎ (within_limits (member_settings s i) ≡ true) → Kept start l i (seen_in step)
         go (inl (why, e)) = subst (Kept start l i) (sym (refused_seen why e)) (record { in_round_lem = k.in_round_lem i; sends = tt })
         go (inr limits) =
             as_model_kept (setup_of s) l (led_setup s terms.multi_paxos terms.no_committer (numbers_within s i limits).leader_small) i (view_shard old)
@@ -186,7 +187,7 @@ module _ (s : Settings) (terms : Terms s) where
             no_commit_to_leader (entries_of past) k.sent d slot v commit
             (subst (λ (j : ℕ). WasSent (entries_of past) d.message j) own (subst (MayStand (entries_of past) i) is stands))
 
-        go : ((why : Refusal) × (call_of old c.call ≡ refused why old)) ⊎ (within_limits (member_settings s i) ≡ true) → Does s step
+        go : ((why : Refusal) × (call_of old c.call ≡ number_alone why old)) ⊎ (within_limits (member_settings s i) ≡ true) → Does s step
         go (inl (why, e)) = when_refused s step (refused_seen why e)
         go (inr limits) =
             leader_does s terms.multi_paxos terms.no_committer terms.live_leader (numbers_within s i limits) step (k.in_round_lem i)
@@ -268,7 +269,7 @@ module _ (s : Settings) (terms : Terms s) where
           leading = go (either (eqb l i));
           made = λ j.
               by_test (λ (x : Shard). x.made ≡ (begun s j).made) (eqb j i) (call_of old c.call).shard (shards j)
-              (λ t. carries.same_made ∙ k.made i ∙ ap (λ (m : ℕ). (begun s m).made) (sym (eqb→eq j i t)))
+              (λ t. mark_kept lowest_best old c.call ∙ k.made i ∙ ap (λ (m : ℕ). (begun s m).made) (sym (eqb→eq j i t)))
               (λ t. k.made j);
           last_value = λ j.
               by_test LastOf (eqb j i) (call_of old c.call).shard (shards j) (λ t. last_left)

@@ -4,19 +4,19 @@
 ghost use Rattle.std.specs.Prelude.{◌≡◌};
 ghost use Rattle.limits.specs.Limits.{is_number, is_slot, round_numbers, rv_numbers, msg_numbers, number_given, rv_processes, msg_processes, requester_below};
 
-use message::{ConsensusMsg, PaxosRound, RoundV};
+use message::{ConsensusMsg, LARGEST_NUMBER, LARGEST_SLOT, PaxosRound, RoundV};
 
 pub fn is_number(n: u64) -> bool
     ensures { result ≡ is_number n }
 {
-    n <= 9223372036854775807
+    n <= LARGEST_NUMBER
 }
 
 // The slot after the last one that may be named is spent.
 pub fn is_slot(n: u64) -> bool
     ensures { result ≡ is_slot n }
 {
-    n <= 9223372036854775806
+    n <= LARGEST_SLOT
 }
 
 #[tactic(auto, unfolding(crate::specs::Limits::round_numbers))]

@@ -15,7 +15,7 @@ use Rattle.read_tracker.specs.Reads.{new_table}
 use Rattle.read_tracker.specs.declared.OpenRead.{OpenRead}
 use Rattle.read_tracker.specs.declared.ReadTable.{ReadTable}
 use Rattle.steps.specs.declared.Core.{Core}
-use Rattle.state_calls.specs.declared.State.{State}
+use Rattle.consensus.specs.declared.State.{State}
 use Rattle.line_calls.specs.Calls.{at, optional_value, optional_round, promise_of, read_id}
 
 -- ---- settings

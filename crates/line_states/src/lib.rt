@@ -9,6 +9,7 @@ ghost use Rattle.line_states.specs.Faults.{is_kind, windows_count_at, settings_c
 
 use calendar::Date;
 use call_lines::Fault;
+use consensus::State;
 use fast_state::FastState;
 use group_settings::GroupSettings;
 use line_calls::{number_at, optional, promise, words_place};
@@ -16,8 +17,8 @@ use message::{PFMode, PaxosRound, ReadId, RoundV};
 use read_tracker::{OpenRead, ReadTable, ReadTracker};
 use round_state::PaxosState;
 use settings::Settings;
-use state_calls::State;
 use steps::{Core, Rounds};
+use tables::PerProcess;
 use windows::{Window, Windows};
 
 // A place without a window.
@@ -49,7 +50,7 @@ fn at_most(n: u64, limit: usize) -> usize
 
 // A table whose first count places stand at `at`. The line's numbers end there or sooner, and 0 stands in the rest.
 #[tactic(auto, using(crate::proofs::Tables::table_copied))]
-fn table_at(numbers: &[u64], at: usize, count: usize) -> [u64; 64]
+fn table_at(numbers: &[u64], at: usize, count: usize) -> PerProcess
     ensures { result ≡ table_to numbers.now at count 64 }
 {
     let mut table = [0u64; 64];
@@ -61,7 +62,7 @@ fn table_at(numbers: &[u64], at: usize, count: usize) -> [u64; 64]
 
 // The engine's settings of a line of kind 1 with these tables.
 #[tactic(auto, unfolding(crate::specs::States::settings_with, crate::specs::States::optional_set))]
-fn settings_with(numbers: &[u64], committers: [u64; 64], delegates: [u64; 64]) -> Settings
+fn settings_with(numbers: &[u64], committers: PerProcess, delegates: PerProcess) -> Settings
     ensures { result ≡ settings_with numbers.now committers delegates }
 {
     let quorum = number_at(numbers, 7);
@@ -185,7 +186,7 @@ fn core_at(numbers: &[u64], open_count: u64) -> Core
 // The table of one number of each proposer that the line names: its value, with which 1, or one of its scores, with 2 and 3.
 // A `for` over places and no `chunks_exact(4)`: the numbers of a proposer that the line no longer has are 0, and chunks would leave the proposer out.
 #[tactic(auto, using(crate::proofs::Turns::proposers_next), unfolding(crate::specs::States::proposers_to))]
-fn proposer_table(numbers: &[u64], which: usize) -> [u64; 64]
+fn proposer_table(numbers: &[u64], which: usize) -> PerProcess
     requires { which < 4 }
     ensures { result ≡ proposers_to numbers.now which (min (at numbers.now 20) 64) }
 {

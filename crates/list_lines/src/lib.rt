@@ -130,7 +130,7 @@ fn list_ends(line: &[u8], end: usize) -> bool
 fn above_limits(item: LineItem) -> bool
     ensures { result ≡ above_limits item }
 {
-    item.slot > 9223372036854775806 || item.value > 9223372036854775807
+    item.slot > message::LARGEST_SLOT || item.value > message::LARGEST_NUMBER
 }
 
 // Kind 1 is an assignment, kind 2 a release and kind 3 a position.

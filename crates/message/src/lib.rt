@@ -152,6 +152,11 @@ impl Refused for Refusal {
     }
 }
 
+// The largest number that a call, settings or a register may name, 2^63−1, and the largest slot: the one before it, so that the slot after it is a number still.
+pub const LARGEST_NUMBER: u64 = 9223372036854775807;
+
+pub const LARGEST_SLOT: u64 = 9223372036854775806;
+
 // One more. The largest number has none after it and stays; no number that a call may hold is that large. A function beside the library's, since the
 // contracts above cite its definition.
 #[tactic(auto, unfolding(crate::specs::Rounds::increment))]

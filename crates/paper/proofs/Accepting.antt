@@ -36,12 +36,12 @@ use Rattle.steps.specs.declared.Heard.{Heard}
 use Rattle.steps.specs.declared.Messages.{Messages}
 use Rattle.consensus.specs.Answers.{committed}
 use Rattle.consensus.specs.FirstCause.{is_oneself}
-use Rattle.consensus.specs.declared.Shard.{Shard}
+use Rattle.consensus.specs.declared.State.{State}
 use Rattle.consensus.proofs.Entered.{not_swift}
 use Rattle.consensus.proofs.Handled.{eqb_sym}
 use Rattle.paper.specs.Replica.{Replica, replica_of}
-use Rattle.paper.specs.PaperCall.{Seen, Place, Known, seen, in_places, is_one_of, but, leaves, commits, addressed, learners, is_learner, to_each, served_first, informs, learning, counts, committers_in}
-use Rattle.paper.proofs.Views.{place_in, known_in, seen_after, taken_no, push, Agrees, agrees, through, no_refusal, agree_both, agree_unless, accept_counted}
+use Rattle.paper.specs.PaperCall.{Seen, Place, Known, in_places, is_one_of, but, leaves, commits, addressed, learners, is_learner, to_each, served_first, informs, learning, counts, committers_in}
+use Rattle.paper.proofs.Views.{place_in, known_in, state_seen, seen_after, taken_no, push, Agrees, agrees, through, no_refusal, agree_both, agree_unless, accept_counted}
 use Rattle.paper.proofs.InOrder.{then_accept}
 use Rattle.paper.proofs.Handlers.{off_paxos}
 
@@ -55,10 +55,10 @@ or_turned true false = refl
 or_turned false true = refl
 or_turned false false = refl
 
-module _ (shard : Shard) (a : Asked) (h : Heard) (there : Bool) (acceptors : ℕ) (classic : has_fast_path a.mode ≡ false)
+module _ (state : State) (a : Asked) (h : Heard) (there : Bool) (acceptors : ℕ) (classic : has_fast_path a.mode ≡ false)
     (quorum : (k : ℕ) → leb a.member.quorums.majority k ≡ is_majority acceptors k) where
   abbrev core : Core
-  core = shard.state.rounds.core
+  core = state.rounds.core
 
   abbrev me : ℕ
   me = a.member.my_pid
@@ -71,7 +71,7 @@ module _ (shard : Shard) (a : Asked) (h : Heard) (there : Bool) (acceptors : ℕ
 
   -- what is seen of the call that ends with a step
   abbrev seen_step : Result CoreStep Refusal → Seen
-  seen_step step = seen_after shard a there step
+  seen_step step = seen_after state a there step
 
   abbrev seen_taken : CoreStep → Seen
   seen_taken step = seen_step (Ok step)
@@ -216,7 +216,7 @@ module _ (shard : Shard) (a : Asked) (h : Heard) (there : Bool) (acceptors : ℕ
     commit_paper : (ms : List Outgoing) → Agrees (seen_taken (commits_step v (left_fast_path off) (in_places ms))) (commits here v ms)
     unfolding committed commit_slot
     commit_paper ms =
-        agree_unless seen there
+        agree_unless state_seen there
         (λ e. agrees (ap (λ (t : Bool). record {
           outcome = 0;
           slot = increment
@@ -284,7 +284,7 @@ module _ (shard : Shard) (a : Asked) (h : Heard) (there : Bool) (acceptors : ℕ
     accepting_paper free =
         agree_unless g (accept_fits p.max_rv n v)
         (λ fit.
-        through (ap (λ (c : Core). seen_step (accepted_step a h n v c)) (off_paxos shard a h there acceptors classic quorum (with_paxos after core)))
+        through (ap (λ (c : Core). seen_step (accepted_step a h n v c)) (off_paxos state a h there acceptors classic quorum (with_paxos after core)))
         accepted_paper
         (ap (λ (r : Replica). rule r (announced leads from_proposer) (is_learner here known n)) (accept_counted a replica h.src n v p free fit)))
         (λ fit. no_refusal refl)

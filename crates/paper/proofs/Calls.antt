@@ -24,7 +24,7 @@ use Rattle.message.specs.declared.PFMode.TheVariants.{Paxos, MultiPaxos, MultiPa
 use Rattle.message.specs.declared.ReadId.{ReadId}
 use Rattle.message.specs.Refusals.{refusal_number}
 use Rattle.message.specs.declared.Refusal.{Refusal}
-use Rattle.message.specs.declared.Refusal.TheVariants.{SettingsOutsideLimits, NumberTooLarge, Panic}
+use Rattle.message.specs.declared.Refusal.TheVariants.{SettingsOutsideLimits, Panic}
 use Rattle.message.specs.declared.RoundV.{RoundV}
 use Rattle.message.specs.declared.RoundV.TheVariants.{FastV, PaxosV}
 use Rattle.fast_state.specs.Adopt.{lowest_best}
@@ -42,28 +42,26 @@ use Rattle.steps.specs.Steps.{RoundsStep, CoreStep, no_messages, one_message, an
 use Rattle.steps.specs.declared.Asked.{Asked}
 use Rattle.steps.specs.declared.Core.{Core}
 use Rattle.steps.specs.declared.Heard.{Heard}
-use Rattle.delivery.specs.Admit.{admit}
-use Rattle.delivery.specs.Limits.{is_number, is_slot}
 use Rattle.delivery.specs.declared.Delivery.{Delivery}
 use Rattle.calls.specs.Commits.{committed_slot}
 use Rattle.calls.specs.Asked.{asked_of, gatherer_in, gatherer_of, heard_of}
+use Rattle.calls.specs.Replies.{read_answer}
 use Rattle.calls.specs.declared.Call.{Call}
 use Rattle.calls.specs.declared.Call.TheVariants.{Propose, StartRead, Receive}
-use Rattle.core_calls.specs.CoreCall.{read_answer}
 use Rattle.consensus.specs.Answers.{refused, sent, committed, finish}
-use Rattle.consensus.specs.Call.{new_shard, call_of, proposing, propose, read, admitted, receive, dispatch, unless_spent, if_made, call_with}
-use Rattle.consensus.proofs.ByParts.{by_parts}
+use Rattle.consensus.specs.Call.{new_shard, call_of, in_shard}
+use Rattle.consensus.proofs.Decided.{handled, by_decision, settings_kept}
 use Rattle.consensus.proofs.Entered.{not_swift, committer_same, prepare_delegate, accept_delegate}
 use Rattle.consensus.proofs.FirstCause.{Gives, first_start, first_cause_lem}
 use Rattle.consensus.proofs.Refusals.{refusal_numbered}
-use Rattle.consensus.specs.FirstCause.{number_of, is_live, leader_delegate, promise_delegate, led_from_start}
-use Rattle.consensus.specs.Handle.{processed, process_message, on_commit, on_read_request, on_read_response, read_inserted, after_insert, start_read, handle}
-use Rattle.consensus.specs.declared.Answer.{Answer}
+use Rattle.consensus.specs.FirstCause.{number_alone, number_of, is_live, leader_delegate, promise_delegate, led_from_start}
+use Rattle.consensus.specs.Handle.{proposing, processed, process_message, on_commit, on_read_request, on_read_response, read_inserted, after_insert, start_read, handle, handle_call}
 use Rattle.consensus.specs.declared.Shard.{Shard}
+use Rattle.consensus.specs.declared.State.{State}
 use Rattle.paper.specs.Replica.{Replica, responded_of, enters}
 use Rattle.paper.specs.PaperCall.{Seen, Place, Known, place_of, proposer_by, committers_in, known_of, seen, commits, receives_prepare, receives_accept, proposes_own, received, OfPaxos, InPaxos, LeavesPaxos, beginning, AtBeginning, replica_in, refused_with, by_rules, paper_call}
 use Rattle.paper.specs.Runs.{ClassicMode, Reached, new, called}
-use Rattle.paper.proofs.Views.{place_in, known_in, seen_after, taken_no, Agrees, agrees, through, no_refusal, agree_both, agree_unless, round_entered, not_exceeded}
+use Rattle.paper.proofs.Views.{place_in, known_in, state_seen, seen_after, taken_no, Agrees, agrees, through, no_refusal, agree_both, round_entered, not_exceeded}
 use Rattle.paper.proofs.InOrder.{kept, then_prepare, prepare_in_order, then_accept, accept_in_order}
 use Rattle.paper.proofs.Handlers.{enter_paper, entered_core, prepared_paper}
 use Rattle.paper.proofs.Accepting.{accepting_paper}
@@ -147,6 +145,9 @@ module _ (shard : Shard) (classic : has_fast_path shard.settings.mode ≡ false)
   abbrev a : Asked
   a = asked_of shard.settings
 
+  abbrev state : State
+  state = shard.state
+
   abbrev core : Core
   core = shard.state.rounds.core
 
@@ -173,16 +174,16 @@ module _ (shard : Shard) (classic : has_fast_path shard.settings.mode ≡ false)
     there = d.said.value_held
 
     abbrev seen_step : Result CoreStep Refusal → Seen
-    seen_step step = seen_after shard a there step
+    seen_step step = seen_after state a there step
 
     prepare_paper : (slot : ℕ) (n : PaxosRound) (rv : RoundV) → Agrees (seen_step (on_prepare a h slot n rv core)) (receives_prepare here known slot n rv)
     unfolding on_prepare in_prepare_step
     prepare_paper slot n rv =
         through refl
-        (enter_paper shard a h there acceptors classic quorum slot n (in_prepare_step a h n rv) (ends (enters n old))
+        (enter_paper state a h there acceptors classic quorum slot n (in_prepare_step a h n rv) (ends (enters n old))
         (λ replica free.
-        through (ap (λ (c : Core). seen_step (and_then (prepared a h n rv c) (gather a h n rv))) (entered_core shard a h there acceptors classic quorum n))
-        (prepared_paper shard a h there acceptors classic quorum replica n rv (in_round n core).paxos (not_exceeded n core free))
+        through (ap (λ (c : Core). seen_step (and_then (prepared a h n rv c) (gather a h n rv))) (entered_core state a h there acceptors classic quorum n))
+        (prepared_paper state a h there acceptors classic quorum replica n rv (in_round n core).paxos (not_exceeded n core free))
         (ap ends (round_entered n core))))
         (sym (prepare_in_order here known n rv slot))
       where
@@ -194,30 +195,30 @@ module _ (shard : Shard) (classic : has_fast_path shard.settings.mode ≡ false)
     unfolding on_accept
     accept_paper slot n v =
         through refl
-        (enter_paper shard a h there acceptors classic quorum slot n (accepting a h n v)
+        (enter_paper state a h there acceptors classic quorum slot n (accepting a h n v)
         (then_accept here known (record { number = n; value = v }) (enters n old))
         (λ replica free.
-        through (ap (λ (c : Core). seen_step (accepting a h n v c)) (entered_core shard a h there acceptors classic quorum n))
-        (accepting_paper shard a h there acceptors classic quorum replica n v (in_round n core).paxos (not_exceeded n core free))
+        through (ap (λ (c : Core). seen_step (accepting a h n v c)) (entered_core state a h there acceptors classic quorum n))
+        (accepting_paper state a h there acceptors classic quorum replica n v (in_round n core).paxos (not_exceeded n core free))
         (ap (then_accept here known (record { number = n; value = v })) (round_entered n core))))
         (sym (accept_in_order here known (record { number = n; value = v }) slot))
 
     -- in the classic modes the message is handled by the core alone
-    by_core_lem : (m : ConsensusMsg) → d.message.msg ≡ m → seen (process_message lowest_best shard d) ≡ seen_step (process_classic a h m core)
+    by_core_lem : (m : ConsensusMsg) → d.message.msg ≡ m → state_seen (process_message lowest_best state a h d) ≡ seen_step (process_classic a h m core)
     unfolding process_message processed
     by_core_lem m e =
-        taken_no (λ (step : Result RoundsStep Refusal). seen (finish shard a there step)) (has_fast_path a.mode)
-        (process_fast lowest_best a h d.message.msg shard.state.rounds)
-        (map_step (on_rounds shard.state.rounds.fast) (process_classic a h d.message.msg core)) classic
+        taken_no (λ (step : Result RoundsStep Refusal). state_seen (finish state a there step)) (has_fast_path a.mode)
+        (process_fast lowest_best a h d.message.msg state.rounds)
+        (map_step (on_rounds state.rounds.fast) (process_classic a h d.message.msg core)) classic
         ∙ ap (λ (x : ConsensusMsg). seen_step (process_classic a h x core)) e
 
-    handled_paper : (m : ConsensusMsg) → d.message.msg ≡ m → OfPaxos m → Agrees (seen (handle lowest_best shard d m)) (received here known m)
+    handled_paper : (m : ConsensusMsg) → d.message.msg ≡ m → OfPaxos m → Agrees (state_seen (handle lowest_best state a h d m)) (received here known m)
     unfolding handle process_classic on_commit committed commit_slot received
     handled_paper (Prepare slot n rv) e p = through (by_core_lem (Prepare slot n rv) e) (prepare_paper slot n rv) refl
     handled_paper (Accept slot n v) e p = through (by_core_lem (Accept slot n v) e) (accept_paper slot n v) refl
     handled_paper (ForwardRequest v) e p = agrees (by_core_lem (ForwardRequest v) e)
     handled_paper (Commit slot v) e p =
-        agree_both seen (ltb slot core.slot) (ltb slot core.slot) refl (λ o. agrees refl)
+        agree_both state_seen (ltb slot core.slot) (ltb slot core.slot) refl (λ o. agrees refl)
         (λ o. agrees (ap (λ (t : Bool). record {
           outcome = 0;
           slot = increment
@@ -231,42 +232,27 @@ module _ (shard : Shard) (classic : has_fast_path shard.settings.mode ≡ false)
     handled_paper (ReadRequest id) e p = absurd p
     handled_paper (ReadResponse id next) e p = absurd p
 
-    receive_paper : OfPaxos d.message.msg → Agrees (seen (receive lowest_best shard d)) (received here known d.message.msg)
-    unfolding receive
-    receive_paper p = go (admit shard.settings.process_count shard.settings.my_pid core d)
-      where
-        go : (o : Outcome) → Agrees (seen (admitted lowest_best shard d o)) (received here known d.message.msg)
-        go (Ok tt) = handled_paper d.message.msg refl p
-        go (Err why) = no_refusal (refusal_numbered why)
-
-  propose_paper : (v : ℕ) → Agrees (seen (propose shard v)) (proposes_own (place_in a acceptors core) v)
-  unfolding propose proposing
+  propose_paper : (v : ℕ) → Agrees (state_seen (finish state a true (proposing a v state.rounds))) (proposes_own (place_in a acceptors core) v)
+  unfolding proposing
   propose_paper v =
-      agree_unless seen (is_number v)
-      (λ e.
       through
-      (taken_no (λ (step : Result RoundsStep Refusal). seen (finish shard a true step)) (has_fast_path a.mode) (propose_fast a v shard.state.rounds)
-      (map_step (on_rounds shard.state.rounds.fast) (propose_classic a v core)) classic)
-      (proposal_paper shard acceptors classic v) refl)
-      (λ e. no_refusal refl)
+      (taken_no (λ (step : Result RoundsStep Refusal). state_seen (finish state a true step)) (has_fast_path a.mode) (propose_fast a v state.rounds)
+      (map_step (on_rounds state.rounds.fast) (propose_classic a v core)) classic)
+      (proposal_paper shard.settings state acceptors classic v) refl
 
-  dispatch_paper : (c : Call) → InPaxos c → Agrees (seen (dispatch lowest_best shard c)) (by_rules shard c)
-  unfolding dispatch by_rules
-  dispatch_paper (Propose v) p = through refl (propose_paper v) (ap (λ (x : Place). proposes_own x v) (place_same shard))
-  dispatch_paper (StartRead tag arrival) p = absurd p
-  dispatch_paper (Receive d) p =
-      through refl (receive_paper d p)
+  -- a call that is taken follows the rules
+  taken_paper : (c : Call) → InPaxos c → Agrees (seen (handled lowest_best shard c)) (by_rules shard c)
+  unfolding handle_call by_rules
+  taken_paper (Propose v) p = through refl (propose_paper v) (ap (λ (x : Place). proposes_own x v) (place_same shard))
+  taken_paper (StartRead tag arrival) p = absurd p
+  taken_paper (Receive d) p =
+      through refl (handled_paper d d.message.msg refl p)
       (ap (λ (x : Place). received x (known_in a (heard_of shard.settings d)) d.message.msg) (place_same shard)
       ∙ ap (λ (x : Known). received (place_of shard) x d.message.msg) (known_same shard.settings classic d))
 
-  -- a call that is taken follows the rules
   taken_by_rules : (c : Call) → InPaxos c → Agrees (seen (call_of shard c)) (by_rules shard c)
-  unfolding call_with unless_spent
-  taken_by_rules c p = go shard.made
-    where
-      go : (o : Outcome) → Agrees (seen (if_made lowest_best shard c o)) (by_rules shard c)
-      go (Ok tt) = agree_unless seen (leb 9223372036854775807 core.slot) (λ e. no_refusal refl) (λ e. dispatch_paper c p)
-      go (Err why) = no_refusal (refusal_numbered why)
+  taken_by_rules c p =
+      by_decision lowest_best shard (λ r. Agrees (seen r) (by_rules shard c)) c (λ why. no_refusal (refusal_numbered why)) (λ made room admitted. taken_paper c p)
 
   -- Every call is the paper's, whatever stands in the shard: where a cause refuses it (demand 1), with its number, and else by the rules.
   pub call_as_paper : (c : Call) → InPaxos c → seen (call_of shard c) ≡ paper_call shard c
@@ -287,51 +273,36 @@ module _ (shard : Shard) (classic : has_fast_path shard.settings.mode ≡ false)
 
 -- In every mode and on every shard, a new read, a ReadRequest and a ReadResponse change nothing that the paper speaks of.
 pub other_calls_leave : (shard : Shard) (c : Call) → (InPaxos c → ⊥) → LeavesPaxos shard (call_of shard c)
-unfolding call_with unless_spent dispatch read start_read receive handle on_read_request on_read_response
-other_calls_leave shard c other = made shard.made
+unfolding handle_call start_read handle on_read_request on_read_response
+other_calls_leave shard c other = by_decision lowest_best shard (LeavesPaxos shard) c nothing_left (λ made room admitted. taken c other)
   where
-    nothing_left : (why : Refusal) → LeavesPaxos shard (refused why shard)
+    nothing_left : (why : Refusal) → LeavesPaxos shard (number_alone why shard)
     nothing_left why = (refl, refl, refl, refl, (tt, tt, tt))
 
-    opened : (r : Result Inserted Refusal) → LeavesPaxos shard (after_insert shard r)
+    opened : (r : Result Inserted Refusal) → LeavesPaxos shard (in_shard shard (after_insert shard.state (asked_of shard.settings) r))
     opened (Err why) = nothing_left why
     opened (Ok ins) = (refl, refl, refl, refl, ((λ x. x), tt, tt))
 
-    new_read_lem : (tag arrival : ℕ) (t : Bool)
-        → LeavesPaxos shard (cond t (after_insert shard (read_inserted shard tag arrival)) (refused NumberTooLarge shard))
-    new_read_lem tag arrival true = opened (read_inserted shard tag arrival)
-    new_read_lem tag arrival false = nothing_left NumberTooLarge
-
     asked : (src : ℕ) (id : ReadId) (t : Bool)
         → LeavesPaxos shard
-        (cond t (refused Panic shard) (sent shard (one_message (read_answer shard.settings.my_pid src id shard.state.rounds.core))))
+        (in_shard shard
+        (cond t (refused Panic shard.state) (sent shard.state (one_message (read_answer shard.settings.my_pid src id shard.state.rounds.core)))))
     asked src id true = nothing_left Panic
     asked src id false = (refl, refl, refl, refl, ((λ x. x), tt, tt))
 
-    handled : (d : Delivery) (m : ConsensusMsg) → (OfPaxos m → ⊥) → LeavesPaxos shard (handle lowest_best shard d m)
-    handled d (Prepare slot n rv) o = absurd (o tt)
-    handled d (Accept slot n v) o = absurd (o tt)
-    handled d (ForwardRequest v) o = absurd (o tt)
-    handled d (Commit slot v) o = absurd (o tt)
-    handled d (ReadRequest id) o = asked d.message.src id (eqb d.message.src shard.settings.my_pid)
-    handled d (ReadResponse id next) o = (refl, refl, refl, refl, (tt, tt, tt))
+    heard : (d : Delivery) (m : ConsensusMsg) → (OfPaxos m → ⊥)
+        → LeavesPaxos shard (in_shard shard (handle lowest_best shard.state (asked_of shard.settings) (heard_of shard.settings d) d m))
+    heard d (Prepare slot n rv) o = absurd (o tt)
+    heard d (Accept slot n v) o = absurd (o tt)
+    heard d (ForwardRequest v) o = absurd (o tt)
+    heard d (Commit slot v) o = absurd (o tt)
+    heard d (ReadRequest id) o = asked d.message.src id (eqb d.message.src shard.settings.my_pid)
+    heard d (ReadResponse id next) o = (refl, refl, refl, refl, (tt, tt, tt))
 
-    delivered : (d : Delivery) → (OfPaxos d.message.msg → ⊥) → (o : Outcome) → LeavesPaxos shard (admitted lowest_best shard d o)
-    delivered d o (Ok tt) = handled d d.message.msg o
-    delivered d o (Err why) = nothing_left why
-
-    taken : (x : Call) → (InPaxos x → ⊥) → LeavesPaxos shard (dispatch lowest_best shard x)
+    taken : (x : Call) → (InPaxos x → ⊥) → LeavesPaxos shard (handled lowest_best shard x)
     taken (Propose v) o = absurd (o tt)
-    taken (StartRead tag arrival) o = new_read_lem tag arrival (is_number tag && is_slot arrival)
-    taken (Receive d) o = delivered d o (admit shard.settings.process_count shard.settings.my_pid shard.state.rounds.core d)
-
-    unspent : (t : Bool) → LeavesPaxos shard (cond t (refused NumberTooLarge shard) (dispatch lowest_best shard c))
-    unspent true = nothing_left NumberTooLarge
-    unspent false = taken c other
-
-    made : (o : Outcome) → LeavesPaxos shard (if_made lowest_best shard c o)
-    made (Ok tt) = unspent (leb 9223372036854775807 shard.state.rounds.core.slot)
-    made (Err why) = nothing_left why
+    taken (StartRead tag arrival) o = opened (read_inserted shard.state tag arrival)
+    taken (Receive d) o = heard d d.message.msg o
 
 -- ---- the shards that there are
 
@@ -355,12 +326,9 @@ new_within s e = go (within_limits s) e
     go true d = refl
     go false d = absurd (not_both (ap is_done d) refl)
 
-pub settings_kept : (shard : Shard) (c : Call) → (call_of shard c).shard.settings ≡ shard.settings
-settings_kept shard c = ap (λ (x : Answer). x.shard.settings) (sym (by_parts shard c))
-
 reached_within : (shard : Shard) → Reached shard → within_limits shard.settings ≡ true
 reached_within shard (new s e) = new_within s e
-reached_within shard (called before c r) = ap within_limits (settings_kept before c) ∙ reached_within before r
+reached_within shard (called before c r) = ap within_limits (settings_kept lowest_best before c) ∙ reached_within before r
 
 pub no_fast_path : (m : PFMode) → ClassicMode m → has_fast_path m ≡ false
 no_fast_path Paxos c = refl

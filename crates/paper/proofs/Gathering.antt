@@ -19,12 +19,13 @@ use Rattle.settings.specs.declared.Settings.{Settings}
 use Rattle.steps.specs.declared.Messages.{Messages}
 use Rattle.delivery.specs.declared.Delivery.{Delivery}
 use Rattle.calls.specs.declared.Call.TheVariants.{Receive}
+use Rattle.fast_state.specs.Adopt.{lowest_best}
 use Rattle.consensus.specs.Call.{call_of}
 use Rattle.consensus.specs.declared.Shard.{Shard}
+use Rattle.consensus.proofs.Decided.{settings_kept}
 use Rattle.paper.specs.Replica.{Replica, keeps_something, proposer_in, newly, hears}
 use Rattle.paper.specs.PaperCall.{in_places, Seen, Place, place_of, seen, requesting, replica_in}
 use Rattle.paper.specs.Runs.{Response, hears_all, with_all, Promised, response_of, Gathered, nothing_yet, one_more}
-use Rattle.paper.proofs.Calls.{settings_kept}
 use Rattle.paper.proofs.Consequences.{heard_keeps, heard_last}
 use Rattle.paper.proofs.Roles.{proposer_proposes, proposer_proposes_of_all}
 
@@ -77,7 +78,7 @@ module _ (n : PaxosRound) (first : Shard) (classic : has_fast_path first.setting
         → Since (ps ++ (response_of d rv ∷ [])) (call_of shard (Receive d)).shard
     heard_more d rv p sent =
         record {
-          settings = settings_kept shard (Receive d) ∙ s.settings;
+          settings = settings_kept lowest_best shard (Receive d) ∙ s.settings;
           heard =
               ap (λ (x : Seen). x.replica) call
               ∙ quiet here (hears shard.settings.my_pid d.message.src rv (replica_in shard)) request

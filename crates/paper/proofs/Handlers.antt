@@ -29,7 +29,7 @@ use Rattle.steps.specs.declared.Destination.TheVariants.{One}
 use Rattle.steps.specs.declared.Outgoing.{Outgoing}
 use Rattle.steps.specs.declared.Heard.{Heard}
 use Rattle.consensus.proofs.Entered.{not_swift}
-use Rattle.consensus.specs.declared.Shard.{Shard}
+use Rattle.consensus.specs.declared.State.{State}
 use Rattle.paper.specs.Replica.{Replica, accepted_of, replica_of, keeps_something, proposer_in, newly, hears, accepts_with}
 use Rattle.paper.specs.PaperCall.{Seen, Place, Known, in_places, leaves, nothing, takes_part, to_proposer, requesting, gathers}
 use Rattle.paper.proofs.Views.{place_in, known_in, seen_after, taken_no, push, once, Agrees, agrees, through, no_refusal, agree_both, agree_unless, held_kept, held_brings, held_value_lem, held_accepted_in, exceeded_older, promise_heard, accept_counted}
@@ -61,10 +61,10 @@ after_promise_held (Some old) rv = go (before (get_last_accepted_round (Some old
     go true = refl
     go false = refl
 
-module _ (shard : Shard) (a : Asked) (h : Heard) (there : Bool) (acceptors : ℕ) (classic : has_fast_path a.mode ≡ false)
+module _ (state : State) (a : Asked) (h : Heard) (there : Bool) (acceptors : ℕ) (classic : has_fast_path a.mode ≡ false)
     (quorum : (k : ℕ) → leb a.member.quorums.majority k ≡ is_majority acceptors k) where
   abbrev core : Core
-  core = shard.state.rounds.core
+  core = state.rounds.core
 
   abbrev old : Replica
   old = replica_of core.paxos
@@ -77,7 +77,7 @@ module _ (shard : Shard) (a : Asked) (h : Heard) (there : Bool) (acceptors : ℕ
 
   -- what is seen of the call that ends with a step
   abbrev pub seen_step : Result CoreStep Refusal → Seen
-  seen_step step = seen_after shard a there step
+  seen_step step = seen_after state a there step
 
   swift : is_swift_paxos a.mode ≡ false
   swift = not_swift a.mode classic

@@ -37,11 +37,11 @@ use Rattle.consensus.proofs.Handled.{fits_same}
 use Rattle.consensus.proofs.Refusals.{by_first_cause, refusal_numbered}
 use Rattle.consensus.specs.declared.Answer.{Answer}
 use Rattle.consensus.specs.declared.Shard.{Shard}
+use Rattle.consensus.proofs.Decided.{settings_kept}
 use Rattle.paper.specs.Replica.{Replica, enters, also_self, accepts_with}
 use Rattle.paper.specs.PaperCall.{replica_in}
 use Rattle.paper.specs.Runs.{Acceptance, accepts_all, Announced, acceptance_of, Counted, none_yet, one_counted}
 use Rattle.paper.proofs.Views.{exceeded_older, accept_higher}
-use Rattle.paper.proofs.Calls.{settings_kept}
 use Rattle.paper.proofs.Consequences.{counted_by, also_members}
 use Rattle.paper.proofs.Roles.{accepted_acceptor, entered_acceptor, accept_leaves, learner_learns}
 
@@ -281,7 +281,7 @@ module _ (n : PaxosRound) (first : Shard) (classic : has_fast_path first.setting
     counted_more : (call_of shard (Receive d)).reply.commit ≡ None → Since (one_more xs (acceptance_of d v)) (call_of shard (Receive d)).shard
     counted_more c =
         record {
-          settings = settings_kept shard (Receive d) ∙ s.settings;
+          settings = settings_kept lowest_best shard (Receive d) ∙ s.settings;
           counted = ap (enters n) after ∙ stays_in n next next_number_lem ∙ next_counted;
           free =
               ap (λ (r : Replica). exceeded round_before r.acceptor.responded n) after ∙ ap

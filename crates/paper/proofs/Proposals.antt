@@ -21,6 +21,7 @@ use Rattle.message.specs.declared.RoundV.{RoundV}
 use Rattle.message.specs.declared.RoundV.TheVariants.{PaxosV}
 use Rattle.round_state.specs.Paxos.{goto_round, held_after_promise, receive_promise, paxos_propose_v, self_accept, accept_own, receive_accept, accept_fits}
 use Rattle.round_state.specs.declared.PaxosState.{PaxosState}
+use Rattle.settings.specs.declared.Settings.{Settings}
 use Rattle.enter.specs.Enter.{can_propose}
 use Rattle.proposal.specs.Proposal.{proposal_round, electing, may_propose}
 use Rattle.propose.specs.Propose.{proposed, propose_prepare, after_own_promise, propose_accept, propose_classic}
@@ -30,7 +31,7 @@ use Rattle.steps.specs.declared.Core.{Core}
 use Rattle.steps.specs.declared.Outgoing.{Outgoing}
 use Rattle.calls.specs.Asked.{asked_of}
 use Rattle.consensus.proofs.Entered.{not_swift}
-use Rattle.consensus.specs.declared.Shard.{Shard}
+use Rattle.consensus.specs.declared.State.{State}
 use Rattle.paper.specs.Replica.{Replica, accepted_of, wish_of, responded_of, replica_of, brings, is_there, number_or, proposer_in, hears, accepts_with}
 use Rattle.paper.specs.PaperCall.{Seen, Place, leaves, requesting, own_number, begins, proposes_own}
 use Rattle.paper.proofs.Views.{place_in, seen_after, Agrees, agrees, no_refusal, agree_both, agree_unless, promise_heard, accept_counted}
@@ -73,12 +74,12 @@ begun (Some m) (Some s) n x e (inr d) =
     (ap (round_before m) (round_equal_lem n s d ∙ sym (round_equal_lem m s e)) ∙ rounds_ordered.irreflexive m)
     ∙ ap (λ (k : PaxosRound). record { responded = some k; accepted = x }) (round_equal_lem m s e ∙ sym (round_equal_lem n s d))
 
-module _ (shard : Shard) (acceptors : ℕ) (classic : has_fast_path shard.settings.mode ≡ false) (v : ℕ) where
+module _ (settings : Settings) (state : State) (acceptors : ℕ) (classic : has_fast_path settings.mode ≡ false) (v : ℕ) where
   abbrev a : Asked
-  a = asked_of shard.settings
+  a = asked_of settings
 
   abbrev core : Core
-  core = shard.state.rounds.core
+  core = state.rounds.core
 
   abbrev old : Replica
   old = replica_of core.paxos
@@ -90,7 +91,7 @@ module _ (shard : Shard) (acceptors : ℕ) (classic : has_fast_path shard.settin
   n = own_number here
 
   abbrev seen_step : Result CoreStep Refusal → Seen
-  seen_step step = seen_after shard a true step
+  seen_step step = seen_after state a true step
 
   swift : is_swift_paxos a.mode ≡ false
   swift = not_swift a.mode classic

@@ -31,8 +31,10 @@ use Rattle.steps.specs.declared.Core.{Core}
 use Rattle.steps.specs.declared.Heard.{Heard}
 use Rattle.paper.specs.Replica.{Replica, report_of, accepted_of, wish_of, responded_of, replica_of, brings, own_value, enters, first_wish, unless_accepted, is_there, newly, also_self, hears, accepts_with}
 use Rattle.consensus.specs.Answers.{finish}
-use Rattle.consensus.specs.declared.Shard.{Shard}
-use Rattle.paper.specs.PaperCall.{Place, Known, Seen, seen, committers_in}
+use Rattle.consensus.specs.FirstCause.{number_of}
+use Rattle.consensus.specs.declared.State.{State}
+use Rattle.consensus.specs.declared.StateAnswer.{StateAnswer}
+use Rattle.paper.specs.PaperCall.{Place, Known, Seen, committers_in}
 
 -- ---- places
 
@@ -52,9 +54,21 @@ place_in a acceptors core =
 abbrev pub known_in : Asked → Heard → Known
 known_in a h = record { src = h.src; proposer = h.delegate; requester = h.requester; committers = committers_in a.mode h.committer }
 
+-- `seen`, of what a call makes of the state
+abbrev pub state_seen : StateAnswer → Seen
+state_seen r =
+    record {
+      outcome = number_of r.reply.outcome;
+      slot = r.state.rounds.core.slot;
+      last = r.state.rounds.core.last_v;
+      replica = replica_of r.state.rounds.core.paxos;
+      messages = r.reply.messages;
+      commit = r.reply.commit;
+    }
+
 -- what is seen of the call that ends with a step of the core
-abbrev pub seen_after : Shard → Asked → Bool → Result CoreStep Refusal → Seen
-seen_after shard a there step = seen (finish shard a there (map_step (on_rounds shard.state.rounds.fast) step))
+abbrev pub seen_after : State → Asked → Bool → Result CoreStep Refusal → Seen
+seen_after state a there step = state_seen (finish state a there (map_step (on_rounds state.rounds.fast) step))
 
 -- ---- choices
 

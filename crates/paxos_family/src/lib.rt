@@ -4,7 +4,7 @@
 ghost use Rattle.std.specs.Prelude.{◌≡◌, true, false, Ok};
 ghost use Rattle.steps.specs.Steps.{goes_on};
 ghost use Rattle.paxos_family.specs.Process.{in_prepare, on_prepare, on_accept, process_classic, fast_prepared, fast_promised, leads_round, starts_accept, waits, fast_answered, fast_gather, in_fast_prepare, on_fast_prepare, replica_accept, in_fast_accept, on_fast_accept, process_change, process_fast};
-ghost use Rattle.paxos_family.specs.Commit.{commit_core, commit_slot};
+ghost use Rattle.paxos_family.specs.Commit.{commit_core, commit_slot, next_core, next_slot};
 ghost use Rattle.fast_state.specs.Adopt.{lowest_best};
 
 use fast_state::{FastAnswers, FastState, FastTables};
@@ -389,4 +389,21 @@ pub fn commit_slot(asked: Asked, v: u64, s: Rounds) -> Rounds
         };
     }
     Rounds { core, fast: s.fast }
+}
+
+// The next slot, with the mark of the fast path cleared once the commit has read it: of the core, and of the core with the fast half.
+pub fn next_core(asked: Asked, v: u64, core: Core) -> Core
+    ensures { result ≡ next_core asked v core }
+{
+    let mut next = commit_core(asked, v, core);
+    next.slot_left_fast_path = false;
+    next
+}
+
+pub fn next_slot(asked: Asked, v: u64, s: Rounds) -> Rounds
+    ensures { result ≡ next_slot asked v s }
+{
+    let mut next = commit_slot(asked, v, s);
+    next.core.slot_left_fast_path = false;
+    next
 }

@@ -36,7 +36,7 @@ use raster::NotOnRaster;
 use reach::Question;
 use refusals::{Refused, refusal};
 use register::{CellNumber, entry_number};
-use register_arrays::Columns;
+use register_arrays::{CellsArray, Columns, FiguresArray};
 use stored_arrays::StoredColumns;
 use windows::{WindowAnswer, WindowRefusal};
 
@@ -123,10 +123,10 @@ fn register_settings(group: FlatGroupSettings) -> RegisterSettings
 pub extern "C" fn chanbook_register_new(
     group: FlatGroupSettings,
     settings: &mut [u64; 2],
-    cells: &mut [u64; 512],
-    carriers: &mut [u64; 512],
-    widths: &mut [u64; 512],
-    figures: &mut [u64; 5],
+    cells: &mut CellsArray,
+    carriers: &mut CellsArray,
+    widths: &mut CellsArray,
+    figures: &mut FiguresArray,
 )
     ensures { group_in settings.new cells.new carriers.new widths.new figures.new ≡ new_group_register (register_settings group) }
 {
@@ -144,10 +144,10 @@ pub extern "C" fn chanbook_register_new(
 #[unsafe(no_mangle)]
 pub extern "C" fn chanbook_register_entry(
     settings: &[u64; 2],
-    cells: &mut [u64; 512],
-    carriers: &mut [u64; 512],
-    widths: &mut [u64; 512],
-    figures: &mut [u64; 5],
+    cells: &mut CellsArray,
+    carriers: &mut CellsArray,
+    widths: &mut CellsArray,
+    figures: &mut FiguresArray,
     slot: u64,
     kind: u64,
     cell: CellNumber,
@@ -171,7 +171,7 @@ pub extern "C" fn chanbook_register_entry(
 #[unsafe(no_mangle)]
 pub extern "C" fn chanbook_register_report(
     settings: &[u64; 2],
-    figures: &[u64; 5],
+    figures: &FiguresArray,
     out: &mut [u8; 116],
 ) -> u64
     ensures { (out.new, result) ≡ group_report_in settings.now figures.now }
@@ -184,14 +184,14 @@ pub extern "C" fn chanbook_register_report(
 pub extern "C" fn chanbook_register_widened(
     group: FlatGroupSettings,
     stored_cells: &[u16; 512],
-    stored_carriers: &[u64; 512],
-    stored_widths: &[u64; 512],
-    stored_figures: &[u64; 5],
+    stored_carriers: &CellsArray,
+    stored_widths: &CellsArray,
+    stored_figures: &FiguresArray,
     settings: &mut [u64; 2],
-    cells: &mut [u64; 512],
-    carriers: &mut [u64; 512],
-    widths: &mut [u64; 512],
-    figures: &mut [u64; 5],
+    cells: &mut CellsArray,
+    carriers: &mut CellsArray,
+    widths: &mut CellsArray,
+    figures: &mut FiguresArray,
 )
     ensures { group_in settings.new cells.new carriers.new widths.new figures.new
         ≡ widened_with group (stored_in stored_cells.now stored_carriers.now stored_widths.now stored_figures.now) }
@@ -258,10 +258,10 @@ fn flat_fed(fed: Result<Option<FirstRefused>, FeedRefusal>) -> FlatFed
 #[unsafe(no_mangle)]
 pub extern "C" fn chanbook_feed(
     settings: &[u64; 2],
-    cells: &mut [u64; 512],
-    carriers: &mut [u64; 512],
-    widths: &mut [u64; 512],
-    figures: &mut [u64; 5],
+    cells: &mut CellsArray,
+    carriers: &mut CellsArray,
+    widths: &mut CellsArray,
+    figures: &mut FiguresArray,
     slots: &[u64],
     values: &[u64],
     kinds: &[u64],
@@ -304,10 +304,10 @@ pub extern "C" fn chanbook_positions_new(positions: &mut [CellPosition; 512])
 #[unsafe(no_mangle)]
 pub extern "C" fn chanbook_placed_entry(
     settings: &[u64; 2],
-    cells: &mut [u64; 512],
-    carriers: &mut [u64; 512],
-    widths: &mut [u64; 512],
-    figures: &mut [u64; 5],
+    cells: &mut CellsArray,
+    carriers: &mut CellsArray,
+    widths: &mut CellsArray,
+    figures: &mut FiguresArray,
     positions: &mut [CellPosition; 512],
     slot: u64,
     kind: u64,
@@ -353,10 +353,10 @@ fn flat_placed_fed(fed: Result<Option<placed_feeding::FirstRefused>, FeedRefusal
 #[unsafe(no_mangle)]
 pub extern "C" fn chanbook_placed_feed(
     settings: &[u64; 2],
-    cells: &mut [u64; 512],
-    carriers: &mut [u64; 512],
-    widths: &mut [u64; 512],
-    figures: &mut [u64; 5],
+    cells: &mut CellsArray,
+    carriers: &mut CellsArray,
+    widths: &mut CellsArray,
+    figures: &mut FiguresArray,
     positions: &mut [CellPosition; 512],
     slots: &[u64],
     values: &[u64],
@@ -397,17 +397,17 @@ pub extern "C" fn chanbook_placed_feed(
 #[unsafe(no_mangle)]
 pub extern "C" fn chanbook_conflicts(
     settings: &[u64; 2],
-    cells: &[u64; 512],
-    carriers: &[u64; 512],
-    widths: &[u64; 512],
-    figures: &[u64; 5],
+    cells: &CellsArray,
+    carriers: &CellsArray,
+    widths: &CellsArray,
+    figures: &FiguresArray,
     positions: &[CellPosition; 512],
     carrier: u64,
     width: u64,
     x: i64,
     y: i64,
     distance: u64,
-    numbers: &mut [u64; 512],
+    numbers: &mut CellsArray,
 ) -> FlatValue
     ensures { (result, numbers.new) ≡ flat_list (conflicts_of (settings_in settings.now) (cells_of (placed_in_arrays settings.now cells.now carriers.now widths.now figures.now positions.now)) carrier (question_of width x y distance) numbers.old) }
 {
@@ -427,10 +427,10 @@ pub extern "C" fn chanbook_conflicts(
 #[unsafe(no_mangle)]
 pub extern "C" fn chanbook_first_free(
     settings: &[u64; 2],
-    cells: &[u64; 512],
-    carriers: &[u64; 512],
-    widths: &[u64; 512],
-    figures: &[u64; 5],
+    cells: &CellsArray,
+    carriers: &CellsArray,
+    widths: &CellsArray,
+    figures: &FiguresArray,
     positions: &[CellPosition; 512],
     first: u64,
     last: u64,

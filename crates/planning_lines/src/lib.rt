@@ -11,7 +11,7 @@ ghost use Rattle.planning_lines.specs.Answers.{value_text, bad_line_text, after_
 use group_register::GroupRegister;
 use raster::NotOnRaster;
 use refusals::Refused;
-use register_lines::{LAST_SLOT, RegisterQuestion};
+use register_lines::RegisterQuestion;
 use texts::Output;
 
 // What a line asks. A bad line is one of the cases, and no None: it has an answer of its own, and no value is missing.
@@ -37,7 +37,7 @@ fn register_question(line: &[u8]) -> Question
     ensures { result ≡ register_question line.now }
 {
     if line_fields::is_line(line, b"register") {
-        return begin_question(Some(LAST_SLOT));
+        return begin_question(Some(message::LARGEST_SLOT));
     }
     if line_fields::begins(line, b"register ") {
         return begin_question(line_fields::number_from(line, 9));

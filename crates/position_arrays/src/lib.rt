@@ -15,7 +15,7 @@ use places::{insert_at, remove_at};
 use positions::{Entry, Position, PositionEntry, PositionPlaces, PositionRefusal};
 use reach::{PlacedCell, PlacedCells};
 use register::{Assignment, CellNumber, Entered, live_places};
-use register_arrays::Columns;
+use register_arrays::{CellsArray, Columns, FiguresArray};
 
 // What an array has of a cell's position: 0 in `given` says that there is none, any other number that x and y are the position. A flag
 // and no Option: the C interface has numbers.
@@ -132,10 +132,10 @@ pub fn entry_from_numbers(
 #[derive(Clone, Copy)]
 pub struct LentCells<'a> {
     pub settings: &'a [u64; 2],
-    pub cells: &'a [u64; 512],
-    pub carriers: &'a [u64; 512],
-    pub widths: &'a [u64; 512],
-    pub figures: &'a [u64; 5],
+    pub cells: &'a CellsArray,
+    pub carriers: &'a CellsArray,
+    pub widths: &'a CellsArray,
+    pub figures: &'a FiguresArray,
     pub positions: &'a [CellPosition; 512],
 }
 

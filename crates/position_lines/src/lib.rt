@@ -14,6 +14,7 @@ use positions::{Entry, PlacedRegister, Position, PositionRefusal};
 use reach::{PlacedCell, PlacedCells, Question, ReachRefusal};
 use refusals::Refused;
 use register::Entered;
+use register_arrays::CellsArray;
 use register_lines::RegisterQuestion;
 use texts::Output;
 
@@ -177,7 +178,7 @@ fn put_numbers(out: &mut Output<'_>, numbers: &[u64])
 
 // The count and the cells' numbers, with LF.
 #[tactic(auto, using(texts::proofs::Putting::put_then), unfolding(crate::specs::Answers::list_text))]
-fn put_list(out: &mut Output<'_>, answer: Result<usize, ReachRefusal>, numbers: &[u64; 512])
+fn put_list(out: &mut Output<'_>, answer: Result<usize, ReachRefusal>, numbers: &CellsArray)
     ensures { out.new ≡ put (list_text (answer, numbers.now)) out.old }
 {
     match answer {

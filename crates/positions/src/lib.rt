@@ -220,7 +220,7 @@ fn apply_position<R: RegisterPlaces, P: PositionPlaces>(
     if !settings.is_made() {
         return Err(PositionRefusal::AsGroup(GroupRefusal::Unmade(settings.unmade_by())));
     }
-    if entry.slot > 9223372036854775806 {
+    if entry.slot > message::LARGEST_SLOT {
         return Err(PositionRefusal::AsGroup(GroupRefusal::AsRegister(
             EntryRefusal::NumberTooLarge,
         )));

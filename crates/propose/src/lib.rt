@@ -9,6 +9,7 @@ use message::{ConsensusMsg, PaxosRound, Refusal, RoundV};
 use proposal::{electing, may_propose, not_allowed, proposal_round};
 use round_state::PaxosState;
 use steps::{Asked, ChangeStep, Core, CoreStep, Rounds, RoundsStep};
+use tables::PerProcess;
 
 // Where the own promise or the own accept is taken, the message of the proposal goes to all.
 fn proposed(
@@ -97,8 +98,8 @@ fn own_answer(
     asked: Asked,
     v: u64,
     answers: FastAnswers,
-    epaxos_scores: &[u64; 64],
-    swift_scores: &[u64; 64],
+    epaxos_scores: &PerProcess,
+    swift_scores: &PerProcess,
 ) -> Result<FastChange, Refusal>
     ensures { result ≡ own_answer asked v answers epaxos_scores.now swift_scores.now }
 {
@@ -124,8 +125,8 @@ pub fn propose_change(
     v: u64,
     core: Core,
     answers: FastAnswers,
-    epaxos_scores: &[u64; 64],
-    swift_scores: &[u64; 64],
+    epaxos_scores: &PerProcess,
+    swift_scores: &PerProcess,
 ) -> Result<ChangeStep, Refusal>
     ensures { result ≡ propose_change asked v core answers epaxos_scores.now swift_scores.now }
 {

@@ -112,7 +112,7 @@ impl ReadTracker {
         ensures opened { result ≡ open_next self tag arrival_slot local_ready }
         ensures place { OnOk result (self.open_count < 128) }
     {
-        if self.open_count >= 128 || self.next_id > 9223372036854775807 {
+        if self.open_count >= 128 || self.next_id > message::LARGEST_NUMBER {
             return Err(Refusal::NoRoomForRead);
         }
         Ok(Opening {

@@ -343,7 +343,7 @@ pub fn apply_in<R: RegisterPlaces>(
     ensures same { R.lent register.new ≡ R.lent register.old }
     ensures applied { applied (R.register register.new) result ≡ apply (R.register register.old) entry }
 {
-    if entry.slot > 9223372036854775806 {
+    if entry.slot > message::LARGEST_SLOT {
         return Err(EntryRefusal::NumberTooLarge);
     }
     if entry.slot < register.next_slot() {

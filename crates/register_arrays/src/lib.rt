@@ -13,18 +13,23 @@ use register::{
     RegisterPlaces, apply_in, find, live_places,
 };
 
+// The arrays by name: a number for each place of a register, and the figures.
+pub type CellsArray = [u64; 512];
+
+pub type FiguresArray = [u64; 5];
+
 // The lent arrays of a register. Any numbers may stand in them: so there is no invariant. Three columns and no array of cells, and figures without names:
 // the C interface has them so.
 #[derive(Drop)]
 pub struct Columns<'a> {
-    pub cells: &'a mut [u64; 512],
-    pub carriers: &'a mut [u64; 512],
-    pub widths: &'a mut [u64; 512],
-    pub figures: &'a mut [u64; 5],
+    pub cells: &'a mut CellsArray,
+    pub carriers: &'a mut CellsArray,
+    pub widths: &'a mut CellsArray,
+    pub figures: &'a mut FiguresArray,
 }
 
 // The figures of the report. A function and no `From`: neither Figures nor an array of numbers is a type of this crate.
-fn figures_in(figures: &[u64; 5]) -> Figures
+fn figures_in(figures: &FiguresArray) -> Figures
     ensures { result ≡ figures_in figures.now }
 {
     Figures {
@@ -151,7 +156,7 @@ pub fn entry_from_numbers(
 }
 
 // The report at the start of out, zeros after it, and its length.
-pub fn put_page(figures: &[u64; 5], out: &mut [u8; 116]) -> u64
+pub fn put_page(figures: &FiguresArray, out: &mut [u8; 116]) -> u64
     ensures { (out.new, result) ≡ report_in figures.now }
 {
     let page = report::page_with(figures_in(figures), live_places(figures[4]) as u64);

@@ -29,9 +29,6 @@ pub enum RegisterQuestion {
     CellList,
 }
 
-// The last slot: without another in the line, widths are in whole MHz from it on.
-pub const LAST_SLOT: u64 = 9223372036854775806;
-
 // ---- an entry, from its letter on
 
 #[tactic(auto, unfolding(crate::specs::Entries::assignment_of))]
@@ -159,7 +156,7 @@ pub fn entry_of(line: &[u8]) -> Option<CellEntry>
 pub fn first_register() -> GroupRegister
     ensures { result ≡ first_register }
 {
-    GroupRegister::new(RegisterSettings::from_slot(LAST_SLOT))
+    GroupRegister::new(RegisterSettings::from_slot(message::LARGEST_SLOT))
 }
 
 // Of a register that is begun, with LF: it is made, or its settings give their number.

@@ -3,10 +3,10 @@
 use Rattle.std.specs.Prelude.{◌≡◌, ◌⊎◌, Bool, true, cond, List, [], ◌∷◌, ℕ, eqb, None}
 use Rattle.message.specs.Outcomes.{Outcome}
 use Rattle.steps.specs.Steps.{no_messages}
-use Rattle.consensus.specs.Call.{call_of}
+use Rattle.consensus.specs.Call.{with_state, call_of}
 use Rattle.consensus.specs.declared.Answer.{Answer}
 use Rattle.consensus.specs.declared.Shard.{Shard}
-use Rattle.state_calls.specs.declared.State.{State}
+use Rattle.consensus.specs.declared.State.{State}
 use Rattle.group_settings.specs.declared.GroupSettings.{GroupSettings}
 use Rattle.group_shard.specs.Begin.{begin_shard}
 use Rattle.line_calls.specs.Calls.{at, call_of_numbers}
@@ -21,12 +21,12 @@ unfoldable pub new_answer : GroupSettings → Answer
 new_answer g = answered (begin_shard g) (begin_shard g).made
 
 -- kind 2: the shard with another state. One that is not made stays so, and is refused.
-unfoldable pub with_state : Shard → State → Answer
-with_state shard state = answered (record { made = shard.made; settings = shard.settings; state = state }) shard.made
+unfoldable pub state_answer : Shard → State → Answer
+state_answer shard state = answered (with_state shard state) shard.made
 
 unfoldable pub answer_of : Shard → List ℕ → Answer
 answer_of shard ns =
-    cond (eqb (at ns 0) 1) (new_answer (group_settings_of ns)) (cond (eqb (at ns 0) 2) (with_state shard (state_of ns)) (call_of shard (call_of_numbers ns)))
+    cond (eqb (at ns 0) 1) (new_answer (group_settings_of ns)) (cond (eqb (at ns 0) 2) (state_answer shard (state_of ns)) (call_of shard (call_of_numbers ns)))
 
 -- an empty line is skipped, and one that begins with # (35)
 abbrev pub is_skipped : List ℕ → Bool

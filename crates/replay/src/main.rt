@@ -3,15 +3,14 @@
 #![tactic(auto)]
 
 ghost use Rattle.std.specs.Prelude.{◌≡◌, true};
-ghost use Rattle.replay.specs.Answer.{answered, new_answer, with_state, answer_of, is_skipped, Leaves};
+ghost use Rattle.replay.specs.Answer.{answered, new_answer, state_answer, answer_of, is_skipped, Leaves};
 
 use call_lines::Fault;
 use calls::Reply;
-use consensus::{Answer, Shard};
+use consensus::{Answer, Shard, State};
 use group_settings::GroupSettings;
 use line_blocks::LineTaker;
 use message::Outcome;
-use state_calls::State;
 use texts::Output;
 
 // The shard that the calls change, and the places for the numbers of a line.
@@ -49,9 +48,10 @@ fn new_shard(group: GroupSettings) -> Answer
     answer_with(shard, made)
 }
 
-#[tactic(auto, unfolding(crate::specs::Answer::with_state))]
-fn with_state(mut shard: Shard, state: State) -> Answer
-    ensures { result ≡ with_state shard state }
+// The shard with another state. One that is not made stays so, and is refused.
+#[tactic(auto, unfolding(crate::specs::Answer::state_answer))]
+fn state_answer(mut shard: Shard, state: State) -> Answer
+    ensures { result ≡ state_answer shard state }
 {
     let made = shard.made;
     shard.state = state;
@@ -65,7 +65,7 @@ fn answer_of(shard: Shard, numbers: &[u64]) -> Answer
 {
     match line_calls::number_at(numbers, 0) {
         1 => new_shard(line_states::group_settings_of(numbers)),
-        2 => with_state(shard, line_states::state_of(numbers)),
+        2 => state_answer(shard, line_states::state_of(numbers)),
         _ => shard.call(line_calls::call_of(numbers)),
     }
 }

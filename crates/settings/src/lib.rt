@@ -7,6 +7,7 @@ ghost use Rattle.settings.specs.Questions.{quorums_of, is_replica, is_live_repli
 
 use message::{PFMode, PaxosRound};
 use quorum::QuorumRow;
+use tables::PerProcess;
 
 // The tables have a place for each process. Committers are given for all processes or for none, as in the Rust;
 // delegates count in Pando alone, and the fixed quorum in SwiftPaxos alone.
@@ -19,14 +20,14 @@ pub struct Settings {
     pub first_leader: u64,
     pub mode: PFMode,
     pub quorum: Option<u64>,
-    pub committers: Option<[u64; 64]>,
-    pub delegates: [u64; 64],
+    pub committers: Option<PerProcess>,
+    pub delegates: PerProcess,
 }
 
 // The delegate of a leader: in Pando that of the table, and else the leader itself. The tables are lent, here and below, since a host keeps them in
 // memory of its own.
 #[tactic(auto, unfolding(crate::specs::Questions::delegate_in))]
-pub fn delegate_in(delegates: &[u64; 64], mode: PFMode, leader: u64) -> u64
+pub fn delegate_in(delegates: &PerProcess, mode: PFMode, leader: u64) -> u64
     ensures { result ≡ delegate_in delegates.now mode leader }
 {
     match mode {
@@ -36,7 +37,7 @@ pub fn delegate_in(delegates: &[u64; 64], mode: PFMode, leader: u64) -> u64
 }
 
 #[tactic(auto, unfolding(crate::specs::Questions::committer_for))]
-fn committer_for(committers: &[u64; 64], requester: Option<u64>) -> Option<u64>
+fn committer_for(committers: &PerProcess, requester: Option<u64>) -> Option<u64>
     ensures { result ≡ committer_for committers.now requester }
 {
     requester.map(|p| tables::look_up(committers, p))
@@ -45,7 +46,7 @@ fn committer_for(committers: &[u64; 64], requester: Option<u64>) -> Option<u64>
 // The process that commits a value by the settings, from the value's requester.
 #[tactic(auto, unfolding(crate::specs::Questions::committer_in))]
 pub fn committer_in(
-    committers: Option<&[u64; 64]>,
+    committers: Option<&PerProcess>,
     mode: PFMode,
     requester: Option<u64>,
 ) -> Option<u64>
@@ -59,7 +60,7 @@ pub fn committer_in(
 }
 
 #[tactic(auto, unfolding(crate::specs::Settings::committers_fit))]
-fn committers_fit(committers: Option<&[u64; 64]>, count: u64) -> bool
+fn committers_fit(committers: Option<&PerProcess>, count: u64) -> bool
     ensures { result ≡ committers_fit (option_copied committers.entry) count }
 {
     committers.is_none_or(|table| tables::all_below(table, count))
@@ -118,28 +119,28 @@ impl Settings {
     }
 
     // Whether process p is in the live set: what document 01 calls a live replica.
-    pub fn is_live_replica(self, p: u64) -> bool
-        ensures { result ≡ is_live_replica self p }
+    pub fn is_live_replica(&self, p: u64) -> bool
+        ensures { result ≡ is_live_replica self.now p }
     {
         sets::contains(self.alive_replicas, p)
     }
 
-    pub fn is_replica(self) -> bool
-        ensures { result ≡ is_replica self }
+    pub fn is_replica(&self) -> bool
+        ensures { result ≡ is_replica self.now }
     {
         self.is_live_replica(self.my_pid)
     }
 
     // The quorums for the replica count, a majority among them.
-    pub fn quorums(self) -> QuorumRow
-        ensures { result ≡ quorums_of self }
+    pub fn quorums(&self) -> QuorumRow
+        ensures { result ≡ quorums_of self.now }
     {
         quorum::row(self.replica_count)
     }
 
     // The round in which each slot starts.
-    pub fn starting_round(self) -> Option<PaxosRound>
-        ensures { result ≡ starting_round_of self }
+    pub fn starting_round(&self) -> Option<PaxosRound>
+        ensures { result ≡ starting_round_of self.now }
     {
         PaxosRound::starting(self.mode, self.first_leader)
     }

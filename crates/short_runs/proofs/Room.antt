@@ -23,11 +23,12 @@ use Rattle.paxos_family.specs.Process.{in_prepare, on_prepare, on_accept, proces
 use Rattle.delivery.specs.Admit.{other_last_value, value_awaited, ready, admit}
 use Rattle.delivery.specs.Limits.{numbers_fit, processes_fit}
 use Rattle.calls.specs.Asked.{gatherer_in}
+use Rattle.calls.specs.Decision.{admission_of, unless_spent, decision_of}
 use Rattle.read_tracker.specs.Reads.{after_commit}
 use Rattle.serving.specs.Serving.{kept_by_commit, served_by_commit, commit_slot as reads_at_commit}
 use Rattle.consensus.specs.Answers.{committed}
-use Rattle.consensus.specs.Handle.{on_commit, processed, process_message, handle}
-use Rattle.consensus.specs.Call.{new_shard, proposing, propose, receive, dispatch, unless_spent, call_with}
+use Rattle.consensus.specs.Handle.{on_commit, proposing, processed, process_message, handle, handle_call}
+use Rattle.consensus.specs.Call.{new_shard, state_call, call_with}
 use Rattle.texts.specs.declared.Output.{Output}
 use Rattle.texts.specs.Text.{with_bytes, ascii, digit_count, decimal, each, put}
 use Rattle.texts.proofs.Lengths.{put_fits}
@@ -43,7 +44,7 @@ use Rattle.short_runs.proofs.SheetIsListing.{sheet_is_listing}
 
 -- how many bytes the lines have, and the first of them
 lines_computed : ◌≡◌ {A = ℕ × List ℕ} (length (lines_after 5 new_run), take 5 (lines_after 5 new_run)) (45786, ascii "p0,\r\n")
-unfolding contains count size insert look_up store every increment next_leader_round round_before round_equal round_numbers rv_numbers msg_numbers number_given rv_processes msg_processes requester_below counts_fit members_fit committers_fit quorum_fits mode_fits within_limits delegate_in committer_for committer_in with_sender with_own held_after_promise receive_promise paxos_propose_v accept_fits receive_accept accept_own self_accept in_round is_older from_live enter hold_first answer_prepare answers_nothing preparing prepared broadcast_accept accept_phase becomes_prepared gather is_committer committer_hears answer_accept tells_commit commit_messages try_commit heard follower accepted accept_answer counts_accepts accepting electing may_propose propose_prepare propose_accept propose_classic commit_slot in_prepare on_prepare on_accept process_classic other_last_value value_awaited ready admit numbers_fit processes_fit gatherer_in after_commit kept_by_commit served_by_commit reads_at_commit committed on_commit processed process_message handle new_shard proposing propose receive dispatch unless_spent call_with digit_count decimal each each_below is_commit_message is_sent_to message_requester held_requester value_proposed sending_at with_last with_message with_messages with_commit_by office_shard with_answer if_taken after_proposal after_message after_delivery trial_of pair event_text commit_by_text joined_by_blanks kept_line event_lines lines_after
+unfolding contains count size insert look_up store every increment next_leader_round round_before round_equal round_numbers rv_numbers msg_numbers number_given rv_processes msg_processes requester_below counts_fit members_fit committers_fit quorum_fits mode_fits within_limits delegate_in committer_for committer_in with_sender with_own held_after_promise receive_promise paxos_propose_v accept_fits receive_accept accept_own self_accept in_round is_older from_live enter hold_first answer_prepare answers_nothing preparing prepared broadcast_accept accept_phase becomes_prepared gather is_committer committer_hears answer_accept tells_commit commit_messages try_commit heard follower accepted accept_answer counts_accepts accepting electing may_propose propose_prepare propose_accept propose_classic commit_slot in_prepare on_prepare on_accept process_classic other_last_value value_awaited ready admit numbers_fit processes_fit gatherer_in after_commit kept_by_commit served_by_commit reads_at_commit committed on_commit proposing processed process_message handle handle_call admission_of unless_spent decision_of new_shard state_call call_with digit_count decimal each each_below is_commit_message is_sent_to message_requester held_requester value_proposed sending_at with_last with_message with_messages with_commit_by office_shard with_answer if_taken after_proposal after_message after_delivery trial_of pair event_text commit_by_text joined_by_blanks kept_line event_lines lines_after
 lines_computed = refl
 
 -- "So the line after the header is `p0,`."

@@ -6,15 +6,15 @@ ghost use Rattle.stored_register.specs.Stored.{widened};
 ghost use Rattle.register_arrays.specs.Columns.{register_in, SameArrays};
 ghost use Rattle.stored_arrays.specs.Columns.{stored_of_columns};
 
-use register_arrays::Columns;
+use register_arrays::{CellsArray, Columns, FiguresArray};
 
 // The lent arrays of a stored register. Columns and no array of stored cells: the C interface has them so.
 #[derive(Clone, Copy)]
 pub struct StoredColumns<'a> {
     pub cells: &'a [u16; 512],
-    pub carriers: &'a [u64; 512],
-    pub widths: &'a [u64; 512],
-    pub figures: &'a [u64; 5],
+    pub carriers: &'a CellsArray,
+    pub widths: &'a CellsArray,
+    pub figures: &'a FiguresArray,
 }
 
 // The stored numbers, each with 64 bits. By `zip` of `iter_mut` and `iter`, which was tried, the loop stays open without an invariant of the pairs of

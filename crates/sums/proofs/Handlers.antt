@@ -35,8 +35,7 @@ use Rattle.swift_path.specs.Swift.{after_step, after_swift_answer, swift_answer,
 use Rattle.proposal.specs.Proposal.{not_allowed, proposal_round}
 use Rattle.propose.specs.Propose.{propose_prepare, propose_accept, propose_classic, after_own_answer, own_answer, leads_from_start, propose_change, propose_fast}
 use Rattle.paxos_family.specs.Process.{process_classic, fast_prepared, fast_promised, starts_accept, waits, fast_answered, fast_gather, in_fast_prepare, on_fast_prepare, after_replica_accept, replica_accept, in_fast_accept, on_fast_accept, process_change, process_fast}
-use Rattle.consensus.specs.Call.{proposing}
-use Rattle.consensus.specs.Handle.{processed}
+use Rattle.consensus.specs.Handle.{proposing, processed}
 use Rattle.sums.specs.Sums.{Sums}
 use Rattle.sums.specs.Parts.{change_rounds_by}
 use Rattle.sums.specs.Handlers.{epaxos_decide_by, after_epaxos_answer_by, epaxos_answer_by, swift_answer_by, swift_client_prepare_by, leader_answered_by, accept_answered_by, swift_accept_by, swift_client_accept_by, swift_answered_accept_by, fast_answered_by, fast_gather_by, in_fast_prepare_by, on_fast_prepare_by, after_replica_accept_by, replica_accept_by, in_fast_accept_by, on_fast_accept_by, process_change_by, process_fast_by, propose_classic_by, own_answer_by, propose_change_by, propose_fast_by}

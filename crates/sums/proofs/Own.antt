@@ -15,8 +15,8 @@ use Rattle.steps.specs.Steps.{RoundsStep}
 use Rattle.steps.specs.declared.Core.{Core}
 use Rattle.calls.specs.Asked.{asked_of, heard_of}
 use Rattle.calls.specs.declared.Call.{Call}
-use Rattle.consensus.specs.Call.{new_shard, proposing, call_of}
-use Rattle.consensus.specs.Handle.{processed}
+use Rattle.consensus.specs.Call.{new_shard, call_of}
+use Rattle.consensus.specs.Handle.{proposing, processed}
 use Rattle.consensus.specs.declared.Shard.{Shard}
 use Rattle.sums.specs.Sums.{own_sums}
 use Rattle.sums.specs.Calls.{new_shard_by, call_by}

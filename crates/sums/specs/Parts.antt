@@ -1,5 +1,5 @@
 -- The definitions below the handlers that have a sum, a difference, a look-up or a store, with these as parameters. Each `name_by` is the definition `name`
--- of the engine: the crates message, quorum, settings, calls, fast_state, epaxos_path, read_tracker, serving, proposal, paxos_family, steps and core_calls have it.
+-- of the engine: the crates message, quorum, settings, calls, fast_state, epaxos_path, read_tracker, serving, proposal, paxos_family and steps have it.
 -- Assumes nothing.
 use Rattle.std.specs.Prelude.{Bool, true, false, cond, not, ◌&&◌, ◌||◌, List, [], ◌∷◌, ℕ, ◌+◌, ◌*◌, ◌/◌, min, max, eqb, ltb, leb, Option, None, Some, is_some, Result, Ok, Err}
 use Rattle.sets.specs.Sets.{contains, insert}
@@ -45,10 +45,12 @@ use Rattle.steps.specs.declared.Heard.{Heard}
 use Rattle.steps.specs.declared.Outgoing.{Outgoing}
 use Rattle.steps.specs.declared.Rounds.{Rounds}
 use Rattle.enter.specs.Enter.{can_propose}
+use Rattle.paxos_family.specs.Commit.{on_fast_path}
 use Rattle.proposal.specs.Proposal.{electing}
 use Rattle.delivery.specs.declared.Delivery.{Delivery}
-use Rattle.calls.specs.Asked.{proposer_gathers}
-use Rattle.core_calls.specs.CoreCall.{on_fast_path}
+use Rattle.calls.specs.Asked.{proposer_gathers, nothing_heard}
+use Rattle.calls.specs.declared.Call.{Call}
+use Rattle.calls.specs.declared.Call.TheVariants.{Propose, StartRead, Receive}
 use Rattle.sums.specs.Sums.{Sums}
 
 module _ (m : Sums) where
@@ -133,6 +135,11 @@ module _ (m : Sums) where
         committer = committer_in_by s.committers s.mode d.said.requester;
         held_requester = d.held_requester;
       }
+
+  abbrev pub heard_in_by : Settings → Call → Heard
+  heard_in_by s (Propose v) = nothing_heard
+  heard_in_by s (StartRead tag arrival) = nothing_heard
+  heard_in_by s (Receive d) = heard_of_by s d
 
   -- ---- the fast half
 

@@ -7,6 +7,7 @@ ghost use Rattle.swift_path.specs.Swift.{swift_commits, after_swift_answer, swif
 use fast_state::{FastAnswers, FastChange};
 use message::{PaxosRound, Refusal, RoundV};
 use steps::{Asked, ChangeStep, Core, CoreStep, Heard, Messages};
+use tables::PerProcess;
 
 // asked, heard and round are parameters of their own, as in accept and prepare, whose functions are called with them: a struct of the three would be taken
 // apart in each contract (accept tells of a trial).
@@ -35,7 +36,7 @@ fn swift_answer(
     rv: RoundV,
     core: Core,
     answers: FastAnswers,
-    scores: &[u64; 64],
+    scores: &PerProcess,
 ) -> Result<ChangeStep, Refusal>
     ensures { result ≡ swift_answer asked heard round rv core answers scores.now }
 {
@@ -70,7 +71,7 @@ pub fn swift_client_prepare(
     rv: RoundV,
     core: Core,
     answers: FastAnswers,
-    scores: &[u64; 64],
+    scores: &PerProcess,
 ) -> Result<ChangeStep, Refusal>
     ensures { result ≡ swift_client_prepare asked heard round rv core answers scores.now }
 {
@@ -112,7 +113,7 @@ fn leader_answered(
     heard: Heard,
     v: u64,
     answers: FastAnswers,
-    scores: &[u64; 64],
+    scores: &PerProcess,
 ) -> Result<FastChange, Refusal>
     ensures { result ≡ leader_answered asked heard v answers scores.now }
 {
@@ -137,7 +138,7 @@ fn accept_answered(
     round: PaxosRound,
     v: u64,
     answers: FastAnswers,
-    scores: &[u64; 64],
+    scores: &PerProcess,
 ) -> Result<FastChange, Refusal>
     ensures { result ≡ accept_answered asked heard round v answers scores.now }
 {
@@ -172,7 +173,7 @@ fn swift_accept(
     v: u64,
     core: Core,
     answers: FastAnswers,
-    scores: &[u64; 64],
+    scores: &PerProcess,
 ) -> Result<ChangeStep, Refusal>
     ensures { result ≡ swift_accept asked heard round v core answers scores.now }
 {
@@ -190,7 +191,7 @@ pub fn swift_client_accept(
     v: u64,
     core: Core,
     answers: FastAnswers,
-    scores: &[u64; 64],
+    scores: &PerProcess,
 ) -> Result<ChangeStep, Refusal>
     ensures { result ≡ swift_client_accept asked heard round v core answers scores.now }
 {
@@ -227,7 +228,7 @@ pub fn swift_answered_accept(
     core: Core,
     messages: Messages,
     answers: FastAnswers,
-    scores: &[u64; 64],
+    scores: &PerProcess,
 ) -> Result<ChangeStep, Refusal>
     ensures { result ≡ swift_answered_accept asked heard round v core messages answers scores.now }
 {

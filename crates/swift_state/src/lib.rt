@@ -7,6 +7,7 @@ ghost use Rattle.fast_state.specs.Fast.{swift_quorum, in_quorum, leader_answer_a
 use fast_state::{Entry, FastAnswers, FastChange};
 use message::Refusal;
 use round_state::Member;
+use tables::PerProcess;
 
 // With a fixed quorum a majority of preaccepts is enough, and without one the fast quorum is needed.
 #[tactic(auto, unfolding(fast_state::specs::Fast::swift_quorum))]
@@ -40,7 +41,7 @@ fn leader_answer_after(leader: bool, v: u64, old: Option<u64>) -> Option<u64>
 // would be made for one call and taken apart in each contract. So are source, proposer and value, which come from the message and from what it promises.
 fn swift_counted(
     answers: FastAnswers,
-    scores: &[u64; 64],
+    scores: &PerProcess,
     me: Member,
     src: u64,
     proposer: u64,
@@ -101,7 +102,7 @@ fn swift_uncounted(
 #[tactic(auto, unfolding(fast_state::specs::Fast::swift_first))]
 fn swift_first(
     answers: FastAnswers,
-    scores: &[u64; 64],
+    scores: &PerProcess,
     me: Member,
     src: u64,
     proposer: u64,
@@ -120,7 +121,7 @@ fn swift_first(
 #[tactic(auto, unfolding(fast_state::specs::Fast::swift_answered))]
 pub fn swift_answered(
     answers: FastAnswers,
-    scores: &[u64; 64],
+    scores: &PerProcess,
     me: Member,
     src: u64,
     proposer: u64,
@@ -140,7 +141,7 @@ pub fn swift_answered(
 #[tactic(auto, unfolding(fast_state::specs::Fast::swift_own))]
 fn swift_own(
     answers: FastAnswers,
-    scores: &[u64; 64],
+    scores: &PerProcess,
     me: Member,
     v: u64,
     quorum: Option<u64>,
@@ -155,7 +156,7 @@ fn swift_own(
 }
 
 #[tactic(auto, unfolding(fast_state::specs::Fast::swift_unanswered))]
-fn swift_unanswered(answers: FastAnswers, scores: &[u64; 64], me: Member) -> bool
+fn swift_unanswered(answers: FastAnswers, scores: &PerProcess, me: Member) -> bool
     ensures { result ≡ swift_unanswered me answers scores.now }
 {
     answers.swift_leader_answer.is_none()
@@ -166,7 +167,7 @@ fn swift_unanswered(answers: FastAnswers, scores: &[u64; 64], me: Member) -> boo
 #[tactic(auto, unfolding(fast_state::specs::Fast::swift_propose_v))]
 pub fn swift_propose_v(
     answers: FastAnswers,
-    scores: &[u64; 64],
+    scores: &PerProcess,
     me: Member,
     v: u64,
     quorum: Option<u64>,

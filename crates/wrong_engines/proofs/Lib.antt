@@ -1,3 +1,4 @@
+pub mod InParts
 pub mod Right
 pub mod Answers
 pub mod Runs

@@ -30,21 +30,24 @@ use Rattle.steps.specs.declared.Outgoing.{Outgoing}
 use Rattle.steps.specs.declared.Rounds.{Rounds}
 use Rattle.calls.specs.Asked.{asked_of}
 use Rattle.calls.specs.declared.Call.{Call}
-use Rattle.consensus.specs.Answers.{refused, sent, nothing, finish_at, finish}
-use Rattle.consensus.specs.Call.{proposing, call_of}
+use Rattle.consensus.specs.Answers.{finish_at, finish}
+use Rattle.consensus.specs.Call.{call_of}
 use Rattle.consensus.specs.FirstCause.{number_alone, ByFirstCause}
+use Rattle.consensus.specs.Handle.{proposing}
 use Rattle.consensus.specs.declared.Answer.{Answer}
 use Rattle.consensus.specs.declared.Shard.{Shard}
+use Rattle.consensus.specs.declared.StateAnswer.{StateAnswer}
+use Rattle.consensus.proofs.Decided.{settings_kept}
 use Rattle.consensus.proofs.Refusals.{unmade_refuses}
 use Rattle.agreement.proofs.Tests.{neqb→ne}
 use Rattle.paper.specs.PaperCall.{seen}
-use Rattle.paper.proofs.Calls.{call_as_paper, new_within, settings_kept, no_fast_path}
+use Rattle.paper.proofs.Calls.{call_as_paper, new_within, no_fast_path}
 use Rattle.group.specs.Claim.{begun, MemberCall, Entry, listed, At, plus_commit, CommitAt}
 use Rattle.group.proofs.Handlers.{Any, any_holds, EndsUncommitted, Keeps, proposing_holds, call_holds, finish_holds}
 use Rattle.wrong_engines.specs.Laws.{AnyEngine, ReachedBy, entry_by, after_call_by, entries_by, RefusesByFirstCause, IsAsPaper, InAgreement}
 use Rattle.wrong_engines.specs.Laws.ReachedBy.{new, called}
 use Rattle.wrong_engines.specs.declared.FixedContents.{FixedContents}
-use Rattle.wrong_engines.specs.Engines.{is_message, is_proposal, multi_paxos_never_proposes, with_messages, on_messages, where_taken, if_taken, does_nothing, sends_fixed, with_fixed_content, sends_fixed_contents, hears_nothing, answers_no_message, idles_after_slot_zero, refuses_each, sends_thrice, from_zero, sends_as_zero, own, sent_to, sends_to_itself, with_shard_at, if_commits, marked_unmade, unmakes}
+use Rattle.wrong_engines.specs.Engines.{is_message, is_proposal, multi_paxos_never_proposes, with_messages, on_messages, where_taken, if_taken, sends_only, idles, does_nothing, sends_fixed, with_fixed_content, sends_fixed_contents, hears_nothing, answers_no_message, idles_after_slot_zero, refuses_each, sends_thrice, from_zero, sends_as_zero, own, sent_to, sends_to_itself, with_shard_at, if_commits, marked_unmade, unmakes}
 use Rattle.wrong_engines.proofs.Answers.{refused_not_done}
 use Rattle.wrong_engines.proofs.Less.{DoesLess, SaysNothing, less_in_agreement}
 use Rattle.wrong_engines.proofs.Right.{right_has_all}
@@ -64,23 +67,23 @@ other_by_first_cause shard c other done = go (call_of shard c).reply.outcome ref
 
 pub nothing_done_by_first_cause : RefusesByFirstCause does_nothing
 unfolding does_nothing
-nothing_done_by_first_cause shard c = other_by_first_cause shard c (nothing shard) (λ e. refl)
+nothing_done_by_first_cause shard c = other_by_first_cause shard c (idles shard) (λ e. refl)
 
 pub fixed_by_first_cause : (fixed : Messages) → RefusesByFirstCause (sends_fixed fixed)
 unfolding sends_fixed
-fixed_by_first_cause fixed shard c = other_by_first_cause shard c (sent shard fixed) (λ e. refl)
+fixed_by_first_cause fixed shard c = other_by_first_cause shard c (sends_only fixed shard) (λ e. refl)
 
 pub idle_by_first_cause : RefusesByFirstCause idles_after_slot_zero
 unfolding idles_after_slot_zero
 idle_by_first_cause shard c =
-    of-both (ByFirstCause lowest_best shard c) (leb 1 shard.state.rounds.core.slot) (other_by_first_cause shard c (nothing shard) (λ e. refl))
+    of-both (ByFirstCause lowest_best shard c) (leb 1 shard.state.rounds.core.slot) (other_by_first_cause shard c (idles shard) (λ e. refl))
     (right_has_all.first_cause shard c)
 
 pub unproposed_by_first_cause : RefusesByFirstCause multi_paxos_never_proposes
 unfolding multi_paxos_never_proposes
 unproposed_by_first_cause shard c =
     of-both (ByFirstCause lowest_best shard c) (is_multi_paxos shard.settings.mode && is_proposal c)
-    (other_by_first_cause shard c (nothing shard) (λ e. refl)) (right_has_all.first_cause shard c)
+    (other_by_first_cause shard c (idles shard) (λ e. refl)) (right_has_all.first_cause shard c)
 
 -- other messages, none where there were none
 messages_by_first_cause : (f : Messages → Messages) → f no_messages ≡ no_messages → (shard : Shard) (c : Call)
@@ -159,11 +162,11 @@ module _ (engine : AnyEngine) (never : (shard : Shard) (c : Call) → (engine sh
 
 pub nothing_done_in_agreement : InAgreement does_nothing
 unfolding does_nothing
-nothing_done_in_agreement = silent_in_agreement does_nothing (λ shard c. other_commits_nothing shard c (nothing shard) refl)
+nothing_done_in_agreement = silent_in_agreement does_nothing (λ shard c. other_commits_nothing shard c (idles shard) refl)
 
 pub fixed_in_agreement : (fixed : Messages) → InAgreement (sends_fixed fixed)
 unfolding sends_fixed
-fixed_in_agreement fixed = silent_in_agreement (sends_fixed fixed) (λ shard c. other_commits_nothing shard c (sent shard fixed) refl)
+fixed_in_agreement fixed = silent_in_agreement (sends_fixed fixed) (λ shard c. other_commits_nothing shard c (sends_only fixed shard) refl)
 
 -- ---- demand 3: who refuses each frame, or does nothing with it, since a proposal and a new read commit nothing
 
@@ -194,23 +197,23 @@ unheard_commits_nothing shard =
     a : Asked
     a = asked_of shard.settings
 
-    ended : (s : Rounds) (ms : Messages) (held : Option RoundV) (n : Next) → EndsUncommitted Any ms held n → (finish_at shard a true s ms n).reply.commit ≡ None
+    ended : (s : Rounds) (ms : Messages) (held : Option RoundV) (n : Next) → EndsUncommitted Any ms held n → (finish_at shard.state a true s ms n).reply.commit ≡ None
     ended s ms held Stays q = refl
     ended s ms held Continues q = absurd q
     ended s ms held (Commits v) q = absurd q
 
-    proposal : (v : ℕ) → (finish shard a true (proposing a v shard.state.rounds)).reply.commit ≡ None
+    proposal : (v : ℕ) → (finish shard.state a true (proposing a v shard.state.rounds)).reply.commit ≡ None
     proposal v =
-        finish_holds (λ (r : Answer). r.reply.commit ≡ None) shard a true (proposing a v shard.state.rounds) (λ why. refl)
+        finish_holds (λ (r : StateAnswer). r.reply.commit ≡ None) shard.state a true (proposing a v shard.state.rounds) (λ why. refl)
         (proposing_holds a Any Any Any Any (λ round. Any) Any Any (keeps a)
-        (λ step. (finish_at shard a true step.state step.messages step.next).reply.commit ≡ None) (λ core t. tt) v tt shard.state.rounds Any tt (any_holds _)
+        (λ step. (finish_at shard.state a true step.state step.messages step.next).reply.commit ≡ None) (λ core t. tt) v tt shard.state.rounds Any tt (any_holds _)
         (λ step t q. ended _ step.messages _ step.next q.0.1) (λ step t q. ended _ step.messages _ step.next q.1) tt)
 
 pub frames_refused_in_agreement : (why : Refusal) → InAgreement (refuses_each is_message why)
 unfolding refuses_each
 frames_refused_in_agreement why = silent_in_agreement (refuses_each is_message why) (λ shard c. go shard c (is_message c) refl)
   where
-    go : (shard : Shard) (c : Call) (t : Bool) → is_message c ≡ t → (cond t (refused why shard) (call_of shard c)).reply.commit ≡ None
+    go : (shard : Shard) (c : Call) (t : Bool) → is_message c ≡ t → (cond t (number_alone why shard) (call_of shard c)).reply.commit ≡ None
     go shard c true e = refl
     go shard c false e = unheard_commits_nothing shard c e
 
@@ -219,8 +222,8 @@ unfolding hears_nothing
 nothing_heard_in_agreement = silent_in_agreement hears_nothing (λ shard c. go shard c (is_message c) refl)
   where
     go : (shard : Shard) (c : Call) (t : Bool) → is_message c ≡ t
-        → (cond t (if_taken (nothing shard) (call_of shard c)) (call_of shard c)).reply.commit ≡ None
-    go shard c true e = other_commits_nothing shard c (nothing shard) refl
+        → (cond t (if_taken (idles shard) (call_of shard c)) (call_of shard c)).reply.commit ≡ None
+    go shard c true e = other_commits_nothing shard c (idles shard) refl
     go shard c false e = unheard_commits_nothing shard c e
 
 -- ---- demand 3: who does less than the right engine
@@ -265,21 +268,21 @@ idle_in_agreement =
     less_in_agreement idles_after_slot_zero Idle (λ shard c. less shard c (leb 1 shard.state.rounds.core.slot) refl) nothing_said
   where
     less : (shard : Shard) (c : Call) (t : Bool) → leb 1 shard.state.rounds.core.slot ≡ t
-        → DoesLess idles_after_slot_zero Idle (cond t (if_taken (nothing shard) (call_of shard c)) (call_of shard c)) (call_of shard c) ⊎ Idle shard
+        → DoesLess idles_after_slot_zero Idle (cond t (if_taken (idles shard) (call_of shard c)) (call_of shard c)) (call_of shard c) ⊎ Idle shard
     less shard c true e = inr e
     less shard c false e = inl (record { outcome = refl; commit = refl; messages = λ o h. h; left = inl refl })
 
     taken : (shard : Shard) → Idle shard → (c : Call) (o : Outcome) → (call_of shard c).reply.outcome ≡ o → ByFirstCause lowest_best shard c (call_of shard c)
-        → SaysNothing idles_after_slot_zero Idle (where_taken (nothing shard) (call_of shard c) o)
+        → SaysNothing idles_after_slot_zero Idle (where_taken (idles shard) (call_of shard c) o)
     taken shard i c (Ok tt) e h = record { no_messages = refl; no_commit = refl; still_silent = i }
     taken shard i c (Err w) e (inl (done, none)) = absurd (refused_not_done (call_of shard c).reply.outcome w done e)
     taken shard i c (Err w) e (inr (why, r, first)) =
         subst (SaysNothing idles_after_slot_zero Idle) (sym r) (record { no_messages = refl; no_commit = refl; still_silent = i })
 
     nothing_said : (shard : Shard) → Idle shard → (c : Call)
-        → SaysNothing idles_after_slot_zero Idle (cond (leb 1 shard.state.rounds.core.slot) (if_taken (nothing shard) (call_of shard c)) (call_of shard c))
+        → SaysNothing idles_after_slot_zero Idle (cond (leb 1 shard.state.rounds.core.slot) (if_taken (idles shard) (call_of shard c)) (call_of shard c))
     nothing_said shard i c =
-        subst (λ (t : Bool). SaysNothing idles_after_slot_zero Idle (cond t (if_taken (nothing shard) (call_of shard c)) (call_of shard c))) (sym i)
+        subst (λ (t : Bool). SaysNothing idles_after_slot_zero Idle (cond t (if_taken (idles shard) (call_of shard c)) (call_of shard c))) (sym i)
         (taken shard i c (call_of shard c).reply.outcome refl (right_has_all.first_cause shard c))
 
 -- ---- who marks itself unmade with its first commit
@@ -316,7 +319,7 @@ within : (shard : Shard) → ReachedBy unmakes shard → within_limits shard.set
 unfolding unmakes
 within shard (new s e) = new_within s e
 within shard (called before c r) =
-    ap within_limits (settings_same (call_of before c) (call_of before c).reply.commit ∙ settings_kept before c) ∙ within before r
+    ap within_limits (settings_same (call_of before c) (call_of before c).reply.commit ∙ settings_kept lowest_best before c) ∙ within before r
 
 pub unmade_as_paper : IsAsPaper unmakes
 unfolding unmakes

@@ -1,20 +1,16 @@
 -- The engine has every law of Laws.antt: there they are the theorems of consensus, paper and group, since its runs are those of the claim and of these
 -- theorems. So has every engine that is equal to it on each call, in whatever words: the engine by its parts is one.
 -- Assumes nothing.
-use Rattle.std.specs.Prelude.{is_some, Ok, Err}
+use Rattle.std.specs.Prelude.{is_some, Ok}
 use Rattle.std.proofs.Math.Path.{fun_ext}
 use mathlib.Core.Path.{◌≡◌, refl, sym, ap, subst, ◌∙◌}
 use mathlib.Core.Logic.{◌↔◌, ◌⊎◌}
-use mathlib.Core.Bool.{Bool, true, false, cond}
+use mathlib.Core.Bool.{Bool, true, false}
 use mathlib.Core.List.{List, [], ◌∷◌}
 use Prim.Native.Nat.{ℕ, ◌<◌}
-use lib.Dec.{leb}
 use Rattle.basics.specs.Lists.{In}
 use Rattle.sets.specs.Sets.{contains, Within}
 use Rattle.basics.proofs.Tests.{not_both}
-use Rattle.message.specs.Outcomes.{Outcome}
-use Rattle.message.specs.declared.Refusal.{Refusal}
-use Rattle.message.specs.declared.Refusal.TheVariants.{NumberTooLarge}
 use Rattle.round_state.specs.Paxos.{get_last_accepted_round}
 use Rattle.fast_state.specs.Fast.{no_answers}
 use Rattle.serving.proofs.IdOrder.{InOrder, Rising, served_ids}
@@ -24,17 +20,16 @@ use Rattle.calls.specs.declared.Call.TheVariants.{Receive}
 use Rattle.fast_state.specs.Adopt.{lowest_best}
 use Rattle.settings.specs.declared.Settings.{Settings}
 use Rattle.calls.specs.Commits.{committed_slot}
+use Rattle.calls.specs.Decision.{admission_of}
 use Rattle.calls.specs.declared.Call.{Call}
-use Rattle.consensus.specs.Call.{call_of, after_calls, admitted, receive, dispatch, unless_spent, if_made, call_with}
-use Rattle.consensus.specs.Answers.{refused}
+use Rattle.consensus.specs.Call.{call_of, after_calls}
 use Rattle.consensus.specs.declared.Answer.{Answer}
 use Rattle.consensus.specs.declared.Shard.{Shard}
-use Rattle.consensus.proofs.ByParts.{by_parts, by_core_lem}
+use Rattle.consensus.proofs.Decided.{by_decision, settings_kept}
 use Rattle.consensus.proofs.Refusals.{by_first_cause, marked_once}
-use Rattle.calls.specs.Decision.{decision_of}
 use Rattle.paper.specs.Runs.{Reached}
 use Rattle.paper.specs.Runs.Reached.{new as made, called as after}
-use Rattle.paper.proofs.Calls.{every_call_as_paper, other_calls_leave, settings_kept}
+use Rattle.paper.proofs.Calls.{every_call_as_paper, other_calls_leave}
 use Rattle.group.specs.Claim.{begun, ours, MemberCall, Entry, entry_of, after_call, entries_from, entries, LegalFrom, Legal, slot_at, CommitAt, Claim}
 use Rattle.group.proofs.Agreement.{agreement}
 use Rattle.group.proofs.GroupOfOne.{group_of_one}
@@ -42,7 +37,8 @@ use Rattle.group.specs.Steps.{is_done}
 use Rattle.group.proofs.Invariants.{Cleared, served_by, Room, InTables, shards_after, fast_half_as_new, commit_clears, reads_in_order, served_in_order, sets_hold_processes, sets_hold_live_replicas, promises_while_held, accepts_while_accepted, sums_have_room, handled_in_tables}
 use Rattle.group.proofs.Slots.{slot_counts_commits, commits_are_of_own_slot}
 use Rattle.group.proofs.Sending.{two_messages_at_most, sent_from_own, none_to_its_sender}
-use Rattle.wrong_engines.specs.Engines.{in_parts}
+use Rattle.wrong_engines.specs.InParts.{in_parts}
+use Rattle.wrong_engines.proofs.InParts.{in_parts_same}
 use Rattle.wrong_engines.specs.Laws.{AnyEngine, ReachedBy, entries_by, shards_by, after_calls_by, LegalBy, HasAllLaws}
 use Rattle.wrong_engines.specs.Laws.ReachedBy.{new, called}
 
@@ -99,25 +95,11 @@ Taken r = r.reply.outcome ≡ Ok tt
 
 taken_admitted : (shard : Shard) (d : Delivery) → Taken (call_of shard (Receive d))
     → (shard.made ≡ Ok tt) × (admit shard.settings.process_count shard.settings.my_pid shard.state.rounds.core d ≡ Ok tt)
-unfolding call_with unless_spent dispatch receive
-taken_admitted shard d = by_mark shard.made refl
-  where
-    refused_taken : {A : Type 0} (why : Refusal) → ◌≡◌ {A = Outcome} (Err why) (Ok tt) → A
-    refused_taken why e = let z : ◌≡◌ {A = Bool} false true = ap is_done e in absurd (not_both z refl)
-
-    is_admitted : (o : Outcome) → Taken (admitted lowest_best shard d o) → o ≡ Ok tt
-    is_admitted (Ok tt) e = refl
-    is_admitted (Err why) e = refused_taken why e
-
-    unspent : (t : Bool) → Taken (cond t (refused NumberTooLarge shard) (dispatch lowest_best shard (Receive d)))
-        → admit shard.settings.process_count shard.settings.my_pid shard.state.rounds.core d ≡ Ok tt
-    unspent true e = refused_taken NumberTooLarge e
-    unspent false e = is_admitted _ e
-
-    by_mark : (o : Outcome) → shard.made ≡ o → Taken (if_made lowest_best shard (Receive d) o)
-        → (shard.made ≡ Ok tt) × (admit shard.settings.process_count shard.settings.my_pid shard.state.rounds.core d ≡ Ok tt)
-    by_mark (Ok tt) m e = (m, unspent (leb 9223372036854775807 shard.state.rounds.core.slot) e)
-    by_mark (Err why) m e = refused_taken why e
+unfolding admission_of
+taken_admitted shard d =
+    by_decision lowest_best shard
+    (λ r. Taken r → (shard.made ≡ Ok tt) × (admit shard.settings.process_count shard.settings.my_pid shard.state.rounds.core d ≡ Ok tt)) (Receive d)
+    (λ why e. let z : ◌≡◌ {A = Bool} false true = ap is_done e in absurd (not_both z refl)) (λ made room admitted e. (made, admitted))
 
 -- ---- the laws
 
@@ -130,7 +112,7 @@ right_has_all =
     record {
       first_cause = by_first_cause lowest_best;
       mark = λ shard cs. ap (λ (x : Shard). x.made) (left_same shard cs) ∙ marked_once shard cs;
-      settings = settings_kept;
+      settings = settings_kept lowest_best;
       paper = λ shard r. every_call_as_paper shard (reached_there shard r);
       other_calls = other_calls_leave;
       agreement = λ s mode cs legal. subst Claim (sym (run_same s cs)) (agreement s mode cs ((legal_same s cs).0 legal));
@@ -182,9 +164,6 @@ right_has_all =
 
 pub same_has_all : (engine : AnyEngine) → ((shard : Shard) (c : Call) → engine shard c ≡ call_of shard c) → HasAllLaws engine
 same_has_all engine same = subst HasAllLaws (sym (fun_ext (λ shard. fun_ext (same shard)))) right_has_all
-
-pub in_parts_same : (shard : Shard) (c : Call) → in_parts shard c ≡ call_of shard c
-in_parts_same shard c = by_core_lem shard (decision_of shard.made shard.settings shard.state.rounds.core c) ∙ by_parts shard c
 
 pub in_parts_has_all : HasAllLaws in_parts
 in_parts_has_all = same_has_all in_parts in_parts_same

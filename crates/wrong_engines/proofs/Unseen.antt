@@ -26,10 +26,11 @@ use Rattle.consensus.specs.FirstCause.{number_alone, all_causes, ByFirstCause}
 use Rattle.consensus.specs.Rows.{NoneHolds}
 use Rattle.consensus.specs.declared.Answer.{Answer}
 use Rattle.consensus.specs.declared.Shard.{Shard}
+use Rattle.consensus.proofs.Decided.{settings_kept}
 use Rattle.consensus.proofs.Refusals.{taken_where_none}
 use Rattle.paper.specs.PaperCall.{seen}
 use Rattle.paper.specs.Runs.{ClassicMode}
-use Rattle.paper.proofs.Calls.{call_as_paper, new_within, settings_kept, no_fast_path}
+use Rattle.paper.proofs.Calls.{call_as_paper, new_within, no_fast_path}
 use Rattle.group.specs.Claim.{begun, MemberCall, Entry, Claim, NotSwift}
 use Rattle.wrong_engines.specs.Laws.{AnyEngine, ReachedBy, entries_by, LegalBy, RefusesByFirstCause, IsAsPaper, InAgreement}
 use Rattle.wrong_engines.specs.Laws.ReachedBy.{new, called}
@@ -139,11 +140,11 @@ SettingsOf shard r = r.shard.settings ≡ shard.settings
 
 module _ (shard left : Shard) (c : Call) where
   left_settings : left.settings ≡ shard.settings → (t : Bool) → SettingsOf shard (cond t (leaving left (call_of shard c)) (call_of shard c))
-  left_settings kept t = of-both (SettingsOf shard) t (go (call_of shard c).reply.outcome) (settings_kept shard c)
+  left_settings kept t = of-both (SettingsOf shard) t (go (call_of shard c).reply.outcome) (settings_kept lowest_best shard c)
     where
       go : (o : Outcome) → SettingsOf shard (where_taken (record { shard = left; reply = (call_of shard c).reply }) (call_of shard c) o)
       go (Ok tt) = kept
-      go (Err why) = settings_kept shard c
+      go (Err why) = settings_kept lowest_best shard c
 
   left_seen : seen (record { shard = left; reply = (call_of shard c).reply }) ≡ seen (call_of shard c) → (t : Bool)
       → seen (cond t (leaving left (call_of shard c)) (call_of shard c)) ≡ seen (call_of shard c)
@@ -158,8 +159,8 @@ unfolding notes_proposals
 noted_as_paper =
     seen_as_paper notes_proposals
     (λ shard c.
-    of-both (SettingsOf shard) (has_fast_path shard.settings.mode) (settings_kept shard c)
-    (left_settings shard (noting (answers_noted c) (call_of shard c).shard) c (settings_kept shard c) true))
+    of-both (SettingsOf shard) (has_fast_path shard.settings.mode) (settings_kept lowest_best shard c)
+    (left_settings shard (noting (answers_noted c) (call_of shard c).shard) c (settings_kept lowest_best shard c) true))
     (λ shard c classic.
     of-both (λ (r : Answer). seen r ≡ seen (call_of shard c)) (has_fast_path shard.settings.mode) refl
     (left_seen shard (noting (answers_noted c) (call_of shard c).shard) c refl true))
@@ -168,14 +169,14 @@ pub filled_as_paper : IsAsPaper fills_first_read
 unfolding fills_first_read
 filled_as_paper =
     seen_as_paper fills_first_read
-    (λ shard c. left_settings shard (with_full_read (call_of shard c).shard) c (settings_kept shard c) (is_new_read c))
+    (λ shard c. left_settings shard (with_full_read (call_of shard c).shard) c (settings_kept lowest_best shard c) (is_new_read c))
     (λ shard c classic. left_seen shard (with_full_read (call_of shard c).shard) c refl (is_new_read c))
 
 pub served_turned_as_paper : IsAsPaper serves_turned
 unfolding serves_turned
 served_turned_as_paper =
     seen_as_paper serves_turned
-    (λ shard c. of-both (SettingsOf shard) (leb 2 (call_of shard c).reply.served_count) (settings_kept shard c) (settings_kept shard c))
+    (λ shard c. of-both (SettingsOf shard) (leb 2 (call_of shard c).reply.served_count) (settings_kept lowest_best shard c) (settings_kept lowest_best shard c))
     (λ shard c classic. of-both (λ (r : Answer). seen r ≡ seen (call_of shard c)) (leb 2 (call_of shard c).reply.served_count) refl refl)
 
 -- ---- who goes wrong in SwiftPaxos alone
@@ -286,7 +287,7 @@ next_slot_in_swift : WrongInSwift commits_next_slot
 unfolding commits_next_slot
 next_slot_in_swift =
     record {
-      settings = λ shard c. of-both (SettingsOf shard) (is_swift_paxos shard.settings.mode) (settings_kept shard c) (settings_kept shard c);
+      settings = λ shard c. of-both (SettingsOf shard) (is_swift_paxos shard.settings.mode) (settings_kept lowest_best shard c) (settings_kept lowest_best shard c);
       right = λ shard c e.
           ap (λ (t : Bool). cond t (with_commit (told_as_next (call_of shard c).reply.commit) (call_of shard c)) (call_of shard c)) e;
     }

@@ -25,22 +25,17 @@ use Rattle.steps.specs.declared.Destination.TheVariants.{One, All}
 use Rattle.steps.specs.declared.Messages.{Messages}
 use Rattle.steps.specs.declared.Outgoing.{Outgoing}
 use Rattle.calls.specs.Commits.{committed_slot}
-use Rattle.calls.specs.Decision.{decision_of}
 use Rattle.calls.specs.declared.Call.{Call}
 use Rattle.calls.specs.declared.Call.TheVariants.{Propose, StartRead, Receive}
 use Rattle.calls.specs.declared.CommittedSlot.{CommittedSlot}
-use Rattle.consensus.specs.Answers.{with_state, with_rounds, refused, sent, nothing}
-use Rattle.consensus.specs.ByParts.{by_core}
-use Rattle.consensus.specs.Call.{call_of}
+use Rattle.calls.specs.Replies.{sent_reply}
+use Rattle.consensus.specs.Answers.{with_rounds}
+use Rattle.consensus.specs.Call.{with_state, call_of}
+use Rattle.consensus.specs.FirstCause.{number_alone}
 use Rattle.consensus.specs.declared.Answer.{Answer}
 use Rattle.consensus.specs.declared.Shard.{Shard}
 use Rattle.wrong_engines.specs.Laws.{AnyEngine}
 use Rattle.wrong_engines.specs.declared.FixedContents.{FixedContents}
-
--- ---- the right one in other words: what is decided of a call, and then by the parts of a shard, the core first (crates/consensus/specs/ByParts.antt)
-
-abbrev pub in_parts : AnyEngine
-in_parts shard c = by_core shard (decision_of shard.made shard.settings shard.state.rounds.core c)
 
 -- ---- kinds of calls
 
@@ -115,7 +110,7 @@ paxos_of shard = shard.state.rounds.core.paxos
 -- another Paxos half; something else is held, or nothing
 abbrev pub with_paxos_half : PaxosState → Shard → Shard
 with_paxos_half paxos shard =
-    with_rounds shard (record { core = with_paxos paxos shard.state.rounds.core; fast = shard.state.rounds.fast })
+    with_state shard (with_rounds shard.state (record { core = with_paxos paxos shard.state.rounds.core; fast = shard.state.rounds.fast }))
 
 abbrev pub holding : Option RoundV → Shard → Shard
 holding held shard = with_paxos_half (with_held held (paxos_of shard)) shard
@@ -204,15 +199,22 @@ if_taken other r = where_taken other r r.reply.outcome
 abbrev pub leaving : Shard → Answer → Answer
 leaving shard r = if_taken (record { shard = shard; reply = r.reply }) r
 
+-- the shard as it was, and nothing handed back but these messages; or not even these
+abbrev pub sends_only : Messages → Shard → Answer
+sends_only messages shard = record { shard = shard; reply = sent_reply messages }
+
+abbrev pub idles : Shard → Answer
+idles shard = sends_only no_messages shard
+
 -- ---- lacking demand 2; they refuse what has to be refused
 
 -- "a member that hears everything and does nothing"
 unfoldable pub does_nothing : AnyEngine
-does_nothing shard c = if_taken (nothing shard) (call_of shard c)
+does_nothing shard c = if_taken (idles shard) (call_of shard c)
 
 -- "or sends one fixed message", whatever it is, or none, and does nothing else
 unfoldable pub sends_fixed : Messages → AnyEngine
-sends_fixed fixed shard c = if_taken (sent shard fixed) (call_of shard c)
+sends_fixed fixed shard c = if_taken (sends_only fixed shard) (call_of shard c)
 
 -- such a message: that 0 is committed in slot 0
 abbrev pub one_commit : Messages
@@ -253,11 +255,11 @@ all_zero =
 -- in MultiPaxos and MultiPaxos3P it never proposes: a proposal that is taken does nothing
 unfoldable pub multi_paxos_never_proposes : AnyEngine
 multi_paxos_never_proposes shard c =
-    cond (is_multi_paxos shard.settings.mode && is_proposal c) (if_taken (nothing shard) (call_of shard c)) (call_of shard c)
+    cond (is_multi_paxos shard.settings.mode && is_proposal c) (if_taken (idles shard) (call_of shard c)) (call_of shard c)
 
 -- it proposes, and does nothing with what it hears
 unfoldable pub hears_nothing : AnyEngine
-hears_nothing shard c = cond (is_message c) (if_taken (nothing shard) (call_of shard c)) (call_of shard c)
+hears_nothing shard c = cond (is_message c) (if_taken (idles shard) (call_of shard c)) (call_of shard c)
 
 -- it proposes, and answers no message
 unfoldable pub answers_no_message : AnyEngine
@@ -265,13 +267,13 @@ answers_no_message shard c = cond (is_message c) (with_messages no_messages (cal
 
 -- "one that works in slot 0 and then idles"
 unfoldable pub idles_after_slot_zero : AnyEngine
-idles_after_slot_zero shard c = cond (leb 1 (slot_of shard)) (if_taken (nothing shard) (call_of shard c)) (call_of shard c)
+idles_after_slot_zero shard c = cond (leb 1 (slot_of shard)) (if_taken (idles shard) (call_of shard c)) (call_of shard c)
 
 -- ---- lacking demand 1
 
 -- "or refuses each frame"; "one that says 5, 6 or 12 while nothing is ahead, awaited or full". Calls of a kind are refused, with whichever number.
 unfoldable pub refuses_each : (Call → Bool) → Refusal → AnyEngine
-refuses_each kind why shard c = cond (kind c) (refused why shard) (call_of shard c)
+refuses_each kind why shard c = cond (kind c) (number_alone why shard) (call_of shard c)
 
 -- ---- lacking demand 3
 
@@ -402,7 +404,8 @@ with_preaccepted n f =
     }
 
 abbrev pub noting : ℕ → Shard → Shard
-noting n shard = with_rounds shard (record { core = shard.state.rounds.core; fast = with_preaccepted n shard.state.rounds.fast })
+noting n shard =
+    with_state shard (with_rounds shard.state (record { core = shard.state.rounds.core; fast = with_preaccepted n shard.state.rounds.fast }))
 
 abbrev pub answers_noted : Call → ℕ
 answers_noted (Propose v) = 1

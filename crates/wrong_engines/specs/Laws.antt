@@ -72,7 +72,7 @@ module _ (engine : AnyEngine) where
   abbrev pub MarkedOnce : Type 0
   MarkedOnce = (shard : Shard) (cs : List Call) → (after_calls_by shard cs).made ≡ shard.made
 
-  -- `settings_kept` (paper)
+  -- `settings_kept` (consensus)
   abbrev pub KeepsSettings : Type 0
   KeepsSettings = (shard : Shard) (c : Call) → (engine shard c).shard.settings ≡ shard.settings
 

@@ -3,10 +3,10 @@
 #![tactic(auto)]
 
 ghost use Rattle.std.specs.Prelude.{◌≡◌};
-ghost use Rattle.consensus.specs.Answers.{refused, sent};
-ghost use Rattle.wrong_engines.specs.Engines.{is_message, is_proposal, multi_paxos_never_proposes, is_prepare_for, is_accept_for, brings, from_another, holding, lowest_or, call_under, with_replicas, with_messages, on_message, on_messages, if_taken, does_nothing, sends_fixed, one_commit, fixed_content, with_fixed_content, sends_fixed_contents, all_zero, answers_no_message, idles_after_slot_zero, refuses_each, commits_on_first_accept, prepared_figure_without_set, accepted_figure_without_set, forgets_held_with_round, sends_thrice, from_zero, sends_as_zero, sent_to, sends_to_itself, commits_at_once, is_new_read, is_forward, with_settings, with_processes, leaving, if_commits, stays_in_slot, keeps_held_after_commit, marked_unmade, unmakes, loses_replicas, forgets_held_with_read, counts_every_process, noting, answers_noted, notes_proposals, with_table, no_read, first_two_turned, turned, keeps_reads_turned, nothing_served, first_two_served_turned, serves_turned, full_reads, fills_first_read, swift_forward, counts_forwards_as_promises, counts_forwards_as_accepts, takes_every_process, told_as_next, commits_next_slot};
+ghost use Rattle.consensus.specs.FirstCause.{number_alone};
+ghost use Rattle.wrong_engines.specs.Engines.{is_message, is_proposal, multi_paxos_never_proposes, is_prepare_for, is_accept_for, brings, from_another, holding, lowest_or, call_under, with_replicas, with_messages, on_message, on_messages, if_taken, sends_only, does_nothing, sends_fixed, one_commit, fixed_content, with_fixed_content, sends_fixed_contents, all_zero, answers_no_message, idles_after_slot_zero, refuses_each, commits_on_first_accept, prepared_figure_without_set, accepted_figure_without_set, forgets_held_with_round, sends_thrice, from_zero, sends_as_zero, sent_to, sends_to_itself, commits_at_once, is_new_read, is_forward, with_settings, with_processes, leaving, if_commits, stays_in_slot, keeps_held_after_commit, marked_unmade, unmakes, loses_replicas, forgets_held_with_read, counts_every_process, noting, answers_noted, notes_proposals, with_table, no_read, first_two_turned, turned, keeps_reads_turned, nothing_served, first_two_served_turned, serves_turned, full_reads, fills_first_read, swift_forward, counts_forwards_as_promises, counts_forwards_as_accepts, takes_every_process, told_as_next, commits_next_slot};
 
-use calls::{Call, CommittedSlot, Reply};
+use calls::{Call, CommittedSlot};
 use consensus::{Answer, Shard};
 use message::{ConsensusMessage, ConsensusMsg, PaxosRound, ReadId, Refusal, RoundV, increment};
 use read_tracker::{OpenRead, ServedRead};
@@ -15,31 +15,23 @@ use steps::{Destination, Messages, Outgoing};
 
 // ---- answers
 
-fn sent(shard: Shard, messages: Messages) -> Answer
-    ensures { result ≡ sent shard messages }
+// The shard as it was, and these messages.
+fn sends_only(messages: Messages, shard: Shard) -> Answer
+    ensures { result ≡ sends_only messages shard }
 {
     Answer {
         shard,
-        reply: Reply {
-            outcome: Ok(()),
-            messages,
-            commit: None,
-            served_count: 0,
-        },
+        reply: calls::sent_reply(messages),
     }
 }
 
-fn refused(why: Refusal, shard: Shard) -> Answer
-    ensures { result ≡ refused why shard }
+// The shard as it was, and the number of a refusal.
+fn number_alone(why: Refusal, shard: Shard) -> Answer
+    ensures { result ≡ number_alone why shard }
 {
     Answer {
         shard,
-        reply: Reply {
-            outcome: Err(why),
-            messages: steps::no_messages(),
-            commit: None,
-            served_count: 0,
-        },
+        reply: calls::refused_reply(why),
     }
 }
 
@@ -66,14 +58,14 @@ fn with_messages(messages: Messages, mut answer: Answer) -> Answer
 pub fn does_nothing(shard: Shard, call: Call) -> Answer
     ensures { result ≡ does_nothing shard call }
 {
-    if_taken(sent(shard, steps::no_messages()), shard.call(call))
+    if_taken(sends_only(steps::no_messages(), shard), shard.call(call))
 }
 
 #[tactic(auto, unfolding(crate::specs::Engines::sends_fixed))]
 pub fn sends_fixed(fixed: Messages, shard: Shard, call: Call) -> Answer
     ensures { result ≡ sends_fixed fixed shard call }
 {
-    if_taken(sent(shard, fixed), shard.call(call))
+    if_taken(sends_only(fixed, shard), shard.call(call))
 }
 
 pub fn one_commit() -> Messages
@@ -216,7 +208,7 @@ pub fn idles_after_slot_zero(shard: Shard, call: Call) -> Answer
 {
     let right = shard.call(call);
     if shard.state.rounds.core.slot >= 1 {
-        return if_taken(sent(shard, steps::no_messages()), right);
+        return if_taken(sends_only(steps::no_messages(), shard), right);
     }
     right
 }
@@ -228,7 +220,7 @@ pub fn refuses_each_message(why: Refusal, shard: Shard, call: Call) -> Answer
     ensures { result ≡ refuses_each is_message why shard call }
 {
     if is_message(call) {
-        return refused(why, shard);
+        return number_alone(why, shard);
     }
     shard.call(call)
 }

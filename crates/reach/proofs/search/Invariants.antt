@@ -1,4 +1,4 @@
--- `reach::search` meets its contract: `number` is reached, and what is below it is in the way.
+-- `reach::search` meets its contract: `number` is reached, and what is below it is in the way; the measure is how many numbers are left to the last.
 -- Assumes nothing.
 use Prim.Native.Nat.{◌+◌, ◌-◌}
 use Rattle.reach.proofs.Ways.{Reached}

@@ -1,4 +1,5 @@
--- `serving::commit_slot_in` meets its contract.
+-- `serving::commit_slot_in` meets its contract: the first i open reads are looked at, those that are ready are served, and the others stand in front in their
+-- order.
 -- Assumes nothing.
 use mathlib.Core.Path.{◌≡◌}
 use Rattle.serving.proofs.Commits.{Committed}

@@ -1,4 +1,4 @@
--- `group_by_value::Group::new` meets its contract.
+-- `group_by_value::Group::new` meets its contract: the first i members have begun.
 -- Assumes nothing.
 use mathlib.Core.Path.{◌≡◌}
 use Rattle.group_by_value.specs.Group.{new_members}

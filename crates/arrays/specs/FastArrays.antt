@@ -1,0 +1,32 @@
+-- The fast half of a shard as the arrays of numbers that a host lends: the five numbers of the answers, and the three tables by proposer.
+-- Assumes nothing.
+use Rattle.std.specs.Prelude.{List, ℕ, get_or}
+use Rattle.fast_state.specs.declared.FastState.{FastState}
+use Rattle.flat.specs.Decode.{decoded_fast}
+use Rattle.flat.specs.declared.FlatFast.{FlatFast}
+
+pub record FastArrays : Type 0 where
+  pub answers : List ℕ
+  pub values : List ℕ
+  pub epaxos : List ℕ
+  pub swift : List ℕ
+
+abbrev pub fast_arrays : List ℕ → List ℕ → List ℕ → List ℕ → FastArrays
+fast_arrays answers values epaxos swift = record { answers = answers; values = values; epaxos = epaxos; swift = swift }
+
+-- ---- what the arrays stand for
+
+abbrev pub fast_in : FastArrays → FlatFast
+fast_in w =
+    record {
+      fast_answer_set = get_or w.answers 0 0;
+      fast_preaccepted = get_or w.answers 1 0;
+      fast_proposers = get_or w.answers 2 0;
+      swift_leader_answer = record { given = get_or w.answers 3 0; n = get_or w.answers 4 0 };
+      fast_proposer_to_v = w.values;
+      epaxos_proposer_scores = w.epaxos;
+      swift_proposer_scores = w.swift;
+    }
+
+abbrev pub fast_of : FastArrays → FastState
+fast_of w = decoded_fast (fast_in w)

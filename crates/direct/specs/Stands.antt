@@ -1,0 +1,93 @@
+-- When what a call leaves in the arrays of a member stands for what the call makes of the shard that they stood for. The contracts of the two functions for
+-- hosts say so.
+-- Assumes nothing.
+use Rattle.std.specs.Prelude.{true, List, ◌⊎◌, ◌≡◌, ℕ, Ok, Err}
+use Rattle.arrays.specs.Arrays.{settings_of, core_of}
+use Rattle.arrays.specs.FastArrays.{FastArrays, fast_of}
+use Rattle.arrays.specs.declared.Setup.{Setup}
+use Rattle.calls.specs.declared.Call.{Call}
+use Rattle.consensus.specs.Call.{call_of}
+use Rattle.consensus.specs.declared.Answer.{Answer}
+use Rattle.consensus.specs.declared.Shard.{Shard}
+use Rattle.direct.specs.Direct.{Direct, fast_half_acts, direct_call}
+use Rattle.direct_core.specs.Handled.{Written, put_reply, NoHalf, passed_on}
+use Rattle.message.specs.Outcomes.{Outcome}
+use Rattle.message.specs.Refusals.{refusal_number}
+use Rattle.read_tracker.specs.declared.ReadTable.{ReadTable}
+use Rattle.flat.specs.Decode.{decoded_call, decoded_core, decoded_made, decoded_settings}
+use Rattle.flat.specs.declared.FlatCall.{FlatCall}
+
+-- ---- the memory of a member
+
+-- its arrays, with what those of its reads stand for
+pub record Memory : Type 0 where
+  pub setup : Setup
+  pub committers : List ℕ
+  pub delegates : List ℕ
+  pub core : List ℕ
+  pub fast : FastArrays
+  pub table : ReadTable
+
+abbrev pub memory_with : Setup → List ℕ → List ℕ → List ℕ → FastArrays → ReadTable → Memory
+memory_with s committers delegates core fast table =
+    record { setup = s; committers = committers; delegates = delegates; core = core; fast = fast; table = table }
+
+-- the shard that it stands for
+abbrev pub shard_of : Memory → Shard
+shard_of m =
+    record {
+      made = decoded_made m.setup.made m.setup.mode;
+      settings = decoded_settings (settings_of m.setup m.committers m.delegates);
+      state = record { rounds = record { core = decoded_core (core_of m.core); fast = fast_of m.fast }; table = m.table };
+    }
+
+-- the call that the numbers of a call stand for, at this member
+abbrev pub call_in : Memory → FlatCall → Call
+call_in m f = decoded_call m.setup.process_count m.setup.my_pid f
+
+-- ---- a call
+
+-- the number, the memory afterwards and the arrays of the reply
+pub record HostAnswer : Type 0 where
+  pub number : ℕ
+  pub memory : Memory
+  pub reply : Written
+
+-- of what a function leaves, with the fast half as it is afterwards
+abbrev pub left_by : {Half : Type 0} → Memory → FastArrays → Direct ℕ Half → HostAnswer
+left_by m fast d = record { number = d.told; memory = memory_with m.setup m.committers m.delegates d.core fast d.table; reply = d.reply }
+
+-- nothing is written
+abbrev pub unwritten : Memory → Written → ℕ → HostAnswer
+unwritten m w number = record { number = number; memory = m; reply = w }
+
+-- a call that is taken: the memory stands for the new shard, and the reply is written; a refusal gives its number alone
+abbrev pub Stands : Memory → Written → Answer → Outcome → HostAnswer → Type 0
+Stands m w a (Ok tt) x = (x.number ≡ 0) × (shard_of x.memory ≡ a.shard) × (x.reply ≡ put_reply a.reply w)
+Stands m w a (Err why) x = x ≡ unwritten m w (refusal_number why)
+
+-- what the call makes of the shard that the memory stands for
+abbrev pub answer_to : Memory → FlatCall → Answer
+answer_to m f = call_of (shard_of m) (call_in m f)
+
+-- the call is made
+abbrev pub IsMade : Memory → FlatCall → Written → HostAnswer → Type 0
+IsMade m f w x = Stands m w (answer_to m f) (answer_to m f).reply.outcome x
+
+-- ---- `chanbook_direct_call`
+
+-- where the fast half has a part in the call it may be passed on; else it is made. The fast half is left as it is.
+abbrev pub PassedOrMade : Memory → FlatCall → Written → HostAnswer → Type 0
+PassedOrMade m f w x = ((fast_half_acts m.setup f ≡ true) × (x ≡ unwritten m w passed_on)) ⊎ IsMade m f w x
+
+-- whatever the fast half is that stands beside the arrays
+unfoldable pub DirectStands : Setup → List ℕ → List ℕ → List ℕ → ReadTable → FlatCall → Written → Direct ℕ NoHalf → Type 0
+DirectStands s committers delegates core table f w d =
+    (fast : FastArrays)
+    → PassedOrMade (memory_with s committers delegates core fast table) f w (left_by (memory_with s committers delegates core fast table) fast d)
+
+abbrev pub by_direct : Memory → FlatCall → Written → HostAnswer
+by_direct m f w = left_by m m.fast (direct_call m.setup m.committers m.delegates m.core m.table f w)
+
+abbrev pub DirectIsCall : Type 0
+DirectIsCall = (m : Memory) (f : FlatCall) (w : Written) → PassedOrMade m f w (by_direct m f w)
