@@ -20,7 +20,7 @@ import os
 import re
 import sys
 
-OWN = {("message.Rounds", "increment"), ("tables.Tables", "look_up"), ("tables.Tables", "store")}
+OWN = {("message.Rounds", "increment"), ("basics.tables.Tables", "look_up"), ("basics.tables.Tables", "store")}
 FORMS = {"+", "-", "*", "/", "%", "^", "suc", "pred", "get_or", "set", "take", "drop", "zip"}
 # of the standard library: names that add nothing, take nothing off, and look up and store nothing
 HARMLESS = set("""Bool true false T not && || cond eqb leb ltb ≡ < ≤ ⊎ × ℕ min max zero List [] ∷ ++ length map replicate Option Optional None Some is_some
@@ -30,15 +30,15 @@ HARMLESS = set("""Bool true false T not && || cond eqb leb ltb ≡ < ≤ ⊎ × 
 LEFT_OUT = {
     ("read_tracker.Reads", "serve"): ({"-"}, "the time that a read waited: slot minus arrival, or 0, by document 01"),
     ("read_tracker.Reads", "open_reads"): ({"take"}, "the open reads: no more than the 128 places of the table, by `open_places`"),
-    ("places.Places", "at_front"): ({"drop"}, "the reads that stay or are served, in the first places: no more than were open, so 128 at most"),
-    ("sets.Sets", "contains"): ({"/", "^", "%"}, "sets of processes: a number above 63 is in none, and is not put in (`sets_hold_processes`)"),
-    ("sets.Sets", "insert"): ({"^", "bit_or"}, "as `contains`"),
-    ("sets.Sets", "fits"): ({"^"}, "as `contains`: the bound is the process count, 64 at most"),
-    ("sets.Sets", "count"): ({"+", "suc"}, "the size of a set: 64 at most"),
+    ("basics.elements.Places", "at_front"): ({"drop"}, "the reads that stay or are served, in the first places: no more than were open, so 128 at most"),
+    ("basics.sets.Sets", "contains"): ({"/", "^", "%"}, "sets of processes: a number above 63 is in none, and is not put in (`sets_hold_processes`)"),
+    ("basics.sets.Sets", "insert"): ({"^", "bit_or"}, "as `contains`"),
+    ("basics.sets.Sets", "fits"): ({"^"}, "as `contains`: the bound is the process count, 64 at most"),
+    ("basics.sets.Sets", "count"): ({"+", "suc"}, "the size of a set: 64 at most"),
     ("quorum.Quorum", "majority_of"): ({"/", "+"}, "of 64 replicas at most"),
     ("sums.Parts", "epaxos_of_by"): ({"*", "/"}, "of 64 replicas at most; the difference is a parameter"),
     ("sums.Parts", "fast_of_by"): ({"*", "/", "+"}, "as `epaxos_of_by`"),
-    ("tables.Tables", "every"): ({"suc", "get_or"}, "a test of the settings' tables, over the numbers below `min bound 64` (`all_below`)"),
+    ("basics.tables.Tables", "every"): ({"suc", "get_or"}, "a test of the settings' tables, over the numbers below `min bound 64` (`all_below`)"),
     ("fast_state.Adopt", "best_below"): ({"suc"}, "the numbers below 64 one by one; each score is looked up by a parameter"),
 }
 # the same under another name, or the definitions that crates/sums has in one
@@ -52,7 +52,7 @@ NAMED_OTHERWISE = {
     ("settings.Questions", "quorums_of"): "row_of_by",
     ("settings.Questions", "starting_round_of"): "starting_round_by",
     ("quorum.Quorum", "rule_of"): "row_of_by",
-    ("serving.Serving", "commit_slot"): "serve_reads_by",
+    ("read_tracker.serving.Serving", "serve_at_commit"): "serve_reads_by",
 }
 USE = re.compile(r"^[ ]*(?:pub |unfoldable )*use\s+([\w.]+)(?:\.\{([^}]*)\}| as (\w+)|)[ ]*$", re.M)
 HEAD = re.compile(r"\s*(?:(?:unfoldable|abbrev|pub)\s+)*([^\s(){}:=]+)\s+:(?:\s|$)")
@@ -67,12 +67,12 @@ def declared(head):
 def read():
     """The tokens of each definition, by page and name, and what each page imports."""
     bodies, imports, unread = {}, {}, []
-    for path in sorted(glob.glob("crates/*/specs/*.antt")):
-        page = path.split("/")[1] + "." + os.path.basename(path)[:-5]
+    for path in sorted(glob.glob("crates/*/specs/**/*.antt", recursive=True)):
+        page = ".".join([path.split("/")[1], *path[:-5].split("/")[3:]])
         text = re.sub(r"--.*", "", open(path, encoding="utf-8").read())
         imports[page] = {}
         for found in USE.finditer(text):
-            head = re.fullmatch(r"Rattle\.(\w+)\.specs\.(\w+)", found[1])
+            head = re.fullmatch(r"Rattle\.(\w+)\.specs\.(?!declared\b)([\w.]+)", found[1])
             place = head[1] + "." + head[2] if head and head[1] != "std" else None
             if found[2] is None:
                 unread.append((page, found[1]))

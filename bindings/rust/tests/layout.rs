@@ -27,9 +27,9 @@ const PLANNING_HEADER: &str = include_str!("../../../crates/planning_host/includ
 /// Where the arrays that are lent have their names.
 const ARRAYS: [&str; 5] = [
     include_str!("../../../crates/arrays/src/lib.rt"),
-    include_str!("../../../crates/array_reads/src/lib.rt"),
-    include_str!("../../../crates/fast_arrays/src/lib.rt"),
-    include_str!("../../../crates/tables/src/lib.rt"),
+    include_str!("../../../crates/arrays/src/reads.rt"),
+    include_str!("../../../crates/direct_fast/src/half.rt"),
+    include_str!("../../../crates/basics/src/tables.rt"),
     include_str!("../../../crates/register_arrays/src/lib.rt"),
 ];
 

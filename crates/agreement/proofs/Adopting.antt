@@ -10,8 +10,8 @@ use lib.Dec.{T, eqb, eqb→eq, T_not}
 use native.Mathlib.Omega.{arith}
 use native.Mathlib.Decide.{ℕ_discrete}
 use borrow.Author.Tests.{eq-eqb}
-use Rattle.sets.specs.Sets.{one, count}
-use Rattle.sets.proofs.Counting.{count_some}
+use Rattle.basics.specs.sets.Sets.{one, count}
+use Rattle.basics.proofs.sets.Counting.{count_some}
 use Rattle.agreement.specs.Voting.{Voters, World, Blocked, Clear, Consistent, VotersRules}
 use Rattle.agreement.specs.Model.{Answers}
 use Rattle.agreement.proofs.Tests.{and_both}

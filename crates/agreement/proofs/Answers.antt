@@ -10,10 +10,10 @@ use native.Mathlib.Omega.{arith}
 use native.Mathlib.Decide.{ℕ_discrete}
 use borrow.Author.Tests.{eqb-true, eq-eqb, ne_eqb, not-true}
 use Rattle.basics.proofs.Tests.{not_both, or_cases, or_left, or_right}
-use Rattle.sets.specs.Sets.{one, count}
-use Rattle.sets.proofs.Counting.{count_ext, count_one_more}
+use Rattle.basics.specs.sets.Sets.{one, count}
+use Rattle.basics.proofs.sets.Counting.{count_ext, count_one_more}
 use Rattle.agreement.specs.Voting.{Voters, World, Consistent}
-use Rattle.agreement.specs.Model.{Answers, add, no_answers, score_after, with_answer}
+use Rattle.agreement.specs.Model.{Answers, add, model_no_answers, model_score_after, model_with_answer}
 use Rattle.agreement.proofs.Tests.{is_true}
 use Rattle.agreement.proofs.Voting.{count_within}
 use Rattle.agreement.proofs.Growth.{names, TrueAnswers}
@@ -53,7 +53,7 @@ count_sum e f g h k (suc n) p = let a = p n in let b = count_sum e f g h k n p i
 
 -- ---- answers
 
-pub no_answers_true : (g : Voters) (w : World) (i s : ℕ) → TrueAnswers g w i s no_answers
+pub no_answers_true : (g : Voters) (w : World) (i s : ℕ) → TrueAnswers g w i s model_no_answers
 no_answers_true g w i s = record {
   name = λ m. 0;
   live = λ m t. absurd t;
@@ -75,7 +75,7 @@ module _ (g : Voters) (w : World) (ok : Consistent g w) (i s : ℕ) (f : Answers
   -- ---- one answer more: m has come to i's round, and names p with the value v
   module _ (m p v : ℕ) (new : T (not (f.answered m))) (live-m : T (g.live m)) (below : m < g.count) (came-m : w.Reached m s (suc i)) (first : w.First m s (suc p) v) where
     abbrev f⁺ : Answers
-    f⁺ = with_answer i m p v f
+    f⁺ = model_with_answer i m p v f
 
     abbrev name⁺ : ℕ → ℕ
     name⁺ k = cond (eqb k m) p (o.name k)
@@ -149,19 +149,19 @@ module _ (g : Voters) (w : World) (ok : Consistent g w) (i s : ℕ) (f : Answers
         go false e = let z = o.preaccepts in omega arith
 
     -- the own answer of a proposer, or another's
-    score_named : (b : Bool) → eqb m p ≡ b → score_after m p (f.scores p) + (one (names f⁺ name⁺ p p) + one (names f⁺ name⁺ p p)) ≡ 2 + count (names f⁺ name⁺ p) g.count
+    score_named : (b : Bool) → eqb m p ≡ b → model_score_after m p (f.scores p) + (one (names f⁺ name⁺ p p) + one (names f⁺ name⁺ p p)) ≡ 2 + count (names f⁺ name⁺ p) g.count
     score_named true e =
         let d : m ≡ p = eqb-true m p e in
         let now : one (names f⁺ name⁺ p p) ≡ 1 = ap one (subst (λ (j : ℕ). names f⁺ name⁺ p j ≡ true) d (new_names p ∙ eq-eqb p p refl)) in
         let was : one (names f o.name p p) ≡ 0 = ap one (subst (λ (j : ℕ). names f o.name p j ≡ false) d (old_names p)) in
         let step : one (eqb p p) ≡ 1 = ap one (eq-eqb p p refl) in
-        let score : score_after m p (f.scores p) ≡ f.scores p - 1 = simp e in
+        let score : model_score_after m p (f.scores p) ≡ f.scores p - 1 = simp e in
         let c = counted p in let z = o.scored p in omega arith
     score_named false e =
         let ne : m ≡ p → ⊥ = λ d. not_both (eq-eqb m p d) e in
         let same : one (names f⁺ name⁺ p p) ≡ one (names f o.name p p) = ap one (others_same p p ne) in
         let step : one (eqb p p) ≡ 1 = ap one (eq-eqb p p refl) in
-        let score : score_after m p (f.scores p) ≡ suc (f.scores p) = simp e in
+        let score : model_score_after m p (f.scores p) ≡ suc (f.scores p) = simp e in
         let c = counted p in let z = o.scored p in omega arith
 
     scored : (q : ℕ) → f⁺.scores q + (one (names f⁺ name⁺ q q) + one (names f⁺ name⁺ q q)) ≡ 2 + count (names f⁺ name⁺ q) g.count
@@ -174,10 +174,10 @@ module _ (g : Voters) (w : World) (ok : Consistent g w) (i s : ℕ) (f : Answers
         go : Dec (q ≡ p) → f⁺.scores q + (one (names f⁺ name⁺ q q) + one (names f⁺ name⁺ q q)) ≡ 2 + count (names f⁺ name⁺ q) g.count
         go (yes e) =
             subst (λ (j : ℕ). f⁺.scores j + (one (names f⁺ name⁺ j j) + one (names f⁺ name⁺ j j)) ≡ 2 + count (names f⁺ name⁺ j) g.count) (sym e)
-            (ap (λ (b : Bool). cond b (score_after m p (f.scores p)) (f.scores p) + (one (names f⁺ name⁺ p p) + one (names f⁺ name⁺ p p))) (eq-eqb p p refl) ∙ score_named (eqb m p) refl)
+            (ap (λ (b : Bool). cond b (model_score_after m p (f.scores p)) (f.scores p) + (one (names f⁺ name⁺ p p) + one (names f⁺ name⁺ p p))) (eq-eqb p p refl) ∙ score_named (eqb m p) refl)
         go (no ne) =
             let same = kept ne (ℕ_discrete m q) in
-            let score : f⁺.scores q ≡ f.scores q = ap (λ (b : Bool). cond b (score_after m p (f.scores p)) (f.scores q)) (ne_eqb q p ne) in
+            let score : f⁺.scores q ≡ f.scores q = ap (λ (b : Bool). cond b (model_score_after m p (f.scores p)) (f.scores q)) (ne_eqb q p ne) in
             let step : one (eqb p q) ≡ 0 = ap one (ne_eqb p q (λ e. ne (sym e))) in
             let c = counted q in let z = o.scored q in omega arith
 

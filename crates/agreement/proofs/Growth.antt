@@ -6,7 +6,7 @@ use mathlib.Core.Bool.{Bool, not, ◌&&◌}
 use mathlib.Core.Logic.{◌⊎◌, inl, inr}
 use lib.Dec.{T, eqb}
 use native.Mathlib.Omega.{arith}
-use Rattle.sets.specs.Sets.{one, count}
+use Rattle.basics.specs.sets.Sets.{one, count}
 use Rattle.agreement.specs.Voting.{Voters, World, NotAfter, Voted, Promise, Blocked, Clear, Safe, FastChosen, Chosen}
 use Rattle.agreement.specs.Model.{View, Answers}
 

@@ -12,11 +12,11 @@ use lib.Dec.{T, eqb, ltb, leb, eqb→eq, ltb→lt, leb→le, nltb→le, T_not}
 use native.Mathlib.Omega.{arith}
 use native.Mathlib.Decide.{dec_le, dec_lt, ℕ_discrete}
 use borrow.Author.Tests.{eq-eqb, lt-ltb}
-use Rattle.sets.specs.Sets.{one, count}
-use Rattle.sets.proofs.Counting.{count_some, count_meet}
+use Rattle.basics.specs.sets.Sets.{one, count}
+use Rattle.basics.proofs.sets.Counting.{count_some, count_meet}
 use Rattle.basics.proofs.Tests as basic
 use Rattle.agreement.specs.Voting.{Voters, World, Voted, Promise, Clear, Safe, Consistent, Chosen}
-use Rattle.agreement.specs.Model.{View, Answers, Setup, Message, prepare, accept, commit, other, all, Outgoing, Host, Decision, undecided, decided, Outcome, joined, advanced, adopted, prepared_by, accepted_by, voted, with_answer, with_answers, refuse, quiet, say, holds_before, enough_prepared, enough_accepted, fast_enough, may_adopt, is_best, enter, counted, casts, picks, adopts, decides, answering, gathers, promised, on_prepare, commits, replies, after_accept, on_accept, on_commit, own_answer, on_propose, on_message}
+use Rattle.agreement.specs.Model.{View, Answers, ModelSetup, ModelMessage, prepare, accept, commit, other, all, ModelOutgoing, Host, Decision, undecided, decided, ModelOutcome, in_later_round, advanced, holding_other_value, prepared_by, accepted_by, voted, model_with_answer, with_answers, refuse, quiet, say, holds_before, enough_prepared, enough_accepted, fast_enough, may_adopt, is_best, model_enter, model_counted, casts, picks, model_adopts_best, decides, answering, model_gathers, model_promised, model_on_prepare, model_commits, replies, model_after_accept, model_on_accept, model_on_commit, model_own_answer, model_on_propose, model_on_message}
 use Rattle.agreement.specs.Refinement.{SetupRules, OnlyOther}
 use Rattle.agreement.proofs.Tests.{is_true, by_test, and_both, nor_both, neqb→ne}
 use Rattle.agreement.proofs.Growth.{Grows, grows_refl, grows_trans, voted_stays, promise_stays, chosen_stays, names, TrueAnswers, TrueView}
@@ -26,13 +26,13 @@ use Rattle.agreement.proofs.Moves.{add_reached, add_first, add_vote, add_proposa
 
 -- A message of member m is true: a Prepare is a promise of m, and what it holds was voted, or is what m held first; an Accept is a vote of m;
 -- and what is committed is chosen.
-abbrev pub MessageTrue : Voters → World → ℕ → Message → Type 0
+abbrev pub MessageTrue : Voters → World → ℕ → ModelMessage → Type 0
 MessageTrue g w m (prepare s r a c v) = Promise g w m s r a × (a < r) × (1 ≤ a → Voted w s a v) × w.Proposed s v × (a ≡ 0 → w.First m s c v)
 MessageTrue g w m (accept s r v) = w.Votes m s r v
 MessageTrue g w m (commit s v) = Chosen g w s v
 MessageTrue g w m other = Unit {0}
 
-abbrev pub OutgoingTrue : Voters → World → ℕ → List Outgoing → Type 0
+abbrev pub OutgoingTrue : Voters → World → ℕ → List ModelOutgoing → Type 0
 OutgoingTrue g w m [] = Unit {0}
 OutgoingTrue g w m (o ∷ os) = MessageTrue g w m o.message × OutgoingTrue g w m os
 
@@ -41,7 +41,7 @@ DecisionTrue g w undecided = Unit {0}
 DecisionTrue g w (decided s v) = Chosen g w s v
 
 pub message_stays : (g : Voters) (P : ℕ → ℕ → Type 0) (i : ℕ) (w w' : World) → Grows g P i w w'
-    → (m : ℕ) (c : Message) → MessageTrue g w m c → MessageTrue g w' m c
+    → (m : ℕ) (c : ModelMessage) → MessageTrue g w m c → MessageTrue g w' m c
 message_stays g P i w w' e m (prepare s r a c v) k =
     (promise_stays g P i w w' e m s r a k.0, k.1, (λ l. voted_stays g P i w w' e s a v (k.2 l)), e.proposed s v k.3, λ z. e.first m s c v (k.4 z))
 message_stays g P i w w' e m (accept s r v) k = e.votes m s r v k
@@ -49,18 +49,18 @@ message_stays g P i w w' e m (commit s v) k = chosen_stays g P i w w' e s v k
 message_stays g P i w w' e m other k = tt
 
 outgoing_stays : (g : Voters) (P : ℕ → ℕ → Type 0) (i : ℕ) (w w' : World) → Grows g P i w w'
-    → (m : ℕ) (os : List Outgoing) → OutgoingTrue g w m os → OutgoingTrue g w' m os
+    → (m : ℕ) (os : List ModelOutgoing) → OutgoingTrue g w m os → OutgoingTrue g w' m os
 outgoing_stays g P i w w' e m [] k = tt
 outgoing_stays g P i w w' e m (o ∷ os) k = (message_stays g P i w w' e m o.message k.0, outgoing_stays g P i w w' e m os k.1)
 
-outgoing_and_one : (g : Voters) (w : World) (m : ℕ) (os : List Outgoing) (o : Outgoing)
+outgoing_and_one : (g : Voters) (w : World) (m : ℕ) (os : List ModelOutgoing) (o : ModelOutgoing)
     → OutgoingTrue g w m os → MessageTrue g w m o.message → OutgoingTrue g w m (os ++ (o ∷ []))
 outgoing_and_one g w m [] o k h = (h, tt)
 outgoing_and_one g w m (p ∷ os) o k h = (k.0, outgoing_and_one g w m os o k.1 h)
 
 -- What a call of member i leaves, which proposes what P says: the world has grown, and in it the view and the messages are true and the
 -- commit is chosen.
-pub record Correct (g : Voters) (P : ℕ → ℕ → Type 0) (i : ℕ) (w : World) (r : Outcome) : Type 1 where
+pub record Correct (g : Voters) (P : ℕ → ℕ → Type 0) (i : ℕ) (w : World) (r : ModelOutcome) : Type 1 where
   pub world : World
   pub grows : Grows g P i w world
   pub consistent : Consistent g world
@@ -68,13 +68,13 @@ pub record Correct (g : Voters) (P : ℕ → ℕ → Type 0) (i : ℕ) (w : Worl
   pub outgoing : OutgoingTrue g world i r.outgoing
   pub decision : DecisionTrue g world r.decision
 
-only_other_true : (g : Voters) (w : World) (i : ℕ) (os : List Outgoing) → OnlyOther os → OutgoingTrue g w i os
+only_other_true : (g : Voters) (w : World) (i : ℕ) (os : List ModelOutgoing) → OnlyOther os → OutgoingTrue g w i os
 only_other_true g w i [] k = tt
 only_other_true g w i (o ∷ os) k = (subst (MessageTrue g w i) (sym k.0) tt, only_other_true g w i os k.1)
 
 -- a call that leaves the view as it is, commits nothing and sends only messages that say nothing
 pub idle_correct : (g : Voters) (P : ℕ → ℕ → Type 0) (i : ℕ) (w : World) → Consistent g w → (x : View) → TrueView g w i x
-    → (r : Outcome) → r.view ≡ x → r.decision ≡ undecided → OnlyOther r.outgoing → Correct g P i w r
+    → (r : ModelOutcome) → r.view ≡ x → r.decision ≡ undecided → OnlyOther r.outgoing → Correct g P i w r
 idle_correct g P i w ok x o r same_view no_commit k = record {
   world = w;
   grows = grows_refl g P i w;
@@ -121,7 +121,7 @@ not_and false b t u = tt
 from_pred : (c : ℕ) → T (not (eqb c 0)) → c ≡ suc (pred c)
 from_pred c t = let ne = neqb→ne c 0 t in omega arith
 
-module _ (S : Setup) (rules : SetupRules S) where
+module _ (S : ModelSetup) (rules : SetupRules S) where
   abbrev g : Voters
   g = S.voters
 
@@ -130,7 +130,7 @@ module _ (S : Setup) (rules : SetupRules S) where
   start_own t l = let z = rules.voters.no_start t in absurd (omega arith)
 
   module _ (P : ℕ → ℕ → Type 0) (i : ℕ) (w : World) (ok : Consistent g w) (x0 : View) (o0 : TrueView g w i x0) where
-    abbrev Keeps : Outcome → Type 1
+    abbrev Keeps : ModelOutcome → Type 1
     Keeps = Correct g P i w
 
     quiet_correct : Keeps (quiet x0)
@@ -141,7 +141,7 @@ module _ (S : Setup) (rules : SetupRules S) where
 
     -- on the way through a handler: the world has grown to w1, and the view x is true of it
     module _ (w1 : World) (e1 : Grows g P i w w1) (ok1 : Consistent g w1) (x : View) (o : TrueView g w1 i x) where
-      say_correct : (os : List Outgoing) → OutgoingTrue g w1 i os → Keeps (say x os)
+      say_correct : (os : List ModelOutgoing) → OutgoingTrue g w1 i os → Keeps (say x os)
       say_correct os k = record { world = w1; grows = e1; consistent = ok1; view = o; outgoing = k; decision = tt }
 
       -- the world after a commit
@@ -155,8 +155,8 @@ module _ (S : Setup) (rules : SetupRules S) where
       next_consistent = add_reached_consistent g w1 i (suc x.slot) g.start (next_onward g w1 ok1 i x o) start_own ok1
 
       -- who has accepted has voted for the held value: with a quorum of them it is chosen
-      commits_correct : (os : List Outgoing) (tell : Bool) → OutgoingTrue g w1 i os → Keeps (commits S x os tell)
-      unfolding commits
+      commits_correct : (os : List ModelOutgoing) (tell : Bool) → OutgoingTrue g w1 i os → Keeps (model_commits S x os tell)
+      unfolding model_commits
       commits_correct os tell k = by_test Keeps (enough_accepted S x) _ _
           (λ t. let enough : g.quorum ≤ count x.accepted g.count = leb→le g.quorum (count x.accepted g.count) t in
           let c : Chosen g w⁺ x.slot x.held_value = inl (x.round, (x.accepted, enough, λ m h. (o.accepts m h).1)) in
@@ -178,8 +178,8 @@ module _ (S : Setup) (rules : SetupRules S) where
       replies_true c h = by_test (OutgoingTrue g w1 i) (eqb c 0 || eqb c (suc i) || eqb c (suc (S.leader x.round))) _ _
           (λ _. (h, tt)) (λ _. (h, (h, tt)))
 
-      after_accept_correct : (source : ℕ) (h : Host) → w1.Votes i x.slot x.round x.held_value → Keeps (after_accept S i source h x0 x)
-      unfolding after_accept
+      after_accept_correct : (source : ℕ) (h : Host) → w1.Votes i x.slot x.round x.held_value → Keeps (model_after_accept S i source h x0 x)
+      unfolding model_after_accept
       after_accept_correct source h vote =
           let c : ℕ = cond S.three_phases (S.committer h.requester) 0 in
           let tell : Bool = not (eqb h.requester (suc i)) in
@@ -243,8 +243,8 @@ module _ (S : Setup) (rules : SetupRules S) where
               rules.voters.below fast p (ok1.first_live p x.slot (suc p) (x.answers.values p) (proposer_first g w1 ok1 i x.slot x.answers o.answers p t))
 
           -- the value of one of the best proposers, a quorum having answered and promised
-          adopts_correct : (h : Host) → T (may_adopt S x.answers) → Keeps (adopts S i h x0 x)
-          unfolding adopts
+          adopts_correct : (h : Host) → T (may_adopt S x.answers) → Keeps (model_adopts_best S i h x0 x)
+          unfolding model_adopts_best
           adopts_correct h may = by_test Keeps (eqb h.adoptee 0) _ _ (λ _. say_correct [] tt)
               (λ _. by_test Keeps (is_best S b x.answers && enough_prepared S x) _ _
               (λ t. let both = and_both (is_best S b x.answers) (enough_prepared S x) t in
@@ -377,7 +377,7 @@ module _ (S : Setup) (rules : SetupRules S) where
           (λ _. refuse_correct))
           (λ new. let came' : w1.Reached source x.slot (suc i) =
           subst (λ (r : ℕ). w1.Reached source x.slot r) (own_round_lem w1 e1 ok1 x o live-i holds in_round_lem delegated fast zero-round) came in
-          let f : Answers = with_answer i source (pred c) v x.answers in
+          let f : Answers = model_with_answer i source (pred c) v x.answers in
           let a : TrueAnswers g w1 i x.slot f =
           answer_true g w1 ok1 i x.slot x.answers o.answers source (pred c) v new live_source (rules.voters.below fast source live_source) came' first' in
           let o1 : TrueView g w1 i (with_answers f x) = with_answers_true g w1 ok1 i x o f a in
@@ -385,8 +385,8 @@ module _ (S : Setup) (rules : SetupRules S) where
 
       -- a promise counted by the delegate: an answer on the fast path, where nothing was accepted in a round
       gathers_correct : (source c v : ℕ) (h : Host) (old : View) → T (g.live i) → T x.holds → 1 ≤ x.round → i ≡ g.delegate x.round
-          → T (g.live source) → w1.Reached source x.slot x.round → (x.held_round ≡ 0 → w1.First source x.slot c v) → Keeps (gathers S i source c v h x0 old x)
-      unfolding gathers
+          → T (g.live source) → w1.Reached source x.slot x.round → (x.held_round ≡ 0 → w1.First source x.slot c v) → Keeps (model_gathers S i source c v h x0 old x)
+      unfolding model_gathers
       gathers_correct source c v h old live-i holds in_round_lem delegated live_source came first = by_test Keeps (g.fast_path && eqb x.held_round 0) _ _
           (λ t. let both = and_both g.fast_path (eqb x.held_round 0) t in
           let zero-round = eqb→eq x.held_round 0 both.1 in
@@ -395,17 +395,17 @@ module _ (S : Setup) (rules : SetupRules S) where
 
     module _ (w1 : World) (e1 : Grows g P i w w1) (ok1 : Consistent g w1) (x : View) (o : TrueView g w1 i x) where
       promised_correct : (source a c v : ℕ) (h : Host) → T (g.live i) → T x.holds → MessageTrue g w1 source (prepare x.slot x.round a c v)
-          → Keeps (promised S i source a c v h x0 x)
-      unfolding promised counted
+          → Keeps (model_promised S i source a c v h x0 x)
+      unfolding model_promised model_counted
       promised_correct source a c v h live-i holds told = by_test Keeps (eqb (g.delegate x.round) i) _ _
           (λ t. let delegated : i ≡ g.delegate x.round = sym (eqb→eq (g.delegate x.round) i t) in
-          by_test (λ (z : View). Keeps (gathers S i source c v h x0 x (prepared_by i (prepared_by source z)))) (holds_before a x) (adopted a c v x) x
+          by_test (λ (z : View). Keeps (model_gathers S i source c v h x0 x (prepared_by i (prepared_by source z)))) (holds_before a x) (holding_other_value a c v x) x
           (λ l. let l' : x.held_round < a = ltb→lt x.held_round a l in
-          let o1 : TrueView g w1 i (adopted a c v x) = adopted_true g w1 ok1 i x o a c v holds l' told.1 (told.2 (omega arith)) told.3 in
-          let o2 : TrueView g w1 i (prepared_by source (adopted a c v x)) = prepared_by_true g w1 ok1 i (adopted a c v x) o1 source told.0 in
-          let o3 : TrueView g w1 i (prepared_by i (prepared_by source (adopted a c v x))) =
-          prepared_by_true g w1 ok1 i (prepared_by source (adopted a c v x)) o2 i (own_promise g w1 ok1 i (adopted a c v x) o1 live-i tt) in
-          gathers_correct w1 e1 ok1 (prepared_by i (prepared_by source (adopted a c v x))) o3 source c v h x live-i tt (omega (arith, told.1)) delegated told.0.0 told.0.1
+          let o1 : TrueView g w1 i (holding_other_value a c v x) = adopted_true g w1 ok1 i x o a c v holds l' told.1 (told.2 (omega arith)) told.3 in
+          let o2 : TrueView g w1 i (prepared_by source (holding_other_value a c v x)) = prepared_by_true g w1 ok1 i (holding_other_value a c v x) o1 source told.0 in
+          let o3 : TrueView g w1 i (prepared_by i (prepared_by source (holding_other_value a c v x))) =
+          prepared_by_true g w1 ok1 i (prepared_by source (holding_other_value a c v x)) o2 i (own_promise g w1 ok1 i (holding_other_value a c v x) o1 live-i tt) in
+          gathers_correct w1 e1 ok1 (prepared_by i (prepared_by source (holding_other_value a c v x))) o3 source c v h x live-i tt (omega (arith, told.1)) delegated told.0.0 told.0.1
           (λ z. told.4 z))
           (λ l. let l' : a ≤ x.held_round = nltb→le x.held_round a l in
           let o2 : TrueView g w1 i (prepared_by source x) =
@@ -420,11 +420,11 @@ module _ (S : Setup) (rules : SetupRules S) where
           say_correct w1 e1 ok1 x o _ ((own_promise g w1 ok1 i x o live-i holds, omega arith, o.held.held_voted, o.held.held_proposed holds, o.held.held_still holds), tt)))
 
     -- what a handler does once the message is let in, at the message's slot and round, to which its source has come
-    enter_correct : (source s r : ℕ) (k : View → Outcome) → w.Reached source s r
+    enter_correct : (source s r : ℕ) (k : View → ModelOutcome) → w.Reached source s r
         → ((w1 : World) → Grows g P i w w1 → Consistent g w1 → (y : View) → TrueView g w1 i y
         → T (g.live i) → T (g.live source) → s ≡ y.slot → r ≡ y.round → Keeps (k y))
-        → Keeps (enter S i x0 source s r k)
-    unfolding enter
+        → Keeps (model_enter S i x0 source s r k)
+    unfolding model_enter
     enter_correct source s r k came f = by_test Keeps (not (g.live i)) _ _ (λ _. quiet_correct)
         (λ not_dead. by_test Keeps (ltb s x0.slot || ltb r x0.round) _ _ (λ _. quiet_correct)
         (λ not-past. by_test Keeps (not (eqb s x0.slot) || not (g.live source)) _ _ (λ _. refuse_correct)
@@ -434,11 +434,11 @@ module _ (S : Setup) (rules : SetupRules S) where
         let same_slot : s ≡ x0.slot = eqb→eq s x0.slot (subst T (not-not (eqb s x0.slot)) both.0) in
         let live_source = subst T (not-not (g.live source)) both.1 in
         let live-i = subst T (not-not (g.live i)) not_dead in
-        by_test (λ (z : View). Keeps (k z)) (ltb x0.round r) (joined r x0) x0
+        by_test (λ (z : View). Keeps (k z)) (ltb x0.round r) (in_later_round r x0) x0
         (λ l. let on = later_onward g w ok i x0 o0 r (ltb→lt x0.round r l) in
         f (add_reached w i x0.slot r) (add_reached_grows g P w i x0.slot r on)
         (add_reached_consistent g w i x0.slot r on (λ t p. ok.own_rounds t source s r came p) ok)
-        (joined r x0) (joined_true g w ok i x0 o0 r (ltb→lt x0.round r l)) live-i live_source same_slot refl)
+        (in_later_round r x0) (joined_true g w ok i x0 o0 r (ltb→lt x0.round r l)) live-i live_source same_slot refl)
         (λ l. let ge : r ≤ x0.round = nltb→le x0.round r l in
         f w (grows_refl g P i w) ok x0 o0 live-i live_source same_slot (omega arith)))))
 
@@ -453,23 +453,23 @@ module _ (S : Setup) (rules : SetupRules S) where
     module _ (w1 : World) (e1 : Grows g P i w w1) (ok1 : Consistent g w1) (y : View) (o : TrueView g w1 i y) (source a c v : ℕ) (h : Host)
         (live-i : T (g.live i)) (unheld : T (not y.holds)) (told : MessageTrue g w1 source (prepare y.slot y.round a c v)) where
       holds_first : (f : ℕ) → (a ≡ 0 → c ≡ f) → f ≤ y.round → ((q : ℕ) → f ≡ suc q → (w1.First q y.slot f v) ⊎ (q ≡ i))
-          → Keeps (promised S i source a c v h x0 (prepared_by i (adopted a c v y)))
+          → Keeps (model_promised S i source a c v h x0 (prepared_by i (holding_other_value a c v y)))
       holds_first f same early owner =
           let may : MayHold g w1 i y.slot f v =
           record { nothing_yet = o.held.unheld_first unheld; live = live-i; came = (y.round, o.position.at); proposed = told.3; owner = owner } in
           let w2 : World = add_first w1 i y.slot f v in
           let e2 : Grows g P i w1 w2 = add_first_grows g P w1 i y.slot f v in
           let ok2 : Consistent g w2 = add_first_consistent g w1 i y.slot f v may ok1 in
-          let o1 : TrueView g w2 i (adopted a c v y) = held_true g w1 ok1 i y o a c f v unheld told.1 told.2 told.3 same early in
-          let o2 : TrueView g w2 i (prepared_by i (adopted a c v y)) =
-          prepared_by_true g w2 ok2 i (adopted a c v y) o1 i (own_promise g w2 ok2 i (adopted a c v y) o1 live-i tt) in
-          promised_correct w2 (grows_trans g P i w w1 w2 e1 e2) ok2 (prepared_by i (adopted a c v y)) o2 source a c v h live-i tt
+          let o1 : TrueView g w2 i (holding_other_value a c v y) = held_true g w1 ok1 i y o a c f v unheld told.1 told.2 told.3 same early in
+          let o2 : TrueView g w2 i (prepared_by i (holding_other_value a c v y)) =
+          prepared_by_true g w2 ok2 i (holding_other_value a c v y) o1 i (own_promise g w2 ok2 i (holding_other_value a c v y) o1 live-i tt) in
+          promised_correct w2 (grows_trans g P i w w1 w2 e1 e2) ok2 (prepared_by i (holding_other_value a c v y)) o2 source a c v h live-i tt
           (message_stays g P i w1 w2 e2 source (prepare y.slot y.round a c v) told)
 
-      holds_correct : Keeps (promised S i source a c v h x0 (prepared_by i (adopted a c v y)))
+      holds_correct : Keeps (model_promised S i source a c v h x0 (prepared_by i (holding_other_value a c v y)))
       holds_correct = go (ℕ_discrete a 0)
         where
-          go : Dec (a ≡ 0) → Keeps (promised S i source a c v h x0 (prepared_by i (adopted a c v y)))
+          go : Dec (a ≡ 0) → Keeps (model_promised S i source a c v h x0 (prepared_by i (holding_other_value a c v y)))
           go (yes z) =
               let first = told.4 z in
               let k = told.0.3 in
@@ -479,19 +479,19 @@ module _ (S : Setup) (rules : SetupRules S) where
               (ok1.first_owner source y.slot q v (subst (λ (j : ℕ). w1.First source y.slot j v) e first))))
           go (no n) = holds_first 0 (λ z. absurd (n z)) (omega arith) (λ q e. absurd (omega arith))
 
-    on_prepare_correct : (source s r a c v : ℕ) (h : Host) → MessageTrue g w source (prepare s r a c v) → Keeps (on_prepare S i x0 source s r a c v h)
-    unfolding on_prepare
-    on_prepare_correct source s r a c v h told = enter_correct source s r (λ y. promised S i source a c v h x0 (cond y.holds y (prepared_by i (adopted a c v y)))) told.0.1
+    on_prepare_correct : (source s r a c v : ℕ) (h : Host) → MessageTrue g w source (prepare s r a c v) → Keeps (model_on_prepare S i x0 source s r a c v h)
+    unfolding model_on_prepare
+    on_prepare_correct source s r a c v h told = enter_correct source s r (λ y. model_promised S i source a c v h x0 (cond y.holds y (prepared_by i (holding_other_value a c v y)))) told.0.1
         (λ w1 e1 ok1 y o live-i live_source same_slot same_round.
         let told1 : MessageTrue g w1 source (prepare y.slot y.round a c v) =
         at_position w1 source s r a c v y.slot y.round same_slot same_round (message_stays g P i w w1 e1 source (prepare s r a c v) told) in
-        by_test (λ (z : View). Keeps (promised S i source a c v h x0 z)) y.holds y (prepared_by i (adopted a c v y))
+        by_test (λ (z : View). Keeps (model_promised S i source a c v h x0 z)) y.holds y (prepared_by i (holding_other_value a c v y))
         (λ holds. promised_correct w1 e1 ok1 y o source a c v h live-i holds told1)
         (λ unheld. holds_correct w1 e1 ok1 y o source a c v h live-i unheld told1))
 
     -- a value that `source` has voted for is accepted, by a member that holds something
     accepts_correct : (w1 : World) → Grows g P i w w1 → Consistent g w1 → (y : View) → TrueView g w1 i y → (source v : ℕ) (h : Host)
-        → T (g.live i) → T y.holds → w1.Votes source y.slot y.round v → Keeps (after_accept S i source h x0 (accepted_by source (voted i v y)))
+        → T (g.live i) → T y.holds → w1.Votes source y.slot y.round v → Keeps (model_after_accept S i source h x0 (accepted_by source (voted i v y)))
     accepts_correct w1 e1 ok1 y o source v h live-i holds told =
         let in_round_lem = (ok1.in_round source y.slot y.round v told).0 in
         let p = ok1.proposed source y.slot y.round v told in
@@ -503,8 +503,8 @@ module _ (S : Setup) (rules : SetupRules S) where
         let o3 : TrueView g w2 i (accepted_by source (voted i v y)) = accepted_by_true g w2 ok2 i (voted i v y) o2 source refl (inl told) in
         after_accept_correct w2 (grows_trans g P i w w1 w2 e1 e2) ok2 (accepted_by source (voted i v y)) o3 source h (inr (refl, refl, refl, refl))
 
-    on_accept_correct : (source s r v : ℕ) (h : Host) → w.Votes source s r v → Keeps (on_accept S i x0 source s r v h)
-    unfolding on_accept
+    on_accept_correct : (source s r v : ℕ) (h : Host) → w.Votes source s r v → Keeps (model_on_accept S i x0 source s r v h)
+    unfolding model_on_accept
     on_accept_correct source s r v h told = enter_correct source s r _ (ok.reached source s r v told)
         (λ w1 e1 ok1 y o live-i live_source same_slot same_round.
         let told1 : w1.Votes source y.slot y.round v =
@@ -514,7 +514,7 @@ module _ (S : Setup) (rules : SetupRules S) where
         (λ _. refuse_correct))
       where
         go : (w1 : World) → Grows g P i w w1 → Consistent g w1 → (y : View) → TrueView g w1 i y → T (g.live i) → w1.Votes source y.slot y.round v
-            → (b : Bool) → y.holds ≡ b → Keeps (after_accept S i source h x0 (accepted_by source (voted i v y)))
+            → (b : Bool) → y.holds ≡ b → Keeps (model_after_accept S i source h x0 (accepted_by source (voted i v y)))
         go w1 e1 ok1 y o live-i told1 true e = accepts_correct w1 e1 ok1 y o source v h live-i (passes y.holds e) told1
         -- what is accepted is the first that is held
         go w1 e1 ok1 y o live-i told1 false e =
@@ -524,12 +524,12 @@ module _ (S : Setup) (rules : SetupRules S) where
             let may : MayHold g w1 i y.slot 0 v =
             record { nothing_yet = o.held.unheld_first unheld; live = live-i; came = (y.round, o.position.at); proposed = p; owner = λ q e. absurd (omega arith) } in
             let w2 : World = add_first w1 i y.slot 0 v in
-            let o1 : TrueView g w2 i (adopted 0 0 v y) =
+            let o1 : TrueView g w2 i (holding_other_value 0 0 v y) =
             held_true g w1 ok1 i y o 0 0 0 v unheld (omega arith) (λ l. absurd (omega arith)) p (λ _. refl) (omega arith) in
-            accepts_correct w2 (grows_trans g P i w w1 w2 e1 (add_first_grows g P w1 i y.slot 0 v)) (add_first_consistent g w1 i y.slot 0 v may ok1) (adopted 0 0 v y) o1 source v h live-i tt told1
+            accepts_correct w2 (grows_trans g P i w w1 w2 e1 (add_first_grows g P w1 i y.slot 0 v)) (add_first_consistent g w1 i y.slot 0 v may ok1) (holding_other_value 0 0 v y) o1 source v h live-i tt told1
 
-    on_commit_correct : (s v : ℕ) → Chosen g w s v → Keeps (on_commit S i x0 s v)
-    unfolding on_commit
+    on_commit_correct : (s v : ℕ) → Chosen g w s v → Keeps (model_on_commit S i x0 s v)
+    unfolding model_on_commit
     on_commit_correct s v c = by_test Keeps (ltb s x0.slot) _ _ (λ _. quiet_correct)
         (λ _. by_test Keeps (eqb s x0.slot) _ _
         (λ t. let w2 : World = add_reached w i (suc x0.slot) g.start in
@@ -544,15 +544,15 @@ module _ (S : Setup) (rules : SetupRules S) where
         })
         (λ _. refuse_correct))
 
-    pub on_message_correct : (source : ℕ) (h : Host) (c : Message) → MessageTrue g w source c → Keeps (on_message S i x0 source h c)
-    unfolding on_message
+    pub on_message_correct : (source : ℕ) (h : Host) (c : ModelMessage) → MessageTrue g w source c → Keeps (model_on_message S i x0 source h c)
+    unfolding model_on_message
     on_message_correct source h (prepare s r a c v) k = on_prepare_correct source s r a c v h k
     on_message_correct source h (accept s r v) k = on_accept_correct source s r v h k
     on_message_correct source h (commit s v) k = on_commit_correct s v k
     on_message_correct source h other k = quiet_correct
 
   module _ (i : ℕ) (w : World) (ok : Consistent g w) (x : View) (o : TrueView g w i x) (v : ℕ) where
-    abbrev KeepsProposal : Outcome → Type 1
+    abbrev KeepsProposal : ModelOutcome → Type 1
     KeepsProposal r = Correct g (NewProposal x v r.taken) i w r
 
     refused_correct : KeepsProposal (refuse x)
@@ -572,22 +572,22 @@ module _ (S : Setup) (rules : SetupRules S) where
 
     -- the leader of the starting round votes at once
     led_correct : T (g.live i) → T (not x.holds) → x.round ≡ g.start → T S.starts_led → i ≡ g.delegate x.round
-        → KeepsProposal (say (voted i v (prepared_by i (adopted 0 0 v (joined x.round x)))) (record { destination = all; message = accept x.slot x.round v } ∷ []))
+        → KeepsProposal (say (voted i v (prepared_by i (holding_other_value 0 0 v (in_later_round x.round x)))) (record { destination = all; message = accept x.slot x.round v } ∷ []))
     led_correct live-i unheld same_round led delegated =
         let z = o.held.unheld unheld in
         let positive = rules.starts_in_round led in
         let p : wᵖ.Proposed x.slot v = inr (refl, refl) in
-        let c : View = joined x.round x in
+        let c : View = in_later_round x.round x in
         let o0 : TrueView g wᵖ i c = cleared_true g wᵖ okᵖ i x oᵖ unheld (omega arith) in
         let may : MayHold g wᵖ i x.slot 0 v =
         record { nothing_yet = o.held.unheld_first unheld; live = live-i; came = (x.round, o.position.at); proposed = p; owner = λ q e. absurd (omega arith) } in
         let w1 : World = add_first wᵖ i x.slot 0 v in
         let e1 : Grows g (NewProposal x v true) i wᵖ w1 = add_first_grows g (NewProposal x v true) wᵖ i x.slot 0 v in
         let ok1 : Consistent g w1 = add_first_consistent g wᵖ i x.slot 0 v may okᵖ in
-        let o1 : TrueView g w1 i (adopted 0 0 v c) =
+        let o1 : TrueView g w1 i (holding_other_value 0 0 v c) =
         held_true g wᵖ okᵖ i c o0 0 0 0 v unheld (omega arith) (λ l. absurd (omega arith)) p (λ _. refl) (omega arith) in
-        let y : View = prepared_by i (adopted 0 0 v c) in
-        let o2 : TrueView g w1 i y = prepared_by_true g w1 ok1 i (adopted 0 0 v c) o1 i (own_promise g w1 ok1 i (adopted 0 0 v c) o1 live-i tt) in
+        let y : View = prepared_by i (holding_other_value 0 0 v c) in
+        let o2 : TrueView g w1 i y = prepared_by_true g w1 ok1 i (holding_other_value 0 0 v c) o1 i (own_promise g w1 ok1 i (holding_other_value 0 0 v c) o1 live-i tt) in
         let f : MayVote g w1 i y v = inr (delegated, (λ m v' h. let k = (o.accepts i (o.picked m v' h delegated)).0 in omega arith), inl (omega arith)) in
         let in_round_lem : 1 ≤ y.round = omega arith in
         let w2 : World = add_vote w1 i x.slot x.round v in
@@ -630,30 +630,30 @@ module _ (S : Setup) (rules : SetupRules S) where
           (add_reached_grows g (NewProposal x v true) wᵖ i x.slot (S.own_round i) (later_onward g wᵖ okᵖ i x oᵖ (S.own_round i) later))
           (add_first_grows g (NewProposal x v true) w¹ i x.slot f v))
 
-      held : TrueView g w² i (adopted 0 f v (joined (S.own_round i) x))
-      held = held_true g w¹ ok¹ i (joined (S.own_round i) x) (joined_true g wᵖ okᵖ i x oᵖ (S.own_round i) later) 0 f f v unheld
+      held : TrueView g w² i (holding_other_value 0 f v (in_later_round (S.own_round i) x))
+      held = held_true g w¹ ok¹ i (in_later_round (S.own_round i) x) (joined_true g wᵖ okᵖ i x oᵖ (S.own_round i) later) 0 f f v unheld
           (let l = later in omega arith) (λ l. absurd (omega arith)) (inr (refl, refl)) (λ _. refl) early
 
       promise : Promise g w² i x.slot (S.own_round i) 0
-      promise = own_promise g w² ok² i (adopted 0 f v (joined (S.own_round i) x)) held live-i tt
+      promise = own_promise g w² ok² i (holding_other_value 0 f v (in_later_round (S.own_round i) x)) held live-i tt
 
-      asked_view : TrueView g w² i (prepared_by i (adopted 0 f v (joined (S.own_round i) x)))
-      asked_view = prepared_by_true g w² ok² i (adopted 0 f v (joined (S.own_round i) x)) held i promise
+      asked_view : TrueView g w² i (prepared_by i (holding_other_value 0 f v (in_later_round (S.own_round i) x)))
+      asked_view = prepared_by_true g w² ok² i (holding_other_value 0 f v (in_later_round (S.own_round i) x)) held i promise
 
       asked_true : MessageTrue g w² i (prepare x.slot (S.own_round i) 0 f v)
       asked_true = (promise, (let l = later in omega arith), (λ l. absurd (omega arith)), inr (refl, refl), λ z. inr (refl, refl, refl, refl))
 
-      asked_correct : KeepsProposal (say (prepared_by i (adopted 0 f v (joined (S.own_round i) x))) (record { destination = all; message = prepare x.slot (S.own_round i) 0 f v } ∷ []))
+      asked_correct : KeepsProposal (say (prepared_by i (holding_other_value 0 f v (in_later_round (S.own_round i) x))) (record { destination = all; message = prepare x.slot (S.own_round i) 0 f v } ∷ []))
       asked_correct = record { world = w²; grows = asked_grows; consistent = ok²; view = asked_view; outgoing = (asked_true, tt); decision = tt }
 
     -- on the fast path it has answered itself
     fast_correct : T (g.live i) → T (not x.holds) → x.round ≡ g.start → T (not S.starts_led) → T g.fast_path → T (eqb (count x.answers.answered g.count) 0)
-        → KeepsProposal (say (own_answer S i v (prepared_by i (adopted 0 (suc i) v (joined (S.own_round i) x)))) (record { destination = all; message = prepare x.slot (S.own_round i) 0 (suc i) v } ∷ []))
+        → KeepsProposal (say (model_own_answer S i v (prepared_by i (holding_other_value 0 (suc i) v (in_later_round (S.own_round i) x)))) (record { destination = all; message = prepare x.slot (S.own_round i) 0 (suc i) v } ∷ []))
     fast_correct live-i unheld same_round not-led fast unanswered = record {
       world = w2;
       grows = asked_grows live-i unheld same_round not-led (suc i) early owner;
       consistent = ok2;
-      view = with_answers_true g w2 ok2 i y o2 (with_answer i i i v y.answers)
+      view = with_answers_true g w2 ok2 i y o2 (model_with_answer i i i v y.answers)
           (answer_true g w2 ok2 i x.slot y.answers o2.answers i i v (nobody (x.answers.answered i) refl) live-i below
           (inr (refl, refl, sym same)) (inr (refl, refl, refl, refl)));
       outgoing = (asked_true live-i unheld same_round not-led (suc i) early owner, tt);
@@ -679,7 +679,7 @@ module _ (S : Setup) (rules : SetupRules S) where
         ok2 = ok² live-i unheld same_round not-led (suc i) early owner
 
         y : View
-        y = prepared_by i (adopted 0 (suc i) v (joined (S.own_round i) x))
+        y = prepared_by i (holding_other_value 0 (suc i) v (in_later_round (S.own_round i) x))
 
         o2 : TrueView g w2 i y
         o2 = asked_view live-i unheld same_round not-led (suc i) early owner
@@ -690,8 +690,8 @@ module _ (S : Setup) (rules : SetupRules S) where
             let z = eqb→eq (count x.answers.answered g.count) 0 unanswered in absurd (omega arith)
         nobody false e = tt
 
-    pub on_propose_correct : KeepsProposal (on_propose S i x v)
-    unfolding on_propose
+    pub on_propose_correct : KeepsProposal (model_on_propose S i x v)
+    unfolding model_on_propose
     on_propose_correct = by_test KeepsProposal (g.live i && (eqb x.round g.start && not x.holds)) _ _
         (λ t. let a = and_both (g.live i) (eqb x.round g.start && not x.holds) t in
         let b = and_both (eqb x.round g.start) (not x.holds) a.1 in

@@ -7,7 +7,7 @@ use mathlib.Core.Logic.{◌⊎◌, inl, inr}
 use lib.Dec.{T}
 use native.Mathlib.Omega.{arith}
 use Rattle.agreement.specs.Voting.{Voters, World, NotAfter, Voted, Promise, Safe, Consistent}
-use Rattle.agreement.specs.Model.{View, Answers, fresh, joined, advanced, adopted, prepared_by, accepted_by, voted, with_answers}
+use Rattle.agreement.specs.Model.{View, Answers, fresh, in_later_round, advanced, holding_other_value, prepared_by, accepted_by, voted, with_answers}
 use Rattle.agreement.proofs.Growth.{NewVote, NewPosition, Grows, promise_stays, safe_stays, TrueAnswers, answers_stay, TruePosition, TrueView, others_keep}
 use Rattle.agreement.proofs.Answers.{add_case, add_self, add_old, no_answers_true}
 
@@ -255,7 +255,7 @@ module _ (g : Voters) (w : World) (ok : Consistent g w) (i : ℕ) (x : View) (o 
   next_onward s1 r1 h = let k = (o.position.furthest s1 r1 h).0 in (omega arith, λ q. absurd (omega arith))
 
   -- to a later round of the slot: both sets are emptied, what is held stays
-  pub joined_true : (r : ℕ) → x.round < r → TrueView g (add_reached w i x.slot r) i (joined r x)
+  pub joined_true : (r : ℕ) → x.round < r → TrueView g (add_reached w i x.slot r) i (in_later_round r x)
   joined_true r lt = record {
     position = record { at = inr (refl, refl, refl); furthest = λ s' r' h. furthest s' r' h; started = omega (arith, o.position.started) };
     held = record {
@@ -280,7 +280,7 @@ module _ (g : Voters) (w : World) (ok : Consistent g w) (i : ℕ) (x : View) (o 
       furthest s' r' (inr k) = (omega (arith, k.1), λ q. omega (arith, k.2))
 
   -- to the same round again, where nothing is held: both sets were empty
-  pub cleared_true : T (not x.holds) → 1 ≤ x.round → TrueView g w i (joined x.round x)
+  pub cleared_true : T (not x.holds) → 1 ≤ x.round → TrueView g w i (in_later_round x.round x)
   cleared_true unheld in_round_lem = record {
     position = o.position;
     held = o.held;
@@ -307,7 +307,7 @@ module _ (g : Voters) (w : World) (ok : Consistent g w) (i : ℕ) (x : View) (o 
       furthest s' r' (inr k) = (omega (arith, k.1), λ q. omega (arith, k.2))
 
   -- to hold what was accepted at a later round, in place of what is held
-  pub adopted_true : (a c v : ℕ) → T x.holds → x.held_round < a → a < x.round → Voted w x.slot a v → w.Proposed x.slot v → TrueView g w i (adopted a c v x)
+  pub adopted_true : (a c v : ℕ) → T x.holds → x.held_round < a → a < x.round → Voted w x.slot a v → w.Proposed x.slot v → TrueView g w i (holding_other_value a c v x)
   adopted_true a c v holds le lt was-voted p = record {
     position = o.position;
     held = record {
@@ -332,7 +332,7 @@ module _ (g : Voters) (w : World) (ok : Consistent g w) (i : ℕ) (x : View) (o 
     abbrev pub w¹ : World
     w¹ = add_first w i x.slot f v
 
-    pub held_true : TrueView g w¹ i (adopted a c v x)
+    pub held_true : TrueView g w¹ i (holding_other_value a c v x)
     held_true = record {
       position = record { at = o.position.at; furthest = o.position.furthest; started = o.position.started };
       held = record {

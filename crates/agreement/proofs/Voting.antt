@@ -9,8 +9,8 @@ use mathlib.Core.Logic.{◌⊎◌, inl, inr}
 use lib.Dec.{T}
 use native.Mathlib.Omega.{arith}
 use native.Mathlib.Decide.{dec_le, ℕ_discrete}
-use Rattle.sets.specs.Sets.{count}
-use Rattle.sets.proofs.Counting.{count_meet, count_mono}
+use Rattle.basics.specs.sets.Sets.{count}
+use Rattle.basics.proofs.sets.Counting.{count_meet, count_mono}
 use Rattle.agreement.specs.Voting.{Voters, QuorumsMeet, World, Voted, Clear, SafeByQuorum, Safe, Consistent, ChosenAt, FastChosen, Chosen, VotersRules}
 use Rattle.agreement.proofs.Tests.{is_true}
 

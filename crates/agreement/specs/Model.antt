@@ -2,9 +2,10 @@
 -- A round is a number: 0 is no round, and the rounds (group, leader) follow in their order. Values are numbers too.
 -- In the functions i is the member called, x what it knows, `source` who sent the message; s, r, a, c and v are a slot, a round, the round of
 -- a held value, its proposer where that is named (counted from 1; 0 is none) and a value.
+-- What mirrors a handler or a type of the engine has its name with `model` before it: `model_enter` is to a View what `enter` is to a Core.
 -- Assumes nothing.
 use Rattle.std.specs.Prelude.{ℕ, suc, pred, ◌-◌, Bool, true, false, not, ◌&&◌, ◌||◌, cond, List, [], ◌∷◌, ◌++◌, eqb, ltb, leb}
-use Rattle.sets.specs.Sets.{count}
+use Rattle.basics.specs.sets.Sets.{count}
 use Rattle.agreement.specs.Voting.{Voters}
 
 -- the answers to a member's proposal on the fast path: who has answered, how many answers name the member itself, which proposers they
@@ -33,7 +34,7 @@ pub record View : Type 0 where
 -- the settings of a group: who votes; the leader of a round; the round in which a member proposes; whether a slot starts in a round
 -- that has a leader, which then proposes without asking; whether Accepts are answered to a committer too; and the committer of a
 -- requester (both counted from 1; 0 is none)
-pub record Setup : Type 0 where
+pub record ModelSetup : Type 0 where
   pub voters : Voters
   pub leader : ℕ → ℕ
   pub own_round : ℕ → ℕ
@@ -43,19 +44,19 @@ pub record Setup : Type 0 where
 
 -- Prepare (slot, round, round of the held value, its proposer, held value), Accept (slot, round, value), Commit (slot, value), and messages
 -- that have no part in the agreement
-pub data Message : Type 0 where
-  prepare : ℕ → ℕ → ℕ → ℕ → ℕ → Message
-  accept : ℕ → ℕ → ℕ → Message
-  commit : ℕ → ℕ → Message
-  other : Message
+pub data ModelMessage : Type 0 where
+  prepare : ℕ → ℕ → ℕ → ℕ → ℕ → ModelMessage
+  accept : ℕ → ℕ → ℕ → ModelMessage
+  commit : ℕ → ℕ → ModelMessage
+  other : ModelMessage
 
-pub data Destination : Type 0 where
-  all : Destination
-  to : ℕ → Destination
+pub data ModelDestination : Type 0 where
+  all : ModelDestination
+  to : ℕ → ModelDestination
 
-pub record Outgoing : Type 0 where
-  pub destination : Destination
-  pub message : Message
+pub record ModelOutgoing : Type 0 where
+  pub destination : ModelDestination
+  pub message : ModelMessage
 
 -- what is left to the host of a call: whether it lets the call through, the requester of the value, and the proposer whose value is adopted
 -- on the fast path, one of the best (both counted from 1; 0 is none)
@@ -70,9 +71,9 @@ pub data Decision : Type 0 where
   decided : ℕ → ℕ → Decision
 
 -- what a call leaves: what the member then knows, the messages, the commit, and whether the call was taken (not refused)
-pub record Outcome : Type 0 where
+pub record ModelOutcome : Type 0 where
   pub view : View
-  pub outgoing : List Outgoing
+  pub outgoing : List ModelOutgoing
   pub decision : Decision
   pub taken : Bool
 
@@ -87,26 +88,26 @@ add m f k = eqb k m || f k
 -- ---- what a member knows next
 
 -- no answer: every score is 2
-abbrev pub no_answers : Answers
-no_answers = record { answered = empty; preaccepted = 0; proposers = empty; values = λ p. 0; scores = λ p. 2 }
+abbrev pub model_no_answers : Answers
+model_no_answers = record { answered = empty; preaccepted = 0; proposers = empty; values = λ p. 0; scores = λ p. 2 }
 
 -- one more for an answer from another than the proposer, one less from the proposer itself
-abbrev pub score_after : ℕ → ℕ → ℕ → ℕ
-score_after m p n = cond (eqb m p) (n - 1) (suc n)
+abbrev pub model_score_after : ℕ → ℕ → ℕ → ℕ
+model_score_after m p n = cond (eqb m p) (n - 1) (suc n)
 
 -- m has answered i's proposal, and names p and its value
-abbrev pub with_answer : ℕ → ℕ → ℕ → ℕ → Answers → Answers
-with_answer i m p v f = record {
+abbrev pub model_with_answer : ℕ → ℕ → ℕ → ℕ → Answers → Answers
+model_with_answer i m p v f = record {
   answered = add m f.answered;
   preaccepted = cond (eqb p i) (suc f.preaccepted) f.preaccepted;
   proposers = add p f.proposers;
   values = λ q. cond (eqb q p) v (f.values q);
-  scores = λ q. cond (eqb q p) (score_after m p (f.scores p)) (f.scores q);
+  scores = λ q. cond (eqb q p) (model_score_after m p (f.scores p)) (f.scores q);
 }
 
 -- in slot s and round r, with nothing held and nobody heard of
 abbrev pub fresh : ℕ → ℕ → View
-fresh s r = record { slot = s; round = r; holds = false; held_round = 0; held_proposer = 0; held_value = 0; prepared = empty; accepted = empty; answers = no_answers }
+fresh s r = record { slot = s; round = r; holds = false; held_round = 0; held_proposer = 0; held_value = 0; prepared = empty; accepted = empty; answers = model_no_answers }
 
 -- a new member
 abbrev pub initial : ℕ → View
@@ -117,12 +118,12 @@ abbrev pub advanced : ℕ → View → View
 advanced start x = fresh (suc x.slot) start
 
 -- in another round of the slot: both sets are of the round, and what is held is kept, as are the answers
-abbrev pub joined : ℕ → View → View
-joined r x = record { slot = x.slot; round = r; holds = x.holds; held_round = x.held_round; held_proposer = x.held_proposer; held_value = x.held_value; prepared = empty; accepted = empty; answers = x.answers }
+abbrev pub in_later_round : ℕ → View → View
+in_later_round r x = record { slot = x.slot; round = r; holds = x.holds; held_round = x.held_round; held_proposer = x.held_proposer; held_value = x.held_value; prepared = empty; accepted = empty; answers = x.answers }
 
 -- holding another value
-abbrev pub adopted : ℕ → ℕ → ℕ → View → View
-adopted a c v x = record { slot = x.slot; round = x.round; holds = true; held_round = a; held_proposer = c; held_value = v; prepared = x.prepared; accepted = x.accepted; answers = x.answers }
+abbrev pub holding_other_value : ℕ → ℕ → ℕ → View → View
+holding_other_value a c v x = record { slot = x.slot; round = x.round; holds = true; held_round = a; held_proposer = c; held_value = v; prepared = x.prepared; accepted = x.accepted; answers = x.answers }
 
 -- told that m has prepared
 abbrev pub prepared_by : ℕ → View → View
@@ -142,13 +143,13 @@ with_answers f x = record { slot = x.slot; round = x.round; holds = x.holds; hel
 
 -- ---- outcomes without a commit
 
-abbrev pub refuse : View → Outcome
+abbrev pub refuse : View → ModelOutcome
 refuse x = record { view = x; outgoing = []; decision = undecided; taken = false }
 
-abbrev pub say : View → List Outgoing → Outcome
+abbrev pub say : View → List ModelOutgoing → ModelOutcome
 say x os = record { view = x; outgoing = os; decision = undecided; taken = true }
 
-abbrev pub quiet : View → Outcome
+abbrev pub quiet : View → ModelOutcome
 quiet x = say x []
 
 -- ---- the calls
@@ -157,7 +158,7 @@ quiet x = say x []
 abbrev pub holds_before : ℕ → View → Bool
 holds_before a x = ltb x.held_round a
 
-module _ (S : Setup) where
+module _ (S : ModelSetup) where
   -- a quorum has prepared, a quorum has accepted, as far as the member was told
   abbrev pub enough_prepared : View → Bool
   enough_prepared x = leb S.voters.quorum (count x.prepared S.voters.count)
@@ -167,23 +168,23 @@ module _ (S : Setup) where
 
   -- what a Prepare and an Accept have in common: what is of the past is not answered, what is of a later slot or from a member that is
   -- not live is refused, and to a later round of the slot the member goes along
-  unfoldable pub enter : ℕ → View → ℕ → ℕ → ℕ → (View → Outcome) → Outcome
-  enter i x source s r next =
+  unfoldable pub model_enter : ℕ → View → ℕ → ℕ → ℕ → (View → ModelOutcome) → ModelOutcome
+  model_enter i x source s r next =
       cond (not (S.voters.live i)) (quiet x)
       (cond (ltb s x.slot || ltb r x.round) (quiet x)
       (cond (not (eqb s x.slot) || not (S.voters.live source)) (refuse x)
-      (next (cond (ltb x.round r) (joined r x) x))))
+      (next (cond (ltb x.round r) (in_later_round r x) x))))
 
   -- a promise counted: of two held values the one of the later round is held
-  unfoldable pub counted : ℕ → ℕ → ℕ → ℕ → ℕ → View → View
-  counted i source a c v x = prepared_by i (prepared_by source (cond (holds_before a x) (adopted a c v x) x))
+  unfoldable pub model_counted : ℕ → ℕ → ℕ → ℕ → ℕ → View → View
+  model_counted i source a c v x = prepared_by i (prepared_by source (cond (holds_before a x) (holding_other_value a c v x) x))
 
   -- the delegate votes for v and asks all to, unless it has voted in the round; x0 is the view before the call
-  unfoldable pub casts : ℕ → View → ℕ → View → Outcome
+  unfoldable pub casts : ℕ → View → ℕ → View → ModelOutcome
   casts i x0 v x = cond (x.accepted i) (refuse x0) (say (voted i v x) (record { destination = all; message = accept x.slot x.round v } ∷ []))
 
   -- the delegate picks the held value at the promise that completes a quorum: `old` is the view before that promise, x the view with it
-  unfoldable pub picks : ℕ → View → View → View → Outcome
+  unfoldable pub picks : ℕ → View → View → View → ModelOutcome
   picks i x0 old x = cond (ltb (count old.prepared S.voters.count) S.voters.quorum && enough_prepared x) (casts i x0 x.held_value x) (quiet x)
 
   -- ---- the fast path
@@ -201,13 +202,13 @@ module _ (S : Setup) where
   is_best p f = f.proposers p && eqb (count (λ q. f.proposers q && ltb (f.scores p) (f.scores q)) S.voters.count) 0
 
   -- the value of one of the best proposers goes into the accept phase
-  unfoldable pub adopts : ℕ → Host → View → View → Outcome
-  adopts i h x0 x =
+  unfoldable pub model_adopts_best : ℕ → Host → View → View → ModelOutcome
+  model_adopts_best i h x0 x =
       cond (eqb h.adoptee 0) (quiet x)
       (cond (is_best (pred h.adoptee) x.answers && enough_prepared x) (casts i x0 (x.answers.values (pred h.adoptee)) x) (refuse x0))
 
   -- an answer was counted: it completes a fast quorum for the member's own value, which is v; or a value is adopted, or nothing happens
-  unfoldable pub decides : ℕ → ℕ → Host → View → View → Outcome
+  unfoldable pub decides : ℕ → ℕ → Host → View → View → ModelOutcome
   decides i v h x0 x =
       cond (fast_enough x.answers)
       (record {
@@ -216,32 +217,32 @@ module _ (S : Setup) where
         decision = decided x.slot v;
         taken = true;
       })
-      (cond (may_adopt x.answers) (adopts i h x0 x) (quiet x))
+      (cond (may_adopt x.answers) (model_adopts_best i h x0 x) (quiet x))
 
   -- an answer on the fast path names a proposer; it counts once, and one's own may come again
-  unfoldable pub answering : ℕ → ℕ → ℕ → ℕ → Host → View → View → Outcome
+  unfoldable pub answering : ℕ → ℕ → ℕ → ℕ → Host → View → View → ModelOutcome
   answering i source c v h x0 x =
       cond (eqb c 0) (refuse x0)
       (cond (x.answers.answered source) (cond (eqb source i) (decides i v h x0 x) (refuse x0))
-      (decides i v h x0 (with_answers (with_answer i source (pred c) v x.answers) x)))
+      (decides i v h x0 (with_answers (model_with_answer i source (pred c) v x.answers) x)))
 
   -- a promise to the delegate, counted in x: an answer on the fast path as long as nothing was accepted in a round
-  unfoldable pub gathers : ℕ → ℕ → ℕ → ℕ → Host → View → View → View → Outcome
-  gathers i source c v h x0 old x = cond (S.voters.fast_path && eqb x.held_round 0) (answering i source c v h x0 x) (picks i x0 old x)
+  unfoldable pub model_gathers : ℕ → ℕ → ℕ → ℕ → Host → View → View → View → ModelOutcome
+  model_gathers i source c v h x0 old x = cond (S.voters.fast_path && eqb x.held_round 0) (answering i source c v h x0 x) (picks i x0 old x)
 
   -- the delegate counts a promise; another member sends the delegate its own, unless it has accepted in the round
-  unfoldable pub promised : ℕ → ℕ → ℕ → ℕ → ℕ → Host → View → View → Outcome
-  promised i source a c v h x0 x =
-      cond (eqb (S.voters.delegate x.round) i) (gathers i source c v h x0 x (counted i source a c v x))
+  unfoldable pub model_promised : ℕ → ℕ → ℕ → ℕ → ℕ → Host → View → View → ModelOutcome
+  model_promised i source a c v h x0 x =
+      cond (eqb (S.voters.delegate x.round) i) (model_gathers i source c v h x0 x (model_counted i source a c v x))
       (cond (eqb x.held_round x.round) (quiet x)
       (say x (record { destination = to (S.voters.delegate x.round); message = prepare x.slot x.round x.held_round x.held_proposer x.held_value } ∷ [])))
 
-  unfoldable pub on_prepare : ℕ → View → ℕ → ℕ → ℕ → ℕ → ℕ → ℕ → Host → Outcome
-  on_prepare i x source s r a c v h = enter i x source s r (λ y. promised i source a c v h x (cond y.holds y (prepared_by i (adopted a c v y))))
+  unfoldable pub model_on_prepare : ℕ → View → ℕ → ℕ → ℕ → ℕ → ℕ → ℕ → Host → ModelOutcome
+  model_on_prepare i x source s r a c v h = model_enter i x source s r (λ y. model_promised i source a c v h x (cond y.holds y (prepared_by i (holding_other_value a c v y))))
 
   -- the held value is committed once a quorum has accepted it, and all are told where `tell` says so
-  unfoldable pub commits : View → List Outgoing → Bool → Outcome
-  commits x os tell =
+  unfoldable pub model_commits : View → List ModelOutgoing → Bool → ModelOutcome
+  model_commits x os tell =
       cond (enough_accepted x)
       (record {
         view = advanced S.voters.start x;
@@ -252,53 +253,53 @@ module _ (S : Setup) where
       (say x os)
 
   -- the replies to an Accept: to the committer c, where there is one besides the leader and oneself, and to the leader
-  unfoldable pub replies : ℕ → ℕ → View → List Outgoing
+  unfoldable pub replies : ℕ → ℕ → View → List ModelOutgoing
   replies i c x =
-      let o : List Outgoing = record { destination = to (S.leader x.round); message = accept x.slot x.round x.held_value } ∷ [] in
+      let o : List ModelOutgoing = record { destination = to (S.leader x.round); message = accept x.slot x.round x.held_value } ∷ [] in
       cond (eqb c 0 || eqb c (suc i) || eqb c (suc (S.leader x.round))) o
       (record { destination = to (pred c); message = accept x.slot x.round x.held_value } ∷ o)
 
   -- the leader and the committer commit; an Accept of the round's delegate is answered
-  unfoldable pub after_accept : ℕ → ℕ → Host → View → View → Outcome
-  after_accept i source h x0 x =
+  unfoldable pub model_after_accept : ℕ → ℕ → Host → View → View → ModelOutcome
+  model_after_accept i source h x0 x =
       let c : ℕ = cond S.three_phases (S.committer h.requester) 0 in
-      cond (eqb i (S.leader x.round)) (commits x [] true)
+      cond (eqb i (S.leader x.round)) (model_commits x [] true)
       (cond (eqb source (S.voters.delegate x.round))
-      (cond (eqb c (suc i)) (commits x (replies i c x) (not (eqb h.requester (suc i)))) (say x (replies i c x)))
-      (cond (eqb c (suc i)) (commits x [] (not (eqb h.requester (suc i)))) (refuse x0)))
+      (cond (eqb c (suc i)) (model_commits x (replies i c x) (not (eqb h.requester (suc i)))) (say x (replies i c x)))
+      (cond (eqb c (suc i)) (model_commits x [] (not (eqb h.requester (suc i)))) (refuse x0)))
 
   -- a value is accepted unless another was accepted in the round
-  unfoldable pub on_accept : ℕ → View → ℕ → ℕ → ℕ → ℕ → Host → Outcome
-  on_accept i x source s r v h = enter i x source s r (λ y.
-      cond (ltb y.held_round y.round || (eqb y.held_round y.round && eqb y.held_value v)) (after_accept i source h x (accepted_by source (voted i v y))) (refuse x))
+  unfoldable pub model_on_accept : ℕ → View → ℕ → ℕ → ℕ → ℕ → Host → ModelOutcome
+  model_on_accept i x source s r v h = model_enter i x source s r (λ y.
+      cond (ltb y.held_round y.round || (eqb y.held_round y.round && eqb y.held_value v)) (model_after_accept i source h x (accepted_by source (voted i v y))) (refuse x))
 
-  unfoldable pub on_commit : ℕ → View → ℕ → ℕ → Outcome
-  on_commit i x s v =
+  unfoldable pub model_on_commit : ℕ → View → ℕ → ℕ → ModelOutcome
+  model_on_commit i x s v =
       cond (ltb s x.slot) (quiet x)
       (cond (eqb s x.slot) (record { view = advanced S.voters.start x; outgoing = []; decision = decided x.slot v; taken = true }) (refuse x))
 
   -- a proposal on the fast path: the member answers it first
-  abbrev pub own_answer : ℕ → ℕ → View → View
-  own_answer i v x = with_answers (with_answer i i i v x.answers) x
+  abbrev pub model_own_answer : ℕ → ℕ → View → View
+  model_own_answer i v x = with_answers (model_with_answer i i i v x.answers) x
 
   -- a live member that has not left the starting round and holds nothing proposes: the leader of that round by an Accept, and where no
   -- round is led from the start any member, by a Prepare in a round of its own; on the fast path it names itself, and nobody has answered
-  unfoldable pub on_propose : ℕ → View → ℕ → Outcome
-  on_propose i x v =
+  unfoldable pub model_on_propose : ℕ → View → ℕ → ModelOutcome
+  model_on_propose i x v =
       cond (S.voters.live i && (eqb x.round S.voters.start && not x.holds))
       (cond S.starts_led
       (cond (eqb i (S.voters.delegate x.round))
-      (say (voted i v (prepared_by i (adopted 0 0 v (joined x.round x)))) (record { destination = all; message = accept x.slot x.round v } ∷ []))
+      (say (voted i v (prepared_by i (holding_other_value 0 0 v (in_later_round x.round x)))) (record { destination = all; message = accept x.slot x.round v } ∷ []))
       (refuse x))
       (cond S.voters.fast_path
       (cond (eqb (count x.answers.answered S.voters.count) 0)
-      (say (own_answer i v (prepared_by i (adopted 0 (suc i) v (joined (S.own_round i) x)))) (record { destination = all; message = prepare x.slot (S.own_round i) 0 (suc i) v } ∷ []))
+      (say (model_own_answer i v (prepared_by i (holding_other_value 0 (suc i) v (in_later_round (S.own_round i) x)))) (record { destination = all; message = prepare x.slot (S.own_round i) 0 (suc i) v } ∷ []))
       (refuse x))
-      (say (prepared_by i (adopted 0 0 v (joined (S.own_round i) x))) (record { destination = all; message = prepare x.slot (S.own_round i) 0 0 v } ∷ []))))
+      (say (prepared_by i (holding_other_value 0 0 v (in_later_round (S.own_round i) x))) (record { destination = all; message = prepare x.slot (S.own_round i) 0 0 v } ∷ []))))
       (refuse x)
 
-  unfoldable pub on_message : ℕ → View → ℕ → Host → Message → Outcome
-  on_message i x source h (prepare s r a c v) = on_prepare i x source s r a c v h
-  on_message i x source h (accept s r v) = on_accept i x source s r v h
-  on_message i x source h (commit s v) = on_commit i x s v
-  on_message i x source h other = quiet x
+  unfoldable pub model_on_message : ℕ → View → ℕ → Host → ModelMessage → ModelOutcome
+  model_on_message i x source h (prepare s r a c v) = model_on_prepare i x source s r a c v h
+  model_on_message i x source h (accept s r v) = model_on_accept i x source s r v h
+  model_on_message i x source h (commit s v) = model_on_commit i x s v
+  model_on_message i x source h other = quiet x

@@ -2,7 +2,7 @@
 -- A set of members is a test. Slots, rounds, members and values are numbers.
 -- Assumes nothing.
 use Rattle.std.specs.Prelude.{ℕ, suc, ◌+◌, ◌≤◌, ◌<◌, ◌≡◌, Bool, not, ◌⊎◌, T}
-use Rattle.sets.specs.Sets.{count}
+use Rattle.basics.specs.sets.Sets.{count}
 
 -- who votes: the number of processes, the size of a quorum, whether there is a fast path and the size of its quorum, the round that every
 -- slot starts in, who is live, and the delegate of a round, which alone may pick the round's value. On the fast path the round of member p

@@ -7,11 +7,9 @@ use Rattle.flat.specs.Encode.{encoded_commit, encoded_outgoing}
 use Rattle.flat.specs.declared.FlatCall.{FlatCall}
 use Rattle.flat.specs.declared.FlatCommit.{FlatCommit}
 use Rattle.flat.specs.declared.FlatCore.{FlatCore}
-use Rattle.flat.specs.declared.FlatHeld.{FlatHeld}
 use Rattle.flat.specs.declared.FlatMessage.{FlatMessage}
 use Rattle.flat.specs.declared.FlatOption.{FlatOption}
 use Rattle.flat.specs.declared.FlatOutgoing.{FlatOutgoing}
-use Rattle.flat.specs.declared.FlatPromise.{FlatPromise}
 use Rattle.flat.specs.declared.FlatRound.{FlatRound}
 use Rattle.flat.specs.declared.FlatSettings.{FlatSettings}
 use Rattle.arrays.specs.declared.Setup.{Setup}
@@ -112,8 +110,8 @@ core_numbers f =
 
 -- ---- calls
 
-abbrev pub message_of : List ℕ → FlatMessage
-message_of l =
+abbrev pub flat_message_of : List ℕ → FlatMessage
+flat_message_of l =
     record {
       kind = at l 3;
       slot = at l 4;
@@ -133,7 +131,7 @@ flat_call_of l =
       kind = at l 0;
       v = at l 1;
       arrival_slot = at l 2;
-      message = message_of l;
+      message = flat_message_of l;
       value_held = at l 19;
       requester = option l 20 21;
       fast = at l 22;

@@ -28,5 +28,5 @@ fast_in w =
       swift_proposer_scores = w.swift;
     }
 
-abbrev pub fast_of : FastArrays → FastState
-fast_of w = decoded_fast (fast_in w)
+abbrev pub fast_state_of : FastArrays → FastState
+fast_state_of w = decoded_fast (fast_in w)

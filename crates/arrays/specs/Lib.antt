@@ -1,3 +1,4 @@
 pub mod Arrays
 pub mod FastArrays
 pub mod Told
+pub mod reads

@@ -3,16 +3,18 @@
 // what is written goes into an array that is lent.
 #![tactic(auto)]
 
+pub mod reads;
+
 ghost use Rattle.std.specs.Prelude.{◌≡◌, Some};
-ghost use Rattle.arrays.specs.Arrays.{setup_of, setup_numbers, core_of, core_numbers, message_of, flat_call_of, outgoing_numbers, put_message, rest_numbers};
+ghost use Rattle.arrays.specs.Arrays.{setup_of, setup_numbers, core_of, core_numbers, flat_message_of, flat_call_of, outgoing_numbers, put_message, rest_numbers};
 ghost use Rattle.flat.specs.Encode.{encoded_outgoing};
 
+use basics::tables::PerProcess;
 use calls::CommittedSlot;
 use flat::{
     FlatCall, FlatCore, FlatHeld, FlatMessage, FlatOption, FlatPromise, FlatRound, FlatSettings,
 };
 use steps::Outgoing;
-use tables::PerProcess;
 
 // The arrays by name: of the settings without their tables, of the core, of a call, of a message of a reply, and of what a reply has besides messages.
 pub type SetupArray = [u64; 10];
@@ -126,7 +128,7 @@ pub fn core_in(c: &CoreArray) -> FlatCore
 }
 
 fn message_in(c: &CallArray) -> FlatMessage
-    ensures { result ≡ message_of c.now }
+    ensures { result ≡ flat_message_of c.now }
 {
     let accept_round = FlatRound {
         given: c[9],

@@ -4,7 +4,7 @@ use Rattle.std.specs.Prelude.{Some}
 use mathlib.Core.Path.{◌≡◌, refl}
 use mathlib.Core.Bool.{true, false}
 use mathlib.Core.List.{[], ◌∷◌, map}
-use Rattle.calendar.specs.Calendar.{is_leap, year_days, days_of_years, month_days, days_of_months, is_month, is_day, is_time, is_date, days_before, minute_of, to_minute, to_date, refusal}
+use Rattle.calendar.specs.Calendar.{is_leap, year_days, days_of_years, month_days, days_of_months, is_month, is_day, is_time, is_date, days_before, minute_of, to_minute, to_date, date_refusal}
 use Rattle.calendar.proofs.RoundTrip.{date, there_and_back}
 
 first_minute : to_minute (date 1970 1 1 0 0) ≡ Some 0
@@ -36,18 +36,18 @@ unfolding to_minute is_date is_month is_day is_time minute_of days_before month_
 last_minute = refl
 
 -- 2100 is no leap year, an hour has no minute 60, 10000 is past the years
-no_leap_day : refusal (to_minute (date 2100 2 29 0 0)) ≡ 17
+no_leap_day : date_refusal (to_minute (date 2100 2 29 0 0)) ≡ 17
 unfolding to_minute is_date is_month is_day is_time month_days is_leap
 no_leap_day = refl
 
-no_minute_60 : refusal (to_minute (date 2026 1 1 23 60)) ≡ 17
+no_minute_60 : date_refusal (to_minute (date 2026 1 1 23 60)) ≡ 17
 unfolding to_minute is_date is_month is_day is_time month_days is_leap
 no_minute_60 = refl
 
-no_year_10000 : refusal (to_minute (date 10000 1 1 0 0)) ≡ 17
+no_year_10000 : date_refusal (to_minute (date 10000 1 1 0 0)) ≡ 17
 unfolding to_minute is_date is_month is_day is_time month_days is_leap
 no_year_10000 = refl
 
-past_all : refusal (to_date 4223371680) ≡ 17
+past_all : date_refusal (to_date 4223371680) ≡ 17
 unfolding to_date
 past_all = refl

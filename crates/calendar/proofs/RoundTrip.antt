@@ -12,7 +12,7 @@ use native.Mathlib.Omega.{arith}
 use lib.Dec.{ltb}
 use borrow.Author.Tests.{ltb-true, lt-ltb, le-ltb}
 use Rattle.basics.proofs.Tests.{either}
-use Rattle.calendar.specs.Calendar.{is_leap, year_days, days_of_years, month_days, days_of_months, is_date, days_before, minute_of, to_minute, year_of, month_of, date_in_year, date_of, to_date, not_in_calendar, refusal}
+use Rattle.calendar.specs.Calendar.{is_leap, year_days, days_of_years, month_days, days_of_months, is_date, days_before, minute_of, to_minute, year_of, month_of, date_in_year, date_of, to_date, not_in_calendar, date_refusal}
 use Rattle.calendar.specs.declared.Date.{Date}
 use Rattle.calendar.proofs.Years.{years_rise}
 use Rattle.calendar.proofs.Months.{months_rise}
@@ -182,7 +182,7 @@ pub has_minute : (d : Date) → is_date d ≡ true → to_minute d ≡ Some (min
 unfolding to_minute
 has_minute d v = simp v
 
-pub has_no_minute : (d : Date) → is_date d ≡ false → refusal (to_minute d) ≡ 17
+pub has_no_minute : (d : Date) → is_date d ≡ false → date_refusal (to_minute d) ≡ 17
 unfolding to_minute
 has_no_minute d v = simp v
 
@@ -191,12 +191,12 @@ pub has_date : (m : ℕ) → m < 4223371680 → to_date m ≡ Some (date_of m)
 unfolding to_date
 has_date m h = simp (lt-ltb m 4223371680 h)
 
-pub has_no_date : (m : ℕ) → 4223371680 ≤ m → refusal (to_date m) ≡ 17
+pub has_no_date : (m : ℕ) → 4223371680 ≤ m → date_refusal (to_date m) ≡ 17
 unfolding to_date
 has_no_date m h = simp (le-ltb m 4223371680 h)
 
 -- the number as it is computed: of an answer as a result
-pub refusal_as_result : {T : Type 0} (answer : Option T) → refusals.refusal not_in_calendar (ok_or answer (record {})) ≡ refusal answer
+pub refusal_as_result : {T : Type 0} (answer : Option T) → refusals.refusal not_in_calendar (ok_or answer (record {})) ≡ date_refusal answer
 refusal_as_result (Some x) = refl
 refusal_as_result None = refl
 

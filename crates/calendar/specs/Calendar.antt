@@ -103,6 +103,6 @@ abbrev pub not_in_calendar : NotInCalendar → ℕ
 not_in_calendar why = 17
 
 -- document 02's number of an answer, and 0 where it gives none
-abbrev pub refusal : {T : Type 0} → Option T → ℕ
-refusal (Some x) = 0
-refusal None = 17
+abbrev pub date_refusal : {T : Type 0} → Option T → ℕ
+date_refusal (Some x) = 0
+date_refusal None = 17

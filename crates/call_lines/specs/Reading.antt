@@ -71,5 +71,5 @@ abbrev pub scan_of : List ℕ → Scan
 scan_of line = scan_to line (length line)
 
 -- the numbers are the first of these, one more than the scan has before the last
-abbrev pub numbers_of : List ℕ → List ℕ → List ℕ
-numbers_of line buffer = numbers_to line buffer (length line)
+abbrev pub numbers_in_line : List ℕ → List ℕ → List ℕ
+numbers_in_line line buffer = numbers_to line buffer (length line)

@@ -2,7 +2,7 @@
 #![tactic(auto)]
 
 ghost use Rattle.std.specs.Prelude.{◌≡◌, ◌<◌};
-ghost use Rattle.call_lines.specs.Reading.{next_place, not_decimal, after_digit, after_space, after_byte, scan_fault, stored, scan_of, numbers_of};
+ghost use Rattle.call_lines.specs.Reading.{next_place, not_decimal, after_digit, after_space, after_byte, scan_fault, stored, scan_of, numbers_in_line};
 
 // Why a line is no call, in the order of looking.
 #[derive(Clone, Copy, PartialEq, Eq, Debug)]
@@ -124,7 +124,7 @@ fn store(numbers: &mut [u64], at: usize, n: u64)
 #[tactic(auto, using(crate::proofs::Turns::scan_next, crate::proofs::Turns::numbers_next), unfolding(crate::specs::Reading::scan_to, crate::specs::Reading::numbers_to, crate::specs::Reading::start))]
 pub fn read_numbers(line: &[u8], numbers: &mut [u64]) -> Scan
     ensures value { result ≡ scan_of line.now }
-    ensures numbers_after { numbers.new ≡ numbers_of line.now numbers.old }
+    ensures numbers_after { numbers.new ≡ numbers_in_line line.now numbers.old }
 {
     let mut scan = Scan::default();
     for b in line {

@@ -11,6 +11,7 @@ ghost use Rattle.calls.specs.Asked.{asked_of, proposer_gathers, gatherer_in, hea
 ghost use Rattle.calls.specs.Decision.{if_fit, read_fits, admission_of, unless_spent, if_made, decision_of};
 ghost use Rattle.calls.specs.Replies.{refused_reply, sent_reply, is_fast, committed_reply, next_readable, read_answer};
 
+use basics::tables::PerProcess;
 use delivery::Delivery;
 use message::{
     ConsensusMessage, ConsensusMsg, Outcome, PFMode, PaxosRound, ReadId, Refusal, RoundV,
@@ -18,7 +19,6 @@ use message::{
 use round_state::Member;
 use settings::Settings;
 use steps::{Asked, Core, Destination, Heard, Messages, Outgoing, no_messages};
-use tables::PerProcess;
 
 #[derive(Clone, Copy, PartialEq, Eq, Debug)]
 pub enum Call {
@@ -45,7 +45,7 @@ pub struct Reply {
     pub served_count: u64,
 }
 
-// A call that is handled, with what the handlers ask of the settings and of its message.
+// A call that is not refused before it is handled, with what the handlers ask of the settings and of its message: what a decision hands on (`decision_of`).
 #[derive(Clone, Copy, PartialEq, Eq, Debug)]
 pub struct Taken {
     pub asked: Asked,

@@ -6,7 +6,7 @@ use mathlib.Core.Path.{◌≡◌}
 use mathlib.Core.Logic.{⊎_elim}
 use Prim.Native.Nat.{ℕ}
 use Rattle.basics.specs.Lists.{In}
-use Rattle.catch_up.specs.Causes.{CommitList, commits, JoinCause}
+use Rattle.catch_up.specs.Causes.{CommitList, listed_commits, JoinCause}
 use Rattle.catch_up.specs.Joining.{joining}
 use Rattle.catch_up.specs.declared.JoinRefusal.TheVariants.{NumberTooLarge, OutsideLimits, Gap, TwoValues}
 use Rattle.catch_up.proofs.Exact.{numbered, joined_otherwise, is_join, no_more}
@@ -18,7 +18,7 @@ module _ (Committed : ℕ → ℕ → Type 0) where
 
   -- the list's entries are such commits
   abbrev pub Lists : CommitList → Type 0
-  Lists l = (slot v : ℕ) → In (record { slot = slot; value = v }) (commits l) → Committed slot v
+  Lists l = (slot v : ℕ) → In (record { slot = slot; value = v }) (listed_commits l) → Committed slot v
 
   module _ (one : OneValue) (a b : CommitList) (from-a : Lists a) (from-b : Lists b) (places : ℕ) where
     agree : JoinCause TwoValues a b places → ⊥

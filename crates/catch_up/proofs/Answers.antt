@@ -14,9 +14,9 @@ use Rattle.std.proofs.lemmas.Bool.{or_parts}
 use borrow.Author.Tests.{ltb-false, eqb-true, not-false}
 use Rattle.basics.proofs.Tests.{either}
 use Rattle.catch_up.specs.Causes.{CommitList}
-use Rattle.places.specs.Places.{at_front}
+use Rattle.basics.specs.elements.Places.{at_front}
 use Rattle.catch_up.proofs.Loops.{usual_slots, left_whole}
-use Rattle.catch_up.specs.Joining.{checked_of, counts_within, some_above, too_large, first_slot, outside, InLimits, differ, ahead, apart, disagree, joined, in_order, joining, one_refused, lent, Gives}
+use Rattle.catch_up.specs.Joining.{checked_of, counts_within, some_above, list_too_large, first_slot, outside, InLimits, differ, ahead, apart, disagree, joined_list, in_order, joining, one_refused, lent, Gives}
 use Rattle.catch_up.specs.declared.JoinRefusal.{JoinRefusal}
 use Rattle.catch_up.specs.declared.JoinRefusal.TheVariants.{NumberTooLarge, OutsideLimits, Gap, TwoValues}
 
@@ -25,7 +25,7 @@ use Rattle.catch_up.specs.declared.JoinRefusal.TheVariants.{NumberTooLarge, Outs
 -- the usual list is asked for its values and its lengths alone
 pub usual_list : (l : CommitList) (within above : Bool) → within ≡ counts_within l.slots → within ≡ true → above ≡ some_above 9223372036854775807 l.values
     → record { too_large = above; outside = not (eqb (length l.slots) (length l.values)) } ≡ checked_of l
-unfolding too_large outside
+unfolding list_too_large outside
 usual_list l within above e t v =
     let u = usual_slots l.slots (sym e ∙ t) in
     let same = not (eqb (length l.slots) (length l.values)) in
@@ -58,7 +58,7 @@ module _ (e l : CommitList) where
   unfolding in_order
   order_two p q = simp (p, q)
 
-  pub order_join : apart e l ≡ false → disagree e l ≡ false → in_order e l ≡ Ok (joined e l)
+  pub order_join : apart e l ≡ false → disagree e l ≡ false → in_order e l ≡ Ok (joined_list e l)
   unfolding in_order
   order_join p q = simp (p, q)
 
@@ -91,7 +91,7 @@ module _ (e l : CommitList) (f g : ℕ) (later_first : f ≡ first_slot l.slots)
       → (after.values ≡ at_front (e.values ++ drop known l.values) places.values) → Gives (in_order e l) places after (Ok count)
   order_writes places after known count p q k s n v =
       let k' : known ≡ length e.slots - ahead e l = k ∙ ap (λ (m : ℕ). length e.slots - m) (ap₂ ◌-◌ later_first earlier-first) in
-      writes places (in_order e l) (joined e l) after count (order_join e l p q)
+      writes places (in_order e l) (joined_list e l) after count (order_join e l p q)
       (n ∙ ap (λ (m : ℕ). length (e.slots ++ drop m l.slots)) k')
       (s ∙ ap (λ (m : ℕ). at_front (e.slots ++ drop m l.slots) places.slots) k')
       (v ∙ ap (λ (m : ℕ). at_front (e.values ++ drop m l.values) places.values) k')
@@ -101,9 +101,9 @@ module _ (e l : CommitList) (f g : ℕ) (later_first : f ≡ first_slot l.slots)
 module _ (a b : CommitList) (places : ℕ) where
   pub refused_so : (why : JoinRefusal) → Err why ≡ one_refused a b places → joining a b places ≡ Err why
   unfolding one_refused joining
-  refused_so why e = go (either (too_large a || too_large b)) (either (outside a || (outside b || ltb places 8192)))
+  refused_so why e = go (either (list_too_large a || list_too_large b)) (either (outside a || (outside b || ltb places 8192)))
     where
-      go : ((too_large a || too_large b) ≡ true) ⊎ ((too_large a || too_large b) ≡ false)
+      go : ((list_too_large a || list_too_large b) ≡ true) ⊎ ((list_too_large a || list_too_large b) ≡ false)
           → ((outside a || (outside b || ltb places 8192)) ≡ true) ⊎ ((outside a || (outside b || ltb places 8192)) ≡ false) → joining a b places ≡ Err why
       go (inl p) q = let f : ◌≡◌ {A = Result (Unit {0}) JoinRefusal} (Err why) (Err NumberTooLarge) = simp p at e in simp p (cc)
       go (inr p) (inl q) = let f : ◌≡◌ {A = Result (Unit {0}) JoinRefusal} (Err why) (Err OutsideLimits) = simp (p, q) at e in simp (p, q) (cc)
@@ -118,9 +118,9 @@ module _ (a b : CommitList) (places : ℕ) where
 
   pub passed : Ok tt ≡ one_refused a b places → Passed
   unfolding one_refused joining
-  passed e = go (either (too_large a || too_large b)) (either (outside a || (outside b || ltb places 8192)))
+  passed e = go (either (list_too_large a || list_too_large b)) (either (outside a || (outside b || ltb places 8192)))
     where
-      go : ((too_large a || too_large b) ≡ true) ⊎ ((too_large a || too_large b) ≡ false)
+      go : ((list_too_large a || list_too_large b) ≡ true) ⊎ ((list_too_large a || list_too_large b) ≡ false)
           → ((outside a || (outside b || ltb places 8192)) ≡ true) ⊎ ((outside a || (outside b || ltb places 8192)) ≡ false) → Passed
       go (inl p) q = let f : ◌≡◌ {A = Result (Unit {0}) JoinRefusal} (Ok tt) (Err NumberTooLarge) = simp p at e in cc
       go (inr p) (inl q) = let f : ◌≡◌ {A = Result (Unit {0}) JoinRefusal} (Ok tt) (Err OutsideLimits) = simp (p, q) at e in cc

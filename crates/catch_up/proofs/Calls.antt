@@ -8,9 +8,9 @@ use Prim.Native.Nat.{ℕ, ◌≤◌}
 use native.Mathlib.Omega.{arith}
 use lib.ListN.{length, get_or, take, drop}
 use lib.Seq.{take-append_seam}
-use Rattle.places.specs.Places.{at_front}
-use Rattle.places.proofs.Lists.{front_later}
-use Rattle.catch_up.specs.Causes.{CommitList, TooLarge, JoinCause, NoneBefore, NoCause, join_number}
+use Rattle.basics.specs.elements.Places.{at_front}
+use Rattle.basics.proofs.elements.Lists.{front_later}
+use Rattle.catch_up.specs.Causes.{CommitList, ListTooLarge, JoinCause, NoneBefore, NoCause, join_number}
 use Rattle.catch_up.specs.Joining.{list_of, joining, join_answer, join_refusal, join_count, lent, handed_back, Gives, Joins}
 use Rattle.catch_up.specs.declared.JoinRefusal.{JoinRefusal}
 use Rattle.catch_up.specs.declared.JoinRefusal.TheVariants.{NumberTooLarge, OutsideLimits, Gap, TwoValues}
@@ -111,7 +111,7 @@ joined_list (Err why) count e = cc
 joined_list (Ok l) count e = (l, refl)
 
 -- the join of two lists has no number that neither of them has
-join_fits : (a b l : CommitList) → JoinOf a b l → (TooLarge a → ⊥) → (TooLarge b → ⊥) → TooLarge l → ⊥
+join_fits : (a b l : CommitList) → JoinOf a b l → (ListTooLarge a → ⊥) → (ListTooLarge b → ⊥) → ListTooLarge l → ⊥
 join_fits a b l J p q (inl s) =
     let c = slot_beside l.slots l.values J.same s.0 s.1 in
     ⊎_elim (λ m. p (inl (s.0, own_slot a.slots a.values _ m, s.2))) (λ m. q (inl (s.0, own_slot b.slots b.values _ m, s.2))) ((J.holds _).0 c.1)
@@ -136,5 +136,5 @@ module _ (a b places after : CommitList) (count : ℕ) (call : Joins a b places 
       let n : count ≡ length joined.0.slots = ap join_count g.answered in
       ap length (ap₂ take n g.slots ∙ front_taken joined.0.slots places.slots) ∙ sym n
 
-  pub hands_fitting : TooLarge (handed_back count after) → ⊥
+  pub hands_fitting : ListTooLarge (handed_back count after) → ⊥
   hands_fitting = join_fits a b _ hands_join (λ t. none_met NumberTooLarge (inl t)) (λ t. none_met NumberTooLarge (inr t))

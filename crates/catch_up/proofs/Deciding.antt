@@ -12,8 +12,8 @@ use lib.ListN.{length, get_or}
 use borrow.Author.Tests.{ltb-true, ltb-false, lt-ltb, eqb-true, eq-eqb, not-false}
 use Rattle.basics.specs.Lists.{In}
 use Rattle.basics.proofs.Tests.{either, not_both, fails, and_left, and_right, and_both, or_cases, or_left, or_right}
-use Rattle.catch_up.specs.Causes.{CommitList, Consecutive, TooLarge, Outside}
-use Rattle.catch_up.specs.Joining.{some_above, too_large, counts_from, first_slot, outside}
+use Rattle.catch_up.specs.Causes.{CommitList, Consecutive, ListTooLarge, Outside}
+use Rattle.catch_up.specs.Joining.{some_above, list_too_large, counts_from, first_slot, outside}
 
 -- a number is below another, or not
 pub below : (m n : ℕ) → (m < n) ⊎ (n ≤ m)
@@ -58,8 +58,8 @@ some_above_lem limit (x ∷ l) n (inr m) h = or_right (ltb limit x) (some_above_
 above_decides : (limit : ℕ) (l : List ℕ) → Decides (some_above limit l) ((n : ℕ) × In n l × (limit < n))
 above_decides limit l = (above_some limit l, λ r. some_above_lem limit l r.0 r.1 r.2)
 
-pub large_decides : (l : CommitList) → Decides (too_large l) (TooLarge l)
-unfolding too_large
+pub large_decides : (l : CommitList) → Decides (list_too_large l) (ListTooLarge l)
+unfolding list_too_large
 large_decides l = either_decides _ _ _ _ (above_decides 9223372036854775806 l.slots) (above_decides 9223372036854775807 l.values)
 
 -- ---- consecutive slots

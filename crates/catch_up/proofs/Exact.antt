@@ -14,8 +14,8 @@ use lib.ListN.{length, get_or}
 use borrow.Author.Tests.{leb-true, leb-false}
 use Rattle.basics.specs.Lists.{In}
 use Rattle.basics.proofs.Tests.{either}
-use Rattle.catch_up.specs.Causes.{CommitList, Commit, Consecutive, commits, beside, Disagree, EndsBefore, JoinCause, NoneBefore, NoCause}
-use Rattle.catch_up.specs.Joining.{first_slot, too_large, outside, joined, in_order, joining, apart}
+use Rattle.catch_up.specs.Causes.{CommitList, Commit, Consecutive, listed_commits, beside, Disagree, EndsBefore, JoinCause, NoneBefore, NoCause}
+use Rattle.catch_up.specs.Joining.{first_slot, list_too_large, outside, joined_list, in_order, joining, apart}
 use Rattle.catch_up.specs.declared.JoinRefusal.{JoinRefusal}
 use Rattle.catch_up.specs.declared.JoinRefusal.TheVariants.{NumberTooLarge, OutsideLimits, Gap, TwoValues}
 use Rattle.catch_up.proofs.Answers.{order_gap, order_two, order_join}
@@ -27,7 +27,7 @@ use Rattle.catch_up.proofs.Alike.{alike}
 
 -- "join into one of at most 8,192 entries holding every slot and value of both and no other", consecutive
 pub record JoinOf (a b l : CommitList) : Type 0 where
-  pub holds : (c : Commit) → In c (commits l) ↔ (In c (commits a) ⊎ In c (commits b))
+  pub holds : (c : Commit) → In c (listed_commits l) ↔ (In c (listed_commits a) ⊎ In c (listed_commits b))
   pub same : length l.slots ≡ length l.values
   pub consecutive : Consecutive l.slots
   pub few : length l.slots ≤ 8192
@@ -88,7 +88,7 @@ module _ (a b : CommitList) (places : ℕ) where
             (λ d. inr (
               no_more fits inside g.1 d.1,
               (
-                joined a b,
+                joined_list a b,
                 order_join a b g.0 d.0,
                 record {
                   holds = join_holds a b A B order g.0 d.0;
@@ -107,13 +107,13 @@ module _ (a b : CommitList) (places : ℕ) where
         no_gap : (apart b a ≡ false) × (EndsBefore b.slots a.slots ⊎ EndsBefore a.slots b.slots → ⊥) → Ends a b places (in_order b a)
         no_gap g =
             let far : JoinCause Gap a b places → ⊥ = ⊎_elim (λ x. g.1 (inr x)) (λ x. g.1 (inl x)) in
-            ⊎_elim (λ d. inl (TwoValues, swapped_disagree (commits b) (commits a) d.1, (fits, inside, far), order_two b a g.0 d.0))
+            ⊎_elim (λ d. inl (TwoValues, swapped_disagree (listed_commits b) (listed_commits a) d.1, (fits, inside, far), order_two b a g.0 d.0))
             (λ d. inr (
-              no_more fits inside far (λ x. d.1 (swapped_disagree (commits a) (commits b) x)),
+              no_more fits inside far (λ x. d.1 (swapped_disagree (listed_commits a) (listed_commits b) x)),
               (
-                joined b a,
+                joined_list b a,
                 order_join b a g.0 d.0,
-                swapped_join a b (joined b a)
+                swapped_join a b (joined_list b a)
                     (record {
                       holds = join_holds b a B A order g.0 d.0;
                       same = join_same b a B A order g.0 d.0;
@@ -124,7 +124,7 @@ module _ (a b : CommitList) (places : ℕ) where
             ))
             (decided _ _ (two_decides b a B A order))
 
-  large : Decides (too_large a || too_large b) (JoinCause NumberTooLarge a b places)
+  large : Decides (list_too_large a || list_too_large b) (JoinCause NumberTooLarge a b places)
   large = either_decides _ _ _ _ (large_decides a) (large_decides b)
 
   out : Decides (outside a || (outside b || ltb places 8192)) (JoinCause OutsideLimits a b places)
@@ -134,7 +134,7 @@ module _ (a b : CommitList) (places : ℕ) where
   unfolding joining
   ends = ⊎_elim (λ p. inl (NumberTooLarge, p.1, tt, simp p.0)) fits (decided _ _ large)
     where
-      fits : ((too_large a || too_large b) ≡ false) × (JoinCause NumberTooLarge a b places → ⊥) → Ends a b places (joining a b places)
+      fits : ((list_too_large a || list_too_large b) ≡ false) × (JoinCause NumberTooLarge a b places → ⊥) → Ends a b places (joining a b places)
       fits p = ⊎_elim (λ q. inl (OutsideLimits, q.1, p.1, simp (p.0, q.0))) inside (decided _ _ out)
         where
           inside : ((outside a || (outside b || ltb places 8192)) ≡ false) × (JoinCause OutsideLimits a b places → ⊥) → Ends a b places (joining a b places)
@@ -212,7 +212,7 @@ swapped_cause : (a b : CommitList) (places : ℕ) (why : JoinRefusal) → JoinCa
 swapped_cause a b places NumberTooLarge c = ⊎_elim (λ x. inr x) (λ x. inl x) c
 swapped_cause a b places OutsideLimits c = ⊎_elim (λ x. inr (inl x)) (⊎_elim (λ x. inl x) (λ x. inr (inr x))) c
 swapped_cause a b places Gap c = ⊎_elim (λ x. inr x) (λ x. inl x) c
-swapped_cause a b places TwoValues c = swapped_disagree (commits a) (commits b) c
+swapped_cause a b places TwoValues c = swapped_disagree (listed_commits a) (listed_commits b) c
 
 swapped_none : (a b : CommitList) (places : ℕ) (why : JoinRefusal) → NoneBefore why a b places → NoneBefore why b a places
 swapped_none a b places NumberTooLarge n = tt

@@ -18,7 +18,7 @@ use Rattle.std.proofs.lemmas.List.{take_all}
 use borrow.Author.Tests.{lt-ltb, le-ltb, eq-eqb, leb-true, leb-false, ltb-true, ltb-false, eqb-true}
 use Rattle.basics.proofs.Tests.{either, not_both, and_left, and_right, or_left, or_right}
 use mathlib.Core.Logic.{◌⊎◌, inl, inr}
-use Rattle.places.specs.Places.{at_front}
+use Rattle.basics.specs.elements.Places.{at_front}
 use Rattle.catch_up.specs.Joining.{some_above, counts_from, counts_within, first_slot}
 
 -- the element at an index, and those behind it

@@ -12,8 +12,8 @@ use lib.Seq.{get_or-drop, get_or-append-add}
 use borrow.Author.Tests.{ltb-true, lt-ltb}
 use Rattle.basics.specs.Lists.{In}
 use Rattle.basics.proofs.Tests.{either, not_both, and_left, and_right, and_both}
-use Rattle.catch_up.specs.Causes.{CommitList, Commit, Consecutive, commits, EndsBefore, Disagree}
-use Rattle.catch_up.specs.Joining.{first_slot, ahead, apart, disagree, together, joined}
+use Rattle.catch_up.specs.Causes.{CommitList, Commit, Consecutive, listed_commits, EndsBefore, Disagree}
+use Rattle.catch_up.specs.Joining.{first_slot, ahead, apart, disagree, together, joined_list}
 use Rattle.catch_up.proofs.Deciding.{below, Decides, Listed}
 use Rattle.catch_up.proofs.Indices.{Stands, in_stands, stands_in, differ_at, same_at}
 
@@ -48,7 +48,7 @@ module _ (e l : CommitList) (E : Listed e) (L : Listed l) (order : first_slot e.
   beside_slots : (i : ℕ) → ahead e l + i < length e.slots → i < length l.slots → get_or l.slots i 0 ≡ get_or e.slots (ahead e l + i) 0
   beside_slots i h k = omega (arith, E.at (ahead e l + i) h, L.at i k)
 
-  two_found : disagree e l ≡ true → Disagree (commits e) (commits l)
+  two_found : disagree e l ≡ true → Disagree (listed_commits e) (listed_commits l)
   two_found t =
       let r = differ_at (drop (ahead e l) e.values) l.values t in
       let i = r.0 in
@@ -66,7 +66,7 @@ module _ (e l : CommitList) (E : Listed e) (L : Listed l) (order : first_slot e.
         λ q. r.3 (there ∙ q),
       )
 
-  two_shows : Disagree (commits e) (commits l) → disagree e l ≡ true
+  two_shows : Disagree (listed_commits e) (listed_commits l) → disagree e l ≡ true
   two_shows d =
       let p = in_stands e.slots e.values _ d.3 in
       let q = in_stands l.slots l.values _ d.4 in
@@ -79,7 +79,7 @@ module _ (e l : CommitList) (E : Listed e) (L : Listed l) (order : first_slot e.
       (λ t. absurd (d.5 (sym p.4 ∙ ap (λ (n : ℕ). get_or e.values n 0) place ∙ sym there ∙ same_at _ _ t j (omega (arith, p.2)) q.2 ∙ q.4)))
       (either (disagree e l))
 
-  pub two_decides : Decides (disagree e l) (Disagree (commits e) (commits l))
+  pub two_decides : Decides (disagree e l) (Disagree (listed_commits e) (listed_commits l))
   two_decides = (two_found, two_shows)
 
   -- ---- the join
@@ -89,16 +89,16 @@ module _ (e l : CommitList) (E : Listed e) (L : Listed l) (order : first_slot e.
     meets : 0 < length e.slots → ahead e l ≤ length e.slots
     meets h = ⊎_elim (λ (k : length e.slots < ahead e l). absurd (not_both (and_both (lt-ltb _ _ h) (lt-ltb _ _ k)) no_gap)) (λ k. k) (below (length e.slots) (ahead e l))
 
-    slots_long : length (joined e l).slots ≡ length e.slots + (length l.slots - (length e.slots - ahead e l))
+    slots_long : length (joined_list e l).slots ≡ length e.slots + (length l.slots - (length e.slots - ahead e l))
     slots_long = length-append e.slots _ ∙ ap (λ (n : ℕ). length e.slots + n) (length-drop _ l.slots)
 
-    values_long : length (joined e l).values ≡ length e.values + (length l.values - (length e.slots - ahead e l))
+    values_long : length (joined_list e l).values ≡ length e.values + (length l.values - (length e.slots - ahead e l))
     values_long = length-append e.values _ ∙ ap (λ (n : ℕ). length e.values + n) (length-drop _ l.values)
 
-    pub join_same : length (joined e l).slots ≡ length (joined e l).values
+    pub join_same : length (joined_list e l).slots ≡ length (joined_list e l).values
     join_same = omega (arith, slots_long, values_long, E.same, L.same)
 
-    pub join_few : length (joined e l).slots ≤ 8192
+    pub join_few : length (joined_list e l).slots ≤ 8192
     join_few = omega (arith, slots_long, E.few, L.few)
 
     -- what stands at a place
@@ -108,7 +108,7 @@ module _ (e l : CommitList) (E : Listed e) (L : Listed l) (order : first_slot e.
     behind : (es ls : List ℕ) (k : ℕ) → get_or (together e l es ls) (length es + k) 0 ≡ get_or ls (length e.slots - ahead e l + k) 0
     behind es ls k = get_or-append-add es _ k 0 ∙ get_or-drop _ ls k 0
 
-    to_one : (c : Commit) → Stands (joined e l).slots (joined e l).values c → Stands e.slots e.values c ⊎ Stands l.slots l.values c
+    to_one : (c : Commit) → Stands (joined_list e l).slots (joined_list e l).values c → Stands e.slots e.values c ⊎ Stands l.slots l.values c
     to_one c r =
         let i = r.0 in
         let same-e = E.same in
@@ -124,12 +124,12 @@ module _ (e l : CommitList) (E : Listed e) (L : Listed l) (order : first_slot e.
           n,
           omega (arith, slots_long, r.1),
           omega (arith, values_long, r.2),
-          sym (behind e.slots l.slots k) ∙ ap (λ (m : ℕ). get_or (joined e l).slots m 0) (sym at_slots) ∙ r.3,
-          sym (behind e.values l.values k) ∙ ap (λ (m : ℕ). get_or (joined e l).values m 0) (sym at-values) ∙ r.4,
+          sym (behind e.slots l.slots k) ∙ ap (λ (m : ℕ). get_or (joined_list e l).slots m 0) (sym at_slots) ∙ r.3,
+          sym (behind e.values l.values k) ∙ ap (λ (m : ℕ). get_or (joined_list e l).values m 0) (sym at-values) ∙ r.4,
         ))
         (below i (length e.slots))
 
-    from_earlier : (c : Commit) → Stands e.slots e.values c → Stands (joined e l).slots (joined e l).values c
+    from_earlier : (c : Commit) → Stands e.slots e.values c → Stands (joined_list e l).slots (joined_list e l).values c
     from_earlier c r = (
       r.0,
       omega (arith, slots_long, r.1),
@@ -138,7 +138,7 @@ module _ (e l : CommitList) (E : Listed e) (L : Listed l) (order : first_slot e.
       front e.values l.values r.0 r.2 ∙ r.4,
     )
 
-    from_later : (c : Commit) → Stands l.slots l.values c → Stands (joined e l).slots (joined e l).values c
+    from_later : (c : Commit) → Stands l.slots l.values c → Stands (joined_list e l).slots (joined_list e l).values c
     from_later c r =
         let k = r.0 in
         let same-e = E.same in
@@ -162,40 +162,40 @@ module _ (e l : CommitList) (E : Listed e) (L : Listed l) (order : first_slot e.
           omega (arith, slots_long, r.1),
           omega (arith, values_long, r.2),
           behind e.slots l.slots m ∙ ap (λ (n : ℕ). get_or l.slots n 0) at-k ∙ r.3,
-          ap (λ (n : ℕ). get_or (joined e l).values n 0) (sym at-values) ∙ behind e.values l.values m ∙ ap (λ (n : ℕ). get_or l.values n 0) at-k ∙ r.4,
+          ap (λ (n : ℕ). get_or (joined_list e l).values n 0) (sym at-values) ∙ behind e.values l.values m ∙ ap (λ (n : ℕ). get_or l.values n 0) at-k ∙ r.4,
         ))
         (below k (length e.slots - ahead e l))
 
-    pub join_holds : (c : Commit) → In c (commits (joined e l)) ↔ (In c (commits e) ⊎ In c (commits l))
+    pub join_holds : (c : Commit) → In c (listed_commits (joined_list e l)) ↔ (In c (listed_commits e) ⊎ In c (listed_commits l))
     join_holds c = (
-      λ m. ⊎_elim (λ s. inl (stands_in e.slots e.values c s)) (λ s. inr (stands_in l.slots l.values c s)) (to_one c (in_stands (joined e l).slots (joined e l).values c m)),
-      ⊎_elim (λ m. stands_in (joined e l).slots (joined e l).values c (from_earlier c (in_stands e.slots e.values c m)))
-          (λ m. stands_in (joined e l).slots (joined e l).values c (from_later c (in_stands l.slots l.values c m))),
+      λ m. ⊎_elim (λ s. inl (stands_in e.slots e.values c s)) (λ s. inr (stands_in l.slots l.values c s)) (to_one c (in_stands (joined_list e l).slots (joined_list e l).values c m)),
+      ⊎_elim (λ m. stands_in (joined_list e l).slots (joined_list e l).values c (from_earlier c (in_stands e.slots e.values c m)))
+          (λ m. stands_in (joined_list e l).slots (joined_list e l).values c (from_later c (in_stands l.slots l.values c m))),
     )
 
     -- ---- its slots
 
-    slot_at : 0 < length e.slots → (i : ℕ) → i < length (joined e l).slots → get_or (joined e l).slots i 0 ≡ first_slot e.slots + i
+    slot_at : 0 < length e.slots → (i : ℕ) → i < length (joined_list e l).slots → get_or (joined_list e l).slots i 0 ≡ first_slot e.slots + i
     slot_at some i h =
         let near = meets some in
         ⊎_elim (λ (k : i < length e.slots). front e.slots l.slots i k ∙ E.at i k)
         (λ (k : length e.slots ≤ i).
         let m : ℕ = i - length e.slots in
         let at-m : i ≡ length e.slots + m = omega arith in
-        let read : get_or (joined e l).slots i 0 ≡ get_or l.slots (length e.slots - ahead e l + m) 0 =
-        ap (λ (n : ℕ). get_or (joined e l).slots n 0) at-m ∙ behind e.slots l.slots m in
+        let read : get_or (joined_list e l).slots i 0 ≡ get_or l.slots (length e.slots - ahead e l + m) 0 =
+        ap (λ (n : ℕ). get_or (joined_list e l).slots n 0) at-m ∙ behind e.slots l.slots m in
         omega (arith, read, L.at (length e.slots - ahead e l + m) (omega (arith, slots_long))))
         (below i (length e.slots))
 
-    slot_at_later : length e.slots ≤ 0 → (i : ℕ) → i < length (joined e l).slots → get_or (joined e l).slots i 0 ≡ first_slot l.slots + i
+    slot_at_later : length e.slots ≤ 0 → (i : ℕ) → i < length (joined_list e l).slots → get_or (joined_list e l).slots i 0 ≡ first_slot l.slots + i
     slot_at_later none i h =
         let here : i ≡ length e.slots + i = omega arith in
         let there : length e.slots - ahead e l + i ≡ i = omega arith in
-        let read : get_or (joined e l).slots i 0 ≡ get_or l.slots i 0 =
-        ap (λ (n : ℕ). get_or (joined e l).slots n 0) here ∙ behind e.slots l.slots i ∙ ap (λ (n : ℕ). get_or l.slots n 0) there in
+        let read : get_or (joined_list e l).slots i 0 ≡ get_or l.slots i 0 =
+        ap (λ (n : ℕ). get_or (joined_list e l).slots n 0) here ∙ behind e.slots l.slots i ∙ ap (λ (n : ℕ). get_or l.slots n 0) there in
         omega (arith, read, L.at i (omega (arith, slots_long)))
 
-    pub join_consecutive : Consecutive (joined e l).slots
+    pub join_consecutive : Consecutive (joined_list e l).slots
     join_consecutive i h =
         ⊎_elim (λ (some : 0 < length e.slots). omega (arith, slot_at some i (omega arith), slot_at some (i + 1) h))
         (λ (none : length e.slots ≤ 0). omega (arith, slot_at_later none i (omega arith), slot_at_later none (i + 1) h))

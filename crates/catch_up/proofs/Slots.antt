@@ -12,9 +12,9 @@ use lib.ListN.{length, get_or}
 use borrow.Author.Tests.{eqb-true, eq-eqb, leb-true, leb-false, le-leb, ltb-true, ltb-false, lt-ltb}
 use Rattle.basics.specs.Lists.{In}
 use Rattle.basics.proofs.Tests.{not_both, same_test, or_cases, or_left, or_right, and_left, and_right, and_both}
-use Rattle.sets.specs.Sets.{one, count}
-use Rattle.sets.proofs.Counting.{count_ext}
-use Rattle.catch_up.specs.Causes.{CommitList, Consecutive, commits, JoinCause}
+use Rattle.basics.specs.sets.Sets.{one, count}
+use Rattle.basics.proofs.sets.Counting.{count_ext}
+use Rattle.catch_up.specs.Causes.{CommitList, Consecutive, listed_commits, JoinCause}
 use Rattle.catch_up.specs.Joining.{first_slot, joining}
 use Rattle.catch_up.specs.declared.JoinRefusal.TheVariants.{OutsideLimits}
 use Rattle.catch_up.proofs.Deciding.{listed, from_first}
@@ -39,12 +39,12 @@ place_slot s (t ∷ slots) zero h e = or_left (is_slot s slots) (eq-eqb s t (sym
 place_slot s (t ∷ slots) (suc i) h e = or_right (eqb s t) (place_slot s slots i (omega arith) e)
 
 -- as commits
-slot_commit : (s : ℕ) (l : CommitList) → length l.slots ≡ length l.values → is_slot s l.slots ≡ true → (v : ℕ) × In (record { slot = s; value = v }) (commits l)
+slot_commit : (s : ℕ) (l : CommitList) → length l.slots ≡ length l.values → is_slot s l.slots ≡ true → (v : ℕ) × In (record { slot = s; value = v }) (listed_commits l)
 slot_commit s l same e =
     let r = slot_place s l.slots e in
     (get_or l.values r.0 0, stands_in l.slots l.values _ (r.0, r.1, omega (arith, r.1), r.2, refl))
 
-commit_slot_lem : (s v : ℕ) (l : CommitList) → In (record { slot = s; value = v }) (commits l) → is_slot s l.slots ≡ true
+commit_slot_lem : (s v : ℕ) (l : CommitList) → In (record { slot = s; value = v }) (listed_commits l) → is_slot s l.slots ≡ true
 commit_slot_lem s v l m = let r = in_stands l.slots l.values _ m in place_slot s l.slots r.0 r.1 r.3
 
 -- consecutive slots are those between their first and their last

@@ -25,8 +25,8 @@ beside (s ∷ slots) [] = []
 beside (s ∷ slots) (v ∷ values) = record { slot = s; value = v } ∷ beside slots values
 
 -- a list as its entries
-abbrev pub commits : CommitList → List Commit
-commits l = beside l.slots l.values
+abbrev pub listed_commits : CommitList → List Commit
+listed_commits l = beside l.slots l.values
 
 -- each slot is the one after the slot before it
 abbrev pub Consecutive : List ℕ → Type 0
@@ -35,8 +35,8 @@ Consecutive slots = (i : ℕ) → i + 1 < length slots → get_or slots (i + 1) 
 -- ---- the causes
 
 -- 2: "slot above 2^63−2, or other number above 2^63−1", at any place of the list
-abbrev pub TooLarge : CommitList → Type 0
-TooLarge l = ((n : ℕ) × In n l.slots × (9223372036854775806 < n)) ⊎ ((n : ℕ) × In n l.values × (9223372036854775807 < n))
+abbrev pub ListTooLarge : CommitList → Type 0
+ListTooLarge l = ((n : ℕ) × In n l.slots × (9223372036854775806 < n)) ⊎ ((n : ℕ) × In n l.values × (9223372036854775807 < n))
 
 -- 18: "more than 4,096 entries in a list .. or slots not consecutive within it"; a slot without a value, or a value without a slot
 abbrev pub Outside : CommitList → Type 0
@@ -52,10 +52,10 @@ Disagree a b = (slot v w : ℕ) × In (record { slot = slot; value = v }) a × I
 
 -- two lists, and how many places are lent for the result: "Fewer than 8,192 lent places give 18"
 abbrev pub JoinCause : JoinRefusal → CommitList → CommitList → ℕ → Type 0
-JoinCause NumberTooLarge a b places = TooLarge a ⊎ TooLarge b
+JoinCause NumberTooLarge a b places = ListTooLarge a ⊎ ListTooLarge b
 JoinCause OutsideLimits a b places = Outside a ⊎ (Outside b ⊎ (places < 8192))
 JoinCause Gap a b places = EndsBefore a.slots b.slots ⊎ EndsBefore b.slots a.slots
-JoinCause TwoValues a b places = Disagree (commits a) (commits b)
+JoinCause TwoValues a b places = Disagree (listed_commits a) (listed_commits b)
 
 -- "in that order, after 2": no cause of an earlier number
 abbrev pub NoneBefore : JoinRefusal → CommitList → CommitList → ℕ → Type 0

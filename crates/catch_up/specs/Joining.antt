@@ -3,7 +3,7 @@
 use Rattle.std.specs.Prelude.{◌≡◌, Result, Ok, Err, Bool, true, false, cond, not, ◌&&◌, ◌||◌, List, [], ◌∷◌, ◌++◌, ℕ, ◌+◌, ◌-◌, ◌≤◌, min, ltb, leb, eqb, length, get_or, take, drop}
 use Rattle.std.specs.List.{list_any, zip}
 use Rattle.std.specs.Result.{result_unwrap_or}
-use Rattle.places.specs.Places.{at_front}
+use Rattle.basics.specs.elements.Places.{at_front}
 use Rattle.refusals.specs.Refusals.{refusal}
 use Rattle.catch_up.specs.Causes.{CommitList, join_number}
 use Rattle.catch_up.specs.declared.JoinRefusal.{JoinRefusal}
@@ -33,8 +33,8 @@ unfoldable pub some_above : ℕ → List ℕ → Bool
 some_above limit numbers = list_any (λ n. ltb limit n) numbers
 
 -- 2
-unfoldable pub too_large : CommitList → Bool
-too_large l = some_above 9223372036854775806 l.slots || some_above 9223372036854775807 l.values
+unfoldable pub list_too_large : CommitList → Bool
+list_too_large l = some_above 9223372036854775806 l.slots || some_above 9223372036854775807 l.values
 
 -- the slots are n and those that follow
 unfoldable pub counts_from : ℕ → List ℕ → Bool
@@ -51,7 +51,7 @@ outside l = ltb 4096 (length l.slots) || (not (eqb (length l.slots) (length l.va
 
 -- what is looked for in one list alone
 abbrev pub checked_of : CommitList → Checked
-checked_of l = record { too_large = too_large l; outside = outside l }
+checked_of l = record { too_large = list_too_large l; outside = outside l }
 
 -- the usual list's slots: no more than 4,096, consecutive, and the first at least 4,095 below the largest slot
 unfoldable pub counts_within : List ℕ → Bool
@@ -86,24 +86,24 @@ module _ (earlier later : CommitList) where
   abbrev pub together : List ℕ → List ℕ → List ℕ
   together e l = e ++ drop (length earlier.slots - ahead) l
 
-  abbrev pub joined : CommitList
-  joined = record { slots = together earlier.slots later.slots; values = together earlier.values later.values }
+  abbrev pub joined_list : CommitList
+  joined_list = record { slots = together earlier.slots later.slots; values = together earlier.values later.values }
 
 -- the list that begins earlier stands first
 unfoldable pub in_order : CommitList → CommitList → Result CommitList JoinRefusal
 in_order earlier later =
-    cond (apart earlier later) (Err Gap) (cond (disagree earlier later) (Err TwoValues) (Ok (joined earlier later)))
+    cond (apart earlier later) (Err Gap) (cond (disagree earlier later) (Err TwoValues) (Ok (joined_list earlier later)))
 
 -- 2 or 18, of two lists and that many lent places
 unfoldable pub one_refused : CommitList → CommitList → ℕ → Result (Unit {0}) JoinRefusal
 one_refused a b places =
-    cond (too_large a || too_large b) (Err NumberTooLarge)
+    cond (list_too_large a || list_too_large b) (Err NumberTooLarge)
     (cond (outside a || (outside b || ltb places 8192)) (Err OutsideLimits) (Ok tt))
 
 -- two lists, with that many places lent for the result: the list that the two give, or why they are not joined
 unfoldable pub joining : CommitList → CommitList → ℕ → Result CommitList JoinRefusal
 joining a b places =
-    cond (too_large a || too_large b) (Err NumberTooLarge)
+    cond (list_too_large a || list_too_large b) (Err NumberTooLarge)
     (cond (outside a || (outside b || ltb places 8192)) (Err OutsideLimits)
     (cond (leb (first_slot a.slots) (first_slot b.slots)) (in_order a b) (in_order b a)))
 

@@ -4,9 +4,9 @@
 
 ghost use Rattle.std.specs.Prelude.{◌≡◌, ◌&&◌, ◌++◌, ◌+◌, ◌-◌, ◌≤◌, eqb, ltb, length, drop, bit_or};
 ghost use Rattle.std.specs.List.{list_all, fold, zip};
-ghost use Rattle.places.specs.Places.{at_front};
+ghost use Rattle.basics.specs.elements.Places.{at_front};
 ghost use Rattle.catch_up.specs.Causes.{join_number};
-ghost use Rattle.catch_up.specs.Joining.{lent_list, lent_places, SamePlaces, some_above, too_large, counts_from, first_slot, outside, InLimits, checked_of, counts_within, differ, in_order, Gives, Joins, one_refused};
+ghost use Rattle.catch_up.specs.Joining.{lent_list, lent_places, SamePlaces, some_above, list_too_large, counts_from, first_slot, outside, InLimits, checked_of, counts_within, differ, in_order, Gives, Joins, one_refused};
 
 use message::{LARGEST_NUMBER, LARGEST_SLOT};
 use refusals::Refused;
@@ -137,9 +137,9 @@ fn counts_within(slots: &[u64]) -> bool
 
 impl LentList<'_> {
     // 2: every number of the list is looked at, also past the 4,096th.
-    #[tactic(auto, unfolding(crate::specs::Joining::too_large))]
+    #[tactic(auto, unfolding(crate::specs::Joining::list_too_large))]
     pub fn too_large(self) -> bool
-        ensures { result ≡ too_large (lent_list self.entry) }
+        ensures { result ≡ list_too_large (lent_list self.entry) }
     {
         some_above(LARGEST_SLOT, self.slots) || value_above(self.values)
     }

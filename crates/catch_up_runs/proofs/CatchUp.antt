@@ -32,7 +32,7 @@ use Rattle.group.proofs.Ties.{lowest_picks_best}
 use Rattle.group_settings.specs.declared.GroupSettings.{GroupSettings}
 use Rattle.group_settings_runs.specs.Groups.{group_entries, GroupLegal}
 use Rattle.group_settings_runs.proofs.Agreeing.{agreement_from}
-use Rattle.feeding.specs.Feeding.{FedList, entries_from, entries_in, Feeding}
+use Rattle.feeding.specs.Feeding.{FedList, fed_entries_from, entries_in, Feeding}
 use Rattle.feeding.proofs.FeedLaws.{unfed, fed_one_by_one, fed_as_said}
 use Rattle.register_runs.specs.Members.{CellChange, entry_for_commit, entries_for, register_of_member, UpTo}
 use Rattle.catch_up_runs.specs.Runs.{FedFromRun, HoldsWhatOthersHold}
@@ -142,15 +142,15 @@ module _ (kept : RegisterSettings) (made : is_made kept ≡ true) (says : ℕ �
           subst Ends (sym same) (older less)
       go (inr t) older later = let more = ltb-false b n t in later (omega arith)
 
-  rows_from : (l : FedList) (b i n : ℕ) → ((k : ℕ) → k < i + n → FedFromRun says run l b k) → FromSlot (b + i) (entries_from l i n)
-  unfolding entries_from
+  rows_from : (l : FedList) (b i n : ℕ) → ((k : ℕ) → k < i + n → FedFromRun says run l b k) → FromSlot (b + i) (fed_entries_from l i n)
+  unfolding fed_entries_from
   rows_from l b i zero rows = tt
   rows_from l b i (suc n) rows =
       let on : b + (i + 1) ≡ b + i + 1 = omega arith in
-      (rows i (omega arith), subst (λ (m : ℕ). FromSlot m (entries_from l (i + 1) n)) on (rows_from l b (i + 1) n (λ k h. rows k (omega arith))))
+      (rows i (omega arith), subst (λ (m : ℕ). FromSlot m (fed_entries_from l (i + 1) n)) on (rows_from l b (i + 1) n (λ k h. rows k (omega arith))))
 
-  rows_count : (l : FedList) (i n : ℕ) → length (entries_from l i n) ≡ n
-  unfolding entries_from
+  rows_count : (l : FedList) (i n : ℕ) → length (fed_entries_from l i n) ≡ n
+  unfolding fed_entries_from
   rows_count l i zero = refl
   rows_count l i (suc n) = ap suc (rows_count l (i + 1) n)
 

@@ -6,7 +6,7 @@ use Rattle.std.proofs.Common.{◌≡◌, ◌∙◌, refl, sym, ap, subst, inr, �
 use lib.ListN.{replicate, length-replicate}
 use Rattle.message.specs.declared.PFMode.TheVariants.{Paxos}
 use Rattle.raster.specs.Raster.{frequency_of}
-use Rattle.places.specs.Places.{at_front}
+use Rattle.basics.specs.elements.Places.{at_front}
 use Rattle.register.specs.Cells.{has_number, cell_inserted}
 use Rattle.register.specs.Register.{assignable, assign, apply_change, apply}
 use Rattle.register.specs.declared.CellEntry.{CellEntry}
@@ -17,9 +17,9 @@ use Rattle.group_register.specs.GroupRegister.{gives_odd_width, apply_made, appl
 use Rattle.group_register.specs.GroupHistory.{group_after}
 use Rattle.group_register.specs.declared.GroupRegister.{GroupRegister}
 use Rattle.catch_up.specs.Causes.{CommitList}
-use Rattle.catch_up.specs.Joining.{list_of, some_above, too_large, counts_from, first_slot, joining, lent, handed_back, Gives, Joins}
+use Rattle.catch_up.specs.Joining.{list_of, some_above, list_too_large, counts_from, first_slot, joining, lent, handed_back, Gives, Joins}
 use Rattle.catch_up.specs.declared.JoinRefusal.{JoinRefusal}
-use Rattle.feeding.specs.Feeding.{FedList, fed_list_of, entry_in, entries_from, or_refused, feed_all, outside_fed, feeding_made, feeding}
+use Rattle.feeding.specs.Feeding.{FedList, fed_list_of, entry_in, fed_entries_from, or_refused, feed_all, outside_fed, feeding_made, feeding}
 use Rattle.group.specs.Claim.{Entry, entries, slot_at, CommitAt}
 use Rattle.group.proofs.Agreement.{agreement}
 use Rattle.group.proofs.Example.{three}
@@ -61,7 +61,7 @@ abbrev held : ℕ → List Entry → GroupRegister
 held member past = register_of_member (settings_from 5) says member past
 
 all_fed : (feeding (held 2 []) list).answer ≡ Ok None
-unfolding settings_from settings_refusal feeding feeding_made too_large some_above outside_fed counts_from entries_from feed_all or_refused apply_in_group apply_made gives_odd_width is_odd apply apply_change assign assignable frequency_of change_of has_number cell_inserted at_front group_after entries_for
+unfolding settings_from settings_refusal feeding feeding_made list_too_large some_above outside_fed counts_from fed_entries_from feed_all or_refused apply_in_group apply_made gives_odd_width is_odd apply apply_change assign assignable frequency_of change_of has_number cell_inserted at_front group_after entries_for
 all_fed = refl
 
 pub away_holds_the_same : (feeding (held 2 []) list).group ≡ held 0 run
@@ -124,5 +124,5 @@ away_joins_touching = joined_and_fed lent_places room second first touching list
 
 -- it has both cells
 pub both_assigned : (feeding (held 2 []) fed).group.register.live_count ≡ 2
-unfolding settings_from settings_refusal feeding feeding_made too_large some_above outside_fed counts_from entries_from feed_all or_refused apply_in_group apply_made gives_odd_width is_odd apply apply_change assign assignable frequency_of change_of has_number cell_inserted at_front group_after entries_for
+unfolding settings_from settings_refusal feeding feeding_made list_too_large some_above outside_fed counts_from fed_entries_from feed_all or_refused apply_in_group apply_made gives_odd_width is_odd apply apply_change assign assignable frequency_of change_of has_number cell_inserted at_front group_after entries_for
 both_assigned = refl

@@ -11,7 +11,7 @@ use lib.Dec.{eqb}
 use Rattle.basics.specs.Lists.{In}
 use Rattle.message.specs.declared.PFMode.TheVariants.{Paxos}
 use Rattle.catch_up.specs.Causes.{CommitList, Commit, beside}
-use Rattle.catch_up.specs.Joining.{list_of, some_above, too_large, counts_from, outside, differ, in_order, joining}
+use Rattle.catch_up.specs.Joining.{list_of, some_above, list_too_large, counts_from, outside, differ, in_order, joining}
 use Rattle.catch_up.specs.declared.JoinRefusal.TheVariants.{TwoValues}
 use Rattle.group.specs.Claim.{MemberCall, Entry, entries, ours, Legal, plus_commit, slot_at, CommitAt}
 use Rattle.group.proofs.Ties.{lowest_picks_best}
@@ -84,11 +84,11 @@ lists_of_run =
 
 -- they overlap, or touch
 pub overlapping : joining first_slot both_slots 8192 ≡ Ok both_slots
-unfolding joining too_large some_above outside counts_from in_order differ
+unfolding joining list_too_large some_above outside counts_from in_order differ
 overlapping = refl
 
 pub touching : joining second_slot first_slot 8192 ≡ Ok both_slots
-unfolding joining too_large some_above outside counts_from in_order differ
+unfolding joining list_too_large some_above outside counts_from in_order differ
 touching = refl
 
 pub example_never : joining first_slot both_slots 8192 ≡ Err TwoValues → ⊥

@@ -2,9 +2,9 @@
 -- Assumes nothing.
 use Rattle.std.specs.Prelude.{◌≡◌, List, ℕ, ◌+◌, ◌≤◌, ◌<◌, length, get_or, Option, Ok}
 use Rattle.basics.specs.Lists.{In}
-use Rattle.catch_up.specs.Causes.{CommitList, commits}
+use Rattle.catch_up.specs.Causes.{CommitList, listed_commits}
 use Rattle.catch_up.specs.Joining.{first_slot, handed_back, Joins}
-use Rattle.feeding.specs.Feeding.{FedList, SameLengths, commits_in, entry_in, feeding}
+use Rattle.feeding.specs.Feeding.{FedList, SameLengths, fed_commits, entry_in, feeding}
 use Rattle.feeding.specs.declared.FirstRefused.{FirstRefused}
 use Rattle.group.specs.Claim.{Entry, slot_at, CommitAt}
 use Rattle.group_register.specs.declared.RegisterSettings.{RegisterSettings}
@@ -12,7 +12,7 @@ use Rattle.register_runs.specs.Members.{CellChange, entry_for_commit, register_o
 
 -- every slot and value of the list is a commit of the run
 abbrev pub FromRun : List Entry → CommitList → Type 0
-FromRun run l = (slot v : ℕ) → In (record { slot = slot; value = v }) (commits l) → CommitAt slot v run
+FromRun run l = (slot v : ℕ) → In (record { slot = slot; value = v }) (listed_commits l) → CommitAt slot v run
 
 -- at place i of a list that begins with slot b stands what the hosts say of the value that the run committed in slot b + i
 abbrev pub FedFromRun : (ℕ → CellChange) → List Entry → FedList → ℕ → ℕ → Type 0
@@ -21,7 +21,7 @@ FedFromRun says run l b i = (v : ℕ) × (entry_in l i ≡ entry_for_commit says
 -- "with the host's entry beside each value": the list that is fed has the slots and values of l and as many of each number of an entry, and beside each
 -- value stands what the hosts say of it
 pub record FedAsSaid (says : ℕ → CellChange) (l : CommitList) (fed : FedList) : Type 0 where
-  pub commits : commits_in fed ≡ l
+  pub commits : fed_commits fed ≡ l
   pub long : SameLengths fed
   pub entries : (i : ℕ) → i < length l.slots → entry_in fed i ≡ entry_for_commit says (get_or l.slots i 0) (get_or l.values i 0)
 

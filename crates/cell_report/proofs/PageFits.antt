@@ -16,7 +16,7 @@ use Rattle.report.specs.declared.ReportPage.{ReportPage}
 use Rattle.group_register.specs.Settings.{settings_refusal, is_made}
 use Rattle.group_register.specs.GroupRegister.{group_page}
 use Rattle.entry_lines.specs.Reports.{page_after}
-use Rattle.entry_lines.specs.declared.LinesTaken.{LinesTaken}
+use Rattle.entry_lines.specs.declared.EntriesTaken.{EntriesTaken}
 
 abbrev Fits : ReportPage → Type 0
 Fits p = IsPrefixLen p.len p.bytes
@@ -27,7 +27,7 @@ holding_fits text =
     let h : (page_holding text).len ≤ length (page_holding text).bytes = omega (arith, length-append text (replicate (116 - length text) 0)) in
     (h, sym (length-take-le (page_holding text).len (page_holding text).bytes h))
 
-pub page_fits : (t : Option LinesTaken) (p : ReportPage) → p ≡ page_after t → Fits p
+pub page_fits : (t : Option EntriesTaken) (p : ReportPage) → p ≡ page_after t → Fits p
 unfolding page_after group_page page_with
 page_fits None p e = subst Fits (sym e) (holding_fits (refusal_text 1))
 page_fits (Some t) p e =

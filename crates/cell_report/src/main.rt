@@ -6,7 +6,7 @@
 ghost use Rattle.std.specs.Prelude.{◌≡◌, is_some, None};
 ghost use Rattle.entry_lines.specs.Reports.{take_line};
 
-use entry_lines::LinesTaken;
+use entry_lines::EntriesTaken;
 use line_blocks::LineTaker;
 use std::io::Read;
 use texts::Output;
@@ -14,7 +14,7 @@ use texts::Output;
 // The register after the lines so far, where none refuses the input. Nothing is put while lines are taken.
 #[derive(Clone, Copy)]
 struct Entries {
-    taken: Option<LinesTaken>,
+    taken: Option<EntriesTaken>,
 }
 
 impl LineTaker for Entries {
@@ -57,7 +57,7 @@ fn take_entries<R: Read + Drop>(
     reader: R,
     input_bytes: &mut [u8; 1048577],
     nothing: &mut [u8],
-) -> Option<LinesTaken> {
+) -> Option<EntriesTaken> {
     let input: &mut [u8] = input_bytes;
     let mut watched = Watched {
         reader,
@@ -74,7 +74,7 @@ fn take_entries<R: Read + Drop>(
     entries.taken
 }
 
-fn write_report(taken: Option<LinesTaken>) {
+fn write_report(taken: Option<EntriesTaken>) {
     let page = entry_lines::page_after(taken);
     let bytes = page.bytes;
     let len = page.len;

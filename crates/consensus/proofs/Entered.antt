@@ -7,8 +7,8 @@ use mathlib.Core.Bool.{Bool, true, false, cond, not, ◌&&◌, ◌||◌}
 use mathlib.Core.List.{List, [], ◌∷◌}
 use Prim.Native.Nat.{ℕ}
 use lib.Dec.{eqb, ltb}
-use Rattle.sets.specs.Sets.{contains}
-use Rattle.tables.specs.Tables.{look_up}
+use Rattle.basics.specs.sets.Sets.{contains}
+use Rattle.basics.specs.tables.Tables.{look_up}
 use Rattle.message.specs.Modes.{has_fast_path, is_swift_paxos}
 use Rattle.message.specs.Rounds.{before}
 use Rattle.message.specs.declared.ConsensusMsg.{ConsensusMsg}
@@ -24,9 +24,9 @@ use Rattle.settings.specs.declared.Settings.{Settings}
 use Rattle.fast_state.specs.Adopt.{Choice}
 use Rattle.fast_state.specs.Fast.{answers_of}
 use Rattle.enter.specs.Enter.{in_round, is_older, from_live, enter}
-use Rattle.paxos_family.specs.Process.{in_prepare, on_prepare, on_accept, process_classic, in_fast_prepare, on_fast_prepare, in_fast_accept, on_fast_accept, replica_accept, process_change, process_fast}
-use Rattle.accept.specs.Accept.{is_committer, accepting}
-use Rattle.swift_path.specs.Swift.{swift_client_accept}
+use Rattle.paxos_family.specs.Process.{entered_prepare, on_prepare, on_accept, process_classic, entered_fast_prepare, on_fast_prepare, entered_fast_accept, on_fast_accept, replica_accept, process_change, process_fast}
+use Rattle.classic.specs.accept.Accept.{is_committer, accepting}
+use Rattle.fast.specs.swift.Swift.{swift_client_accept}
 use Rattle.fast_state.specs.declared.FastAnswers.{FastAnswers}
 use Rattle.message.specs.Promises.{is_process}
 use Rattle.quorum.specs.Quorum.{row_of}
@@ -41,7 +41,7 @@ use Rattle.steps.specs.declared.Rounds.{Rounds}
 use Rattle.calls.specs.Asked.{asked_of, heard_of, gatherer_in, gatherer_of}
 use Rattle.delivery.specs.declared.Delivery.{Delivery}
 use Rattle.consensus.specs.Handle.{processed}
-use Rattle.consensus.specs.FirstCause.{value_committer, leader_delegate, promise_delegate, facts_of, ignored, source_not_live, handling_causes}
+use Rattle.consensus.specs.FirstCause.{value_committer, leader_delegate, promise_delegate, facts_of, is_ignored, source_not_live, handling_causes}
 use Rattle.consensus.specs.Panics.{Facts, classic_prepare, epaxos_prepare, swift_prepare, classic_accept, swift_replica_accept_rows, swift_client_accept_rows}
 use Rattle.consensus.specs.Rows.{Row, gives, first_of}
 use Rattle.consensus.proofs.Handled.{facts_in, step_number, change_number, rounds_number, mapped_number, after_step, and_then_number, and_then_change_number, classic_prepare_lem}
@@ -194,7 +194,7 @@ module _ (choose : Choice) (s : Settings) (rounds : Rounds) (d : Delivery) where
       go false u e f = sym e ∙ f
 
   abbrev unless_ignored : ℕ → PaxosRound → List Row → ℕ
-  unless_ignored slot round rows = first_of (cond (ignored s rounds slot round) [] (gives 7 (source_not_live s d.message.src) ∷ rows))
+  unless_ignored slot round rows = first_of (cond (is_ignored s rounds slot round) [] (gives 7 (source_not_live s d.message.src) ∷ rows))
 
   module _ (slot : ℕ) (round : PaxosRound) (rv : RoundV) (e : d.message.msg ≡ Prepare slot round rv) where
     abbrev known : Facts
@@ -206,19 +206,19 @@ module _ (choose : Choice) (s : Settings) (rounds : Rounds) (d : Delivery) where
     on_prepare_lem : is_swift_paxos s.mode ≡ false → step_number value_held (on_prepare a h slot round rv core) ≡ unless_ignored slot round (classic_prepare known rv)
     unfolding on_prepare
     on_prepare_lem c =
-        and_then_number value_held (enter a h slot round core) (in_prepare a h round rv)
-        ∙ enter_number a h value_held slot round core (λ x. step_number value_held (in_prepare a h round rv x)) (classic_prepare known rv)
+        and_then_number value_held (enter a h slot round core) (entered_prepare a h round rv)
+        ∙ enter_number a h value_held slot round core (λ x. step_number value_held (entered_prepare a h round rv x)) (classic_prepare known rv)
         (λ p. classic_prepare_lem a h value_held round answers scores rv (in_round round core) c (replica_part c p) ∙ ap (λ (f : Facts). first_of (classic_prepare f rv)) facts_prepare)
 
     on_fast_prepare_lem : (rows : Facts → List Row)
         → ((a.member.replica || is_swift_paxos a.mode) ≡ true
-        → change_number value_held (in_fast_prepare choose a h round rv (in_round round core) answers values scores swift_scores)
+        → change_number value_held (entered_fast_prepare choose a h round rv (in_round round core) answers values scores swift_scores)
         ≡ first_of (rows (facts_in a h value_held round (in_round round core).paxos answers scores)))
         → change_number value_held (on_fast_prepare choose a h slot round rv core answers values scores swift_scores) ≡ unless_ignored slot round (rows known)
     unfolding on_fast_prepare
     on_fast_prepare_lem rows q =
-        and_then_change_number value_held answers (enter a h slot round core) (λ x. in_fast_prepare choose a h round rv x answers values scores swift_scores)
-        ∙ enter_number a h value_held slot round core (λ x. change_number value_held (in_fast_prepare choose a h round rv x answers values scores swift_scores)) (rows known)
+        and_then_change_number value_held answers (enter a h slot round core) (λ x. entered_fast_prepare choose a h round rv x answers values scores swift_scores)
+        ∙ enter_number a h value_held slot round core (λ x. change_number value_held (entered_fast_prepare choose a h round rv x answers values scores swift_scores)) (rows known)
         (λ p. q p ∙ ap (λ (f : Facts). first_of (rows f)) facts_prepare)
 
     on_epaxos_prepare : is_swift_paxos s.mode ≡ false
@@ -248,18 +248,18 @@ module _ (choose : Choice) (s : Settings) (rounds : Rounds) (d : Delivery) where
 
     on_fast_accept_lem : (rows : Facts → List Row)
         → ((a.member.replica || is_swift_paxos a.mode) ≡ true
-        → change_number value_held (in_fast_accept a h round v (in_round round core) answers swift_scores)
+        → change_number value_held (entered_fast_accept a h round v (in_round round core) answers swift_scores)
         ≡ first_of (rows (facts_in a h value_held round (in_round round core).paxos answers scores)))
         → change_number value_held (on_fast_accept a h slot round v core answers swift_scores) ≡ unless_ignored slot round (rows heard)
     unfolding on_fast_accept
     on_fast_accept_lem rows q =
-        and_then_change_number value_held answers (enter a h slot round core) (λ x. in_fast_accept a h round v x answers swift_scores)
-        ∙ enter_number a h value_held slot round core (λ x. change_number value_held (in_fast_accept a h round v x answers swift_scores)) (rows heard)
+        and_then_change_number value_held answers (enter a h slot round core) (λ x. entered_fast_accept a h round v x answers swift_scores)
+        ∙ enter_number a h value_held slot round core (λ x. change_number value_held (entered_fast_accept a h round v x answers swift_scores)) (rows heard)
         (λ p. q p ∙ ap (λ (f : Facts). first_of (rows f)) facts_accept)
 
     epaxos_accept : is_swift_paxos s.mode ≡ false → a.member.replica ≡ true → (x : Core)
-        → change_number value_held (in_fast_accept a h round v x answers swift_scores) ≡ first_of (classic_accept (facts_in a h value_held round x.paxos answers scores) (is_committer a h) v)
-    unfolding in_fast_accept replica_accept
+        → change_number value_held (entered_fast_accept a h round v x answers swift_scores) ≡ first_of (classic_accept (facts_in a h value_held round x.paxos answers scores) (is_committer a h) v)
+    unfolding entered_fast_accept replica_accept
     epaxos_accept c l x =
         ap (λ (t : Bool). change_number value_held (cond t (replica_accept a h round v x answers swift_scores) (swift_client_accept a h round v x answers swift_scores))) l
         ∙ replica_number a h value_held round v answers x.paxos scores swift_scores (accepting a h round v x)

@@ -14,7 +14,7 @@ use native.Mathlib.Omega.{arith}
 use lib.Dec.{eqb, ltb, leb}
 use borrow.Author.Tests.{eq-eqb, ne_eqb, leb-false, le-leb}
 use Rattle.basics.proofs.Tests.{by_cases, of-both, not_both}
-use Rattle.sets.specs.Sets.{contains, is_empty}
+use Rattle.basics.specs.sets.Sets.{contains, is_empty}
 use Rattle.message.specs.Refusals.{refusal_number}
 use Rattle.message.specs.Rounds.{round_of, next_leader_round, equal, round_equal, unwrap_or_default, increment}
 use Rattle.message.specs.declared.PFMode.{PFMode}
@@ -37,11 +37,11 @@ use Rattle.fast_state.specs.declared.FastChange.{FastChange}
 use Rattle.fast_state.specs.declared.FastState.{FastState}
 use Rattle.settings.specs.declared.Settings.{Settings}
 use Rattle.round_state.specs.Paxos.{paxos_propose_v, self_accept, accept_own, receive_accept, accept_fits, receive_promise, held_after_promise}
-use Rattle.read_tracker.specs.Reads.{opening, open_next, insert_opened, insert}
+use Rattle.read_tracker.specs.Reads.{opening, open_next, insert_opened, insert_read}
 use Rattle.read_tracker.specs.declared.Opening.{Opening}
 use Rattle.round_state.specs.declared.Member.{Member}
-use Rattle.tables.specs.Tables.{look_up}
-use Rattle.proposal.specs.Proposal.{not_allowed, electing, may_propose, proposal_round}
+use Rattle.basics.specs.tables.Tables.{look_up}
+use Rattle.propose.specs.proposal.Proposal.{not_allowed, electing, may_propose, proposal_round}
 use Rattle.propose.specs.Propose.{propose_prepare, propose_accept, propose_classic, after_own_answer, own_answer, leads_from_start, propose_change, propose_fast}
 use Rattle.steps.specs.declared.Asked.{Asked}
 use Rattle.steps.specs.declared.Core.{Core}
@@ -56,7 +56,7 @@ use Rattle.calls.specs.declared.Call.{Call}
 use Rattle.calls.specs.declared.Call.TheVariants.{Propose, StartRead, Receive}
 use Rattle.consensus.specs.Answers.{refused, committed, finish_at, finish, sent}
 use Rattle.consensus.specs.Call.{state_call, in_shard, call_with}
-use Rattle.consensus.specs.FirstCause.{number_alone, number_of, any_above, too_large, proposal_causes, not_allowed_causes, read_causes, causes, unmade, first_cause, handling_causes, is_spent}
+use Rattle.consensus.specs.FirstCause.{number_alone, number_of_outcome, any_above, too_large, proposal_causes, not_allowed_causes, read_causes, causes, unmade, first_cause, handling_causes, is_spent}
 use Rattle.consensus.specs.Handle.{on_commit, on_read_request, on_read_response, start_read, after_insert, proposing, processed, process_message, handle, handle_call}
 use Rattle.consensus.specs.Rows.{gives, first_of, then}
 use Rattle.consensus.specs.declared.Answer.{Answer}
@@ -305,7 +305,7 @@ module _ (choose : Choice) (shard : Shard) where
       go false false = refl
 
   read_gives : (tag arrival : ℕ) → StateGives state (answered (StartRead tag arrival) (admission (StartRead tag arrival))) (first_of (read_causes shard tag arrival))
-  unfolding state_call handle_call admission_of start_read insert open_next first_of
+  unfolding state_call handle_call admission_of start_read insert_read open_next first_of
   read_gives tag arrival =
       subst
       (λ (t : Bool). StateGives state (answered (StartRead tag arrival) (admission (StartRead tag arrival)))
@@ -416,9 +416,9 @@ module _ (choose : Choice) (shard : Shard) where
   first_cause_lem (Receive d) = of_state shard _ _ (marked_gives (Receive d) shard.made)
 
   -- The number that a call hands back, 0 where it is taken.
-  pub number_is_first_cause : (c : Call) → number_of (call_with choose shard c).reply.outcome ≡ first_cause choose shard c
+  pub number_is_first_cause : (c : Call) → number_of_outcome (call_with choose shard c).reply.outcome ≡ first_cause choose shard c
   number_is_first_cause c = go (first_cause_lem c)
     where
-      go : {n : ℕ} → Gives shard (call_with choose shard c) n → number_of (call_with choose shard c).reply.outcome ≡ n
-      go (inl (e, n)) = ap number_of e ∙ sym n
-      go (inr (why, e, n)) = ap (λ (r : Answer). number_of r.reply.outcome) e ∙ sym n
+      go : {n : ℕ} → Gives shard (call_with choose shard c) n → number_of_outcome (call_with choose shard c).reply.outcome ≡ n
+      go (inl (e, n)) = ap number_of_outcome e ∙ sym n
+      go (inr (why, e, n)) = ap (λ (r : Answer). number_of_outcome r.reply.outcome) e ∙ sym n

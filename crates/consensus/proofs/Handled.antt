@@ -8,9 +8,9 @@ use Prim.Native.Nat.{ℕ, ◌+◌, ◌≤◌, ◌<◌}
 use native.Mathlib.Nat.{add-zero}
 use lib.Dec.{eqb, ltb, leb}
 use borrow.Author.Tests.{ltb-true, ltb-false, eqb-true, eq-eqb}
-use Rattle.sets.specs.Sets.{insert, size, is_empty, one}
-use Rattle.sets.proofs.Laws.{contains_insert_same, size_insert, insert_none}
-use Rattle.tables.specs.Tables.{look_up}
+use Rattle.basics.specs.sets.Sets.{insert, size, is_empty, one}
+use Rattle.basics.proofs.sets.Laws.{contains_insert_same, size_insert, insert_none}
+use Rattle.basics.specs.tables.Tables.{look_up}
 use Rattle.message.specs.Modes.{is_swift_paxos}
 use Rattle.message.specs.Promises.{value_of, accept_round_of, is_process}
 use Rattle.message.specs.Refusals.{refusal_number}
@@ -25,8 +25,8 @@ use Rattle.round_state.specs.declared.Member.{Member}
 use Rattle.round_state.specs.declared.PaxosState.{PaxosState}
 use Rattle.fast_state.specs.declared.FastAnswers.{FastAnswers}
 use Rattle.fast_state.specs.declared.FastChange.{FastChange}
-use Rattle.prepare.specs.Prepare.{hold_first, may_answer, answer_prepare, answers_nothing, preparing, prepared, accept_phase, broadcast_accept, with_promise, becomes_prepared, gather}
-use Rattle.paxos_family.specs.Process.{in_prepare}
+use Rattle.classic.specs.prepare.Prepare.{hold_first, may_answer, answer_prepare, answers_nothing, preparing, prepared, accept_phase, broadcast_accept, with_promise, becomes_prepared, gather}
+use Rattle.paxos_family.specs.Process.{entered_prepare}
 use Rattle.steps.specs.Steps.{RoundsStep, CoreStep, with_paxos, goes_on, and_then, and_then_change, map_step, with_change}
 use Rattle.steps.specs.declared.Asked.{Asked}
 use Rattle.steps.specs.declared.ChangeStep.{ChangeStep}
@@ -35,7 +35,7 @@ use Rattle.steps.specs.declared.Heard.{Heard}
 use Rattle.steps.specs.declared.Next.{Next}
 use Rattle.steps.specs.declared.Next.TheVariants.{Stays, Continues, Commits}
 use Rattle.basics.proofs.Tests.{by_cases, same_test}
-use Rattle.consensus.specs.Panics.{Facts, gathers, nothing_held, majority, promises_first, promises_then, completes, own_fits, accepted_in_round, fits_held, with_both, held_first, held_then, classic_prepare, prepare_rows, own_accept_rows}
+use Rattle.consensus.specs.Panics.{Facts, is_delegate, nothing_held, reaches_majority, promises_first, promises_then, completes, own_fits, accepted_in_round, fits_held, with_both, held_before, held_then, classic_prepare, prepare_rows, own_accept_rows}
 use Rattle.consensus.specs.Rows.{Row, first_of, then}
 
 -- the number of a step that is taken, with whether the value is held
@@ -215,7 +215,7 @@ abbrev pub first_state : Member → RoundV → PaxosState → PaxosState
 first_state me rv p =
     record {
       round = p.round;
-      max_rv = Some (held_first p.max_rv rv);
+      max_rv = Some (held_before p.max_rv rv);
       prepared_set = cond (nothing_held p.max_rv) (insert p.prepared_set me.my_pid) p.prepared_set;
       accepted_set = p.accepted_set;
     }
@@ -259,12 +259,12 @@ module _ (a : Asked) (h : Heard) (value_held : Bool) (round : PaxosRound) where
   -- what another than the delegate has accepted is what it holds first
   answers_nothing_lem : (rv : RoundV) (core : Core)
       → answers_nothing a h round (with_paxos (first_state me rv core.paxos) core)
-      ≡ ((is_swift_paxos a.mode && eqb h.delegate round.leader) || equal (accept_round_of (held_first core.paxos.max_rv rv)) (Some round))
+      ≡ ((is_swift_paxos a.mode && eqb h.delegate round.leader) || equal (accept_round_of (held_before core.paxos.max_rv rv)) (Some round))
   unfolding answers_nothing
   answers_nothing_lem rv core = refl
 
   -- what is held once the promise is counted
-  holds_then : (x : Option RoundV) (rv : RoundV) → held_after_promise (Some (held_first x rv)) rv ≡ Some (held_then x rv)
+  holds_then : (x : Option RoundV) (rv : RoundV) → held_after_promise (Some (held_before x rv)) rv ≡ Some (held_then x rv)
   unfolding held_after_promise
   holds_then None rv = choice_same (before (accept_round_of rv) (accept_round_of rv)) (Some rv)
   holds_then (Some old) rv = promise_holds (Some old) rv
@@ -289,13 +289,13 @@ module _ (a : Asked) (h : Heard) (value_held : Bool) (round : PaxosRound) where
     unfolding receive_promise
     promised_held = holds_then core.paxos.max_rv rv
 
-    pub promised_enough : is_prepared me (with_promise a h rv first).paxos ≡ majority known (promises_then known)
+    pub promised_enough : is_prepared me (with_promise a h rv first).paxos ≡ reaches_majority known (promises_then known)
     unfolding receive_promise
     promised_enough = ap (leb me.quorums.majority) (counted_size a h value_held round core.paxos answers scores (promises_first known))
 
     pub becomes : becomes_prepared a first (with_promise a h rv first) ≡ completes known
     unfolding becomes_prepared
-    becomes = ap (λ (t : Bool). not (majority known (promises_first known)) && t) promised_enough
+    becomes = ap (λ (t : Bool). not (reaches_majority known (promises_first known)) && t) promised_enough
 
     pub own_accept_number : step_number value_held (accept_phase a round (with_promise a h rv first)) ≡ cond (is_empty core.paxos.accepted_set) (cond (own_fits known rv) 0 9) 9
     unfolding receive_promise
@@ -307,20 +307,20 @@ module _ (a : Asked) (h : Heard) (value_held : Bool) (round : PaxosRound) where
 
     -- the rows of every mode, and those of the delegate behind them
     pub prepare_begins : me.replica ≡ true → (swift : Bool) → is_swift_paxos a.mode ≡ swift → (rest : Core → ℕ) (rows : List Row)
-        → (gathers known ≡ true → rest first ≡ first_of rows) → (gathers known ≡ false → 0 ≡ first_of rows)
+        → (is_delegate known ≡ true → rest first ≡ first_of rows) → (is_delegate known ≡ false → 0 ≡ first_of rows)
         → after_step value_held rest (prepared a h round rv core) ≡ first_of (then (prepare_rows known swift rv) rows)
     unfolding first_of then
     prepare_begins l swift c rest rows at other =
         prepared_number rv l rest core
         ∙ simp (answers_nothing_lem rv core, c)
-        (begin_table (nothing_held core.paxos.max_rv && not (is_empty core.paxos.prepared_set)) (gathers known)
+        (begin_table (nothing_held core.paxos.max_rv && not (is_empty core.paxos.prepared_set)) (is_delegate known)
         ((swift && eqb h.delegate round.leader) || accepted_in_round known rv) (eqb h.delegate h.src || not (eqb h.delegate round.leader))
         (rest first) (first_of rows) at other)
 
     -- the classic modes
-    pub classic_prepare_lem : is_swift_paxos a.mode ≡ false → me.replica ≡ true → step_number value_held (in_prepare a h round rv core) ≡ first_of (classic_prepare known rv)
-    unfolding in_prepare first_of then
+    pub classic_prepare_lem : is_swift_paxos a.mode ≡ false → me.replica ≡ true → step_number value_held (entered_prepare a h round rv core) ≡ first_of (classic_prepare known rv)
+    unfolding entered_prepare first_of then
     classic_prepare_lem c l =
         and_then_number value_held (prepared a h round rv core) (gather a h round rv)
-        ∙ prepare_begins l false c (λ x. step_number value_held (gather a h round rv x)) (own_accept_rows known (gathers known && completes known) rv)
+        ∙ prepare_begins l false c (λ x. step_number value_held (gather a h round rv x)) (own_accept_rows known (is_delegate known && completes known) rv)
         (λ g. simp g (gather_number ∙ own_table (completes known) (is_empty core.paxos.accepted_set) (own_fits known rv))) (λ g. simp g)

@@ -16,8 +16,8 @@ use Rattle.steps.specs.Steps.{with_paxos, no_messages}
 use Rattle.steps.specs.declared.Asked.{Asked}
 use Rattle.steps.specs.declared.Core.{Core}
 use Rattle.steps.specs.declared.Heard.{Heard}
-use Rattle.accept.specs.Accept.{is_committer, answer_accept, try_commit, answered, follower, accepted, accepting}
-use Rattle.prepare.specs.Prepare.{off_fast_path}
+use Rattle.classic.specs.accept.Accept.{is_committer, answer_accept, try_commit, answered, follower, accepted, accepting}
+use Rattle.classic.specs.prepare.Prepare.{off_fast_path}
 use Rattle.steps.specs.declared.Messages.{Messages}
 use Rattle.consensus.specs.Panics.{Facts, leads, from_delegate, accepts_enough, classic_accept, fits_held}
 use Rattle.consensus.specs.Rows.{first_of}

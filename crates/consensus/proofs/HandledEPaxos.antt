@@ -7,7 +7,7 @@ use mathlib.Core.Bool.{Bool, true, false, cond, not, ◌&&◌}
 use mathlib.Core.List.{List}
 use Prim.Native.Nat.{ℕ}
 use lib.Dec.{eqb, leb}
-use Rattle.sets.specs.Sets.{contains, size, is_empty}
+use Rattle.basics.specs.sets.Sets.{contains, size, is_empty}
 use Rattle.message.specs.Modes.{is_swift_paxos}
 use Rattle.message.specs.declared.PaxosRound.{PaxosRound}
 use Rattle.message.specs.declared.RoundV.{RoundV}
@@ -16,19 +16,19 @@ use Rattle.round_state.specs.Paxos.{is_prepared, receive_promise, accept_fits, r
 use Rattle.round_state.specs.declared.Member.{Member}
 use Rattle.round_state.specs.declared.PaxosState.{PaxosState}
 use Rattle.fast_state.specs.declared.FastAnswers.{FastAnswers}
-use Rattle.prepare.specs.Prepare.{prepared, accept_phase, broadcast_accept, with_promise, has_accepted}
+use Rattle.classic.specs.prepare.Prepare.{prepared, accept_phase, broadcast_accept, with_promise, has_accepted}
 use Rattle.steps.specs.Steps.{map_step, with_change}
 use Rattle.steps.specs.declared.Asked.{Asked}
 use Rattle.steps.specs.declared.Core.{Core}
 use Rattle.steps.specs.declared.Heard.{Heard}
-use Rattle.consensus.specs.Panics.{Facts, gathers, majority, promises_then, completes, own_fits, prepare_rows, own_accept_rows, unopposed, is_one, answers_again, epaxos_answers_then, epaxos_scores_then, epaxos_commits, adopts, accepted_then, epaxos_answer_rows, epaxos_prepare}
+use Rattle.consensus.specs.Panics.{Facts, is_delegate, reaches_majority, promises_then, completes, own_fits, prepare_rows, own_accept_rows, unopposed, is_one, answers_again, epaxos_answers_then, epaxos_scores_then, fast_quorum_unopposed, adopts, accepted_then, epaxos_answer_rows, epaxos_prepare}
 use Rattle.consensus.specs.Rows.{Row, first_of, then}
 use Rattle.consensus.proofs.Admitted.{above_test}
 use Rattle.fast_state.specs.Adopt.{Choice, value_in, score_in, adopted, epaxos_try_adopt}
 use Rattle.fast_state.specs.Fast.{unchanged, preaccepted_after, second_answer, score_after, epaxos_counted, epaxos_answered, epaxos_can_commit}
 use Rattle.fast_state.specs.declared.FastChange.{FastChange}
-use Rattle.epaxos_path.specs.EPaxos.{adopting, epaxos_adopt, epaxos_decide, epaxos_answer}
-use Rattle.paxos_family.specs.Process.{fast_prepared, fast_promised, starts_accept, waits, fast_answered, fast_gather, in_fast_prepare}
+use Rattle.fast.specs.epaxos.EPaxos.{adopting, epaxos_adopt, epaxos_decide, epaxos_answer}
+use Rattle.paxos_family.specs.Process.{fast_prepared, fast_promised, starts_accept, waits, fast_answered, fast_gather, entered_fast_prepare}
 use Rattle.consensus.proofs.Handled.{facts_in, step_number, change_number, with_change_number, after_step, and_then_change_number, prepare_begins, promised_held, promised_enough, becomes, own_accept_number, first}
 
 module _ (a : Asked) (h : Heard) (value_held : Bool) (round : PaxosRound) (choose : Choice) where
@@ -154,8 +154,8 @@ module _ (a : Asked) (h : Heard) (value_held : Bool) (round : PaxosRound) (choos
     fast_answer_lem (FastV proposer v) =
         answer_number_lem answers values scores core.paxos proposer v promised
         ∙ simp (promised_enough a h value_held round answers scores rv core)
-        (answer_table (answers_again facts) (epaxos_commits facts proposer) (contains (epaxos_answers_then facts proposer).fast_proposers facts.own) (adopts choose facts proposer)
-        (majority facts (promises_then facts)) (is_empty facts.accepts) value_held)
+        (answer_table (answers_again facts) (fast_quorum_unopposed facts proposer) (contains (epaxos_answers_then facts proposer).fast_proposers facts.own) (adopts choose facts proposer)
+        (reaches_majority facts (promises_then facts)) (is_empty facts.accepts) value_held)
 
     -- the rows of the delegate, by whether oneself is the delegate
     abbrev delegate_rows : Bool → List Row
@@ -165,7 +165,7 @@ module _ (a : Asked) (h : Heard) (value_held : Bool) (round : PaxosRound) (choos
     off_answer : (x : RoundV) → first_of (epaxos_answer_rows choose facts false x) ≡ 0
     unfolding first_of
     off_answer (PaxosV at v) = refl
-    off_answer (FastV proposer v) = off_six (not value_held) (epaxos_commits facts proposer)
+    off_answer (FastV proposer v) = off_six (not value_held) (fast_quorum_unopposed facts proposer)
 
     abbrev pub gathered : Core → ℕ
     gathered c = change_number value_held (fast_gather choose a h round rv c answers values scores swift_scores)
@@ -189,13 +189,13 @@ module _ (a : Asked) (h : Heard) (value_held : Bool) (round : PaxosRound) (choos
 
       -- by the rows of what the delegate gathers: none is met where another is the delegate
       pub replica_prepares : (swift : Bool) → is_swift_paxos a.mode ≡ swift → (rows : Bool → List Row) → gathered start ≡ first_of (rows true) → first_of (rows false) ≡ 0
-          → change_number value_held (in_fast_prepare choose a h round rv core answers values scores swift_scores)
-          ≡ first_of (then (prepare_rows facts swift rv) (rows (gathers facts)))
-      unfolding in_fast_prepare
+          → change_number value_held (entered_fast_prepare choose a h round rv core answers values scores swift_scores)
+          ≡ first_of (then (prepare_rows facts swift rv) (rows (is_delegate facts)))
+      unfolding entered_fast_prepare
       replica_prepares swift c rows at other =
           and_then_change_number value_held answers (fast_prepared a h round rv core) (λ x. fast_gather choose a h round rv x answers values scores swift_scores)
           ∙ ap (after_step value_held gathered) prepares
-          ∙ prepare_begins a h value_held round answers scores rv core l swift c gathered (rows (gathers facts))
+          ∙ prepare_begins a h value_held round answers scores rv core l swift c gathered (rows (is_delegate facts))
           (λ g. subst (λ (b : Bool). gathered start ≡ first_of (rows b)) (sym g) at)
           (λ g. subst (λ (b : Bool). 0 ≡ first_of (rows b)) (sym g) (sym other))
 
@@ -219,6 +219,6 @@ module _ (a : Asked) (h : Heard) (value_held : Bool) (round : PaxosRound) (choos
           ∙ simp (starts, waits_accepted, own_accept_number a h value_held round answers scores rv core, answers_fast)
           (delegate_table (accepted_then facts rv) (completes facts) (is_empty facts.accepts) (own_fits facts rv) (λ path. first_of (epaxos_answer_rows choose facts path rv)) (off_answer rv))
 
-      pub epaxos_prepare_lem : change_number value_held (in_fast_prepare choose a h round rv core answers values scores swift_scores) ≡ first_of (epaxos_prepare choose facts rv)
+      pub epaxos_prepare_lem : change_number value_held (entered_fast_prepare choose a h round rv core answers values scores swift_scores) ≡ first_of (epaxos_prepare choose facts rv)
       unfolding first_of then
       epaxos_prepare_lem = replica_prepares l false c delegate_rows delegate_number (off_answer rv)

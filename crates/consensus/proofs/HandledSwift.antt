@@ -6,7 +6,7 @@ use mathlib.Core.Bool.{Bool, true, false, cond, not, ◌&&◌, ◌||◌}
 use mathlib.Core.List.{List, ◌∷◌}
 use Prim.Native.Nat.{ℕ}
 use lib.Dec.{eqb, leb}
-use Rattle.sets.specs.Sets.{contains, is_empty}
+use Rattle.basics.specs.sets.Sets.{contains, is_empty}
 use Rattle.message.specs.Modes.{is_swift_paxos}
 use Rattle.message.specs.Promises.{value_of, accept_round_of, is_process}
 use Rattle.message.specs.Refusals.{refusal_number}
@@ -21,23 +21,23 @@ use Rattle.round_state.specs.Paxos.{paxos_can_commit, receive_accept, after_acce
 use Rattle.round_state.specs.declared.Member.{Member}
 use Rattle.round_state.specs.declared.PaxosState.{PaxosState}
 use Rattle.fast_state.specs.declared.FastAnswers.{FastAnswers}
-use Rattle.prepare.specs.Prepare.{with_promise}
+use Rattle.classic.specs.prepare.Prepare.{with_promise}
 use Rattle.steps.specs.declared.Asked.{Asked}
 use Rattle.steps.specs.declared.Core.{Core}
 use Rattle.steps.specs.declared.Heard.{Heard}
-use Rattle.accept.specs.Accept.{tells_committer, is_committer, try_commit, accepted, accepting}
+use Rattle.classic.specs.accept.Accept.{tells_committer, is_committer, try_commit, accepted, accepting}
 use Rattle.steps.specs.Steps.{CoreStep, no_messages, continues, goes_on}
 use Rattle.consensus.proofs.HandledEPaxos.{has_accepted_lem, gather_shape, counts, replica_prepares}
 use Rattle.steps.specs.declared.Messages.{Messages}
-use Rattle.consensus.specs.Panics.{Facts, gathers, own_fits, fits_held, held_then, prepare_rows, unopposed, may_count, answered_before, answers_again, swift_needs, answer_commits, leader_answer_commits, accepted_then, swift_answer_rows, swift_prepare, leads, from_leader, from_delegate, accepts_enough, swift_replica_accept_rows, swift_client_accept_rows}
+use Rattle.consensus.specs.Panics.{Facts, is_delegate, own_fits, fits_held, held_then, prepare_rows, unopposed, may_count, answered_before, answers_again, swift_needs, answer_commits, leader_answer_commits, accepted_then, swift_answer_rows, swift_prepare, leads, is_from_leader, from_delegate, accepts_enough, swift_replica_accept_rows, swift_client_accept_rows}
 use Rattle.consensus.specs.Rows.{Row, asserts, first_of, then}
-use Rattle.paxos_family.specs.Process.{fast_prepared, fast_promised, leads_round, starts_accept, waits, fast_answered, fast_gather, in_fast_prepare, after_replica_accept, replica_accept, in_fast_accept}
+use Rattle.paxos_family.specs.Process.{fast_prepared, fast_promised, leads_round, starts_accept, waits, fast_answered, fast_gather, entered_fast_prepare, after_replica_accept, replica_accept, entered_fast_accept}
 use Rattle.consensus.proofs.Handled.{next_number, facts_in, change_number, with_change_number, step_number, after_step, and_then_change_number, own_accept_number, first, counted_size, fits_same, if_enough, stop_number}
 use Rattle.basics.proofs.Tests.{by_cases, not_both}
 use Rattle.fast_state.specs.Adopt.{Choice}
 use Rattle.fast_state.specs.Fast.{swift_counted, swift_recorded, unchanged, preaccepted_after, leader_answer_after, second_answer, swift_uncounted, swift_first, swift_answered, swift_quorum, swift_can_commit, in_quorum}
 use Rattle.fast_state.specs.declared.FastChange.{FastChange}
-use Rattle.swift_path.specs.Swift.{after_step as after_fast_step, after_swift_answer, after_client_accept, after_accept_answer, after_replica_answer, swift_commits, swift_answer, swift_client_prepare, leader_answered, accept_answered, client_accept, swift_accept, swift_client_accept, swift_answered_accept}
+use Rattle.fast.specs.swift.Swift.{after_step as after_fast_step, after_swift_answer, after_client_accept, after_accept_answer, after_replica_answer, swift_commits, swift_answer, swift_client_prepare, leader_answered, accept_answered, client_accept, swift_accept, swift_client_accept, swift_answered_accept}
 use Rattle.consensus.proofs.HandledAccept.{accepted_core, accepts_enough_lem, try_commit_number, accepting_number}
 
 in_quorum_lem : (q : Option ℕ) (p : ℕ) → in_quorum q p ≡ may_count q p
@@ -225,7 +225,7 @@ module _ (a : Asked) (h : Heard) (value_held : Bool) (round : PaxosRound) (answe
   client_prepare (FastV proposer v) core =
       client_shape proposer v core
       ∙ ap (λ (x : ℕ). cond (is_process h.committer me.my_pid) (cond (eqb h.src round.leader) 8 x) 0) (swift_answer_number proposer v core)
-      ∙ client_table known.committer (from_leader known) (answers_again known) (answer_commits known proposer) value_held
+      ∙ client_table known.committer (is_from_leader known) (answers_again known) (answer_commits known proposer) value_held
 
   -- ---- the leader's Accept
 
@@ -305,8 +305,8 @@ module _ (a : Asked) (h : Heard) (value_held : Bool) (round : PaxosRound) (choos
         (swift_table (leads facts) (accepted_then facts rv) (is_empty facts.accepts) (own_fits facts rv) (λ path. first_of (swift_answer_rows facts path rv)) (off_answer rv)
         (fresh_fits (held_then core.paxos.max_rv rv) round))
 
-    replica_prepare : change_number value_held (in_fast_prepare choose a h round rv core answers values scores swift_scores)
-        ≡ first_of (then (prepare_rows facts true rv) (delegate_rows (gathers facts)))
+    replica_prepare : change_number value_held (entered_fast_prepare choose a h round rv core answers values scores swift_scores)
+        ≡ first_of (then (prepare_rows facts true rv) (delegate_rows (is_delegate facts)))
     unfolding first_of
     replica_prepare = replica_prepares a h value_held round choose answers values scores swift_scores rv core l true c delegate_rows delegate_number (off_answer rv)
 
@@ -332,16 +332,16 @@ module _ (a : Asked) (h : Heard) (value_held : Bool) (round : PaxosRound) (choos
     client_gathers =
         gather_shape a h value_held round choose answers values scores swift_scores rv core core core counts_nothing ∙ simp (starts_nothing, waits_not) (answers_client core)
 
-    client_prepares : change_number value_held (in_fast_prepare choose a h round rv core answers values scores swift_scores) ≡ first_of (swift_answer_rows facts true rv)
-    unfolding in_fast_prepare
+    client_prepares : change_number value_held (entered_fast_prepare choose a h round rv core answers values scores swift_scores) ≡ first_of (swift_answer_rows facts true rv)
+    unfolding entered_fast_prepare
     client_prepares =
         and_then_change_number value_held answers (fast_prepared a h round rv core) (λ x. fast_gather choose a h round rv x answers values scores swift_scores)
         ∙ ap (after_step value_held gathered) prepares_nothing ∙ client_gathers
 
-  pub swift_prepare_lem : change_number value_held (in_fast_prepare choose a h round rv core answers values scores swift_scores) ≡ first_of (swift_prepare facts rv)
+  pub swift_prepare_lem : change_number value_held (entered_fast_prepare choose a h round rv core answers values scores swift_scores) ≡ first_of (swift_prepare facts rv)
   swift_prepare_lem = by_cases a.member.replica
-      (λ l. replica_prepare l ∙ ap (λ (t : Bool). first_of (cond t (then (prepare_rows facts true rv) (delegate_rows (gathers facts))) (swift_answer_rows facts true rv))) (sym l))
-      (λ l. client_prepares l ∙ ap (λ (t : Bool). first_of (cond t (then (prepare_rows facts true rv) (delegate_rows (gathers facts))) (swift_answer_rows facts true rv))) (sym l))
+      (λ l. replica_prepare l ∙ ap (λ (t : Bool). first_of (cond t (then (prepare_rows facts true rv) (delegate_rows (is_delegate facts))) (swift_answer_rows facts true rv))) (sym l))
+      (λ l. client_prepares l ∙ ap (λ (t : Bool). first_of (cond t (then (prepare_rows facts true rv) (delegate_rows (is_delegate facts))) (swift_answer_rows facts true rv))) (sym l))
 
 -- ---- an Accept
 
@@ -428,20 +428,20 @@ module _ (a : Asked) (h : Heard) (value_held : Bool) (round : PaxosRound) (v : �
   abbrev accept_number : ℕ
   accept_number = cond (fits_held core.paxos.max_rv round v) (if_enough value_held (accepts_enough now)) 9
 
-  from_leader_lem : from_leader now ≡ true → change_number value_held (swift_accept a h round v core answers swift_scores) ≡ leader_number a h value_held round answers core.paxos scores swift_scores accept_number
+  from_leader_lem : is_from_leader now ≡ true → change_number value_held (swift_accept a h round v core answers swift_scores) ≡ leader_number a h value_held round answers core.paxos scores swift_scores accept_number
   unfolding swift_accept accept_answered
   from_leader_lem l =
       simp l
       (leader_number_lem a h value_held round answers core.paxos scores swift_scores v (after_accept_answer a h round v core) accept_number
       (λ f. by_cases (swift_commits a f) (λ e. simp (l, e)) (λ e. simp (l, e) client_accepts)))
 
-  from_other : from_leader now ≡ false → change_number value_held (swift_accept a h round v core answers swift_scores) ≡ accept_number
+  from_other : is_from_leader now ≡ false → change_number value_held (swift_accept a h round v core answers swift_scores) ≡ accept_number
   unfolding swift_accept accept_answered
   from_other l = simp l (with_change_number value_held (unchanged answers) (client_accept a h round v core) ∙ client_accepts)
 
   accept_number_lem : change_number value_held (swift_accept a h round v core answers swift_scores)
-      ≡ cond (from_leader now) (leader_number a h value_held round answers core.paxos scores swift_scores accept_number) accept_number
-  accept_number_lem = by_cases (from_leader now) (λ l. from_leader_lem l ∙ simp l) (λ l. from_other l ∙ simp l)
+      ≡ cond (is_from_leader now) (leader_number a h value_held round answers core.paxos scores swift_scores accept_number) accept_number
+  accept_number_lem = by_cases (is_from_leader now) (λ l. from_leader_lem l ∙ simp l) (λ l. from_other l ∙ simp l)
 
   client_shape_accept : change_number value_held (swift_client_accept a h round v core answers swift_scores)
       ≡ cond now.committer (change_number value_held (swift_accept a h round v core answers swift_scores)) 0
@@ -452,11 +452,11 @@ module _ (a : Asked) (h : Heard) (value_held : Bool) (round : PaxosRound) (v : �
   unfolding first_of then
   client_accept_lem =
       client_shape_accept ∙ ap (λ (x : ℕ). cond now.committer x 0) accept_number_lem
-      ∙ client_accept_table now.committer (from_leader now) (answers_again now) (answered_before now) (may_count a.quorum h.src) (leader_answer_commits now)
+      ∙ client_accept_table now.committer (is_from_leader now) (answers_again now) (answered_before now) (may_count a.quorum h.src) (leader_answer_commits now)
       (fits_held core.paxos.max_rv round v) (accepts_enough now) value_held
 
-  pub swift_accept_lem : change_number value_held (in_fast_accept a h round v core answers swift_scores) ≡ first_of (cond now.replica (swift_replica_accept_rows now v) (swift_client_accept_rows now v))
-  unfolding in_fast_accept
+  pub swift_accept_lem : change_number value_held (entered_fast_accept a h round v core answers swift_scores) ≡ first_of (cond now.replica (swift_replica_accept_rows now v) (swift_client_accept_rows now v))
+  unfolding entered_fast_accept
   swift_accept_lem =
       by_cases a.member.replica
       (λ l. ap handled l ∙ replica_accept_lem ∙ ap rows (sym l))

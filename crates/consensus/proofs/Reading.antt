@@ -15,7 +15,7 @@ use Rattle.basics.proofs.Tests.{not_both}
 use Rattle.message.specs.Messages.{msg_slot}
 use Rattle.message.specs.declared.ConsensusMsg.{ConsensusMsg}
 use Rattle.message.specs.declared.ConsensusMsg.TheVariants.{Prepare, Accept, ForwardRequest, Commit, ReadRequest, ReadResponse}
-use Rattle.sets.specs.Sets.{contains}
+use Rattle.basics.specs.sets.Sets.{contains}
 use Rattle.fast_state.specs.Adopt.{best_below, lowest_best}
 use Rattle.fast_state.specs.declared.FastAnswers.{FastAnswers}
 use Rattle.fast_state.proofs.Adopting.{IsBest, best_below_lem}

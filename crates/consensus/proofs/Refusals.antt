@@ -28,7 +28,7 @@ use Rattle.calls.specs.declared.Call.{Call}
 use Rattle.calls.specs.declared.Call.TheVariants.{Propose, StartRead, Receive}
 use Rattle.calls.specs.Decision.{admission_of, unless_spent, if_made, decision_for, decision_of}
 use Rattle.consensus.specs.Call.{state_call, in_shard, call_with, call_of, after_calls, new_shard}
-use Rattle.consensus.specs.FirstCause.{number_alone, number_of, committers_outside, quorum_outside, mode_outside, some_outside, settings_causes, admission_causes, handling_causes, causes, first_cause, is_spent, unmade, ignored, all_causes, ByFirstCause, MadeBySettings, OfSettings}
+use Rattle.consensus.specs.FirstCause.{number_alone, number_of_outcome, committers_outside, quorum_outside, mode_outside, some_outside, settings_causes, admission_causes, handling_causes, causes, first_cause, is_spent, unmade, is_ignored, all_causes, ByFirstCause, MadeBySettings, OfSettings}
 use Rattle.consensus.specs.Panics.{Facts, prepare_panics, accept_panics}
 use Rattle.consensus.specs.Rows.{Row, then, NoneHolds, FirstHolds, first_of}
 use Rattle.consensus.specs.declared.Answer.{Answer}
@@ -36,8 +36,8 @@ use Rattle.consensus.specs.declared.Shard.{Shard}
 use Rattle.consensus.proofs.Decided.{mark_kept}
 use Rattle.consensus.proofs.FirstCause.{Gives, first_cause_lem}
 use Rattle.settings.specs.Settings.{counts_fit, members_fit, committers_fit, quorum_fits, mode_fits, within_limits}
-use Rattle.sets.specs.Sets.{size, fits}
-use Rattle.tables.specs.Tables.{every}
+use Rattle.basics.specs.sets.Sets.{size, fits}
+use Rattle.basics.specs.tables.Tables.{every}
 use Rattle.consensus.proofs.Admitted.{above_test, from_test}
 
 -- ---- a list of causes: none holds, or the first that does
@@ -135,8 +135,8 @@ module _ (choose : Choice) where
 
   handling_numbered : (s : Settings) (rounds : Rounds) (d : Delivery) (m : ConsensusMsg) → Numbered (handling_causes choose s rounds d m)
   unfolding numbered
-  handling_numbered s rounds d (Prepare slot round rv) = of-both Numbered (ignored s rounds slot round) refl (prepare_numbered s.mode _ rv)
-  handling_numbered s rounds d (Accept slot round v) = of-both Numbered (ignored s rounds slot round) refl (accept_numbered s.mode _ v)
+  handling_numbered s rounds d (Prepare slot round rv) = of-both Numbered (is_ignored s rounds slot round) refl (prepare_numbered s.mode _ rv)
+  handling_numbered s rounds d (Accept slot round v) = of-both Numbered (is_ignored s rounds slot round) refl (accept_numbered s.mode _ v)
   handling_numbered s rounds d (ForwardRequest v) = refl
   handling_numbered s rounds d (Commit slot v) = refl
   handling_numbered s rounds d (ReadRequest id) = refl
@@ -265,7 +265,7 @@ mode_limits s Pando = table_limits s.delegates s.process_count (min s.process_co
 mode_limits s SwiftPaxos = quorum_limits s.quorum s.process_count
 
 limits_table : (a b c d e f g h entry outside : Bool)
-    → number_of (cond (a && b && c && d && (e && f && g && h) && not entry && not outside) (Ok tt) (Err SettingsOutsideLimits))
+    → number_of_outcome (cond (a && b && c && d && (e && f && g && h) && not entry && not outside) (Ok tt) (Err SettingsOutsideLimits))
     ≡ cond (not a) 1
     (cond (not b) 1
     (cond (not c) 1
@@ -283,7 +283,7 @@ limits_table true true true true true true true true true outside = refl
 limits_table true true true true true true true true false true = refl
 limits_table true true true true true true true true false false = refl
 
-settings_number_lem : (s : Settings) → number_of (new_shard s).made ≡ first_of (settings_causes s)
+settings_number_lem : (s : Settings) → number_of_outcome (new_shard s).made ≡ first_of (settings_causes s)
 unfolding new_shard within_limits counts_fit members_fit first_of
 settings_number_lem s =
     simp (
@@ -306,7 +306,7 @@ pub new_by_settings : (s : Settings) → MadeBySettings s (new_shard s).made
 unfolding new_shard numbered
 new_by_settings s = go (within_limits s) (settings_number_lem s) (none_or_first (settings_causes s))
   where
-    go : (t : Bool) → number_of (cond t (Ok tt) (Err SettingsOutsideLimits)) ≡ first_of (settings_causes s)
+    go : (t : Bool) → number_of_outcome (cond t (Ok tt) (Err SettingsOutsideLimits)) ≡ first_of (settings_causes s)
         → (NoneHolds (settings_causes s) × (first_of (settings_causes s) ≡ 0)) ⊎ FirstHolds (settings_causes s) (first_of (settings_causes s))
         → MadeBySettings s (cond t (Ok tt) (Err SettingsOutsideLimits))
     go true e (inl (none, _)) = inl (refl, none)

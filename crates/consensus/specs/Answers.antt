@@ -8,8 +8,8 @@ use Rattle.calls.specs.declared.CommittedSlot.{CommittedSlot}
 use Rattle.message.specs.declared.Refusal.{Refusal}
 use Rattle.message.specs.declared.Refusal.TheVariants.{ValueNotHeld}
 use Rattle.read_tracker.specs.declared.ReadTracker.{ReadTracker}
-use Rattle.serving.specs.Serving.{commit_slot as serve_reads}
-use Rattle.serving.specs.declared.Tracked.{Tracked}
+use Rattle.read_tracker.specs.serving.Serving.{serve_at_commit}
+use Rattle.read_tracker.specs.declared.serving.Tracked.{Tracked}
 use Rattle.paxos_family.specs.Commit.{next_slot}
 use Rattle.steps.specs.Steps.{RoundsStep, no_messages}
 use Rattle.steps.specs.declared.Asked.{Asked}
@@ -23,8 +23,8 @@ use Rattle.consensus.specs.declared.StateAnswer.{StateAnswer}
 
 -- ---- parts of the state set anew
 
-abbrev pub with_rounds : State → Rounds → State
-with_rounds state rounds = record { rounds = rounds; table = state.table }
+abbrev pub state_with_rounds : State → Rounds → State
+state_with_rounds state rounds = record { rounds = rounds; table = state.table }
 
 -- a core with its reads counted anew
 abbrev pub with_tracker : ReadTracker → Core → Core
@@ -61,7 +61,7 @@ served rounds reads messages commit =
 -- served at the new slot
 unfoldable pub committed : State → Asked → ℕ → Rounds → Messages → StateAnswer
 committed state a v s messages =
-    served (next_slot a v s) (serve_reads s.core.tracker state.table a.member.quorums.majority (next_slot a v s).core.slot) messages
+    served (next_slot a v s) (serve_at_commit s.core.tracker state.table a.member.quorums.majority (next_slot a v s).core.slot) messages
     (committed_slot s.core.slot v (is_fast a s.core))
 
 -- ---- the end of a call
@@ -69,8 +69,8 @@ committed state a v s messages =
 -- a step becomes an answer, and a commit needs its value ("last the 6 of a commit"). No handler ends with `Continues`; it is answered all the same, so
 -- that every step has an answer.
 abbrev pub finish_at : State → Asked → Bool → Rounds → Messages → Next → StateAnswer
-finish_at state a held s messages Stays = sent (with_rounds state s) messages
-finish_at state a held s messages Continues = sent (with_rounds state s) messages
+finish_at state a held s messages Stays = sent (state_with_rounds state s) messages
+finish_at state a held s messages Continues = sent (state_with_rounds state s) messages
 finish_at state a held s messages (Commits v) = cond held (committed state a v s messages) (refused ValueNotHeld state)
 
 -- what is refused leaves the old state

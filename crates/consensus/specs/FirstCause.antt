@@ -6,8 +6,8 @@
 -- Assumes nothing.
 use Rattle.std.specs.Prelude.{◌≡◌, ◌⊎◌, Bool, true, false, cond, not, ◌&&◌, ◌||◌, List, [], ◌∷◌, ℕ, zero, suc, min, eqb, leb, ltb, get_or, Option, None, Some, Ok, Err, is_some}
 use Rattle.message.specs.Outcomes.{Outcome}
-use Rattle.sets.specs.Sets.{contains, size, is_empty, fits}
-use Rattle.tables.specs.Tables.{look_up}
+use Rattle.basics.specs.sets.Sets.{contains, size, is_empty, fits}
+use Rattle.basics.specs.tables.Tables.{look_up}
 use Rattle.message.specs.Refusals.{refusal_number}
 use Rattle.message.specs.Rounds.{before, equal, round_of}
 use Rattle.message.specs.declared.ConsensusMsg.{ConsensusMsg}
@@ -49,9 +49,9 @@ number_alone why shard =
     }
 
 -- the number of what became of a call: 0 where it is done
-abbrev pub number_of : Outcome → ℕ
-number_of (Ok tt) = 0
-number_of (Err why) = refusal_number why
+abbrev pub number_of_outcome : Outcome → ℕ
+number_of_outcome (Ok tt) = 0
+number_of_outcome (Err why) = refusal_number why
 
 -- ---- 2 and 3: the numbers that a call names
 
@@ -171,12 +171,12 @@ in_swift_paxos Pando = false
 in_swift_paxos SwiftPaxos = true
 
 -- can_propose: a replica, and in SwiftPaxos every process
-abbrev pub takes_part : Settings → Bool
-takes_part s = is_live s s.my_pid || in_swift_paxos s.mode
+abbrev pub may_take_part : Settings → Bool
+may_take_part s = is_live s s.my_pid || in_swift_paxos s.mode
 
 -- "a non-replica (not SwiftPaxos) does nothing; older ones do nothing": of an older slot or round
-abbrev pub ignored : Settings → Rounds → ℕ → PaxosRound → Bool
-ignored s rounds slot round = not (takes_part s) || ltb slot rounds.core.slot || before (Some round) rounds.core.paxos.round
+abbrev pub is_ignored : Settings → Rounds → ℕ → PaxosRound → Bool
+is_ignored s rounds slot round = not (may_take_part s) || ltb slot rounds.core.slot || before (Some round) rounds.core.paxos.round
 
 -- "The delegate is the Rust's `delegate_or_leader`: in Pando the leader's delegate, for a FastV Prepare in SwiftPaxos its proposer unless oneself is the
 -- leader, and else the leader."
@@ -310,7 +310,7 @@ starts_in s = cond (led_from_start s.mode) (Some (round_of 0 s.first_leader)) No
 -- "proposal: not `can_propose`, round not starting, a promise held already, MultiPaxos by another than the leader, or another assertion of `propose`"
 abbrev pub not_allowed_causes : Settings → Rounds → List Row
 not_allowed_causes s rounds =
-    gives 11 (not (takes_part s))
+    gives 11 (not (may_take_part s))
     ∷ gives 11 (not (equal rounds.core.paxos.round (starts_in s)))
     ∷ gives 11 (not (nothing_held rounds.core.paxos.max_rv))
     ∷ gives 11 (led_from_start s.mode && not (eqb s.my_pid s.first_leader))
@@ -361,11 +361,11 @@ module _ (choose : Choice) where
   -- "ReadRequest: the source is not oneself"
   handling_causes s rounds d (ReadRequest id) = gives 8 (eqb d.message.src s.my_pid) ∷ []
   handling_causes s rounds d (Prepare slot round rv) =
-      cond (ignored s rounds slot round) []
+      cond (is_ignored s rounds slot round) []
       (gives 7 (source_not_live s d.message.src)
       ∷ prepare_panics choose s.mode (facts_of s rounds d round (promise_delegate s round.leader rv)) rv)
   handling_causes s rounds d (Accept slot round v) =
-      cond (ignored s rounds slot round) []
+      cond (is_ignored s rounds slot round) []
       (gives 7 (source_not_live s d.message.src) ∷ accept_panics s.mode (facts_of s rounds d round (leader_delegate s s.mode round.leader)) v)
 
   abbrev pub causes : Shard → Call → List Row

@@ -8,8 +8,8 @@ use Rattle.message.specs.declared.ConsensusMsg.TheVariants.{Prepare, Accept, For
 use Rattle.message.specs.declared.ReadId.{ReadId}
 use Rattle.message.specs.declared.Refusal.TheVariants.{Panic}
 use Rattle.fast_state.specs.Adopt.{Choice}
-use Rattle.read_tracker.specs.Reads.{insert}
-use Rattle.serving.specs.Serving.{receive_ready}
+use Rattle.read_tracker.specs.Reads.{insert_read}
+use Rattle.read_tracker.specs.serving.Serving.{receive_ready}
 use Rattle.read_tracker.specs.declared.Inserted.{Inserted}
 use Rattle.paxos_family.specs.Process.{process_classic, process_fast}
 use Rattle.propose.specs.Propose.{propose_classic, propose_fast}
@@ -58,7 +58,7 @@ after_insert state a (Ok ins) =
 
 -- the own answer counts at once where nothing is held
 abbrev pub read_inserted : State → ℕ → ℕ → Result Inserted Refusal
-read_inserted state tag arrival = insert state.rounds.core.tracker state.table tag arrival (not (is_some state.rounds.core.paxos.max_rv))
+read_inserted state tag arrival = insert_read state.rounds.core.tracker state.table tag arrival (not (is_some state.rounds.core.paxos.max_rv))
 
 unfoldable pub start_read : State → Asked → ℕ → ℕ → StateAnswer
 start_read state a tag arrival = after_insert state a (read_inserted state tag arrival)

@@ -5,7 +5,7 @@
 -- `is_some` (a value is given), and the choice among the best proposers of EPaxos (`Choice`).
 -- Assumes nothing.
 use Rattle.std.specs.Prelude.{Bool, true, false, cond, not, ◌&&◌, ◌||◌, List, [], ◌∷◌, ℕ, ◌-◌, eqb, leb, Option, None, Some, is_some}
-use Rattle.sets.specs.Sets.{contains, insert, size, is_empty}
+use Rattle.basics.specs.sets.Sets.{contains, insert, size, is_empty}
 use Rattle.quorum.specs.declared.QuorumRow.{QuorumRow}
 use Rattle.message.specs.Promises.{value_of, accept_round_of}
 use Rattle.message.specs.Rounds.{increment, before, equal, round_before, round_equal}
@@ -44,18 +44,18 @@ abbrev pub leads : Facts → Bool
 leads f = eqb (leader f) f.own
 
 -- oneself is the delegate
-abbrev pub gathers : Facts → Bool
-gathers f = eqb f.delegate f.own
+abbrev pub is_delegate : Facts → Bool
+is_delegate f = eqb f.delegate f.own
 
 abbrev pub from_delegate : Facts → Bool
 from_delegate f = eqb f.source f.delegate
 
-abbrev pub from_leader : Facts → Bool
-from_leader f = eqb f.source (leader f)
+abbrev pub is_from_leader : Facts → Bool
+is_from_leader f = eqb f.source (leader f)
 
--- a set has a majority of the replicas
-abbrev pub majority : Facts → ℕ → Bool
-majority f set = leb f.quorums.majority (size set)
+-- so many as the quorums' majority are in the set
+abbrev pub reaches_majority : Facts → ℕ → Bool
+reaches_majority f set = leb f.quorums.majority (size set)
 
 abbrev pub nothing_held : Option RoundV → Bool
 nothing_held None = true
@@ -76,14 +76,14 @@ with_both f set = cond f.replica (insert (insert set f.source) f.own) (cond (eqb
 
 -- the accept makes a majority of accepts in the round
 abbrev pub accepts_enough : Facts → Bool
-accepts_enough f = majority f (with_both f f.accepts)
+accepts_enough f = reaches_majority f (with_both f f.accepts)
 
 -- ---- promises
 
 -- what is held before the promise is counted: the promise itself, where nothing was held
-abbrev pub held_first : Option RoundV → RoundV → RoundV
-held_first None rv = rv
-held_first (Some old) rv = old
+abbrev pub held_before : Option RoundV → RoundV → RoundV
+held_before None rv = rv
+held_before (Some old) rv = old
 
 -- what is held once it is counted: "`receive_promise` replaces what is held if nothing is held or the new accept round is later"
 abbrev pub held_then : Option RoundV → RoundV → RoundV
@@ -104,7 +104,7 @@ promises_then f = with_both f (promises_first f)
 
 -- "the promise completes a majority"
 abbrev pub completes : Facts → Bool
-completes f = not (majority f (promises_first f)) && majority f (promises_then f)
+completes f = not (reaches_majority f (promises_first f)) && reaches_majority f (promises_then f)
 
 -- what is held fits an accept of oneself in the round
 abbrev pub own_fits : Facts → RoundV → Bool
@@ -112,7 +112,7 @@ own_fits f rv = fits_held (Some (held_then f.held rv)) f.round (value_of (held_t
 
 -- oneself, another than the delegate, holds a value as accepted in the round already
 abbrev pub accepted_in_round : Facts → RoundV → Bool
-accepted_in_round f rv = equal (accept_round_of (held_first f.held rv)) (Some f.round)
+accepted_in_round f rv = equal (accept_round_of (held_before f.held rv)) (Some f.round)
 
 -- ---- answers on the fast path
 
@@ -156,8 +156,8 @@ scored_answer f proposer p =
 abbrev pub epaxos_scores_then : Facts → ℕ → ℕ → ℕ
 epaxos_scores_then f proposer = cond (answered_before f) f.scores (scored_answer f proposer)
 
-abbrev pub epaxos_commits : Facts → ℕ → Bool
-epaxos_commits f proposer = unopposed f.quorums.epaxos (epaxos_answers_then f proposer)
+abbrev pub fast_quorum_unopposed : Facts → ℕ → Bool
+fast_quorum_unopposed f proposer = unopposed f.quorums.epaxos (epaxos_answers_then f proposer)
 
 abbrev pub is_one : Option ℕ → Bool
 is_one None = false
@@ -167,7 +167,7 @@ is_one (Some p) = true
 -- proposer that is present has a score above 0 (`one_scored` and `none_scored`, proofs/Reading.antt).
 abbrev pub adopts : Choice → Facts → ℕ → Bool
 adopts choose f proposer =
-    majority f (epaxos_answers_then f proposer).fast_answer_set && leb 2 (size (epaxos_answers_then f proposer).fast_proposers)
+    reaches_majority f (epaxos_answers_then f proposer).fast_answer_set && leb 2 (size (epaxos_answers_then f proposer).fast_proposers)
     && is_one (choose (epaxos_answers_then f proposer) (epaxos_scores_then f proposer))
 
 -- ---- SwiftPaxos
@@ -209,7 +209,7 @@ leader_answer_commits f =
 
 -- another than the delegate answers, unless it has accepted in the round; in SwiftPaxos the leader is not answered
 abbrev pub answers_delegate : Facts → Bool → RoundV → Bool
-answers_delegate f swift rv = not (gathers f) && not ((swift && eqb f.delegate (leader f)) || accepted_in_round f rv)
+answers_delegate f swift rv = not (is_delegate f) && not ((swift && eqb f.delegate (leader f)) || accepted_in_round f rv)
 
 -- at a replica, in every mode
 abbrev pub prepare_rows : Facts → Bool → RoundV → List Row
@@ -228,7 +228,7 @@ own_accept_rows f path rv =
     ∷ []
 
 abbrev pub classic_prepare : Facts → RoundV → List Row
-classic_prepare f rv = then (prepare_rows f false rv) (own_accept_rows f (gathers f && completes f) rv)
+classic_prepare f rv = then (prepare_rows f false rv) (own_accept_rows f (is_delegate f && completes f) rv)
 
 -- "then at the delegate in EPaxos, where nothing is accepted", of a FastV and of any other
 abbrev pub epaxos_answer_rows : Choice → Facts → Bool → RoundV → List Row
@@ -240,19 +240,19 @@ epaxos_answer_rows choose f path (FastV proposer v) =
     -- "it is no second answer from another process"
     gives 10 (path && answers_again f)
     -- "if the answer does not commit: the own proposal is among the proposers"
-    ∷ asserts 8 (path && not (epaxos_commits f proposer)) (contains (epaxos_answers_then f proposer).fast_proposers f.own)
+    ∷ asserts 8 (path && not (fast_quorum_unopposed f proposer)) (contains (epaxos_answers_then f proposer).fast_proposers f.own)
     -- "if a value is adopted: a majority has promised"
-    ∷ asserts 8 (path && not (epaxos_commits f proposer) && adopts choose f proposer) (majority f (promises_then f))
+    ∷ asserts 8 (path && not (fast_quorum_unopposed f proposer) && adopts choose f proposer) (reaches_majority f (promises_then f))
     -- "no accept is counted in the round"
-    ∷ asserts 9 (path && not (epaxos_commits f proposer) && adopts choose f proposer) (is_empty f.accepts)
+    ∷ asserts 9 (path && not (fast_quorum_unopposed f proposer) && adopts choose f proposer) (is_empty f.accepts)
     -- "last the 6 of a commit"; it is never first, for who commits here leads the round, and `ready_to_process` has waited for the value
-    ∷ gives 6 (not f.value_held && path && epaxos_commits f proposer)
+    ∷ gives 6 (not f.value_held && path && fast_quorum_unopposed f proposer)
     ∷ []
 
 abbrev pub epaxos_prepare : Choice → Facts → RoundV → List Row
 epaxos_prepare choose f rv =
     then (prepare_rows f false rv)
-    (then (own_accept_rows f (gathers f && accepted_then f rv && completes f) rv) (epaxos_answer_rows choose f (gathers f && not (accepted_then f rv)) rv))
+    (then (own_accept_rows f (is_delegate f && accepted_then f rv && completes f) rv) (epaxos_answer_rows choose f (is_delegate f && not (accepted_then f rv)) rv))
 
 -- `process_answers_at_swift_paxos_client`, Prepare: at the proposer and at a client, if it is the committer
 abbrev pub swift_answer_rows : Facts → Bool → RoundV → List Row
@@ -262,7 +262,7 @@ swift_answer_rows f path (PaxosV at v) =
     ∷ []
 swift_answer_rows f path (FastV proposer v) =
     -- "the source is not the leader"
-    asserts 8 (path && f.committer) (not (from_leader f))
+    asserts 8 (path && f.committer) (not (is_from_leader f))
     -- "it is no second answer from another process"
     ∷ gives 10 (path && f.committer && answers_again f)
     -- "last the 6 of a commit"
@@ -274,7 +274,7 @@ swift_prepare f rv =
     cond f.replica
     (then (prepare_rows f true rv)
     -- "then at the leader in SwiftPaxos, where nothing is accepted: no accept is counted in the round"
-    (asserts 9 (gathers f && leads f && not (accepted_then f rv)) (is_empty f.accepts) ∷ swift_answer_rows f (gathers f && not (leads f)) rv))
+    (asserts 9 (is_delegate f && leads f && not (accepted_then f rv)) (is_empty f.accepts) ∷ swift_answer_rows f (is_delegate f && not (leads f)) rv))
     (swift_answer_rows f true rv)
 
 abbrev pub prepare_panics : Choice → PFMode → Facts → RoundV → List Row
@@ -324,11 +324,11 @@ swift_replica_accept_rows f v =
 -- "Accept at a SwiftPaxos client² that is the committer"
 abbrev pub swift_client_accept_rows : Facts → ℕ → List Row
 swift_client_accept_rows f v =
-    then (leader_answer_rows f (f.committer && from_leader f))
+    then (leader_answer_rows f (f.committer && is_from_leader f))
     -- "then, if the answer does not commit, and from every other source: the accept fits³"
-    (asserts 9 (f.committer && not (from_leader f && leader_answer_commits f)) (fits_held f.held f.round v)
+    (asserts 9 (f.committer && not (is_from_leader f && leader_answer_commits f)) (fits_held f.held f.round v)
     -- "last the 6 of a commit"
-    ∷ gives 6 (not f.value_held && f.committer && ((from_leader f && leader_answer_commits f) || accepts_enough f))
+    ∷ gives 6 (not f.value_held && f.committer && ((is_from_leader f && leader_answer_commits f) || accepts_enough f))
     ∷ [])
 
 abbrev pub accept_panics : PFMode → Facts → ℕ → List Row

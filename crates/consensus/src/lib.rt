@@ -6,7 +6,7 @@
 ghost use Rattle.std.specs.Prelude.{◌≡◌, not};
 ghost use Rattle.fast_state.specs.Adopt.{lowest_best};
 ghost use Rattle.steps.specs.Steps.{on_rounds};
-ghost use Rattle.consensus.specs.Answers.{with_rounds, with_tracker, track, refused, sent, served, committed, finish};
+ghost use Rattle.consensus.specs.Answers.{state_with_rounds, with_tracker, track, refused, sent, served, committed, finish};
 ghost use Rattle.consensus.specs.Handle.{on_commit, on_read_request, on_read_response, after_insert, start_read, proposing, processed, process_message, handle, handle_call};
 ghost use Rattle.consensus.specs.Call.{new_core, new_state, new_shard, state_call, call_of};
 
@@ -14,15 +14,15 @@ use calls::{Call, CommittedSlot, Reply, Taken};
 use delivery::Delivery;
 use fast_state::{FastState, PaxosFamilyRoundState};
 use message::{ConsensusMsg, Outcome, ReadId, Refusal};
+use read_tracker::serving::Tracked;
 use read_tracker::{Inserted, ReadTable, ReadTracker};
-use serving::Tracked;
 use settings::Settings;
 use steps::{
     Asked, Core, CoreStep, Heard, Messages, Next, Rounds, RoundsStep, Step, no_messages,
     one_message,
 };
 
-// Everything that calls change: core and fast half, and the table of the reads.
+// What calls may change of a shard: its rounds, and the table of its reads. The mark and the settings, which no call changes, stand beside it in `Shard`.
 #[derive(Clone, Copy)]
 pub struct State {
     pub rounds: Rounds,
@@ -75,8 +75,8 @@ fn new_state(settings: Settings) -> State
     }
 }
 
-fn with_rounds(mut state: State, rounds: Rounds) -> State
-    ensures { result ≡ with_rounds state rounds }
+fn state_with_rounds(mut state: State, rounds: Rounds) -> State
+    ensures { result ≡ state_with_rounds state rounds }
 {
     state.rounds = rounds;
     state
@@ -148,7 +148,12 @@ fn committed(state: State, a: Asked, v: u64, s: Rounds, messages: Messages) -> S
 {
     let next = paxos_family::next_slot(a, v, s);
     let majority = a.member.quorums.majority;
-    let reads = serving::commit_slot(s.core.tracker, state.table, majority, next.core.slot);
+    let reads = read_tracker::serving::serve_at_commit(
+        s.core.tracker,
+        state.table,
+        majority,
+        next.core.slot,
+    );
     let commit = CommittedSlot {
         slot: s.core.slot,
         v,
@@ -163,7 +168,10 @@ fn finish(state: State, a: Asked, held: bool, step: Result<RoundsStep, Refusal>)
 {
     match step {
         Ok(step) => match step.next {
-            Next::Stays | Next::Continues => sent(with_rounds(state, step.state), step.messages),
+            Next::Stays | Next::Continues => sent(
+                state_with_rounds(state, step.state),
+                step.messages,
+            ),
             Next::Commits(v) if held => committed(state, a, v, step.state, step.messages),
             Next::Commits(_) => refused(state, Refusal::ValueNotHeld),
         },
@@ -202,7 +210,14 @@ fn on_read_response(state: State, a: Asked, id: ReadId, fast: bool) -> StateAnsw
 {
     let core = state.rounds.core;
     let majority = a.member.quorums.majority;
-    let reads = serving::receive_ready(core.tracker, state.table, id, majority, core.slot, fast);
+    let reads = read_tracker::serving::receive_ready(
+        core.tracker,
+        state.table,
+        id,
+        majority,
+        core.slot,
+        fast,
+    );
     served(state.rounds, reads, no_messages(), None)
 }
 
@@ -232,7 +247,13 @@ fn start_read(state: State, a: Asked, tag: u64, arrival_slot: u64) -> StateAnswe
 {
     let core = state.rounds.core;
     let local_ready = core.paxos.max_rv.is_none();
-    let inserted = read_tracker::insert(core.tracker, state.table, tag, arrival_slot, local_ready);
+    let inserted = read_tracker::insert_read(
+        core.tracker,
+        state.table,
+        tag,
+        arrival_slot,
+        local_ready,
+    );
     after_insert(state, a, inserted)
 }
 

@@ -1,8 +1,8 @@
 -- Refusals 2 and 3 of a message with what the host adds to it (document 01, the table of "Message and answer").
 -- Assumes nothing.
 use Rattle.std.specs.Prelude.{Bool, ◌&&◌, ℕ, ltb}
-pub use Rattle.limits.specs.Limits.{is_number, is_slot}
-unfoldable pub use Rattle.limits.specs.Limits.{round_numbers, rv_numbers, msg_numbers, number_given, rv_processes, msg_processes, requester_below}
+pub use Rattle.message.specs.limits.Limits.{is_number, is_slot}
+unfoldable pub use Rattle.message.specs.limits.Limits.{round_numbers, rv_numbers, msg_numbers, number_given, rv_processes, msg_processes, requester_below}
 use Rattle.delivery.specs.declared.Delivery.{Delivery}
 
 -- every number of the message, its source and its last value, and of both requesters

@@ -6,12 +6,12 @@ ghost use Rattle.std.specs.Prelude.{◌≡◌};
 ghost use Rattle.delivery.specs.Limits.{numbers_fit, processes_fit};
 ghost use Rattle.delivery.specs.Admit.{is_ahead, is_own_slot, is_other_last, needs_value, other_last_value, value_awaited, ready, admit};
 
-pub use limits::{is_number, is_slot};
-use limits::{msg_numbers, msg_processes, number_given, requester_below};
+pub use message::limits::{is_number, is_slot};
+use message::limits::{msg_numbers, msg_processes, number_given, requester_below};
 use message::{ConsensusMessage, ConsensusMsg, Outcome, Refusal};
 use steps::Core;
 
-// What the host says of a message: whether it holds the message's value, the value's requester, and the fast mark of a read.
+// What the host says of a message besides it (document 01): whether it holds the message's value, the value's requester, and the fast mark of a read.
 #[derive(Clone, Copy, PartialEq, Eq, Debug)]
 pub struct Said {
     pub value_held: bool,

@@ -12,7 +12,7 @@ use borrow.Author.Tests.{eqb-true, eqb-false, leb-true}
 use lib.Dec.{eqb, leb, ltb}
 use Rattle.basics.proofs.Tests.{either, not_both, and_left, and_right, or_cases}
 use Rattle.arrays.specs.Arrays.{core_of, core_numbers}
-use Rattle.arrays.specs.FastArrays.{FastArrays, fast_of}
+use Rattle.arrays.specs.FastArrays.{FastArrays, fast_state_of}
 use Rattle.arrays.specs.declared.Setup.{Setup}
 use Rattle.calls.specs.Decision.{decision_for, decision_of}
 use Rattle.calls.specs.declared.Call.{Call}
@@ -22,12 +22,12 @@ use Rattle.consensus.specs.Call.{state_call, in_shard, call_with}
 use Rattle.consensus.specs.Handle.{on_commit, on_read_request, on_read_response, after_insert, start_read, proposing, processed, handle_call}
 use Rattle.consensus.specs.declared.StateAnswer.{StateAnswer}
 use Rattle.calls.specs.Replies.{sent_reply, read_answer}
-use Rattle.counting.specs.Counting.{counts_accept, counts_promise, counts, with_counted}
-use Rattle.direct.specs.Direct.{Direct, direct, opened, open_read, count_response, response, served_after, served, is_response, concerns_slot, fast_half_acts, names_slot, of_older_round, is_older, handled, slot_call, taken, unless_refused, call_made, numbered, direct_call}
+use Rattle.questions.specs.counted.Counting.{counts_accept, counts_promise, only_counts, with_counted}
+use Rattle.direct.specs.Direct.{Direct, direct, opened_or_refused, start_flat_read, count_response, flat_read_response, served_after, left_after_reads, is_response, concerns_slot, fast_half_acts, names_slot, of_older_round, is_older_message, classic_message, slot_call, flat_call_taken, if_admitted, call_made, numbered, direct_call}
 use Rattle.direct.specs.Stands.{Memory, memory_with, HostAnswer, left_by, Stands, PassedOrMade, DirectStands, by_direct, DirectIsCall}
-use Rattle.direct_core.specs.CoreAnswers.{core_sends, core_committed, core_on_commit}
-use Rattle.direct_core.specs.Handled.{Written, CallOutcome, NoHalf, Left, leaves, refused_with, put_reply, put_served, put_outcome, put_answer, asked_in, put_step, handled_by, answer_request}
-use Rattle.direct_core.specs.declared.NotTaken.TheVariants.{Refused, PassedOn}
+use Rattle.direct.specs.handlers.CoreAnswers.{core_sends, core_committed, core_on_commit}
+use Rattle.direct.specs.handlers.Handled.{ReplyInArrays, CallOutcome, NoHalf, LeftInArrays, left_with, left_refused, put_reply, put_served, put_outcome, put_answer, asked_in, put_step, handled_by, answer_request}
+use Rattle.direct.specs.declared.handlers.NotTaken.TheVariants.{Refused, PassedOn}
 use Rattle.enter.specs.Enter.{is_older as enter_older}
 use Rattle.fast_state.specs.Adopt.{lowest_best}
 use Rattle.fast_state.specs.declared.FastState.{FastState}
@@ -37,13 +37,13 @@ use Rattle.message.specs.declared.ConsensusMsg.TheVariants.{Prepare, Accept}
 use Rattle.message.specs.declared.Refusal.{Refusal}
 use Rattle.message.specs.declared.Refusal.TheVariants.{Panic}
 use Rattle.propose.specs.Propose.{propose_classic, propose_fast}
-use Rattle.read_tracker.specs.Reads.{open_next, insert_opened, insert}
+use Rattle.read_tracker.specs.Reads.{open_next, insert_opened, insert_read}
 use Rattle.read_tracker.specs.declared.Opening.{Opening}
 use Rattle.read_tracker.specs.declared.ReadTable.{ReadTable}
 use Rattle.paxos_family.specs.Process.{process_classic, process_fast}
 use Rattle.paxos_family.proofs.Older.{Older, older_prepare, older_accept}
 use Rattle.steps.specs.Steps.{CoreStep, no_messages, one_message, stays, map_step, on_rounds}
-use Rattle.flat_calls.specs.Refusals.{refusal_of}
+use Rattle.questions.specs.decided.Refusals.{refusal_of}
 use Rattle.flat.specs.Decode.{is_yes, decoded_call, decoded_core, decoded_held, decoded_promise}
 use Rattle.flat.specs.declared.FlatCall.{FlatCall}
 use Rattle.flat.specs.declared.FlatHeld.{FlatHeld}
@@ -53,7 +53,7 @@ use Rattle.direct.proofs.NoReads.{response_without_reads}
 use Rattle.direct.proofs.Proposed.{proposal_uncommitted}
 use Rattle.direct.proofs.Steps.{StandsBy, in_memory, ClassicStands, sends_stand, commit_stands, step_stands, proposal_stands}
 
-module _ (m : Memory) (f : FlatCall) (w : Written) where
+module _ (m : Memory) (f : FlatCall) (w : ReplyInArrays) where
   open call_on m f use {decoded, settings, shard, called, outcome, delivered, msg, round, source, held, asked, heard, answered}
 
   -- no field of `CallOn`: `simp` rewrites it
@@ -70,7 +70,7 @@ module _ (m : Memory) (f : FlatCall) (w : Written) where
   table = m.table
 
   abbrev fast : FastState
-  fast = fast_of m.fast
+  fast = fast_state_of m.fast
 
   abbrev result : Direct CallOutcome NoHalf
   result = call_made s m.committers m.delegates core table f w
@@ -98,7 +98,7 @@ module _ (m : Memory) (f : FlatCall) (w : Written) where
   abbrev proposal : Result CoreStep Refusal
   proposal = propose_classic asked f.v decoded
 
-  proposed : Classic → StandsFor (answered (Propose f.v)) (served s table (put_step (propose_classic (asked_in s) f.v decoded) core w))
+  proposed : Classic → StandsFor (answered (Propose f.v)) (left_after_reads s table (put_step (propose_classic (asked_in s) f.v decoded) core w))
   unfolding state_call handle_call proposing
   proposed p =
       stands_as _ (ap (λ (t : Bool). finish shard.state asked true (cond t (propose_fast asked f.v shard.state.rounds) (map_step (on_rounds fast) proposal))) p)
@@ -115,10 +115,10 @@ module _ (m : Memory) (f : FlatCall) (w : Written) where
       ∙ ap (λ (r : Result CoreStep Refusal). finish shard.state asked held (map_step (on_rounds fast) r)) g
 
   abbrev StandsHandled : Type 0
-  StandsHandled = StandsFor (answered (Receive delivered)) (served s table (handled_by s m.committers m.delegates core f w))
+  StandsHandled = StandsFor (answered (Receive delivered)) (left_after_reads s table (handled_by s m.committers m.delegates core f w))
 
-  handled_as : {l : Left NoHalf} → handled_by s m.committers m.delegates core f w ≡ l → StandsFor (answered (Receive delivered)) (served s table l) → StandsHandled
-  handled_as e h = subst (λ (l : Left NoHalf). StandsFor (answered (Receive delivered)) (served s table l)) (sym e) h
+  handled_as : {l : LeftInArrays NoHalf} → handled_by s m.committers m.delegates core f w ≡ l → StandsFor (answered (Receive delivered)) (left_after_reads s table l) → StandsHandled
+  handled_as e h = subst (λ (l : LeftInArrays NoHalf). StandsFor (answered (Receive delivered)) (left_after_reads s table l)) (sym e) h
 
   step_handled : Classic → {x : ConsensusMsg} → msg ≡ x → ForRounds x → eqb kind 4 ≡ false → StandsHandled
   unfolding handled_by
@@ -128,12 +128,12 @@ module _ (m : Memory) (f : FlatCall) (w : Written) where
       (step_stands m w p held (process_classic asked heard msg decoded)))
 
   commit_stands_lem : Classic → StandsFor (on_commit shard.state asked f.message.slot f.message.v)
-      (served s table (put_answer (core_on_commit asked f.message.slot f.message.v decoded) core w))
+      (left_after_reads s table (put_answer (core_on_commit asked f.message.slot f.message.v decoded) core w))
   unfolding on_commit core_on_commit put_outcome served_after
   commit_stands_lem p = go (ltb f.message.slot decoded.slot)
     where
       go : (t : Bool) → StandsFor (cond t (nothing shard.state) (committed shard.state asked f.message.v shard.state.rounds no_messages))
-          (served s table (put_answer (cond t (core_sends decoded no_messages) (core_committed asked f.message.v decoded no_messages)) core w))
+          (left_after_reads s table (put_answer (cond t (core_sends decoded no_messages) (core_committed asked f.message.v decoded no_messages)) core w))
       go true = sends_stand m NoHalf (λ (h : NoHalf). m.fast) tt w decoded fast no_messages tt refl
       go false = commit_stands m w p f.message.v decoded no_messages
 
@@ -168,8 +168,8 @@ module _ (m : Memory) (f : FlatCall) (w : Written) where
       go (inr k1) (inl k2) = steps_to p (is_accept m f k1 k2) tt (older_accept asked heard f.message.slot round f.message.v decoded (by_round o))
       go (inr k1) (inr k2) = commit k1 k2 (sym (simp (k1, k2)) ∙ n) o
 
-  older_stands : is_older (core_of core) f.message ≡ true → Classic → StandsFor (answered (Receive delivered)) does_nothing
-  unfolding is_older
+  older_stands : is_older_message (core_of core) f.message ≡ true → Classic → StandsFor (answered (Receive delivered)) does_nothing
+  unfolding is_older_message
   older_stands o p =
       nothing_stands
       (older_answer (or_cases (ltb f.message.slot decoded.slot) _ (and_right (names_slot kind) _ o)) p (and_left (names_slot kind) _ o))
@@ -177,8 +177,8 @@ module _ (m : Memory) (f : FlatCall) (w : Written) where
   -- ---- messages that are only counted
 
   -- what is not old is not old to the handlers
-  not_older : names_slot kind ≡ true → eqb kind 4 ≡ false → is_older (core_of core) f.message ≡ false → enter_older f.message.slot round decoded ≡ false
-  unfolding is_older of_older_round enter_older
+  not_older : names_slot kind ≡ true → eqb kind 4 ≡ false → is_older_message (core_of core) f.message ≡ false → enter_older f.message.slot round decoded ≡ false
+  unfolding is_older_message of_older_round enter_older
   not_older n k4 o = sym (simp (n, k4)) ∙ o
 
   abbrev counted_core : List ℕ
@@ -187,9 +187,9 @@ module _ (m : Memory) (f : FlatCall) (w : Written) where
   abbrev counted_step : Result CoreStep Refusal
   counted_step = Ok (stays (decoded_core (with_counted s (core_of core) f.message)) no_messages)
 
-  counted_answer : Classic → is_older (core_of core) f.message ≡ false → counts s m.delegates (core_of core) f.message ≡ true
+  counted_answer : Classic → is_older_message (core_of core) f.message ≡ false → only_counts s m.delegates (core_of core) f.message ≡ true
       → answered (Receive delivered) ≡ finish shard.state asked held (map_step (on_rounds fast) counted_step)
-  unfolding names_slot counts with_counted
+  unfolding names_slot only_counts with_counted
   counted_answer p o n = go (either (eqb kind 2))
     where
       accept : eqb kind 2 ≡ true → eqb kind 1 ≡ false → eqb kind 4 ≡ false
@@ -218,21 +218,21 @@ module _ (m : Memory) (f : FlatCall) (w : Written) where
           let k1 : eqb kind 1 ≡ true = and_left (eqb kind 1) _ both in
           promise k1 k2 (other_kind kind 1 4 k1 refl) (and_right (eqb kind 1) _ both)
 
-  counted_stands : Classic → is_older (core_of core) f.message ≡ false → counts s m.delegates (core_of core) f.message ≡ true
+  counted_stands : Classic → is_older_message (core_of core) f.message ≡ false → only_counts s m.delegates (core_of core) f.message ≡ true
       → StandsFor (answered (Receive delivered)) (direct (Ok tt) counted_core table (put_served 0 w))
   counted_stands p o n = stands_as _ (counted_answer p o n) (refl, refl, refl)
 
   -- ---- reads
 
   -- a ReadRequest, in every mode
-  requests : StandsFor (on_read_request shard.state asked source (record { 0 = f.message.id })) (served s table (answer_request s core f.message w))
+  requests : StandsFor (on_read_request shard.state asked source (record { 0 = f.message.id })) (left_after_reads s table (answer_request s core f.message w))
   unfolding on_read_request answer_request served_after
   requests = go (eqb source s.my_pid)
     where
       go : (t : Bool) → StandsFor (cond t (refused Panic shard.state) (sent shard.state (one_message (read_answer s.my_pid source (record { 0 = f.message.id }) decoded))))
-          (served s table
-          (cond t (refused_with Panic core w)
-          (leaves (Ok false) core (put_reply (sent_reply (one_message (read_answer s.my_pid source (record { 0 = f.message.id }) decoded))) w))))
+          (left_after_reads s table
+          (cond t (left_refused Panic core w)
+          (left_with (Ok false) core (put_reply (sent_reply (one_message (read_answer s.my_pid source (record { 0 = f.message.id }) decoded))) w))))
       go true = refl
       go false = (refl, refl, refl)
 
@@ -241,8 +241,8 @@ module _ (m : Memory) (f : FlatCall) (w : Written) where
   response_counted = (refl, refl, refl)
 
   -- a response, by whether a read is open
-  responses : StandsFor (on_read_response shard.state asked (record { 0 = f.message.id }) (is_yes f.fast)) (response s core table f w)
-  unfolding response
+  responses : StandsFor (on_read_response shard.state asked (record { 0 = f.message.id }) (is_yes f.fast)) (flat_read_response s core table f w)
+  unfolding flat_read_response
   responses = go (eqb decoded.tracker.open_count 0) refl
     where
       go : (t : Bool) → eqb decoded.tracker.open_count 0 ≡ t
@@ -262,13 +262,13 @@ module _ (m : Memory) (f : FlatCall) (w : Written) where
   abbrev asks : Call
   asks = StartRead f.v f.arrival_slot
 
-  opens : (o : Result Opening Refusal) → StandsFor (after_insert shard.state asked (insert_opened decoded.tracker table o)) (opened s o core table w)
-  unfolding opened
+  opens : (o : Result Opening Refusal) → StandsFor (after_insert shard.state asked (insert_opened decoded.tracker table o)) (opened_or_refused s o core table w)
+  unfolding opened_or_refused
   opens (Err why) = refl
   opens (Ok o) = (refl, refl, refl)
 
-  read_stands : StandsFor (answered asks) (open_read s core table f w)
-  unfolding state_call handle_call start_read insert
+  read_stands : StandsFor (answered asks) (start_flat_read s core table f w)
+  unfolding state_call handle_call start_read insert_read
   read_stands =
       stands_as _
       (ap (λ (t : Bool). after_insert shard.state asked (insert_opened decoded.tracker table (open_next decoded.tracker f.v f.arrival_slot t)))
@@ -286,48 +286,48 @@ module _ (m : Memory) (f : FlatCall) (w : Written) where
       (subst (λ (x : Direct CallOutcome NoHalf). StandsFor (answered c) x) (sym e) h))
 
   module _ (z : refusal_of s (core_of core) f ≡ Ok tt) where
-    read_is : eqb f.kind 1 ≡ true → result ≡ open_read s core table f w
-    unfolding unless_refused
+    read_is : eqb f.kind 1 ≡ true → result ≡ start_flat_read s core table f w
+    unfolding if_admitted
     read_is k = simp (z, k)
 
     read : eqb f.kind 1 ≡ true → Done?
     unfolding decoded_call
     read k =
         let k0 : eqb f.kind 0 ≡ false = other_kind f.kind 1 0 k refl in
-        done_as asks (open_read s core table f w) (simp (k0, k)) (read_is k) read_stands
+        done_as asks (start_flat_read s core table f w) (simp (k0, k)) (read_is k) read_stands
 
     module _ (k : eqb f.kind 1 ≡ false) where
-      taken_is : result ≡ taken s m.committers m.delegates core table f w
-      unfolding unless_refused
+      taken_is : result ≡ flat_call_taken s m.committers m.delegates core table f w
+      unfolding if_admitted
       taken_is = simp (z, k)
 
       module _ (r : is_response f ≡ false) (p : concerns_slot f ≡ true) where
         passed : has_fast_path (mode_of_number s.mode) ≡ true → Done?
-        unfolding taken slot_call fast_half_acts
+        unfolding flat_call_taken slot_call fast_half_acts
         passed h = inl (simp (k, h, p), taken_is ∙ simp (r, p, h))
 
         proposal_is : has_fast_path (mode_of_number s.mode) ≡ false → eqb f.kind 0 ≡ true
-            → result ≡ served s table (put_step (propose_classic (asked_in s) f.v decoded) core w)
-        unfolding taken slot_call
+            → result ≡ left_after_reads s table (put_step (propose_classic (asked_in s) f.v decoded) core w)
+        unfolding flat_call_taken slot_call
         proposal_is h k0 = taken_is ∙ simp (r, p, h, k0)
 
         module _ (h : has_fast_path (mode_of_number s.mode) ≡ false) (k0 : eqb f.kind 0 ≡ false) where
-          older_is : is_older (core_of core) f.message ≡ true → result ≡ does_nothing
-          unfolding taken slot_call handled
+          older_is : is_older_message (core_of core) f.message ≡ true → result ≡ does_nothing
+          unfolding flat_call_taken slot_call classic_message
           older_is o = taken_is ∙ simp (r, p, h, k0, o)
 
-          counted_is : is_older (core_of core) f.message ≡ false → counts s m.delegates (core_of core) f.message ≡ true
+          counted_is : is_older_message (core_of core) f.message ≡ false → only_counts s m.delegates (core_of core) f.message ≡ true
               → result ≡ direct (Ok tt) counted_core table (put_served 0 w)
-          unfolding taken slot_call handled
+          unfolding flat_call_taken slot_call classic_message
           counted_is o n = taken_is ∙ simp (r, p, h, k0, o, n)
 
-          served_is : is_older (core_of core) f.message ≡ false → counts s m.delegates (core_of core) f.message ≡ false
-              → result ≡ served s table (handled_by s m.committers m.delegates core f w)
-          unfolding taken slot_call handled
+          served_is : is_older_message (core_of core) f.message ≡ false → only_counts s m.delegates (core_of core) f.message ≡ false
+              → result ≡ left_after_reads s table (handled_by s m.committers m.delegates core f w)
+          unfolding flat_call_taken slot_call classic_message
           served_is o n = taken_is ∙ simp (r, p, h, k0, o, n)
 
-      request_is : is_response f ≡ false → concerns_slot f ≡ false → result ≡ served s table (answer_request s core f.message w)
-      unfolding taken
+      request_is : is_response f ≡ false → concerns_slot f ≡ false → result ≡ left_after_reads s table (answer_request s core f.message w)
+      unfolding flat_call_taken
       request_is r p = taken_is ∙ simp (r, p)
 
       proposal_done : eqb f.kind 0 ≡ true → Done?
@@ -344,7 +344,7 @@ module _ (m : Memory) (f : FlatCall) (w : Written) where
         received = simp (k0, k)
 
         as_response : eqb kind 1 ≡ false → eqb kind 2 ≡ false → eqb kind 3 ≡ false → eqb kind 4 ≡ false → eqb kind 6 ≡ true → Done?
-        unfolding is_response taken
+        unfolding is_response flat_call_taken
         as_response k1 k2 k3 k4 k6 = done_as (Receive delivered) _ received (taken_is ∙ simp (k0, k6)) (stands_as _ (response_handled m f k1 k2 k3 k4 k6) responses)
 
         no_response : eqb kind 6 ≡ false → is_response f ≡ false
@@ -353,10 +353,10 @@ module _ (m : Memory) (f : FlatCall) (w : Written) where
 
         -- in the classic modes what is old does nothing, and what is only counted changes a set
         in_classic : is_response f ≡ false → concerns_slot f ≡ true → has_fast_path (mode_of_number s.mode) ≡ false → StandsHandled → Done?
-        in_classic r p h stands = go (either (is_older (core_of core) f.message)) (either (counts s m.delegates (core_of core) f.message))
+        in_classic r p h stands = go (either (is_older_message (core_of core) f.message)) (either (only_counts s m.delegates (core_of core) f.message))
           where
-            go : (is_older (core_of core) f.message ≡ true) ⊎ (is_older (core_of core) f.message ≡ false)
-                → (counts s m.delegates (core_of core) f.message ≡ true) ⊎ (counts s m.delegates (core_of core) f.message ≡ false) → Done?
+            go : (is_older_message (core_of core) f.message ≡ true) ⊎ (is_older_message (core_of core) f.message ≡ false)
+                → (only_counts s m.delegates (core_of core) f.message ≡ true) ⊎ (only_counts s m.delegates (core_of core) f.message ≡ false) → Done?
             go (inl o) n = done_as (Receive delivered) _ received (older_is r p h k0 o) (older_stands o h)
             go (inr o) (inl n) = done_as (Receive delivered) _ received (counted_is r p h k0 o n) (counted_stands h o n)
             go (inr o) (inr n) = done_as (Receive delivered) _ received (served_is r p h k0 o n) stands
@@ -415,7 +415,7 @@ module _ (m : Memory) (f : FlatCall) (w : Written) where
         new (inr k) = other_call k (either (eqb f.kind 0))
 
   refused_is : (why : Refusal) → outcome ≡ Err why → result ≡ direct (Err (Refused why)) core table w
-  unfolding unless_refused
+  unfolding if_admitted
   refused_is why e = simp (e)
 
   decided : (o : Outcome) → outcome ≡ o → Passed result ⊎ StandsFor (state_call lowest_best shard.state (decision_for settings called o)) result
@@ -445,7 +445,7 @@ pub direct_is_call : DirectIsCall
 direct_is_call m f w = claimed m f w
 
 -- so what equals it meets the contract of `chanbook_direct_call`
-pub direct_stands : (s : Setup) (committers delegates core : List ℕ) (table : ReadTable) (f : FlatCall) (w : Written) (d : Direct ℕ NoHalf)
+pub direct_stands : (s : Setup) (committers delegates core : List ℕ) (table : ReadTable) (f : FlatCall) (w : ReplyInArrays) (d : Direct ℕ NoHalf)
     → d ≡ direct_call s committers delegates core table f w → DirectStands s committers delegates core table f w d
 unfolding DirectStands
 direct_stands s committers delegates core table f w d e = λ (fast : FastArrays).

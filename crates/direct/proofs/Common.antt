@@ -21,10 +21,10 @@ use Rattle.consensus.specs.Handle.{on_commit, on_read_request, on_read_response,
 use Rattle.consensus.specs.declared.Shard.{Shard}
 use Rattle.consensus.specs.declared.State.{State}
 use Rattle.consensus.specs.declared.StateAnswer.{StateAnswer}
-use Rattle.counting.specs.Counting.{round_in}
+use Rattle.questions.specs.counted.Counting.{round_in}
 use Rattle.delivery.specs.declared.Delivery.{Delivery}
 use Rattle.direct.specs.Stands.{Memory, shard_of, call_in}
-use Rattle.direct_core.specs.Handled.{passed_on}
+use Rattle.direct.specs.handlers.Handled.{passed_on}
 use Rattle.fast_state.specs.Adopt.{lowest_best}
 use Rattle.message.specs.Refusals.{refusal_number}
 use Rattle.message.specs.declared.ConsensusMsg.{ConsensusMsg}

@@ -9,13 +9,13 @@ use Prim.Native.Nat.{ℕ}
 use borrow.Author.Tests.{eqb-true, not-true}
 use lib.Dec.{eqb, leb}
 use Rattle.basics.proofs.Tests.{not_both, and_left, and_right}
-use Rattle.accept.specs.Accept.{accepting, accepted, try_commit}
+use Rattle.classic.specs.accept.Accept.{accepting, accepted, try_commit}
 use Rattle.arrays.specs.Arrays.{settings_of}
 use Rattle.arrays.specs.declared.Setup.{Setup}
 use Rattle.calls.specs.Asked.{asked_of, gatherer_of, gatherer_in}
 use Rattle.consensus.proofs.Entered.{not_swift}
-use Rattle.counting.specs.Counting.{round_in, member_of, majority_of, in_own_round, repeats_held, accepts_with, counts_accept, keeps_held, promises_with, completes, gathers, counts_promise, with_accepts, with_promises}
-use Rattle.direct_core.specs.Handled.{heard_in}
+use Rattle.questions.specs.counted.Counting.{round_in, member_of, member_majority, in_own_round, repeats_held, accepted_set_with, counts_accept, keeps_held, prepared_set_with, completes_majority, gathers_promises, counts_promise, with_accepts, with_promises}
+use Rattle.direct.specs.handlers.Handled.{flat_heard}
 use Rattle.enter.specs.Enter.{is_older, from_live, in_round, enter}
 use Rattle.message.specs.Modes.{has_fast_path, is_swift_paxos, mode_of_number}
 use Rattle.message.specs.Promises.{accept_round_of}
@@ -24,11 +24,11 @@ use Rattle.message.specs.declared.ConsensusMsg.TheVariants.{Prepare, Accept}
 use Rattle.message.specs.declared.PaxosRound.{PaxosRound}
 use Rattle.message.specs.declared.RoundV.{RoundV}
 use Rattle.message.specs.declared.RoundV.TheVariants.{PaxosV}
-use Rattle.paxos_family.specs.Process.{process_classic, on_prepare, in_prepare, on_accept}
-use Rattle.prepare.specs.Prepare.{hold_first, preparing, prepared, becomes_prepared, gather}
+use Rattle.paxos_family.specs.Process.{process_classic, on_prepare, entered_prepare, on_accept}
+use Rattle.classic.specs.prepare.Prepare.{hold_first, preparing, prepared, becomes_prepared, gather}
 use Rattle.round_state.proofs.Holding.{accept_fits_lem, promise_not_later}
 use Rattle.round_state.specs.Paxos.{get_last_accepted_round, is_prepared, counted, held_after_promise, receive_promise, accept_fits, after_accept, receive_accept}
-use Rattle.sets.specs.Sets.{contains, size}
+use Rattle.basics.specs.sets.Sets.{contains, size}
 use Rattle.settings.specs.Questions.{delegate_in}
 use Rattle.settings.specs.declared.Settings.{Settings}
 use Rattle.steps.specs.Steps.{no_messages, with_paxos, left_fast_path, stays, continues}
@@ -67,7 +67,7 @@ module _ (a : Asked) (h : Heard) (slot : ℕ) (round : PaxosRound) (core : Core)
   pub promise_counted : (rv : RoundV) → Meets → is_some core.paxos.max_rv ≡ true → eqb h.delegate a.member.my_pid ≡ true
       → (not (is_prepared a.member core.paxos) && leb a.member.quorums.majority (size (counted a.member h.src core.paxos.prepared_set))) ≡ false
       → process_classic a h (Prepare slot round rv) core ≡ Ok (stays (with_paxos (receive_promise a.member h.src rv core.paxos) core) no_messages)
-  unfolding process_classic on_prepare in_prepare prepared hold_first preparing gather becomes_prepared receive_promise
+  unfolding process_classic on_prepare entered_prepare prepared hold_first preparing gather becomes_prepared receive_promise
   promise_counted rv m held own few = simp (enters m, held, own, few)
 
 kept : (held : Option RoundV) (rv : RoundV) → is_some held ≡ true → before (get_last_accepted_round held) (accept_round_of rv) ≡ false → held_after_promise held rv ≡ held
@@ -95,7 +95,7 @@ module _ (s : Setup) (committers delegates : List ℕ) (c : FlatCore) (f : FlatC
   a = asked_of settings
 
   abbrev h : Heard
-  h = heard_in s committers delegates f
+  h = flat_heard s committers delegates f
 
   abbrev core : Core
   core = decoded_core c
@@ -129,22 +129,22 @@ module _ (s : Setup) (committers delegates : List ℕ) (c : FlatCore) (f : FlatC
       core)
 
   pub accept_leaves : has_fast_path a.mode ≡ false → is_older m.slot (round_in m) core ≡ false → eqb m.kind 2 ≡ true → counts_accept s c m ≡ true
-      → process_classic a h (Accept m.slot (round_in m) m.v) core ≡ Ok (stays (decoded_core (with_accepts (accepts_with s c m) c)) no_messages)
-  unfolding counts_accept repeats_held accepts_with
+      → process_classic a h (Accept m.slot (round_in m) m.v) core ≡ Ok (stays (decoded_core (with_accepts (accepted_set_with s c m) c)) no_messages)
+  unfolding counts_accept repeats_held accepted_set_with
   accept_leaves p o k e =
       accept_counted a h m.slot (round_in m) core m.v (meets o (and_left (in_own_round s c m) _ rest) src) (not_swift a.mode p)
       (and_left (eqb s.my_pid m.leader) _ e)
       fits
-      (ap (λ (x : ℕ). leb (majority_of s) (size (counted (member_of s) x c.accepted_set))) src ∙ not-true _ (and_right (repeats_held c m) _ last))
+      (ap (λ (x : ℕ). leb (member_majority s) (size (counted (member_of s) x c.accepted_set))) src ∙ not-true _ (and_right (repeats_held c m) _ last))
       ∙ ap₂ (λ (x : ℕ) (y : Option RoundV). Ok (stays (with_set x y) no_messages)) src (sym same)
     where
       src : decoded_source s.process_count s.my_pid m ≡ m.src
       src = source_is 2 k refl refl
 
-      rest : (in_own_round s c m && (repeats_held c m && not (leb (majority_of s) (size (accepts_with s c m))))) ≡ true
+      rest : (in_own_round s c m && (repeats_held c m && not (leb (member_majority s) (size (accepted_set_with s c m))))) ≡ true
       rest = and_right (eqb s.my_pid m.leader) _ e
 
-      last : (repeats_held c m && not (leb (majority_of s) (size (accepts_with s c m)))) ≡ true
+      last : (repeats_held c m && not (leb (member_majority s) (size (accepted_set_with s c m)))) ≡ true
       last = and_right (in_own_round s c m) _ rest
 
       is_later : Bool
@@ -175,13 +175,13 @@ module _ (s : Setup) (committers delegates : List ℕ) (c : FlatCore) (f : FlatC
   gatherer_is k e = simp (k, e)
 
   pub promise_leaves : is_older m.slot (round_in m) core ≡ false → eqb m.kind 1 ≡ true → counts_promise s delegates c m ≡ true
-      → process_classic a h (Prepare m.slot (round_in m) (decoded_promise m.rv)) core ≡ Ok (stays (decoded_core (with_promises (promises_with s c m) c)) no_messages)
-  unfolding counts_promise gathers keeps_held completes promises_with receive_promise
+      → process_classic a h (Prepare m.slot (round_in m) (decoded_promise m.rv)) core ≡ Ok (stays (decoded_core (with_promises (prepared_set_with s c m) c)) no_messages)
+  unfolding counts_promise gathers_promises keeps_held completes_majority prepared_set_with receive_promise
   promise_leaves o k e =
       promise_counted a h m.slot (round_in m) core (decoded_promise m.rv) (meets o (and_left (in_own_round s c m) _ rest) src)
       (and_left (is_some (decoded_held c.max_rv)) _ keeps)
       (ap (λ (x : ℕ). eqb x s.my_pid) (gatherer_is k (and_left (eqb m.rv.fast 0) _ gathered)) ∙ and_right (eqb m.rv.fast 0) _ gathered)
-      (ap (λ (x : ℕ). not (is_prepared a.member core.paxos) && leb (majority_of s) (size (counted (member_of s) x c.prepared_set))) src ∙ not-true _ (and_right (keeps_held c m) _ last))
+      (ap (λ (x : ℕ). not (is_prepared a.member core.paxos) && leb (member_majority s) (size (counted (member_of s) x c.prepared_set))) src ∙ not-true _ (and_right (keeps_held c m) _ last))
       ∙ ap₂ (λ (x : ℕ) (y : Option RoundV). Ok (stays (with_prepared x y) no_messages)) src
       (kept (decoded_held c.max_rv) (decoded_promise m.rv) (and_left (is_some (decoded_held c.max_rv)) _ keeps) (not-true _ (and_right (is_some (decoded_held c.max_rv)) _ keeps)))
     where
@@ -189,12 +189,12 @@ module _ (s : Setup) (committers delegates : List ℕ) (c : FlatCore) (f : FlatC
       src = source_is 1 k refl refl
 
       gathered : (eqb m.rv.fast 0 && eqb (delegate_in delegates (mode_of_number s.mode) m.leader) s.my_pid) ≡ true
-      gathered = and_left (gathers s delegates m) _ e
+      gathered = and_left (gathers_promises s delegates m) _ e
 
-      rest : (in_own_round s c m && (keeps_held c m && not (completes s c m))) ≡ true
-      rest = and_right (gathers s delegates m) _ e
+      rest : (in_own_round s c m && (keeps_held c m && not (completes_majority s c m))) ≡ true
+      rest = and_right (gathers_promises s delegates m) _ e
 
-      last : (keeps_held c m && not (completes s c m)) ≡ true
+      last : (keeps_held c m && not (completes_majority s c m)) ≡ true
       last = and_right (in_own_round s c m) _ rest
 
       keeps : (is_some (decoded_held c.max_rv) && not (before (get_last_accepted_round (decoded_held c.max_rv)) (accept_round_of (decoded_promise m.rv)))) ≡ true

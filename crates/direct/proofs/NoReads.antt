@@ -6,14 +6,14 @@ use mathlib.Core.Bool.{Bool}
 use mathlib.Core.Path.{◌≡◌, sym, ap}
 use Rattle.calls.specs.Commits.{committed_slot}
 use Rattle.calls.specs.Replies.{is_fast, committed_reply}
-use Rattle.consensus.specs.Answers.{with_rounds, nothing, served, committed}
+use Rattle.consensus.specs.Answers.{state_with_rounds, nothing, served, committed}
 use Rattle.consensus.specs.Handle.{on_read_response}
 use Rattle.consensus.specs.declared.State.{State}
 use Rattle.consensus.specs.declared.StateAnswer.{StateAnswer}
 use Rattle.message.specs.declared.ReadId.{ReadId}
 use Rattle.paxos_family.specs.Commit.{commit_slot, next_slot}
-use Rattle.serving.proofs.NoReads.{commit_untouched, response_untouched}
-use Rattle.serving.specs.declared.Tracked.{Tracked}
+use Rattle.read_tracker.proofs.serving.NoReads.{commit_untouched, response_untouched}
+use Rattle.read_tracker.specs.declared.serving.Tracked.{Tracked}
 use Rattle.steps.specs.Steps.{no_messages}
 use Rattle.steps.specs.declared.Asked.{Asked}
 use Rattle.steps.specs.declared.Messages.{Messages}
@@ -21,7 +21,7 @@ use Rattle.steps.specs.declared.Rounds.{Rounds}
 
 -- what a commit hands back where it serves no read
 abbrev pub committed_alone : State → Asked → ℕ → Rounds → Messages → StateAnswer
-committed_alone state a v s messages = record { state = with_rounds state (next_slot a v s); reply = committed_reply a v s.core messages }
+committed_alone state a v s messages = record { state = state_with_rounds state (next_slot a v s); reply = committed_reply a v s.core messages }
 
 module _ (state : State) (a : Asked) where
   pub commit_without_reads : (v : ℕ) (s : Rounds) (messages : Messages) → s.core.tracker.open_count ≡ 0

@@ -9,8 +9,8 @@ use Rattle.message.specs.declared.PaxosRound.{PaxosRound}
 use Rattle.message.specs.declared.Refusal.{Refusal}
 use Rattle.message.specs.declared.RoundV.{RoundV}
 use Rattle.message.specs.declared.RoundV.TheVariants.{PaxosV}
-use Rattle.proposal.specs.Proposal.{may_propose, proposal_round}
-use Rattle.propose.specs.Propose.{proposed, propose_prepare, after_own_promise, propose_accept, propose_classic}
+use Rattle.propose.specs.proposal.Proposal.{may_propose, proposal_round}
+use Rattle.propose.specs.Propose.{broadcast_own, propose_prepare, after_own_promise, propose_accept, propose_classic}
 use Rattle.round_state.specs.Paxos.{goto_round, paxos_propose_v, self_accept}
 use Rattle.round_state.specs.declared.PaxosState.{PaxosState}
 use Rattle.steps.specs.declared.Asked.{Asked}
@@ -34,7 +34,7 @@ module _ (a : Asked) where
   unfolding propose_prepare
   by_prepare round rv core = go (paxos_propose_v a.member rv (goto_round (Some round) core.paxos))
     where
-      go : (promised : Result PaxosState Refusal) → UncommittedBy (proposed a (Prepare core.slot round rv) core promised)
+      go : (promised : Result PaxosState Refusal) → UncommittedBy (broadcast_own a (Prepare core.slot round rv) core promised)
       go (Ok p) = tt
       go (Err why) = tt
 
@@ -42,7 +42,7 @@ module _ (a : Asked) where
   unfolding propose_accept
   by_accept round v core = go (paxos_propose_v a.member (PaxosV None v) (goto_round (Some round) core.paxos))
     where
-      then : (accepted : Result PaxosState Refusal) → UncommittedBy (proposed a (Accept core.slot round v) core accepted)
+      then : (accepted : Result PaxosState Refusal) → UncommittedBy (broadcast_own a (Accept core.slot round v) core accepted)
       then (Ok p) = tt
       then (Err why) = tt
 

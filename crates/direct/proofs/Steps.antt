@@ -10,19 +10,19 @@ use native.Mathlib.Omega.{arith}
 use borrow.Author.Tests.{ltb-false}
 use lib.Dec.{ltb}
 use Rattle.arrays.specs.Arrays.{settings_of, core_of, core_numbers}
-use Rattle.arrays.specs.FastArrays.{FastArrays, fast_of}
+use Rattle.arrays.specs.FastArrays.{FastArrays, fast_state_of}
 use Rattle.calls.specs.Asked.{asked_of}
 use Rattle.calls.specs.Replies.{sent_reply, committed_reply}
-use Rattle.consensus.specs.Answers.{with_rounds, with_tracker as track_core, sent, committed, finish_at, finish}
+use Rattle.consensus.specs.Answers.{state_with_rounds, with_tracker as track_core, sent, committed, finish_at, finish}
 use Rattle.consensus.specs.Call.{with_state, in_shard}
 use Rattle.consensus.specs.declared.State.{State}
 use Rattle.consensus.specs.declared.StateAnswer.{StateAnswer}
-use Rattle.direct.specs.Direct.{Direct, with_tracker, serve_ready, served_after, served, numbered}
+use Rattle.direct.specs.Direct.{Direct, flat_with_tracker, serve_ready, served_after, left_after_reads, numbered}
 use Rattle.direct.specs.Stands.{Memory, shard_of, left_by, Stands}
-use Rattle.direct_core.specs.CoreAnswers.{core_committed}
-use Rattle.direct_core.specs.Handled.{Written, put_reply, CallOutcome, call_number, Left, NoHalf, put_outcome, put_answer, put_step, put_next, put_processed}
-use Rattle.direct_core.specs.declared.NotTaken.{NotTaken}
-use Rattle.direct_core.specs.declared.NotTaken.TheVariants.{Refused}
+use Rattle.direct.specs.handlers.CoreAnswers.{core_committed}
+use Rattle.direct.specs.handlers.Handled.{ReplyInArrays, put_reply, CallOutcome, call_number, LeftInArrays, NoHalf, put_outcome, put_answer, put_step, put_next, put_processed}
+use Rattle.direct.specs.declared.handlers.NotTaken.{NotTaken}
+use Rattle.direct.specs.declared.handlers.NotTaken.TheVariants.{Refused}
 use Rattle.fast_state.specs.Fast.{no_answers}
 use Rattle.fast_state.specs.declared.FastState.{FastState}
 use Rattle.message.specs.Modes.{has_fast_path}
@@ -50,7 +50,7 @@ abbrev pub state_with : Core → FastState → ReadTable → State
 state_with core fast table = record { rounds = rounds_with core fast; table = table }
 
 -- the reads of a core are counted anew where its numbers stand
-tracked : (t : ReadTracker) (c : Core) → decoded_core (with_tracker t (encoded_core c)) ≡ track_core t c
+tracked : (t : ReadTracker) (c : Core) → decoded_core (flat_with_tracker t (encoded_core c)) ≡ track_core t c
 tracked t c = ap (track_core t) (core_encoded c)
 
 -- what the handlers ask
@@ -58,7 +58,7 @@ abbrev pub asked_by : Memory → Asked
 asked_by m = asked_of (decoded_settings (settings_of m.setup m.committers m.delegates))
 
 -- `means` is what the fast half that is left stands for: of the classic modes, the one beside the arrays
-module _ (m : Memory) (Half : Type 0) (means : Half → FastArrays) (half : Half) (w : Written) where
+module _ (m : Memory) (Half : Type 0) (means : Half → FastArrays) (half : Half) (w : ReplyInArrays) where
   abbrev state : State
   state = (shard_of m).state
 
@@ -71,7 +71,7 @@ module _ (m : Memory) (Half : Type 0) (means : Half → FastArrays) (half : Half
 
   abbrev pub StandsBy : StateAnswer → Outcome → Direct CallOutcome Half → Type 0
   StandsBy x (Ok tt) d =
-      (d.told ≡ Ok tt) × (state_with (decoded_core (core_of d.core)) (fast_of (means d.half)) d.table ≡ x.state) × (d.reply ≡ put_reply x.reply w)
+      (d.told ≡ Ok tt) × (state_with (decoded_core (core_of d.core)) (fast_state_of (means d.half)) d.table ≡ x.state) × (d.reply ≡ put_reply x.reply w)
   StandsBy x (Err why) d = d ≡ left_alone (Refused why)
 
   abbrev pub StandsFor : StateAnswer → Direct CallOutcome Half → Type 0
@@ -87,14 +87,14 @@ module _ (m : Memory) (Half : Type 0) (means : Half → FastArrays) (half : Half
   abbrev pub sending : Core → Messages → Half → Direct CallOutcome Half
   sending s ms after = record { told = Ok tt; core = core_numbers (encoded_core s); half = after; table = m.table; reply = put_reply (sent_reply ms) w }
 
-  pub sends_stand : (s : Core) (fast : FastState) (ms : Messages) (after : Half) → fast_of (means after) ≡ fast
-      → StandsFor (sent (with_rounds state (rounds_with s fast)) ms) (sending s ms after)
+  pub sends_stand : (s : Core) (fast : FastState) (ms : Messages) (after : Half) → fast_state_of (means after) ≡ fast
+      → StandsFor (sent (state_with_rounds state (rounds_with s fast)) ms) (sending s ms after)
   sends_stand s fast ms after e = (refl, ap₂ (λ (c : Core) (h : FastState). state_with c h m.table) (core_encoded s) e, refl)
 
   -- ---- the commit of a value
 
   -- the answer of the core, and whether reads were open
-  abbrev pub committing : ℕ → Core → Messages → Half → Bool → Left Half
+  abbrev pub committing : ℕ → Core → Messages → Half → Bool → LeftInArrays Half
   committing v s ms after reads_open =
       record {
         handled = Ok reads_open;
@@ -104,14 +104,14 @@ module _ (m : Memory) (Half : Type 0) (means : Half → FastArrays) (half : Half
       }
 
   -- where reads are open, those that became ready are served; else none is
-  pub commits_stand : (v : ℕ) (s : Core) (fast : FastState) (ms : Messages) (after : Half) → fast_of (means after) ≡ (next_slot asked v (rounds_with s fast)).fast
+  pub commits_stand : (v : ℕ) (s : Core) (fast : FastState) (ms : Messages) (after : Half) → fast_state_of (means after) ≡ (next_slot asked v (rounds_with s fast)).fast
       → (reads_open : Bool) → ltb 0 s.tracker.open_count ≡ reads_open
-      → StandsFor (committed state asked v (rounds_with s fast) ms) (served m.setup m.table (committing v s ms after reads_open))
+      → StandsFor (committed state asked v (rounds_with s fast) ms) (left_after_reads m.setup m.table (committing v s ms after reads_open))
   unfolding committed served_after serve_ready put_reply commit_slot
   commits_stand v s fast ms after e true o =
       (refl, ap₂ (λ (c : Core) (h : FastState). state_with c h (committed state asked v (rounds_with s fast) ms).state.table) (tracked _ (next_core asked v s)) e, refl)
   commits_stand v s fast ms after e false o =
-      subst (λ (x : StateAnswer). StandsFor x (served m.setup m.table (committing v s ms after false)))
+      subst (λ (x : StateAnswer). StandsFor x (left_after_reads m.setup m.table (committing v s ms after false)))
       (commit_without_reads state asked v (rounds_with s fast) ms none)
       (refl, ap₂ (λ (c : Core) (h : FastState). state_with c h m.table) (core_encoded (next_core asked v s)) e, refl)
     where
@@ -120,12 +120,12 @@ module _ (m : Memory) (Half : Type 0) (means : Half → FastArrays) (half : Half
 
 -- ---- the end of a step in the classic modes, which leave the fast half
 
-module _ (m : Memory) (w : Written) where
+module _ (m : Memory) (w : ReplyInArrays) where
   abbrev half_of : NoHalf → FastArrays
   half_of h = m.fast
 
   abbrev fast : FastState
-  fast = fast_of m.fast
+  fast = fast_state_of m.fast
 
   abbrev pub ClassicStands : StateAnswer → Direct CallOutcome NoHalf → Type 0
   ClassicStands x d = StandsFor m NoHalf half_of tt w x d
@@ -142,13 +142,13 @@ module _ (m : Memory) (w : Written) where
     kept v s = sym (ap (λ (t : Bool). cond t no_answers fast) p)
 
     pub commit_stands : (v : ℕ) (s : Core) (ms : Messages)
-        → ClassicStands (committed now a v (rounds_with s fast) ms) (served m.setup m.table (put_answer (core_committed a v s ms) m.core w))
+        → ClassicStands (committed now a v (rounds_with s fast) ms) (left_after_reads m.setup m.table (put_answer (core_committed a v s ms) m.core w))
     unfolding put_outcome core_committed
     commit_stands v s ms = commits_stand m NoHalf half_of tt w v s fast ms tt (kept v s) (ltb 0 s.tracker.open_count) refl
 
     by_next : (held : Bool) (s : Core) (ms : Messages) (next : Next)
         → ClassicStands (finish_at now a held (rounds_with s fast) ms next)
-        (served m.setup m.table (put_next a held (record { state = s; messages = ms; next = next }) next m.core w))
+        (left_after_reads m.setup m.table (put_next a held (record { state = s; messages = ms; next = next }) next m.core w))
     unfolding put_next served_after
     by_next held s ms Stays = sends_stand m NoHalf half_of tt w s fast ms tt refl
     by_next held s ms Continues = sends_stand m NoHalf half_of tt w s fast ms tt refl
@@ -156,20 +156,20 @@ module _ (m : Memory) (w : Written) where
     by_next false s ms (Commits v) = refl
 
     pub step_stands : (held : Bool) (step : Result CoreStep Refusal)
-        → ClassicStands (finish now a held (map_step (on_rounds fast) step)) (served m.setup m.table (put_processed a held step m.core w))
+        → ClassicStands (finish now a held (map_step (on_rounds fast) step)) (left_after_reads m.setup m.table (put_processed a held step m.core w))
     unfolding put_processed served_after
     step_stands held (Ok step) = by_next held step.state step.messages step.next
     step_stands held (Err why) = refl
 
     -- the step of a proposal, which commits nothing
     pub proposal_stands : (step : Result CoreStep Refusal) → UncommittedBy step
-        → ClassicStands (finish now a true (map_step (on_rounds fast) step)) (served m.setup m.table (put_step step m.core w))
+        → ClassicStands (finish now a true (map_step (on_rounds fast) step)) (left_after_reads m.setup m.table (put_step step m.core w))
     unfolding put_step served_after
     proposal_stands (Ok step) u = go step.next u
       where
         go : (next : Next) → Uncommitted next
             → ClassicStands (finish_at now a true (rounds_with step.state fast) step.messages next)
-            (served m.setup m.table (put_step (Ok (record { state = step.state; messages = step.messages; next = next })) m.core w))
+            (left_after_reads m.setup m.table (put_step (Ok (record { state = step.state; messages = step.messages; next = next })) m.core w))
         go Stays u = sends_stand m NoHalf half_of tt w step.state fast step.messages tt refl
         go Continues u = sends_stand m NoHalf half_of tt w step.state fast step.messages tt refl
         go (Commits v) u = absurd u

@@ -2,15 +2,15 @@
 -- The open and the served reads are what the numbers of their arrays stand for (`table_of`).
 -- Assumes nothing.
 use Rattle.std.specs.Prelude.{Bool, true, false, cond, not, ◌&&◌, ◌||◌, List, ◌≡◌, ℕ, eqb, leb, ltb, set, Some, Result, Ok, Err}
-use Rattle.array_reads.specs.Rows.{table_of}
-use Rattle.array_reads.specs.declared.ReadArrays.{ReadArrays}
+use Rattle.arrays.specs.reads.Rows.{table_of}
+use Rattle.arrays.specs.declared.reads.ReadArrays.{ReadArrays}
 use Rattle.arrays.specs.Arrays.{core_of, core_numbers}
 use Rattle.arrays.specs.declared.Setup.{Setup}
 use Rattle.calls.specs.Replies.{sent_reply}
-use Rattle.counting.specs.Counting.{round_in, counts, with_counted}
-use Rattle.direct_core.specs.Handled.{Written, put_reply, put_served, CallOutcome, call_number, Left, NoHalf, asked_in, put_step, handled_by, answer_request}
-use Rattle.direct_core.specs.Lent.{Array, came, left}
-use Rattle.direct_core.specs.declared.NotTaken.TheVariants.{Refused, PassedOn}
+use Rattle.questions.specs.counted.Counting.{round_in, only_counts, with_counted}
+use Rattle.direct.specs.handlers.Handled.{ReplyInArrays, put_reply, put_served, CallOutcome, call_number, LeftInArrays, NoHalf, asked_in, put_step, handled_by, answer_request}
+use Rattle.direct.specs.handlers.Lent.{Array, at_entry, at_exit}
+use Rattle.direct.specs.declared.handlers.NotTaken.TheVariants.{Refused, PassedOn}
 use Rattle.message.specs.Modes.{has_fast_path, mode_of_number}
 use Rattle.message.specs.Outcomes.{Outcome}
 use Rattle.message.specs.Rounds.{before}
@@ -22,10 +22,10 @@ use Rattle.read_tracker.specs.Reads.{read_id, open_next, inserted}
 use Rattle.read_tracker.specs.declared.Opening.{Opening}
 use Rattle.read_tracker.specs.declared.ReadTable.{ReadTable}
 use Rattle.read_tracker.specs.declared.ReadTracker.{ReadTracker}
-use Rattle.serving.specs.Serving.{receive_ready, commit_slot}
-use Rattle.serving.specs.declared.Tracked.{Tracked}
+use Rattle.read_tracker.specs.serving.Serving.{receive_ready, serve_at_commit}
+use Rattle.read_tracker.specs.declared.serving.Tracked.{Tracked}
 use Rattle.steps.specs.Steps.{one_message, sends, to_all}
-use Rattle.flat_calls.specs.Refusals.{refusal_of}
+use Rattle.questions.specs.decided.Refusals.{refusal_of}
 use Rattle.flat.specs.Decode.{is_yes, decoded_core, decoded_round}
 use Rattle.flat.specs.declared.FlatCall.{FlatCall}
 use Rattle.flat.specs.declared.FlatCore.{FlatCore}
@@ -34,20 +34,20 @@ use Rattle.flat.specs.declared.FlatMessage.{FlatMessage}
 -- ---- the reads
 
 -- when the function is called
-abbrev pub reads_came : Array → Array → ReadTable
-reads_came reads served = table_of (came reads) (came served)
+abbrev pub reads_at_entry : Array → Array → ReadTable
+reads_at_entry reads served = table_of (at_entry reads) (at_entry served)
 
 -- when it returns
-abbrev pub reads_left : Array → Array → ReadTable
-reads_left reads served = table_of (left reads) (left served)
+abbrev pub reads_at_exit : Array → Array → ReadTable
+reads_at_exit reads served = table_of (at_exit reads) (at_exit served)
 
 -- ---- the reads of a core
 
 abbrev pub tracker_of : FlatCore → ReadTracker
 tracker_of c = record { next_id = c.next_id; open_count = c.open_count }
 
-abbrev pub with_tracker : ReadTracker → FlatCore → FlatCore
-with_tracker t c =
+abbrev pub flat_with_tracker : ReadTracker → FlatCore → FlatCore
+flat_with_tracker t c =
     record {
       slot = c.slot;
       last_v = c.last_v;
@@ -60,54 +60,54 @@ with_tracker t c =
       open_count = t.open_count;
     }
 
-abbrev pub majority_of : Setup → ℕ
-majority_of s = (row_of s.replica_count).majority
+abbrev pub setup_majority : Setup → ℕ
+setup_majority s = (row_of s.replica_count).majority
 
 -- ---- what a call leaves
 
--- what is told of it is its outcome, and of the call of a host the number; with the fast half, where one is lent
+-- what a call leaves in the arrays that it changes, with what is told of it: the outcome, and to a host its number
 pub record Direct (A Half : Type 0) : Type 0 where
   pub told : A
   pub core : List ℕ
   pub half : Half
   pub table : ReadTable
-  pub reply : Written
+  pub reply : ReplyInArrays
 
-abbrev pub direct : {A : Type 0} → A → List ℕ → ReadTable → Written → Direct A NoHalf
+abbrev pub direct : {A : Type 0} → A → List ℕ → ReadTable → ReplyInArrays → Direct A NoHalf
 direct told core table reply = record { told = told; core = core; half = tt; table = table; reply = reply }
 
 -- ---- a new read
 
 -- everyone is asked for the read
-abbrev pub opened_as : Setup → FlatCore → ReadTable → Opening → Written → Direct CallOutcome NoHalf
+abbrev pub opened_as : Setup → FlatCore → ReadTable → Opening → ReplyInArrays → Direct CallOutcome NoHalf
 opened_as s c table o w =
-    direct (Ok tt) (core_numbers (with_tracker o.tracker c)) (inserted (tracker_of c) table o).table
+    direct (Ok tt) (core_numbers (flat_with_tracker o.tracker c)) (inserted (tracker_of c) table o).table
     (put_reply (sent_reply (one_message (sends (asked_in s) (decoded_core c) to_all (ReadRequest o.read.id)))) w)
 
 -- by whether there is room
-unfoldable pub opened : Setup → Result Opening Refusal → List ℕ → ReadTable → Written → Direct CallOutcome NoHalf
-opened s (Ok o) core table w = opened_as s (core_of core) table o w
-opened s (Err why) core table w = direct (Err (Refused why)) core table w
+unfoldable pub opened_or_refused : Setup → Result Opening Refusal → List ℕ → ReadTable → ReplyInArrays → Direct CallOutcome NoHalf
+opened_or_refused s (Ok o) core table w = opened_as s (core_of core) table o w
+opened_or_refused s (Err why) core table w = direct (Err (Refused why)) core table w
 
 -- the own answer counts where nothing is held
-abbrev pub open_read : Setup → List ℕ → ReadTable → FlatCall → Written → Direct CallOutcome NoHalf
-open_read s core table f w =
-    opened s (open_next (tracker_of (core_of core)) f.v f.arrival_slot (eqb (core_of core).max_rv.given 0)) core table w
+abbrev pub start_flat_read : Setup → List ℕ → ReadTable → FlatCall → ReplyInArrays → Direct CallOutcome NoHalf
+start_flat_read s core table f w =
+    opened_or_refused s (open_next (tracker_of (core_of core)) f.v f.arrival_slot (eqb (core_of core).max_rv.given 0)) core table w
 
 -- ---- a response, and a commit where reads are open
 
 -- nothing is sent or committed
-abbrev pub counted : FlatCore → Written → Tracked → Direct CallOutcome NoHalf
-counted c w t = direct (Ok tt) (core_numbers (with_tracker t.tracker c)) t.table (put_served t.served_count w)
+abbrev pub only_counted : FlatCore → ReplyInArrays → Tracked → Direct CallOutcome NoHalf
+only_counted c w t = direct (Ok tt) (core_numbers (flat_with_tracker t.tracker c)) t.table (put_served t.served_count w)
 
-unfoldable pub count_response : Setup → List ℕ → ReadTable → FlatCall → Written → Direct CallOutcome NoHalf
+unfoldable pub count_response : Setup → List ℕ → ReadTable → FlatCall → ReplyInArrays → Direct CallOutcome NoHalf
 count_response s core table f w =
-    counted (core_of core) w
-    (receive_ready (tracker_of (core_of core)) table (read_id f.message.id) (majority_of s) (core_of core).slot (is_yes f.fast))
+    only_counted (core_of core) w
+    (receive_ready (tracker_of (core_of core)) table (read_id f.message.id) (setup_majority s) (core_of core).slot (is_yes f.fast))
 
 -- where no read is open nothing changes
-unfoldable pub response : Setup → List ℕ → ReadTable → FlatCall → Written → Direct CallOutcome NoHalf
-response s core table f w =
+unfoldable pub flat_read_response : Setup → List ℕ → ReadTable → FlatCall → ReplyInArrays → Direct CallOutcome NoHalf
+flat_read_response s core table f w =
     cond (eqb (core_of core).open_count 0) (direct (Ok tt) core table (put_served 0 w)) (count_response s core table f w)
 
 -- what is left where reads are served: of the reply their number alone is written
@@ -120,12 +120,12 @@ abbrev pub serving : List ℕ → ReadTable → List ℕ → Serving
 serving core table rest = record { core = core; table = table; rest = rest }
 
 abbrev pub served_by : FlatCore → List ℕ → Tracked → Serving
-served_by c rest t = serving (core_numbers (with_tracker t.tracker c)) t.table (set rest 4 t.served_count)
+served_by c rest t = serving (core_numbers (flat_with_tracker t.tracker c)) t.table (set rest 4 t.served_count)
 
 unfoldable pub serve_ready : Setup → List ℕ → ReadTable → List ℕ → Serving
-serve_ready s core table rest = served_by (core_of core) rest (commit_slot (tracker_of (core_of core)) table (majority_of s) (core_of core).slot)
+serve_ready s core table rest = served_by (core_of core) rest (serve_at_commit (tracker_of (core_of core)) table (setup_majority s) (core_of core).slot)
 
-abbrev pub with_serving : {Half : Type 0} → Half → Written → Serving → Direct CallOutcome Half
+abbrev pub with_serving : {Half : Type 0} → Half → ReplyInArrays → Serving → Direct CallOutcome Half
 with_serving half w v =
     record {
       told = Ok tt;
@@ -136,14 +136,14 @@ with_serving half w v =
     }
 
 -- by whether reads may be ready, or the call is refused
-unfoldable pub served_after : {Half : Type 0} → Setup → ReadTable → Result Bool Refusal → List ℕ → Half → Written → Direct CallOutcome Half
+unfoldable pub served_after : {Half : Type 0} → Setup → ReadTable → Result Bool Refusal → List ℕ → Half → ReplyInArrays → Direct CallOutcome Half
 served_after s table (Ok true) core half w = with_serving half w (serve_ready s core table w.rest)
 served_after s table (Ok false) core half w = record { told = Ok tt; core = core; half = half; table = table; reply = w }
 served_after s table (Err why) core half w = record { told = Err (Refused why); core = core; half = half; table = table; reply = w }
 
 -- what is left of a call after the reads that became ready are served
-abbrev pub served : {Half : Type 0} → Setup → ReadTable → Left Half → Direct CallOutcome Half
-served s table l = served_after s table l.handled l.core l.half l.reply
+abbrev pub left_after_reads : {Half : Type 0} → Setup → ReadTable → LeftInArrays Half → Direct CallOutcome Half
+left_after_reads s table l = served_after s table l.handled l.core l.half l.reply
 
 -- ---- calls
 
@@ -167,44 +167,44 @@ unfoldable pub of_older_round : FlatCore → FlatMessage → Bool
 of_older_round c m = not (eqb m.kind 4) && before (Some (round_in m)) (decoded_round c.round)
 
 -- of an older slot or round
-unfoldable pub is_older : FlatCore → FlatMessage → Bool
-is_older c m = names_slot m.kind && (ltb m.slot c.slot || of_older_round c m)
+unfoldable pub is_older_message : FlatCore → FlatMessage → Bool
+is_older_message c m = names_slot m.kind && (ltb m.slot c.slot || of_older_round c m)
 
 -- a message in the classic modes
-unfoldable pub handled : Setup → List ℕ → List ℕ → List ℕ → ReadTable → FlatCall → Written → Direct CallOutcome NoHalf
-handled s committers delegates core table f w =
-    cond (is_older (core_of core) f.message) (direct (Ok tt) core table (put_served 0 w))
-    (cond (counts s delegates (core_of core) f.message) (direct (Ok tt) (core_numbers (with_counted s (core_of core) f.message)) table (put_served 0 w))
-    (served s table (handled_by s committers delegates core f w)))
+unfoldable pub classic_message : Setup → List ℕ → List ℕ → List ℕ → ReadTable → FlatCall → ReplyInArrays → Direct CallOutcome NoHalf
+classic_message s committers delegates core table f w =
+    cond (is_older_message (core_of core) f.message) (direct (Ok tt) core table (put_served 0 w))
+    (cond (only_counts s delegates (core_of core) f.message) (direct (Ok tt) (core_numbers (with_counted s (core_of core) f.message)) table (put_served 0 w))
+    (left_after_reads s table (handled_by s committers delegates core f w)))
 
 -- EPaxos and SwiftPaxos are passed on
-unfoldable pub slot_call : Setup → List ℕ → List ℕ → List ℕ → ReadTable → FlatCall → Written → Direct CallOutcome NoHalf
+unfoldable pub slot_call : Setup → List ℕ → List ℕ → List ℕ → ReadTable → FlatCall → ReplyInArrays → Direct CallOutcome NoHalf
 slot_call s committers delegates core table f w =
     cond (has_fast_path (mode_of_number s.mode)) (direct (Err PassedOn) core table w)
-    (cond (eqb f.kind 0) (served s table (put_step (propose_classic (asked_in s) f.v (decoded_core (core_of core))) core w))
-    (handled s committers delegates core table f w))
+    (cond (eqb f.kind 0) (left_after_reads s table (put_step (propose_classic (asked_in s) f.v (decoded_core (core_of core))) core w))
+    (classic_message s committers delegates core table f w))
 
 -- a call that is not refused and no new read
-unfoldable pub taken : Setup → List ℕ → List ℕ → List ℕ → ReadTable → FlatCall → Written → Direct CallOutcome NoHalf
-taken s committers delegates core table f w =
-    cond (is_response f) (response s core table f w)
-    (cond (concerns_slot f) (slot_call s committers delegates core table f w) (served s table (answer_request s core f.message w)))
+unfoldable pub flat_call_taken : Setup → List ℕ → List ℕ → List ℕ → ReadTable → FlatCall → ReplyInArrays → Direct CallOutcome NoHalf
+flat_call_taken s committers delegates core table f w =
+    cond (is_response f) (flat_read_response s core table f w)
+    (cond (concerns_slot f) (slot_call s committers delegates core table f w) (left_after_reads s table (answer_request s core f.message w)))
 
 -- by the refusal, if there is one
-unfoldable pub unless_refused : Setup → List ℕ → List ℕ → Outcome → List ℕ → ReadTable → FlatCall → Written → Direct CallOutcome NoHalf
-unless_refused s committers delegates (Ok tt) core table f w =
-    cond (eqb f.kind 1) (open_read s core table f w) (taken s committers delegates core table f w)
-unless_refused s committers delegates (Err why) core table f w = direct (Err (Refused why)) core table w
+unfoldable pub if_admitted : Setup → List ℕ → List ℕ → Outcome → List ℕ → ReadTable → FlatCall → ReplyInArrays → Direct CallOutcome NoHalf
+if_admitted s committers delegates (Ok tt) core table f w =
+    cond (eqb f.kind 1) (start_flat_read s core table f w) (flat_call_taken s committers delegates core table f w)
+if_admitted s committers delegates (Err why) core table f w = direct (Err (Refused why)) core table w
 
 -- refusals come first
-abbrev pub call_made : Setup → List ℕ → List ℕ → List ℕ → ReadTable → FlatCall → Written → Direct CallOutcome NoHalf
-call_made s committers delegates core table f w = unless_refused s committers delegates (refusal_of s (core_of core) f) core table f w
+abbrev pub call_made : Setup → List ℕ → List ℕ → List ℕ → ReadTable → FlatCall → ReplyInArrays → Direct CallOutcome NoHalf
+call_made s committers delegates core table f w = if_admitted s committers delegates (refusal_of s (core_of core) f) core table f w
 
 -- with the number that a host gets
 abbrev pub numbered : {Half : Type 0} → Direct CallOutcome Half → Direct ℕ Half
 numbered d = record { told = call_number d.told; core = d.core; half = d.half; table = d.table; reply = d.reply }
 
-unfoldable pub direct_call : Setup → List ℕ → List ℕ → List ℕ → ReadTable → FlatCall → Written → Direct ℕ NoHalf
+unfoldable pub direct_call : Setup → List ℕ → List ℕ → List ℕ → ReadTable → FlatCall → ReplyInArrays → Direct ℕ NoHalf
 direct_call s committers delegates core table f w = numbered (call_made s committers delegates core table f w)
 
 -- what is not taken leaves the arrays of the reads as they were, number for number; the equation says that of the others. A clause, since it compares before and
@@ -213,4 +213,4 @@ abbrev pub SameNumbers : ReadArrays → ReadArrays → Type 0
 SameNumbers a b = (b.reads.now ≡ a.reads.now) × (b.served.now ≡ a.served.now)
 
 abbrev pub LeftUnlessTaken : ℕ → Array → Type 0
-LeftUnlessTaken number x = (number ≡ 0 → ⊥) → left x ≡ came x
+LeftUnlessTaken number x = (number ≡ 0 → ⊥) → at_exit x ≡ at_entry x

@@ -1,2 +1,3 @@
 pub mod Direct
 pub mod Stands
+pub mod handlers

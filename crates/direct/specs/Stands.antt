@@ -3,14 +3,14 @@
 -- Assumes nothing.
 use Rattle.std.specs.Prelude.{true, List, ◌⊎◌, ◌≡◌, ℕ, Ok, Err}
 use Rattle.arrays.specs.Arrays.{settings_of, core_of}
-use Rattle.arrays.specs.FastArrays.{FastArrays, fast_of}
+use Rattle.arrays.specs.FastArrays.{FastArrays, fast_state_of}
 use Rattle.arrays.specs.declared.Setup.{Setup}
 use Rattle.calls.specs.declared.Call.{Call}
 use Rattle.consensus.specs.Call.{call_of}
 use Rattle.consensus.specs.declared.Answer.{Answer}
 use Rattle.consensus.specs.declared.Shard.{Shard}
 use Rattle.direct.specs.Direct.{Direct, fast_half_acts, direct_call}
-use Rattle.direct_core.specs.Handled.{Written, put_reply, NoHalf, passed_on}
+use Rattle.direct.specs.handlers.Handled.{ReplyInArrays, put_reply, NoHalf, passed_on}
 use Rattle.message.specs.Outcomes.{Outcome}
 use Rattle.message.specs.Refusals.{refusal_number}
 use Rattle.read_tracker.specs.declared.ReadTable.{ReadTable}
@@ -38,7 +38,7 @@ shard_of m =
     record {
       made = decoded_made m.setup.made m.setup.mode;
       settings = decoded_settings (settings_of m.setup m.committers m.delegates);
-      state = record { rounds = record { core = decoded_core (core_of m.core); fast = fast_of m.fast }; table = m.table };
+      state = record { rounds = record { core = decoded_core (core_of m.core); fast = fast_state_of m.fast }; table = m.table };
     }
 
 -- the call that the numbers of a call stand for, at this member
@@ -51,18 +51,18 @@ call_in m f = decoded_call m.setup.process_count m.setup.my_pid f
 pub record HostAnswer : Type 0 where
   pub number : ℕ
   pub memory : Memory
-  pub reply : Written
+  pub reply : ReplyInArrays
 
 -- of what a function leaves, with the fast half as it is afterwards
 abbrev pub left_by : {Half : Type 0} → Memory → FastArrays → Direct ℕ Half → HostAnswer
 left_by m fast d = record { number = d.told; memory = memory_with m.setup m.committers m.delegates d.core fast d.table; reply = d.reply }
 
 -- nothing is written
-abbrev pub unwritten : Memory → Written → ℕ → HostAnswer
+abbrev pub unwritten : Memory → ReplyInArrays → ℕ → HostAnswer
 unwritten m w number = record { number = number; memory = m; reply = w }
 
 -- a call that is taken: the memory stands for the new shard, and the reply is written; a refusal gives its number alone
-abbrev pub Stands : Memory → Written → Answer → Outcome → HostAnswer → Type 0
+abbrev pub Stands : Memory → ReplyInArrays → Answer → Outcome → HostAnswer → Type 0
 Stands m w a (Ok tt) x = (x.number ≡ 0) × (shard_of x.memory ≡ a.shard) × (x.reply ≡ put_reply a.reply w)
 Stands m w a (Err why) x = x ≡ unwritten m w (refusal_number why)
 
@@ -71,23 +71,23 @@ abbrev pub answer_to : Memory → FlatCall → Answer
 answer_to m f = call_of (shard_of m) (call_in m f)
 
 -- the call is made
-abbrev pub IsMade : Memory → FlatCall → Written → HostAnswer → Type 0
+abbrev pub IsMade : Memory → FlatCall → ReplyInArrays → HostAnswer → Type 0
 IsMade m f w x = Stands m w (answer_to m f) (answer_to m f).reply.outcome x
 
 -- ---- `chanbook_direct_call`
 
 -- where the fast half has a part in the call it may be passed on; else it is made. The fast half is left as it is.
-abbrev pub PassedOrMade : Memory → FlatCall → Written → HostAnswer → Type 0
+abbrev pub PassedOrMade : Memory → FlatCall → ReplyInArrays → HostAnswer → Type 0
 PassedOrMade m f w x = ((fast_half_acts m.setup f ≡ true) × (x ≡ unwritten m w passed_on)) ⊎ IsMade m f w x
 
 -- whatever the fast half is that stands beside the arrays
-unfoldable pub DirectStands : Setup → List ℕ → List ℕ → List ℕ → ReadTable → FlatCall → Written → Direct ℕ NoHalf → Type 0
+unfoldable pub DirectStands : Setup → List ℕ → List ℕ → List ℕ → ReadTable → FlatCall → ReplyInArrays → Direct ℕ NoHalf → Type 0
 DirectStands s committers delegates core table f w d =
     (fast : FastArrays)
     → PassedOrMade (memory_with s committers delegates core fast table) f w (left_by (memory_with s committers delegates core fast table) fast d)
 
-abbrev pub by_direct : Memory → FlatCall → Written → HostAnswer
+abbrev pub by_direct : Memory → FlatCall → ReplyInArrays → HostAnswer
 by_direct m f w = left_by m m.fast (direct_call m.setup m.committers m.delegates m.core m.table f w)
 
 abbrev pub DirectIsCall : Type 0
-DirectIsCall = (m : Memory) (f : FlatCall) (w : Written) → PassedOrMade m f w (by_direct m f w)
+DirectIsCall = (m : Memory) (f : FlatCall) (w : ReplyInArrays) → PassedOrMade m f w (by_direct m f w)

@@ -2,34 +2,36 @@
 // A call that is refused writes nothing. EPaxos and SwiftPaxos are passed on where the fast half has to act: then too nothing is written.
 #![tactic(auto)]
 
+pub mod handlers;
+
 ghost use Rattle.std.specs.Prelude.{◌≡◌, OnErr, Ok};
-ghost use Rattle.array_reads.specs.Rows.{reads_in, SameReads};
+ghost use Rattle.arrays.specs.reads.Rows.{reads_in, SameReads};
 ghost use Rattle.arrays.specs.Arrays.{setup_of, core_of, flat_call_of};
-ghost use Rattle.direct_core.specs.Lent.{came, left};
-ghost use Rattle.direct_core.specs.Handled.{reply_came, reply_left, reply_in, SameReply};
-ghost use Rattle.direct.specs.Direct.{reads_came, reads_left, tracker_of, with_tracker, direct, open_read, count_response, response, serving, serve_ready, is_response, concerns_slot, names_slot, of_older_round, is_older, handled, slot_call, taken, call_made, direct_call, SameNumbers, LeftUnlessTaken};
+ghost use Rattle.direct.specs.handlers.Lent.{at_entry, at_exit};
+ghost use Rattle.direct.specs.handlers.Handled.{reply_at_entry, reply_at_exit, reply_in, SameReply};
+ghost use Rattle.direct.specs.Direct.{reads_at_entry, reads_at_exit, tracker_of, flat_with_tracker, direct, start_flat_read, count_response, flat_read_response, serving, serve_ready, is_response, concerns_slot, names_slot, of_older_round, is_older_message, classic_message, slot_call, flat_call_taken, call_made, direct_call, SameNumbers, LeftUnlessTaken};
 ghost use Rattle.direct.specs.Stands.{DirectStands};
 
-use array_reads::{OpenReadsArray, ReadArrays, ServedReadsArray};
+use crate::handlers::{NotTaken, ReplyArrays};
+use arrays::reads::{OpenReadsArray, ReadArrays, ServedReadsArray};
 use arrays::{CallArray, CoreArray, MessageArray, RestArray, Setup, SetupArray, Tables};
-use direct_core::{NotTaken, ReplyArrays};
+use basics::tables::PerProcess;
 use flat::{
     ACCEPT, COMMIT, FlatCall, FlatCore, FlatMessage, NEW_READ, PREPARE, PROPOSAL, READ_RESPONSE,
 };
 use message::{ConsensusMsg, PFMode, ReadId};
 use read_tracker::{Opening, ReadTracker};
-use tables::PerProcess;
 
-// setup, tables, core and reply are parameters of their own, here, in direct_core and in direct_fast: half of the functions take two or three of them, core is
+// setup, tables, core and reply are parameters of their own, here, in direct::handlers and in direct_fast: half of the functions take two or three of them, core is
 // changed in some and read in others, and a struct of all would be lent and taken apart in each contract.
 
-// What is done with the reads (`open_read`, `count_response`, `serve_ready`, `with_tracker`) has twins in consensus (`start_read`, `on_read_response`,
+// What is done with the reads (`start_flat_read`, `count_response`, `serve_ready`, `flat_with_tracker`) has twins in consensus (`start_read`, `on_read_response`,
 // `committed`, `with_tracker`). Those take a state with its table of 128 reads of either kind by value and hand it back; here the numbers that change are
-// written where they stand. What both decide is one: `open_next` of a tracker, and the walks of crates/serving.
+// written where they stand. What both decide is one: `open_next` of a tracker, and the walks of crates/read_tracker/src/serving.rt.
 
 // A new read, which everyone is asked for. The own answer counts at once where nothing is held.
-#[tactic(auto, unfolding(crate::specs::Direct::opened))]
-fn open_read(
+#[tactic(auto, unfolding(crate::specs::Direct::opened_or_refused))]
+fn start_flat_read(
     setup: Setup,
     core: &mut CoreArray,
     reads: &mut ReadArrays<'_>,
@@ -38,15 +40,15 @@ fn open_read(
 ) -> Result<(), NotTaken>
     ensures same { SameReads reads.old reads.new × SameReply reply.old reply.new }
     ensures written { direct result core.new (reads_in reads.new) (reply_in reply.new)
-        ≡ open_read setup core.old (reads_in reads.old) f (reply_in reply.old) }
+        ≡ start_flat_read setup core.old (reads_in reads.old) f (reply_in reply.old) }
     ensures refused { OnErr result (SameNumbers reads.old reads.new) }
 {
     let c = arrays::core_in(core);
     let local_ready = c.max_rv.given == 0;
     let Opening { read, tracker } = tracker_of(c).open_next(f.v, f.arrival_slot, local_ready)?;
     reads.insert(c.open_count, read);
-    arrays::put_core(core, with_tracker(c, tracker));
-    let asked = flat_calls::asked_of(setup);
+    arrays::put_core(core, flat_with_tracker(c, tracker));
+    let asked = questions::decided::asked_of(setup);
     let request = ConsensusMsg::ReadRequest { id: read.id };
     reply.put_sent(asked.sends(flat::decode_core(c), steps::to_all(), request));
     Ok(())
@@ -63,8 +65,8 @@ fn tracker_of(c: FlatCore) -> ReadTracker
 
 // Without `inline` the core is copied for it, and a new read took a quarter longer.
 #[inline(always)]
-fn with_tracker(mut c: FlatCore, tracker: ReadTracker) -> FlatCore
-    ensures { result ≡ with_tracker tracker c }
+fn flat_with_tracker(mut c: FlatCore, tracker: ReadTracker) -> FlatCore
+    ensures { result ≡ flat_with_tracker tracker c }
 {
     c.next_id = tracker.next_id;
     c.open_count = tracker.open_count;
@@ -89,13 +91,13 @@ fn count_response(
     let id = ReadId(f.message.id);
     let fast = flat::is_yes(f.fast);
     let counted = reads.receive_ready(tracker_of(c), id, majority, c.slot, fast);
-    arrays::put_core(core, with_tracker(c, counted.tracker));
+    arrays::put_core(core, flat_with_tracker(c, counted.tracker));
     reply.put_served(counted.served_count);
 }
 
 // Where no read is open a response changes nothing.
-#[tactic(auto, unfolding(crate::specs::Direct::response))]
-fn response(
+#[tactic(auto, unfolding(crate::specs::Direct::flat_read_response))]
+fn flat_read_response(
     setup: Setup,
     core: &mut CoreArray,
     reads: &mut ReadArrays<'_>,
@@ -104,7 +106,7 @@ fn response(
 )
     ensures same { SameReads reads.old reads.new × SameReply reply.old reply.new }
     ensures written { direct (Ok tt) core.new (reads_in reads.new) (reply_in reply.new)
-        ≡ response setup core.old (reads_in reads.old) f (reply_in reply.old) }
+        ≡ flat_read_response setup core.old (reads_in reads.old) f (reply_in reply.old) }
 {
     let c = arrays::core_in(core);
     if c.open_count == 0 {
@@ -128,7 +130,7 @@ pub fn serve_ready(
     let c = arrays::core_in(core);
     let majority = quorum::row(setup.replica_count).majority;
     let ready = reads.commit_slot(tracker_of(c), majority, c.slot);
-    arrays::put_core(core, with_tracker(c, ready.tracker));
+    arrays::put_core(core, flat_with_tracker(c, ready.tracker));
     rest[4] = ready.served_count;
 }
 
@@ -162,13 +164,13 @@ fn names_slot(kind: u64) -> bool
 fn of_older_round(c: FlatCore, m: FlatMessage) -> bool
     ensures { result ≡ of_older_round c m }
 {
-    m.kind != COMMIT && Some(counting::round_in(m)) < flat::decode_round(c.round)
+    m.kind != COMMIT && Some(questions::counted::round_in(m)) < flat::decode_round(c.round)
 }
 
 // Whether the message is a Prepare or an Accept of an older slot or round, or a Commit of an older slot, which does nothing.
-#[tactic(auto, unfolding(crate::specs::Direct::is_older))]
-pub fn is_older(c: FlatCore, m: FlatMessage) -> bool
-    ensures { result ≡ is_older c m }
+#[tactic(auto, unfolding(crate::specs::Direct::is_older_message))]
+pub fn is_older_message(c: FlatCore, m: FlatMessage) -> bool
+    ensures { result ≡ is_older_message c m }
 {
     if !names_slot(m.kind) {
         return false;
@@ -180,17 +182,17 @@ pub fn is_older(c: FlatCore, m: FlatMessage) -> bool
 }
 
 // Takes the core out for this question alone, so that the compiler loads only the numbers that it asks for.
-#[tactic(auto, unfolding(crate::specs::Direct::is_older))]
+#[tactic(auto, unfolding(crate::specs::Direct::is_older_message))]
 fn is_older_in(core: &CoreArray, m: FlatMessage) -> bool
-    ensures { result ≡ is_older (core_of core.now) m }
+    ensures { result ≡ is_older_message (core_of core.now) m }
 {
-    is_older(arrays::core_in(core), m)
+    is_older_message(arrays::core_in(core), m)
 }
 
 // A message in the classic modes: what is old does nothing, and an answer that is only counted changes a set. The core handles the rest; where it commits,
 // the open reads that became ready are served.
-#[tactic(auto, unfolding(crate::specs::Direct::handled, crate::specs::Direct::served_after))]
-fn handled(
+#[tactic(auto, unfolding(crate::specs::Direct::classic_message, crate::specs::Direct::served_after))]
+fn classic_message(
     setup: Setup,
     tables: Tables<'_>,
     core: &mut CoreArray,
@@ -200,7 +202,7 @@ fn handled(
 ) -> Result<(), NotTaken>
     ensures same { SameReads reads.old reads.new × SameReply reply.old reply.new }
     ensures written { direct result core.new (reads_in reads.new) (reply_in reply.new)
-        ≡ handled setup tables.entry.committers.now tables.entry.delegates.now core.old (reads_in reads.old) f (reply_in reply.old) }
+        ≡ classic_message setup tables.entry.committers.now tables.entry.delegates.now core.old (reads_in reads.old) f (reply_in reply.old) }
     ensures refused { OnErr result (SameNumbers reads.old reads.new) }
 {
     let message = f.message;
@@ -209,12 +211,12 @@ fn handled(
         return Ok(());
     }
     let c = arrays::core_in(core);
-    if counting::counts(setup, tables.delegates, c, message) {
-        arrays::put_core(core, counting::with_counted(setup, c, message));
+    if questions::counted::only_counts(setup, tables.delegates, c, message) {
+        arrays::put_core(core, questions::counted::with_counted(setup, c, message));
         reply.put_served(0);
         return Ok(());
     }
-    if direct_core::handle(setup, tables, core, f, reply)? {
+    if crate::handlers::handle(setup, tables, core, f, reply)? {
         serve_ready(setup, core, reads, reply.rest);
     }
     Ok(())
@@ -239,15 +241,15 @@ fn slot_call(
         return Err(NotTaken::PassedOn);
     }
     if f.kind == PROPOSAL {
-        direct_core::propose(setup, core, f.v, reply)?;
+        crate::handlers::propose(setup, core, f.v, reply)?;
         return Ok(());
     }
-    handled(setup, tables, core, reads, f, reply)
+    classic_message(setup, tables, core, reads, f, reply)
 }
 
 // A call that was not refused, other than a new read.
-#[tactic(auto, unfolding(crate::specs::Direct::taken, crate::specs::Direct::served_after))]
-fn taken(
+#[tactic(auto, unfolding(crate::specs::Direct::flat_call_taken, crate::specs::Direct::served_after))]
+fn flat_call_taken(
     setup: Setup,
     tables: Tables<'_>,
     core: &mut CoreArray,
@@ -257,22 +259,22 @@ fn taken(
 ) -> Result<(), NotTaken>
     ensures same { SameReads reads.old reads.new × SameReply reply.old reply.new }
     ensures written { direct result core.new (reads_in reads.new) (reply_in reply.new)
-        ≡ taken setup tables.entry.committers.now tables.entry.delegates.now core.old (reads_in reads.old) f (reply_in reply.old) }
+        ≡ flat_call_taken setup tables.entry.committers.now tables.entry.delegates.now core.old (reads_in reads.old) f (reply_in reply.old) }
     ensures refused { OnErr result (SameNumbers reads.old reads.new) }
 {
     if is_response(f) {
-        response(setup, core, reads, f, reply);
+        flat_read_response(setup, core, reads, f, reply);
         return Ok(());
     }
     if concerns_slot(f) {
         return slot_call(setup, tables, core, reads, f, reply);
     }
-    direct_core::answer_request(setup, core, f.message, reply)?;
+    crate::handlers::answer_request(setup, core, f.message, reply)?;
     Ok(())
 }
 
 // A call on the parts of a shard.
-#[tactic(auto, unfolding(crate::specs::Direct::unless_refused))]
+#[tactic(auto, unfolding(crate::specs::Direct::if_admitted))]
 fn call_made(
     setup: &SetupArray,
     tables: Tables<'_>,
@@ -286,13 +288,13 @@ fn call_made(
         ≡ call_made (setup_of setup.now) tables.entry.committers.now tables.entry.delegates.now core.old (reads_in reads.old) (flat_call_of call.now) (reply_in reply.old) }
     ensures refused { OnErr result (SameNumbers reads.old reads.new) }
 {
-    flat_calls::refusal(setup, core, call)?;
+    questions::decided::refusal(setup, core, call)?;
     let s = arrays::setup_in(setup);
     let f = arrays::call_in(call);
     if f.kind == NEW_READ {
-        return open_read(s, core, reads, f, reply);
+        return start_flat_read(s, core, reads, f, reply);
     }
-    taken(s, tables, core, reads, f, reply)
+    flat_call_taken(s, tables, core, reads, f, reply)
 }
 
 // A call on the parts of a shard: what is left in the arrays stands for the engine's call of the shard that they stood for (`stands`), and which numbers are left
@@ -312,11 +314,11 @@ pub fn chanbook_direct_call(
     third: &mut MessageArray,
     rest: &mut RestArray,
 ) -> u64
-    ensures stands { DirectStands (setup_of setup.now) committers.now delegates.now (came core) (reads_came reads served) (flat_call_of call.now)
-        (reply_came first second third rest) (direct result (left core) (reads_left reads served) (reply_left first second third rest)) }
-    ensures rest_value { direct result (left core) (reads_left reads served) (reply_left first second third rest)
-        ≡ direct_call (setup_of setup.now) committers.now delegates.now (came core) (reads_came reads served) (flat_call_of call.now)
-        (reply_came first second third rest) }
+    ensures stands { DirectStands (setup_of setup.now) committers.now delegates.now (at_entry core) (reads_at_entry reads served) (flat_call_of call.now)
+        (reply_at_entry first second third rest) (direct result (at_exit core) (reads_at_exit reads served) (reply_at_exit first second third rest)) }
+    ensures rest_value { direct result (at_exit core) (reads_at_exit reads served) (reply_at_exit first second third rest)
+        ≡ direct_call (setup_of setup.now) committers.now delegates.now (at_entry core) (reads_at_entry reads served) (flat_call_of call.now)
+        (reply_at_entry first second third rest) }
     ensures left_unless_taken { LeftUnlessTaken result reads × LeftUnlessTaken result served }
 {
     let tables = Tables {
@@ -330,5 +332,5 @@ pub fn chanbook_direct_call(
         third,
         rest,
     };
-    direct_core::call_number(call_made(setup, tables, core, &mut lent_reads, call, &mut reply))
+    crate::handlers::call_number(call_made(setup, tables, core, &mut lent_reads, call, &mut reply))
 }

@@ -5,7 +5,6 @@ use Rattle.message.specs.Outcomes.{Outcome}
 use mathlib.Core.Path.{◌≡◌, refl, sym, ap, subst, ◌∙◌}
 use mathlib.Core.Logic.{◌⊎◌, inl, inr}
 use mathlib.Core.Bool.{Bool, true, false, cond}
-use mathlib.Core.List.{List, [], ◌∷◌}
 use Prim.Native.Nat.{ℕ}
 use lib.Dec.{eqb, leb}
 use borrow.Author.Tests.{eqb-true}
@@ -18,7 +17,7 @@ use Rattle.consensus.specs.declared.Shard.{Shard}
 use Rattle.consensus.proofs.Refusals.{by_first_cause, unmade_refuses}
 use Rattle.direct.specs.Direct.{fast_half_acts}
 use Rattle.direct.specs.Stands.{Memory, shard_of, call_in, HostAnswer, unwritten, Stands, answer_to, IsMade, by_direct}
-use Rattle.direct_core.specs.Handled.{Written, passed_on}
+use Rattle.direct.specs.handlers.Handled.{ReplyInArrays, passed_on}
 use Rattle.direct_fast.specs.FastStands.{by_fast}
 use Rattle.direct_fast.proofs.FastCalls.{one_of_both, declined_is_direct, classic_is_direct}
 use Rattle.fast_state.specs.Adopt.{lowest_best}
@@ -53,7 +52,7 @@ refusal_leaves shard c why e = go (by_first_cause lowest_best shard c)
 
 -- ---- a call
 
-module _ (m : Memory) (f : FlatCall) (w : Written) where
+module _ (m : Memory) (f : FlatCall) (w : ReplyInArrays) where
   abbrev made : Answer
   made = answer_to m f
 
@@ -114,7 +113,7 @@ host_begins g j t known e = new_stands t known ∙ ap begin_shard e
 
 -- Where it gives a number other than 0, which is 1 or 17, a call in place gives the same, writes nothing of a reply and leaves each number of the memory: so does
 -- every call after it.
-pub host_refuses : (t : FlatGroupSettings) → (flat_settings_number t ≡ 0 → ⊥) → (f : FlatCall) (w : Written)
+pub host_refuses : (t : FlatGroupSettings) → (flat_settings_number t ≡ 0 → ⊥) → (f : FlatCall) (w : ReplyInArrays)
     → ((host_call (new_memory t) f w).number ≡ flat_settings_number t) × ((host_call (new_memory t) f w).reply ≡ w)
     × ((host_call (new_memory t) f w).memory ≡ new_memory t)
 host_refuses t refused f w = go (marked_by_number t)

@@ -19,8 +19,8 @@ use Rattle.consensus.specs.declared.Answer.{Answer}
 use Rattle.consensus.specs.declared.Shard.{Shard}
 use Rattle.consensus.proofs.Refusals.{by_first_cause}
 use Rattle.calls.specs.Replies.{refused_reply}
-use Rattle.direct_core.specs.Handled.{Written}
-use Rattle.direct_core.proofs.Told.{reply_read}
+use Rattle.direct.specs.handlers.Handled.{ReplyInArrays}
+use Rattle.direct.proofs.handlers.Told.{reply_read}
 use Rattle.fast_state.specs.Adopt.{lowest_best}
 use Rattle.group.specs.Claim.{ours, MemberCall, Entry, after_call, entry_of, entries_from, LegalFrom, Claim}
 use Rattle.group.proofs.Ties.{lowest_picks_best}
@@ -47,15 +47,15 @@ refusal_alone shard c why e = go (by_first_cause lowest_best shard c)
         given ∙ ap (λ (o : Outcome). record { outcome = o; messages = (refused_reply why).messages; commit = (refused_reply why).commit; served_count = 0 }) same
 
 -- a host reads the reply of the call on the shard that its memory stood for
-module _ (m : Memory) (f : FlatCall) (w : Written) where
+module _ (m : Memory) (f : FlatCall) (w : ReplyInArrays) where
   abbrev made : Reply
   made = (call_of (shard_of m) (call_in m f)).reply
 
   read_as : (x : HostAnswer) (o : Outcome) → made.outcome ≡ o → IsWritten made o w x → told_by x ≡ made
   read_as x (Ok tt) done (number, reply) =
-      ap₂ (λ (n : ℕ) (v : Written). decoded_reply n v.first v.second v.third v.rest) number reply ∙ reply_read made w done
+      ap₂ (λ (n : ℕ) (v : ReplyInArrays). decoded_reply n v.first v.second v.third v.rest) number reply ∙ reply_read made w done
   read_as x (Err why) refused (number, reply) =
-      ap₂ (λ (n : ℕ) (v : Written). decoded_reply n v.first v.second v.third v.rest) number reply
+      ap₂ (λ (n : ℕ) (v : ReplyInArrays). decoded_reply n v.first v.second v.third v.rest) number reply
       ∙ refused_read why w.first w.second w.third w.rest
       ∙ sym (refusal_alone (shard_of m) (call_in m f) why refused)
 

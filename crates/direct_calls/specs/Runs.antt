@@ -5,7 +5,7 @@ use Rattle.std.specs.Prelude.{cond, List, [], ◌∷◌, ◌≡◌, ℕ, eqb, Ok
 use Rattle.message.specs.Outcomes.{Outcome}
 use Rattle.calls.specs.declared.Reply.{Reply}
 pub use Rattle.direct.specs.Stands.{Memory, shard_of, call_in, HostAnswer, by_direct}
-use Rattle.direct_core.specs.Handled.{Written, put_reply, passed_on}
+use Rattle.direct.specs.handlers.Handled.{ReplyInArrays, put_reply, passed_on}
 pub use Rattle.direct_fast.specs.FastStands.{by_fast}
 use Rattle.group.specs.Claim.{MemberCall}
 use Rattle.message.specs.Modes.{has_fast_path, mode_of_number}
@@ -15,14 +15,14 @@ use Rattle.flat.specs.declared.FlatCall.{FlatCall}
 -- ---- a call
 
 -- as the header and the Rust crate make a call: in a mode with a fast path `chanbook_fast_call` is asked first
-unfoldable pub host_call : Memory → FlatCall → Written → HostAnswer
+unfoldable pub host_call : Memory → FlatCall → ReplyInArrays → HostAnswer
 host_call m f w =
     cond (has_fast_path (mode_of_number m.setup.mode))
     (cond (eqb (by_fast m f w).number passed_on) (by_direct m f w) (by_fast m f w))
     (by_direct m f w)
 
 -- what is written for a reply: 0 and the reply in its arrays, or a refusal's number and nothing written
-abbrev pub IsWritten : Reply → Outcome → Written → HostAnswer → Type 0
+abbrev pub IsWritten : Reply → Outcome → ReplyInArrays → HostAnswer → Type 0
 IsWritten reply (Ok tt) w x = (x.number ≡ 0) × (x.reply ≡ put_reply reply w)
 IsWritten reply (Err why) w x = (x.number ≡ refusal_number why) × (x.reply ≡ w)
 
@@ -32,7 +32,7 @@ IsWritten reply (Err why) w x = (x.number ≡ refusal_number why) × (x.reply �
 pub record HostCall : Type 0 where
   pub member : ℕ
   pub call : FlatCall
-  pub came : Written
+  pub came : ReplyInArrays
 
 -- each call is made on the memory that its member's last call left
 abbrev pub memories_after : (ℕ → Memory) → HostCall → ℕ → Memory

@@ -13,7 +13,7 @@ use borrow.Author.Tests.{eqb-false, leb-true}
 use lib.Dec.{eqb, leb, ltb}
 use Rattle.basics.proofs.Tests.{either, not_both, fails, and_left, and_right}
 use Rattle.arrays.specs.Arrays.{core_of}
-use Rattle.arrays.specs.FastArrays.{FastArrays, fast_of}
+use Rattle.arrays.specs.FastArrays.{FastArrays, fast_state_of}
 use Rattle.calls.specs.Decision.{decision_for, decision_of}
 use Rattle.calls.specs.declared.Call.{Call}
 use Rattle.calls.specs.declared.Call.TheVariants.{Propose, Receive}
@@ -22,21 +22,21 @@ use Rattle.consensus.specs.Call.{state_call, in_shard, call_with}
 use Rattle.consensus.specs.Handle.{on_commit, proposing, processed, handle_call}
 use Rattle.consensus.specs.declared.Answer.{Answer}
 use Rattle.consensus.specs.declared.StateAnswer.{StateAnswer}
-use Rattle.direct.specs.Direct.{Direct, served_after, served, numbered, concerns_slot, fast_half_acts, names_slot, of_older_round, is_older}
+use Rattle.direct.specs.Direct.{Direct, served_after, left_after_reads, numbered, concerns_slot, fast_half_acts, names_slot, of_older_round, is_older_message}
 use Rattle.direct.specs.Stands.{Memory, HostAnswer, left_by, unwritten, Stands, answer_to, IsMade, PassedOrMade, by_direct}
 use Rattle.direct.proofs.Calls.{direct_is_call}
 use Rattle.direct.proofs.Common.{call_on, not_passed_on, other_kind, by_kind, ForRounds, is_prepare, is_accept, is_forward, is_commit, rounds_handle, commit_handled}
 use Rattle.direct.proofs.Steps.{rounds_with, StandsBy, StandsFor, in_memory, sends_stand, commits_stand}
-use Rattle.direct_core.specs.CoreAnswers.{core_committed}
-use Rattle.direct_core.specs.Handled.{Written, CallOutcome, passed_on, put_served}
-use Rattle.direct_core.specs.declared.NotTaken.TheVariants.{Refused}
+use Rattle.direct.specs.handlers.CoreAnswers.{core_committed}
+use Rattle.direct.specs.handlers.Handled.{ReplyInArrays, CallOutcome, passed_on, put_served}
+use Rattle.direct.specs.declared.handlers.NotTaken.TheVariants.{Refused}
 use Rattle.direct_fast.specs.DirectFast.{fast_step, holds_value, fast_answer, put_answered, fast_direct, is_old, fast_handled, fast_unless_refused, fast_made, fast_call}
 use Rattle.direct_fast.specs.FastStands.{MadeOrDeclined, FastStands, fast_left, by_fast, OneOfBoth, DeclinedIsDirect, ClassicIsDirect}
-use Rattle.fast_arrays.specs.FastArrays.{answers_in, put_change, put_after}
-use Rattle.fast_calls.specs.FastCall.{answers_with, fast_finish_at, fast_finish}
-use Rattle.fast_calls.specs.declared.After.{After}
-use Rattle.fast_calls.specs.declared.After.TheVariants.{Changed, Cleared}
-use Rattle.fast_calls.specs.declared.FastAnswer.{FastAnswer}
+use Rattle.direct_fast.specs.half.FastArrays.{answers_in, put_change, put_after}
+use Rattle.direct_fast.specs.finish.FastCall.{answers_with, fast_finish_at, fast_finish}
+use Rattle.direct_fast.specs.declared.finish.After.{After}
+use Rattle.direct_fast.specs.declared.finish.After.TheVariants.{Changed, Cleared}
+use Rattle.direct_fast.specs.declared.finish.FastAnswer.{FastAnswer}
 use Rattle.fast_state.specs.Adopt.{lowest_best}
 use Rattle.fast_state.specs.Fast.{changed, no_answers}
 use Rattle.fast_state.specs.declared.FastState.{FastState}
@@ -56,12 +56,12 @@ use Rattle.steps.specs.declared.Messages.{Messages}
 use Rattle.steps.specs.declared.Next.{Next}
 use Rattle.steps.specs.declared.Next.TheVariants.{Stays, Continues, Commits}
 use Rattle.steps.specs.declared.Rounds.{Rounds}
-use Rattle.flat_calls.specs.Refusals.{refusal_of}
+use Rattle.questions.specs.decided.Refusals.{refusal_of}
 use Rattle.flat.proofs.Encoded.{value_encoded}
 use Rattle.flat.specs.Decode.{decoded_call, decoded_option, decoded_promise}
 use Rattle.flat.specs.declared.FlatCall.{FlatCall}
 
-module _ (m : Memory) (f : FlatCall) (w : Written) where
+module _ (m : Memory) (f : FlatCall) (w : ReplyInArrays) where
   open call_on m f use {decoded, settings, shard, called, outcome, delivered, msg, round, held, asked, heard, answered}
 
   -- no field of `CallOn`: `simp` rewrites it
@@ -69,7 +69,7 @@ module _ (m : Memory) (f : FlatCall) (w : Written) where
   kind = f.message.kind
 
   abbrev half : FastState
-  half = fast_of m.fast
+  half = fast_state_of m.fast
 
   abbrev rounds : Rounds
   rounds = shard.state.rounds
@@ -97,7 +97,7 @@ module _ (m : Memory) (f : FlatCall) (w : Written) where
   half_after Cleared = no_answers
 
   -- what is written stands for it
-  half_written : (after : After) → fast_of (put_after after m.fast) ≡ half_after after
+  half_written : (after : After) → fast_state_of (put_after after m.fast) ≡ half_after after
   unfolding decoded_option
   half_written (Changed c) = simp (value_encoded c.answers.swift_leader_answer)
   half_written Cleared = refl
@@ -107,7 +107,7 @@ module _ (m : Memory) (f : FlatCall) (w : Written) where
   answer = fast_answer m.setup m.committers m.delegates decoded m.fast f
 
   abbrev leaves_of : Result FastAnswer Refusal → Direct CallOutcome FastArrays
-  leaves_of x = served m.setup m.table (put_answered x m.core m.fast w)
+  leaves_of x = left_after_reads m.setup m.table (put_answered x m.core m.fast w)
 
   answers_by : (x : StateAnswer) {y : Result FastAnswer Refusal} → answer ≡ y → Stood x (leaves_of y) → Stood x (leaves_of answer)
   answers_by x {y} e h = subst (λ (z : Result FastAnswer Refusal). Stood x (leaves_of z)) (sym e) h
@@ -223,7 +223,7 @@ module _ (m : Memory) (f : FlatCall) (w : Written) where
           go (inr o) = inr (sym (simp (o)) ∙ e)
 
       as_prepare : eqb kind 1 ≡ true → Handled
-      unfolding is_old is_older of_older_round names_slot
+      unfolding is_old is_older_message of_older_round names_slot
       as_prepare k1 =
           let k4 : eqb kind 4 ≡ false = other_kind kind 1 4 k1 refl in
           by_age {old = is_before || before_round} (simp (k, k1, k4))
@@ -231,7 +231,7 @@ module _ (m : Memory) (f : FlatCall) (w : Written) where
           (λ o. step_handled k k4 (is_prepare m f k1) tt)
 
       as_accept : eqb kind 1 ≡ false → eqb kind 2 ≡ true → Handled
-      unfolding is_old is_older of_older_round names_slot
+      unfolding is_old is_older_message of_older_round names_slot
       as_accept k1 k2 =
           let k4 : eqb kind 4 ≡ false = other_kind kind 2 4 k2 refl in
           by_age {old = is_before || before_round} (simp (k, k1, k2, k4))
@@ -239,13 +239,13 @@ module _ (m : Memory) (f : FlatCall) (w : Written) where
           (λ o. step_handled k k4 (is_accept m f k1 k2) tt)
 
       as_forward : eqb kind 1 ≡ false → eqb kind 2 ≡ false → eqb kind 3 ≡ true → Handled
-      unfolding is_old is_older names_slot
+      unfolding is_old is_older_message names_slot
       as_forward k1 k2 k3 =
           let k4 : eqb kind 4 ≡ false = other_kind kind 3 4 k3 refl in
           by_age {old = false} (simp (k, k1, k2, k4)) (λ o. absurd (not_both o refl)) (λ o. step_handled k k4 (is_forward m f k1 k2 k3) tt)
 
       as_commit : eqb kind 1 ≡ false → eqb kind 2 ≡ false → eqb kind 3 ≡ false → eqb kind 4 ≡ true → Handled
-      unfolding is_old is_older of_older_round names_slot
+      unfolding is_old is_older_message of_older_round names_slot
       as_commit k1 k2 k3 k4 =
           let e = is_commit m f k1 k2 k3 k4 in
           by_age {old = is_before} (simp (k, k1, k2, k4) (or-false is_before)) (idle_commit e) (own_commit k k4 e)
@@ -353,7 +353,7 @@ pub one_of_both : OneOfBoth
 one_of_both m f w = (made m f w, λ a. (declines m f w a, direct_makes m f w a))
 
 -- so what equals it meets the contract of `chanbook_fast_call`
-pub fast_stands : (m : Memory) (f : FlatCall) (w : Written) (d : Direct ℕ FastArrays) → d ≡ fast_left m f w → FastStands m f w d
+pub fast_stands : (m : Memory) (f : FlatCall) (w : ReplyInArrays) (d : Direct ℕ FastArrays) → d ≡ fast_left m f w → FastStands m f w d
 unfolding FastStands
 fast_stands m f w d e = subst (λ (x : Direct ℕ FastArrays). MadeOrDeclined m f w (left_by m x.half x)) (sym e) (made m f w, declines m f w)
 

@@ -1,2 +1,4 @@
 pub mod DirectFast
 pub mod FastStands
+pub mod finish
+pub mod half

@@ -2,27 +2,30 @@
 // that is refused writes nothing. It stands in a library of its own, so that the handlers, which the classic modes share, have one caller in each.
 #![tactic(auto)]
 
+pub mod finish;
+pub mod half;
+
 ghost use Rattle.std.specs.Prelude.{◌≡◌, Ok, OnErr};
-ghost use Rattle.array_reads.specs.Rows.{reads_in, SameReads};
+ghost use Rattle.arrays.specs.reads.Rows.{reads_in, SameReads};
 ghost use Rattle.arrays.specs.Arrays.{setup_of, flat_call_of};
-ghost use Rattle.direct_core.specs.Lent.{came, left};
-ghost use Rattle.direct_core.specs.Handled.{reply_came, reply_left, reply_in, SameReply};
-ghost use Rattle.direct.specs.Direct.{reads_came, reads_left, fast_half_acts, SameNumbers, LeftUnlessTaken};
+ghost use Rattle.direct.specs.handlers.Lent.{at_entry, at_exit};
+ghost use Rattle.direct.specs.handlers.Handled.{reply_at_entry, reply_at_exit, reply_in, SameReply};
+ghost use Rattle.direct.specs.Direct.{reads_at_entry, reads_at_exit, fast_half_acts, SameNumbers, LeftUnlessTaken};
 ghost use Rattle.direct.specs.Stands.{memory_with};
-ghost use Rattle.fast_arrays.specs.FastArrays.{half_in, SameHalf};
-ghost use Rattle.direct_fast.specs.DirectFast.{half_came, half_left, fast_step, holds_value, fast_answer, fast_leaves, put_fast, fast_written, fast_direct, fast_handled, is_old, fast_made, fast_call};
+ghost use Rattle.direct_fast.specs.half.FastArrays.{half_in, SameHalf};
+ghost use Rattle.direct_fast.specs.DirectFast.{half_at_entry, half_at_exit, fast_step, holds_value, fast_answer, fast_leaves, put_fast, fast_written, fast_direct, fast_handled, is_old, fast_made, fast_call};
 ghost use Rattle.direct_fast.specs.FastStands.{FastStands};
 
-use array_reads::{OpenReadsArray, ReadArrays, ServedReadsArray};
+use crate::finish::FastAnswer;
+use crate::half::{AnswersArray, FastHalf};
+use arrays::reads::{OpenReadsArray, ReadArrays, ServedReadsArray};
 use arrays::{CallArray, CoreArray, MessageArray, RestArray, Setup, SetupArray, Tables};
-use direct_core::{NotTaken, ReplyArrays};
-use fast_arrays::{AnswersArray, FastHalf};
-use fast_calls::FastAnswer;
+use basics::tables::PerProcess;
+use direct::handlers::{NotTaken, ReplyArrays};
 use fast_state::{FastAnswers, FastTables};
 use flat::{COMMIT, FlatCall, FlatCore, NEW_READ, PROPOSAL};
 use message::{PFMode, Refusal};
 use steps::{Asked, ChangeStep, Core};
-use tables::PerProcess;
 
 // Whether the fast half has a part in the call: in EPaxos and SwiftPaxos, in what concerns a slot and is no new read.
 #[tactic(auto, unfolding(direct::specs::Direct::fast_half_acts))]
@@ -47,7 +50,7 @@ fn is_old(c: FlatCore, f: FlatCall) -> bool
     if f.kind == PROPOSAL {
         return false;
     }
-    direct::is_older(c, f.message)
+    direct::is_older_message(c, f.message)
 }
 
 // The step of a proposal, of a Commit of the own slot, or of what the rounds handle.
@@ -70,7 +73,7 @@ fn fast_step(
     if message.kind == COMMIT {
         return Ok(core.commits_silent(message.v).unchanged(answers));
     }
-    let heard = flat_calls::heard_of(setup, tables, f);
+    let heard = questions::decided::heard_of(setup, tables, f);
     let msg = flat::decode_msg(message);
     let scores = FastTables {
         values: half.values,
@@ -105,10 +108,10 @@ fn fast_answer(
 ) -> Result<FastAnswer, Refusal>
     ensures { result ≡ fast_answer setup tables.entry.committers.now tables.entry.delegates.now core (half_in half.now) f }
 {
-    let asked = flat_calls::asked_of(setup);
-    let answers = fast_arrays::answers_in(half.answers);
+    let asked = questions::decided::asked_of(setup);
+    let answers = crate::half::answers_in(half.answers);
     let step = fast_step(asked, setup, tables, core, answers, half, f);
-    fast_calls::fast_finish(asked, holds_value(f), step)
+    crate::finish::fast_finish(asked, holds_value(f), step)
 }
 
 // What is answered to a call that is taken, written into the arrays. Hands back whether open reads may have become ready.
@@ -122,7 +125,7 @@ fn put_fast(
     ensures written { fast_leaves (Ok result) core.new (half_in half.new) (reply_in reply.new) ≡ put_fast x (half_in half.old) (reply_in reply.old) }
 {
     half.put_after(x.after);
-    direct_core::put_taken(core, reply, x.answer)
+    direct::handlers::put_taken(core, reply, x.answer)
 }
 
 // The answer to a call that is not too old, written into the arrays. A refusal writes nothing.
@@ -192,7 +195,7 @@ fn fast_made(
     if !fast_half_acts(s, f) {
         return Err(NotTaken::PassedOn);
     }
-    flat_calls::refusal(setup, core, call)?;
+    questions::decided::refusal(setup, core, call)?;
     fast_handled(s, tables, core, half, reads, f, reply)
 }
 
@@ -218,12 +221,12 @@ pub fn chanbook_fast_call(
     rest: &mut RestArray,
 ) -> u64
     ensures stands { FastStands
-        (memory_with (setup_of setup.now) committers.now delegates.now (came core) (half_came answers values epaxos swift) (reads_came reads served))
-        (flat_call_of call.now) (reply_came first second third rest)
-        (fast_direct result (left core) (half_left answers values epaxos swift) (reads_left reads served) (reply_left first second third rest)) }
-    ensures rest_value { fast_direct result (left core) (half_left answers values epaxos swift) (reads_left reads served) (reply_left first second third rest)
-        ≡ fast_call (setup_of setup.now) committers.now delegates.now (came core) (half_came answers values epaxos swift)
-        (reads_came reads served) (flat_call_of call.now) (reply_came first second third rest) }
+        (memory_with (setup_of setup.now) committers.now delegates.now (at_entry core) (half_at_entry answers values epaxos swift) (reads_at_entry reads served))
+        (flat_call_of call.now) (reply_at_entry first second third rest)
+        (fast_direct result (at_exit core) (half_at_exit answers values epaxos swift) (reads_at_exit reads served) (reply_at_exit first second third rest)) }
+    ensures rest_value { fast_direct result (at_exit core) (half_at_exit answers values epaxos swift) (reads_at_exit reads served) (reply_at_exit first second third rest)
+        ≡ fast_call (setup_of setup.now) committers.now delegates.now (at_entry core) (half_at_entry answers values epaxos swift)
+        (reads_at_entry reads served) (flat_call_of call.now) (reply_at_entry first second third rest) }
     ensures left_unless_taken { LeftUnlessTaken result reads × LeftUnlessTaken result served }
 {
     let tables = Tables {
@@ -243,7 +246,7 @@ pub fn chanbook_fast_call(
         third,
         rest,
     };
-    direct_core::call_number(fast_made(
+    direct::handlers::call_number(fast_made(
         setup,
         tables,
         core,

@@ -3,17 +3,17 @@
 
 ghost use Rattle.std.specs.Prelude.{◌≡◌};
 ghost use Rattle.arrays.specs.Arrays.{setup_of, flat_call_of};
-ghost use Rattle.direct_core.specs.Lent.{came, left};
-ghost use Rattle.direct_core.specs.Handled.{reply_came, reply_left};
-ghost use Rattle.direct.specs.Direct.{reads_came, reads_left, LeftUnlessTaken};
+ghost use Rattle.direct.specs.handlers.Lent.{at_entry, at_exit};
+ghost use Rattle.direct.specs.handlers.Handled.{reply_at_entry, reply_at_exit};
+ghost use Rattle.direct.specs.Direct.{reads_at_entry, reads_at_exit, LeftUnlessTaken};
 ghost use Rattle.direct.specs.Stands.{memory_with};
-ghost use Rattle.direct_fast.specs.DirectFast.{half_came, half_left, fast_direct, fast_call};
+ghost use Rattle.direct_fast.specs.DirectFast.{half_at_entry, half_at_exit, fast_direct, fast_call};
 ghost use Rattle.direct_fast.specs.FastStands.{FastStands};
 
-use array_reads::{OpenReadsArray, ServedReadsArray};
+use arrays::reads::{OpenReadsArray, ServedReadsArray};
 use arrays::{CallArray, CoreArray, MessageArray, RestArray, SetupArray};
-use fast_arrays::AnswersArray;
-use tables::PerProcess;
+use basics::tables::PerProcess;
+use direct_fast::half::AnswersArray;
 
 // A call on the parts of a shard: what is left in the arrays stands for the engine's call of the shard that they stood for (`stands`), and which numbers are left
 // is `fast_call` (`rest_value`). 0: it was taken, and core, fast half, reads and reply are written. 1 to 12, or 17: it is refused with this number. 255: it goes
@@ -37,12 +37,12 @@ pub extern "C" fn chanbook_fast_call(
     rest: &mut RestArray,
 ) -> u64
     ensures stands { FastStands
-        (memory_with (setup_of setup.now) committers.now delegates.now (came core) (half_came answers values epaxos swift) (reads_came reads served))
-        (flat_call_of call.now) (reply_came first second third rest)
-        (fast_direct result (left core) (half_left answers values epaxos swift) (reads_left reads served) (reply_left first second third rest)) }
-    ensures rest_value { fast_direct result (left core) (half_left answers values epaxos swift) (reads_left reads served) (reply_left first second third rest)
-        ≡ fast_call (setup_of setup.now) committers.now delegates.now (came core) (half_came answers values epaxos swift)
-        (reads_came reads served) (flat_call_of call.now) (reply_came first second third rest) }
+        (memory_with (setup_of setup.now) committers.now delegates.now (at_entry core) (half_at_entry answers values epaxos swift) (reads_at_entry reads served))
+        (flat_call_of call.now) (reply_at_entry first second third rest)
+        (fast_direct result (at_exit core) (half_at_exit answers values epaxos swift) (reads_at_exit reads served) (reply_at_exit first second third rest)) }
+    ensures rest_value { fast_direct result (at_exit core) (half_at_exit answers values epaxos swift) (reads_at_exit reads served) (reply_at_exit first second third rest)
+        ≡ fast_call (setup_of setup.now) committers.now delegates.now (at_entry core) (half_at_entry answers values epaxos swift)
+        (reads_at_entry reads served) (flat_call_of call.now) (reply_at_entry first second third rest) }
     ensures left_unless_taken { LeftUnlessTaken result reads × LeftUnlessTaken result served }
 {
     direct_fast::chanbook_fast_call(

@@ -13,7 +13,7 @@ use Rattle.group.specs.Claim.{Entry, messages_of, WasSent, ours, LegalFrom, Lega
 use Rattle.group.proofs.Agreement.{agreement}
 use Rattle.enabled_runs.specs.declared.RunEvent.{RunEvent}
 use Rattle.enabled_runs.specs.declared.Sending.{Sending}
-use Rattle.enabled_runs.specs.Enabled.{RunSoFar, sendings, sent_in, StandsAt, WasSentTo, Enabled, ends, proposes, delivers, calls_of}
+use Rattle.enabled_runs.specs.Enabled.{RunSoFar, sendings, sent_in, StandsAt, WasSentTo, Enabled, ends, proposes, delivers, calls_of_events}
 use Rattle.enabled_runs.specs.Listing.{all_sent, extended_by, after_run}
 use Rattle.enabled_runs.specs.Order.{RunsInOrder, Once, Extends}
 use Rattle.enabled_runs.specs.Offices.{three_offices, heard_by, engine_call, before_events, EnabledRun, short_runs, past_of}
@@ -69,21 +69,21 @@ was_sent past place s member stands sent =
     (f.0, s.outgoing, f.1, f.2 ∙ sent.0, f.3, refl, sent.1)
 
 legal_from : {w : RunSoFar Shard} {es : List RunEvent} (h : Enabled engine_call heard_by w es)
-    → LegalFrom 3 ours w.shards w.past (calls_of engine_call heard_by h)
-unfolding LegalFrom calls_of
+    → LegalFrom 3 ours w.shards w.past (calls_of_events engine_call heard_by h)
+unfolding LegalFrom calls_of_events
 legal_from ends = tt
 legal_from {w} (proposes member below new done rest) = (below, tt, legal_from rest)
 legal_from {w} (delivers member place s below stands sent rest) = (below, was_sent w.past place s member stands sent, legal_from rest)
 
 -- Each listed run is legal for the claim of demand 3.
-pub listed_legal : (run : List RunEvent) (i : In run short_runs) → Legal three_offices (calls_of engine_call heard_by ((listed_exactly run).0 i).2)
+pub listed_legal : (run : List RunEvent) (i : In run short_runs) → Legal three_offices (calls_of_events engine_call heard_by ((listed_exactly run).0 i).2)
 listed_legal run i = legal_from ((listed_exactly run).0 i).2
 
 -- ---- and its commits are the run's
 
 past_from : {w : RunSoFar Shard} {es : List RunEvent} (h : Enabled engine_call heard_by w es)
-    → (after_run (all_sent engine_call heard_by) (extended_by engine_call heard_by) w es).past ≡ entries_from ours w.shards w.past (calls_of engine_call heard_by h)
-unfolding after_run calls_of entries_from
+    → (after_run (all_sent engine_call heard_by) (extended_by engine_call heard_by) w es).past ≡ entries_from ours w.shards w.past (calls_of_events engine_call heard_by h)
+unfolding after_run calls_of_events entries_from
 past_from ends = refl
 past_from {w} (proposes {es = es} member below new done rest) =
     ap (λ (o : Option (RunSoFar Shard)). (after_run (all_sent engine_call heard_by) (extended_by engine_call heard_by) (get_or o w) es).past)
@@ -95,10 +95,10 @@ past_from {w} (delivers {es = es} member place s below stands sent rest) =
     ∙ past_from rest
 
 -- What the listing takes a run's commits from is what the claim says that the run's calls handed back.
-pub listed_past : (run : List RunEvent) (i : In run short_runs) → past_of run ≡ entries three_offices (calls_of engine_call heard_by ((listed_exactly run).0 i).2)
+pub listed_past : (run : List RunEvent) (i : In run short_runs) → past_of run ≡ entries three_offices (calls_of_events engine_call heard_by ((listed_exactly run).0 i).2)
 listed_past run i = past_from ((listed_exactly run).0 i).2
 
 -- So demand 3 holds of every line.
 pub listed_claim : (run : List RunEvent) → In run short_runs → Claim (past_of run)
 listed_claim run i =
-    subst Claim (sym (listed_past run i)) (agreement three_offices tt (calls_of engine_call heard_by ((listed_exactly run).0 i).2) (listed_legal run i))
+    subst Claim (sym (listed_past run i)) (agreement three_offices tt (calls_of_events engine_call heard_by ((listed_exactly run).0 i).2) (listed_legal run i))

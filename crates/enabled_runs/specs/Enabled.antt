@@ -79,7 +79,7 @@ module _ {S : Type 0} (call : S → Call → S × Reply) (host : S → Consensus
         → Enabled (with_call w member (office_delivery w member s)) es → Enabled w (Delivers member place ∷ es)
 
   -- the calls of a run
-  unfoldable pub calls_of : {w : RunSoFar S} {es : List RunEvent} → Enabled w es → List MemberCall
-  calls_of ends = []
-  calls_of (proposes member below new done rest) = record { member = member; call = office_proposal member } ∷ calls_of rest
-  calls_of {w} (delivers member place s below stands sent rest) = record { member = member; call = office_delivery w member s } ∷ calls_of rest
+  unfoldable pub calls_of_events : {w : RunSoFar S} {es : List RunEvent} → Enabled w es → List MemberCall
+  calls_of_events ends = []
+  calls_of_events (proposes member below new done rest) = record { member = member; call = office_proposal member } ∷ calls_of_events rest
+  calls_of_events {w} (delivers member place s below stands sent rest) = record { member = member; call = office_delivery w member s } ∷ calls_of_events rest

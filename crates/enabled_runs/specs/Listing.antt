@@ -77,18 +77,18 @@ is_sent_to s member =
     (goes_to s.outgoing.message.src s.outgoing.destination member s.outgoing.message.msg)
     false
 
-abbrev pub is_proposal : Call → Bool
-is_proposal (Propose v) = true
-is_proposal (StartRead tag arrival) = false
-is_proposal (Receive d) = false
+abbrev pub call_proposes : Call → Bool
+call_proposes (Propose v) = true
+call_proposes (StartRead tag arrival) = false
+call_proposes (Receive d) = false
 
 unfoldable pub has_proposed : List Entry → ℕ → Bool
 has_proposed [] member = false
-has_proposed (e ∷ past) member = (eqb e.member member && is_proposal e.call) || has_proposed past member
+has_proposed (e ∷ past) member = (eqb e.member member && call_proposes e.call) || has_proposed past member
 
-abbrev pub if_done : {A : Type 0} → Outcome → A → Option A
-if_done (Ok tt) x = some x
-if_done (Err why) x = none
+abbrev pub some_if_done : {A : Type 0} → Outcome → A → Option A
+some_if_done (Ok tt) x = some x
+some_if_done (Err why) x = none
 
 module _ {S : Type 0} (call : S → Call → S × Reply) (host : S → ConsensusMessage → Delivery) where
   abbrev pub all_sent : RunSoFar S → ℕ
@@ -101,7 +101,7 @@ module _ {S : Type 0} (call : S → Call → S × Reply) (host : S → Consensus
   unfoldable pub extended_by : RunSoFar S → RunEvent → Option (RunSoFar S)
   extended_by w (Proposes member) =
       cond (has_proposed w.past member) none
-      (if_done (call (w.shards member) (office_proposal call host member)).1.outcome (with_call call host w member (office_proposal call host member)))
+      (some_if_done (call (w.shards member) (office_proposal call host member)).1.outcome (with_call call host w member (office_proposal call host member)))
   extended_by w (Delivers member place) = with_delivery w member (at_place (sent_in w.past) place)
 
   -- every run of at most so many events

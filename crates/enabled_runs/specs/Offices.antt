@@ -88,9 +88,9 @@ member_commits member None = []
 member_commits member (Some commit) = record { member = member; slot = commit.slot; v = commit.v } ∷ []
 
 -- "Commits, in time order"
-abbrev pub commits_in : List Entry → List CommitBy
-commits_in [] = []
-commits_in (e ∷ past) = commits_in past ++ member_commits e.member e.reply.commit
+abbrev pub commits_in_order : List Entry → List CommitBy
+commits_in_order [] = []
+commits_in_order (e ∷ past) = commits_in_order past ++ member_commits e.member e.reply.commit
 
 -- what the calls of a run handed back
 abbrev pub past_of : List RunEvent → List Entry

@@ -2,7 +2,7 @@
 -- and of each engine of the edits an answer here is another, or what is left or served. An edit names its engine in `in_runs`, so that the run is computed
 -- with it.
 -- Assumes nothing.
-use Rattle.std.specs.Prelude.{Option, None, Some, Err}
+use Rattle.std.specs.Prelude.{None, Some, Err}
 use mathlib.Core.Path.{◌≡◌, refl}
 use mathlib.Core.Bool.{true, false}
 use mathlib.Core.List.{List, [], ◌∷◌}
@@ -11,14 +11,14 @@ use Prim.Native.Nat.{ℕ}
 use lib.Dec.{lit<}
 use Rattle.message.specs.Rounds.{round_of}
 use Rattle.message.specs.declared.ConsensusMsg.{ConsensusMsg}
-use Rattle.message.specs.declared.ConsensusMsg.TheVariants.{Prepare, Accept, ForwardRequest, Commit}
+use Rattle.message.specs.declared.ConsensusMsg.TheVariants.{Prepare, Accept, Commit}
 use Rattle.message.specs.declared.PFMode.TheVariants.{Paxos, MultiPaxos, SwiftPaxos}
 use Rattle.message.specs.declared.Refusal.TheVariants.{NoSuchProcess}
 use Rattle.message.specs.declared.RoundV.TheVariants.{PaxosV}
 use Rattle.fast_state.specs.Fast.{no_answers}
 use Rattle.read_tracker.specs.Reads.{read_id, new_read, open_reads}
 use Rattle.read_tracker.specs.declared.OpenRead.{OpenRead}
-use Rattle.serving.proofs.IdOrder.{served_ids}
+use Rattle.read_tracker.proofs.serving.IdOrder.{served_ids}
 use Rattle.steps.specs.Steps.{to_all}
 use Rattle.steps.specs.declared.Destination.{Destination}
 use Rattle.steps.specs.declared.Destination.TheVariants.{One}
@@ -32,7 +32,7 @@ use Rattle.group.proofs.Example.{three, proposes, hears, commits_of, none, commi
 use Rattle.group.proofs.Invariants.{served_by}
 use Rattle.group.proofs.RunReads.{opens}
 use Rattle.wrong_engines.specs.Laws.{entries_by, shards_by}
-use Rattle.wrong_engines.proofs.Answers.{paxos_group, five, told, told_by_64}
+use Rattle.wrong_engines.proofs.Answers.{paxos_group, five, told_by_64}
 use Rattle.wrong_engines.proofs.Runs.{alone, told_once, two_reads, forwarded}
 use Rattle.engine_laws.specs.Engine.{engine}
 

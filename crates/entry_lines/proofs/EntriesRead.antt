@@ -6,14 +6,14 @@ use mathlib.Core.List.{List, [], ◌∷◌, ◌++◌}
 use mathlib.Core.Logic.{inl, inr}
 use Prim.Native.Nat.{ℕ, suc, ◌+◌, ◌-◌, ◌≤◌}
 use native.Mathlib.Omega.{arith}
-use lib.Dec.{ltb, eqb}
+use lib.Dec.{ltb}
 use lib.IntN.{ℤ, pos, negsuc}
 use lib.ListN.{length, drop, length-drop}
 use lib.Seq.{drop-drop}
 use borrow.Author.Tests.{le-ltb, eq-eqb, ne_eqb}
 use Rattle.std.proofs.Common.{append-nil}
 use Rattle.basics.proofs.Tests.{of-both}
-use Rattle.std.specs.Prelude.{Some, int_lt, unsigned_abs}
+use Rattle.std.specs.Prelude.{Some}
 use Rattle.texts.specs.Text.{ascii, decimal, field}
 use Rattle.line_fields.specs.Fields.{same_to, begins, next_field, number_field, field_end}
 use Rattle.line_fields.proofs.FieldsRead.{FieldEnds, first_digit, field_read, behind_field, number_before, end_before}
@@ -23,14 +23,14 @@ use Rattle.register.specs.declared.Change.TheVariants.{Assign, Release}
 use Rattle.register_lines.specs.Entries.{second}
 use Rattle.register_lines.specs.Written as cells
 use Rattle.register_lines.proofs.EntriesRead.{entry_begins, behind_letter, change_read}
-use Rattle.positions.specs.declared.Entry.{Entry}
-use Rattle.positions.specs.declared.Entry.TheVariants.{OfCell, OfPosition}
+use Rattle.positions.specs.declared.PlacedEntry.{PlacedEntry}
+use Rattle.positions.specs.declared.PlacedEntry.TheVariants.{OfCell, OfPosition}
 use Rattle.positions.specs.declared.Position.{Position}
 use Rattle.positions.specs.declared.PositionEntry.{PositionEntry}
 use Rattle.entry_lines.specs.Signed.{signed_number, signed_field, sign_text, signed_text}
-use Rattle.entry_lines.specs.Entries.{place_of, y_at, place_at, said_at, entry_with, entry_at, entry_of}
+use Rattle.entry_lines.specs.Entries.{placed_said, y_at, place_at, line_said_at, entry_with, entry_at, entry_in_line}
 use Rattle.entry_lines.specs.Written.{place_line, entry_line, SignedFits, PlaceFits, EntryFits}
-use Rattle.entry_lines.specs.declared.Said.TheVariants.{Placed}
+use Rattle.entry_lines.specs.declared.CellSaid.TheVariants.{Placed}
 use Rattle.entry_lines.specs.declared.SignedField.{SignedField}
 
 -- ---- letters
@@ -114,7 +114,7 @@ end_within line at = of-both (λ (f : SignedField). f.end ≤ length line) (begi
 place_read : (line : List ℕ) (at n : ℕ) (p : Position) → n ≤ 4294967295 → SignedFits p.x → SignedFits p.y
     → drop at line ≡ decimal n ++ (32 ∷ (written p.x ++ (32 ∷ written p.y)))
     → place_at line at ≡ Some (record { cell = n; said = Placed p; end = length line })
-unfolding place_at place_of
+unfolding place_at placed_said
 place_read line at n p ln fx fy e =
     let cell = field_read line at n (written p.x ++ (32 ∷ written p.y)) (omega arith) e in
     let e2 = behind_field line at n (written p.x ++ (32 ∷ written p.y)) e in
@@ -126,10 +126,10 @@ place_read line at n p ln fx fy e =
 
 -- ---- the line
 
-cell_read : (e : CellEntry) → cells.EntryFits e → entry_of (cells.entry_line e) ≡ Some (OfCell e)
-unfolding entry_of entry_at entry_with said_at field
+cell_read : (e : CellEntry) → cells.CellEntryFits e → entry_in_line (cells.cell_entry_line e) ≡ Some (OfCell e)
+unfolding entry_in_line entry_at entry_with line_said_at field
 cell_read e fits =
-    let line = cells.entry_line e in
+    let line = cells.cell_entry_line e in
     let rest = cells.change_line e.cell e.change in
     let behind = behind_field line 6 e.slot rest refl in
     simp (
@@ -140,8 +140,8 @@ cell_read e fits =
       eq-eqb (length line) (length line) refl,
     )
 
-position_read : (e : PositionEntry) → PlaceFits e → entry_of (entry_line (OfPosition e)) ≡ Some (OfPosition e)
-unfolding entry_of entry_at entry_with said_at field
+position_read : (e : PositionEntry) → PlaceFits e → entry_in_line (entry_line (OfPosition e)) ≡ Some (OfPosition e)
+unfolding entry_in_line entry_at entry_with line_said_at field
 position_read e fits =
     let line = entry_line (OfPosition e) in
     let numbers = decimal e.cell ++ (32 ∷ (written e.position.x ++ (32 ∷ written e.position.y))) in
@@ -157,6 +157,6 @@ position_read e fits =
       eq-eqb (length line) (length line) refl,
     )
 
-pub entry_read : (e : Entry) → EntryFits e → entry_of (entry_line e) ≡ Some e
+pub entry_read : (e : PlacedEntry) → EntryFits e → entry_in_line (entry_line e) ≡ Some e
 entry_read (OfCell e) fits = cell_read e fits
 entry_read (OfPosition e) fits = position_read e fits

@@ -2,17 +2,14 @@
 -- "so that no report is of half its entries".
 -- Assumes nothing.
 use mathlib.Core.Path.{◌≡◌, refl, ap, ◌∙◌}
-use mathlib.Core.Bool.{Bool, true, false, cond}
+use mathlib.Core.Bool.{Bool, true, false}
 use mathlib.Core.List.{List, [], ◌∷◌, ◌++◌}
 use Prim.Native.Nat.{ℕ, ◌≤◌}
-use native.Mathlib.Omega.{arith}
-use lib.Dec.{ltb}
-use lib.ListN.{length, drop}
-use borrow.Author.Tests.{le-ltb}
+use lib.ListN.{drop}
 use Rattle.basics.proofs.Tests.{of-both}
 use Rattle.std.specs.Prelude.{Option, Some, None}
 use Rattle.texts.specs.Text.{ascii, decimal, field}
-use Rattle.line_fields.specs.Fields.{same_to, begins, number_from}
+use Rattle.line_fields.specs.Fields.{begins, number_from}
 use Rattle.line_fields.proofs.ReadBack.{number_read}
 use Rattle.report.specs.Report.{refusal_text, page_holding}
 use Rattle.group_register.specs.Settings.{settings_from}
@@ -22,36 +19,36 @@ use Rattle.group_register.specs.declared.GroupRegister.{GroupRegister}
 use Rattle.register_lines.specs.Answers.{first_register}
 use Rattle.register_lines.specs.Written.{register_line}
 use Rattle.positions.specs.PlacedTaken.{cell_entry, cell_entries}
-use Rattle.positions.specs.declared.Entry.{Entry}
-use Rattle.positions.specs.declared.Entry.TheVariants.{OfCell, OfPosition}
+use Rattle.positions.specs.declared.PlacedEntry.{PlacedEntry}
+use Rattle.positions.specs.declared.PlacedEntry.TheVariants.{OfCell, OfPosition}
 use Rattle.register_lines.proofs.EntriesRead.{entry_no_register, register_begins}
-use Rattle.entry_lines.specs.Entries.{entry_of}
+use Rattle.entry_lines.specs.Entries.{entry_in_line}
 use Rattle.entry_lines.specs.Reports.{lines_taken, take_entry, take_settings, take_first, take_line, take_lines, no_lines, page_after}
 use Rattle.entry_lines.specs.Written.{entry_line, entry_lines, EntryFits, EntriesFit}
-use Rattle.entry_lines.specs.declared.LinesTaken.{LinesTaken}
+use Rattle.entry_lines.specs.declared.EntriesTaken.{EntriesTaken}
 use Rattle.entry_lines.proofs.EntriesRead.{entry_read}
 
-no_register : (e : Entry) → begins (ascii "register ") (entry_line e) ≡ false
+no_register : (e : PlacedEntry) → begins (ascii "register ") (entry_line e) ≡ false
 unfolding field
 no_register (OfCell e) = entry_no_register (drop 6 (entry_line (OfCell e)))
 no_register (OfPosition e) = entry_no_register (drop 6 (entry_line (OfPosition e)))
 
 module _ (g : GroupRegister) where
-  entry_taken : (e : Entry) → EntryFits e → (begun : Bool)
+  entry_taken : (e : PlacedEntry) → EntryFits e → (begun : Bool)
       → take_line (Some (record { group = g; begun = begun })) (entry_line e) ≡ lines_taken (apply_in_group g (cell_entry e)).group
   unfolding take_line take_first take_entry
   entry_taken e fits true = ap (take_entry g) (entry_read e fits)
   entry_taken e fits false = simp (no_register e) (ap (take_entry g) (entry_read e fits))
 
-entries_reported : (g : GroupRegister) (begun : Bool) (es : List Entry) → EntriesFit es
+entries_reported : (g : GroupRegister) (begun : Bool) (es : List PlacedEntry) → EntriesFit es
     → page_after (take_lines (Some (record { group = g; begun = begun })) (entry_lines es)) ≡ group_page (apply_all_in_group g (cell_entries es))
 unfolding page_after take_lines entry_lines apply_all_in_group
 entries_reported g begun [] fits = refl
 entries_reported g begun (e ∷ es) fits =
-    ap (λ (t : Option LinesTaken). page_after (take_lines t (entry_lines es))) (entry_taken g e fits.0 begun)
+    ap (λ (t : Option EntriesTaken). page_after (take_lines t (entry_lines es))) (entry_taken g e fits.0 begun)
     ∙ entries_reported (apply_in_group g (cell_entry e)).group _ es fits.1
 
-pub report_of_entries : (es : List Entry) → EntriesFit es
+pub report_of_entries : (es : List PlacedEntry) → EntriesFit es
     → page_after (take_lines no_lines (entry_lines es)) ≡ group_page (apply_all_in_group first_register (cell_entries es))
 report_of_entries es fits = entries_reported first_register false es fits
 
@@ -61,11 +58,11 @@ settings_taken : (slot : ℕ) → slot ≤ 18446744073709551615 → take_line no
 unfolding take_line take_first take_settings number_from field
 settings_taken slot small = rw (register_begins (decimal slot), number_read slot small) refl
 
-pub report_of_settings : (slot : ℕ) (es : List Entry) → slot ≤ 18446744073709551615 → EntriesFit es
+pub report_of_settings : (slot : ℕ) (es : List PlacedEntry) → slot ≤ 18446744073709551615 → EntriesFit es
     → page_after (take_lines no_lines (register_line slot ∷ entry_lines es)) ≡ group_page (apply_all_in_group (new_group_register (settings_from slot)) (cell_entries es))
 unfolding take_lines
 report_of_settings slot es small fits =
-    ap (λ (t : Option LinesTaken). page_after (take_lines t (entry_lines es))) (settings_taken slot small)
+    ap (λ (t : Option EntriesTaken). page_after (take_lines t (entry_lines es))) (settings_taken slot small)
     ∙ entries_reported (new_group_register (settings_from slot)) _ es fits
 
 -- ---- a line that is none of these
@@ -75,18 +72,18 @@ unfolding take_lines take_line
 stays_refused [] = refl
 stays_refused (line ∷ lines) = stays_refused lines
 
-refused_first : (t : Option LinesTaken) (line : List ℕ) → begins (ascii "register ") line ≡ false → entry_of line ≡ None → take_line t line ≡ None
+refused_first : (t : Option EntriesTaken) (line : List ℕ) → begins (ascii "register ") line ≡ false → entry_in_line line ≡ None → take_line t line ≡ None
 unfolding take_line take_first take_entry
 refused_first None line other none = refl
-refused_first (Some t) line other none = simp (other, none) (of-both (λ (x : Option LinesTaken). x ≡ None) t.begun refl refl)
+refused_first (Some t) line other none = simp (other, none) (of-both (λ (x : Option EntriesTaken). x ≡ None) t.begun refl refl)
 
-refused_within : (t : Option LinesTaken) (before : List (List ℕ)) (line : List ℕ) (behind : List (List ℕ)) → begins (ascii "register ") line ≡ false
-    → entry_of line ≡ None → take_lines t (before ++ (line ∷ behind)) ≡ None
+refused_within : (t : Option EntriesTaken) (before : List (List ℕ)) (line : List ℕ) (behind : List (List ℕ)) → begins (ascii "register ") line ≡ false
+    → entry_in_line line ≡ None → take_lines t (before ++ (line ∷ behind)) ≡ None
 unfolding take_lines
-refused_within t [] line behind other none = ap (λ (o : Option LinesTaken). take_lines o behind) (refused_first t line other none) ∙ stays_refused behind
+refused_within t [] line behind other none = ap (λ (o : Option EntriesTaken). take_lines o behind) (refused_first t line other none) ∙ stays_refused behind
 refused_within t (next ∷ before) line behind other none = refused_within (take_line t next) before line behind other none
 
-pub no_half_report : (before : List (List ℕ)) (line : List ℕ) (behind : List (List ℕ)) → begins (ascii "register ") line ≡ false → entry_of line ≡ None
+pub no_half_report : (before : List (List ℕ)) (line : List ℕ) (behind : List (List ℕ)) → begins (ascii "register ") line ≡ false → entry_in_line line ≡ None
     → page_after (take_lines no_lines (before ++ (line ∷ behind))) ≡ page_holding (refusal_text 1)
 unfolding page_after
 no_half_report before line behind other none = simp (refused_within no_lines before line behind other none)
@@ -94,11 +91,11 @@ no_half_report before line behind other none = simp (refused_within no_lines bef
 -- ---- nor does a line that begins a register stand behind another
 
 -- refused, or not without a line
-abbrev Begun : Option LinesTaken → Type 0
+abbrev Begun : Option EntriesTaken → Type 0
 Begun None = Unit {0}
 Begun (Some t) = t.begun ≡ true
 
-entry_begins : (g : GroupRegister) (o : Option Entry) → Begun (take_entry g o)
+entry_begins : (g : GroupRegister) (o : Option PlacedEntry) → Begun (take_entry g o)
 unfolding take_entry
 entry_begins g (Some e) = refl
 entry_begins g None = tt
@@ -108,25 +105,25 @@ unfolding take_settings
 settings_begin (Some slot) = refl
 settings_begin None = tt
 
-line_begins : (t : Option LinesTaken) (line : List ℕ) → Begun (take_line t line)
+line_begins : (t : Option EntriesTaken) (line : List ℕ) → Begun (take_line t line)
 unfolding take_line take_first
 line_begins None line = tt
 line_begins (Some t) line =
-    of-both Begun t.begun (entry_begins t.group (entry_of line))
-    (of-both Begun (begins (ascii "register ") line) (settings_begin (number_from line 9)) (entry_begins t.group (entry_of line)))
+    of-both Begun t.begun (entry_begins t.group (entry_in_line line))
+    (of-both Begun (begins (ascii "register ") line) (settings_begin (number_from line 9)) (entry_begins t.group (entry_in_line line)))
 
-refused_later : (t : Option LinesTaken) (line : List ℕ) → Begun t → entry_of line ≡ None → take_line t line ≡ None
+refused_later : (t : Option EntriesTaken) (line : List ℕ) → Begun t → entry_in_line line ≡ None → take_line t line ≡ None
 unfolding take_line take_entry
 refused_later None line begun none = refl
 refused_later (Some t) line begun none = simp (begun, none)
 
-refused_behind : (t : Option LinesTaken) (before : List (List ℕ)) (line : List ℕ) (behind : List (List ℕ)) → Begun t → entry_of line ≡ None
+refused_behind : (t : Option EntriesTaken) (before : List (List ℕ)) (line : List ℕ) (behind : List (List ℕ)) → Begun t → entry_in_line line ≡ None
     → take_lines t (before ++ (line ∷ behind)) ≡ None
 unfolding take_lines
-refused_behind t [] line behind begun none = ap (λ (o : Option LinesTaken). take_lines o behind) (refused_later t line begun none) ∙ stays_refused behind
+refused_behind t [] line behind begun none = ap (λ (o : Option EntriesTaken). take_lines o behind) (refused_later t line begun none) ∙ stays_refused behind
 refused_behind t (next ∷ before) line behind begun none = refused_behind (take_line t next) before line behind (line_begins t next) none
 
-pub no_second_register : (first : List ℕ) (before : List (List ℕ)) (line : List ℕ) (behind : List (List ℕ)) → entry_of line ≡ None
+pub no_second_register : (first : List ℕ) (before : List (List ℕ)) (line : List ℕ) (behind : List (List ℕ)) → entry_in_line line ≡ None
     → page_after (take_lines no_lines (first ∷ (before ++ (line ∷ behind)))) ≡ page_holding (refusal_text 1)
 unfolding page_after take_lines
 no_second_register first before line behind none =

@@ -3,8 +3,8 @@
 use Rattle.std.specs.Prelude.{List, [], ◌∷◌, ◌++◌, ℕ, ℤ, ◌≤◌, unsigned_abs}
 use Rattle.texts.specs.Text.{ascii, field}
 use Rattle.register_lines.specs.Written as cells
-use Rattle.positions.specs.declared.Entry.{Entry}
-use Rattle.positions.specs.declared.Entry.TheVariants.{OfCell, OfPosition}
+use Rattle.positions.specs.declared.PlacedEntry.{PlacedEntry}
+use Rattle.positions.specs.declared.PlacedEntry.TheVariants.{OfCell, OfPosition}
 use Rattle.positions.specs.declared.Position.{Position}
 use Rattle.positions.specs.declared.PositionEntry.{PositionEntry}
 use Rattle.entry_lines.specs.Signed.{signed_text}
@@ -13,11 +13,11 @@ use Rattle.entry_lines.specs.Signed.{signed_text}
 abbrev pub place_line : ℕ → Position → List ℕ
 place_line n p = ascii "p" ++ (field n ++ (signed_text p.x ++ signed_text p.y))
 
-abbrev pub entry_line : Entry → List ℕ
-entry_line (OfCell e) = cells.entry_line e
+abbrev pub entry_line : PlacedEntry → List ℕ
+entry_line (OfCell e) = cells.cell_entry_line e
 entry_line (OfPosition e) = ascii "entry" ++ (field e.slot ++ (ascii " " ++ place_line e.cell e.position))
 
-unfoldable pub entry_lines : List Entry → List (List ℕ)
+unfoldable pub entry_lines : List PlacedEntry → List (List ℕ)
 entry_lines [] = []
 entry_lines (e ∷ es) = entry_line e ∷ entry_lines es
 
@@ -28,10 +28,10 @@ SignedFits z = unsigned_abs z ≤ 9223372036854775807
 abbrev pub PlaceFits : PositionEntry → Type 0
 PlaceFits e = (e.slot ≤ 18446744073709551615) × (e.cell ≤ 4294967295) × SignedFits e.position.x × SignedFits e.position.y
 
-abbrev pub EntryFits : Entry → Type 0
-EntryFits (OfCell e) = cells.EntryFits e
+abbrev pub EntryFits : PlacedEntry → Type 0
+EntryFits (OfCell e) = cells.CellEntryFits e
 EntryFits (OfPosition e) = PlaceFits e
 
-abbrev pub EntriesFit : List Entry → Type 0
+abbrev pub EntriesFit : List PlacedEntry → Type 0
 EntriesFit [] = Unit {0}
 EntriesFit (e ∷ es) = EntryFits e × EntriesFit es

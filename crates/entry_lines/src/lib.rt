@@ -6,12 +6,12 @@ ghost use Rattle.std.specs.Prelude.{◌≡◌};
 ghost use Rattle.texts.specs.Text.{put};
 ghost use Rattle.positions.specs.PlacedTaken.{cell_entry};
 ghost use Rattle.entry_lines.specs.Signed.{signed_number, signed_field, sign_text, signed_text};
-ghost use Rattle.entry_lines.specs.Entries.{place_of, place_at, said_at, entry_said, entry_with, entry_at, entry_of};
+ghost use Rattle.entry_lines.specs.Entries.{placed_said, place_at, line_said_at, entry_said, entry_with, entry_at, entry_in_line};
 ghost use Rattle.entry_lines.specs.Reports.{lines_taken, take_entry, take_settings, take_first, take_line, no_lines, page_after};
 
 use group_register::{GroupRegister, RegisterSettings};
 use line_fields::NumberField;
-use positions::{Entry, Position, PositionEntry};
+use positions::{PlacedEntry, Position, PositionEntry};
 use register::{Assignment, CellEntry, CellNumber, Change};
 use register_lines::LineChange;
 use report::ReportPage;
@@ -26,7 +26,7 @@ pub struct SignedField {
 
 // What an entry says of its cell: an assignment or a release, or a position.
 #[derive(Clone, Copy)]
-pub enum Said {
+pub enum CellSaid {
     Changed(Change),
     Placed(Position),
 }
@@ -35,13 +35,13 @@ pub enum Said {
 #[derive(Clone, Copy)]
 pub struct LineSaid {
     pub cell: CellNumber,
-    pub said: Said,
+    pub said: CellSaid,
     pub end: usize,
 }
 
 // The register after the lines of an input so far, and whether there were any.
 #[derive(Clone, Copy)]
-pub struct LinesTaken {
+pub struct EntriesTaken {
     pub group: GroupRegister,
     pub begun: bool,
 }
@@ -100,9 +100,9 @@ pub fn put_signed(out: &mut Output<'_>, value: i64)
 
 // ---- an entry, from its letter on
 
-#[tactic(auto, unfolding(crate::specs::Entries::place_of))]
-fn place_of(cell: Option<u64>, x: Option<i64>, y: Option<i64>, end: usize) -> Option<LineSaid>
-    ensures { result ≡ place_of cell x y end }
+#[tactic(auto, unfolding(crate::specs::Entries::placed_said))]
+fn placed_said(cell: Option<u64>, x: Option<i64>, y: Option<i64>, end: usize) -> Option<LineSaid>
+    ensures { result ≡ placed_said cell x y end }
 {
     let number = cell?;
     if number > 4294967295 {
@@ -111,7 +111,7 @@ fn place_of(cell: Option<u64>, x: Option<i64>, y: Option<i64>, end: usize) -> Op
     let position = Position { x: x?, y: y? };
     Some(LineSaid {
         cell: number as CellNumber,
-        said: Said::Placed(position),
+        said: CellSaid::Placed(position),
         end,
     })
 }
@@ -124,13 +124,13 @@ fn place_at(line: &[u8], at: usize) -> Option<LineSaid>
     let cell = line_fields::number_field(line, at);
     let x = signed_field(line, line_fields::next_field(line, cell.end));
     let y = signed_field(line, line_fields::next_field(line, x.end));
-    place_of(cell.number, x.number, y.number, y.end)
+    placed_said(cell.number, x.number, y.number, y.end)
 }
 
 // `p CELL X Y`, or what crates/register_lines reads, from a place of a line on.
-#[tactic(auto, unfolding(crate::specs::Entries::said_at))]
-pub fn said_at(line: &[u8], at: usize) -> Option<LineSaid>
-    ensures { result ≡ said_at line.now at }
+#[tactic(auto, unfolding(crate::specs::Entries::line_said_at))]
+pub fn line_said_at(line: &[u8], at: usize) -> Option<LineSaid>
+    ensures { result ≡ line_said_at line.now at }
 {
     if line_fields::begins_at(line, at, b"p ") {
         return place_at(
@@ -141,19 +141,19 @@ pub fn said_at(line: &[u8], at: usize) -> Option<LineSaid>
     let LineChange { cell, change, end } = register_lines::change_at(line, at)?;
     Some(LineSaid {
         cell,
-        said: Said::Changed(change),
+        said: CellSaid::Changed(change),
         end,
     })
 }
 
 // ---- an entry line
 
-pub fn entry_said(slot: u64, cell: CellNumber, said: Said) -> Entry
+pub fn entry_said(slot: u64, cell: CellNumber, said: CellSaid) -> PlacedEntry
     ensures { result ≡ entry_said slot cell said }
 {
     match said {
-        Said::Changed(change) => Entry::OfCell(CellEntry { slot, cell, change }),
-        Said::Placed(position) => Entry::OfPosition(PositionEntry {
+        CellSaid::Changed(change) => PlacedEntry::OfCell(CellEntry { slot, cell, change }),
+        CellSaid::Placed(position) => PlacedEntry::OfPosition(PositionEntry {
             slot,
             cell,
             position,
@@ -163,7 +163,7 @@ pub fn entry_said(slot: u64, cell: CellNumber, said: Said) -> Entry
 
 // The entry, where its last field ends the line.
 #[tactic(auto, unfolding(crate::specs::Entries::entry_with))]
-fn entry_with(slot: u64, said: Option<LineSaid>, length: usize) -> Option<Entry>
+fn entry_with(slot: u64, said: Option<LineSaid>, length: usize) -> Option<PlacedEntry>
     ensures { result ≡ entry_with slot said length }
 {
     let whole = said?;
@@ -175,19 +175,19 @@ fn entry_with(slot: u64, said: Option<LineSaid>, length: usize) -> Option<Entry>
 
 // `SLOT` and what follows it, from a place of a line to its end.
 #[tactic(auto, unfolding(crate::specs::Entries::entry_at))]
-fn entry_at(line: &[u8], at: usize) -> Option<Entry>
+fn entry_at(line: &[u8], at: usize) -> Option<PlacedEntry>
     ensures { result ≡ entry_at line.now at }
 {
     let slot = line_fields::number_field(line, at);
     let number = slot.number?;
-    let said = said_at(line, line_fields::next_field(line, slot.end));
+    let said = line_said_at(line, line_fields::next_field(line, slot.end));
     entry_with(number, said, line.len())
 }
 
 // The entry that a line gives, without its LF.
-#[tactic(auto, unfolding(crate::specs::Entries::entry_of))]
-pub fn entry_of(line: &[u8]) -> Option<Entry>
-    ensures { result ≡ entry_of line.now }
+#[tactic(auto, unfolding(crate::specs::Entries::entry_in_line))]
+pub fn entry_in_line(line: &[u8]) -> Option<PlacedEntry>
+    ensures { result ≡ entry_in_line line.now }
 {
     if line_fields::begins(line, b"entry ") {
         return entry_at(line, 6);
@@ -198,12 +198,12 @@ pub fn entry_of(line: &[u8]) -> Option<Entry>
 // ---- a report of entry lines: the register after the lines so far, where each of them was an entry line, or the first began the register
 
 // What the register sees of an entry: of a position its slot alone, as of an assignment without a width, which is refused.
-fn cell_entry(entry: Entry) -> CellEntry
+fn cell_entry(entry: PlacedEntry) -> CellEntry
     ensures { result ≡ cell_entry entry }
 {
     match entry {
-        Entry::OfCell(entry) => entry,
-        Entry::OfPosition(PositionEntry { slot, cell, .. }) => CellEntry {
+        PlacedEntry::OfCell(entry) => entry,
+        PlacedEntry::OfPosition(PositionEntry { slot, cell, .. }) => CellEntry {
             slot,
             cell,
             change: Change::Assign(Assignment {
@@ -215,24 +215,24 @@ fn cell_entry(entry: Entry) -> CellEntry
 }
 
 // Before any line.
-pub fn no_lines() -> Option<LinesTaken>
+pub fn no_lines() -> Option<EntriesTaken>
     ensures { result ≡ no_lines }
 {
-    Some(LinesTaken {
+    Some(EntriesTaken {
         group: register_lines::first_register(),
         begun: false,
     })
 }
 
 // After at least one line.
-fn lines_taken(group: GroupRegister) -> Option<LinesTaken>
+fn lines_taken(group: GroupRegister) -> Option<EntriesTaken>
     ensures { result ≡ lines_taken group }
 {
-    Some(LinesTaken { group, begun: true })
+    Some(EntriesTaken { group, begun: true })
 }
 
 #[tactic(auto, unfolding(crate::specs::Reports::take_entry))]
-fn take_entry(group: GroupRegister, entry: Option<Entry>) -> Option<LinesTaken>
+fn take_entry(group: GroupRegister, entry: Option<PlacedEntry>) -> Option<EntriesTaken>
     ensures { result ≡ take_entry group entry }
 {
     let given = entry?;
@@ -240,7 +240,7 @@ fn take_entry(group: GroupRegister, entry: Option<Entry>) -> Option<LinesTaken>
 }
 
 #[tactic(auto, unfolding(crate::specs::Reports::take_settings))]
-fn take_settings(slot: Option<u64>) -> Option<LinesTaken>
+fn take_settings(slot: Option<u64>) -> Option<EntriesTaken>
     ensures { result ≡ take_settings slot }
 {
     let from = slot?;
@@ -249,30 +249,30 @@ fn take_settings(slot: Option<u64>) -> Option<LinesTaken>
 
 // The first line, which may be `register SLOT`.
 #[tactic(auto, unfolding(crate::specs::Reports::take_first))]
-fn take_first(group: GroupRegister, line: &[u8]) -> Option<LinesTaken>
+fn take_first(group: GroupRegister, line: &[u8]) -> Option<EntriesTaken>
     ensures { result ≡ take_first group line.now }
 {
     if line_fields::begins(line, b"register ") {
         return take_settings(line_fields::number_from(line, 9));
     }
-    take_entry(group, entry_of(line))
+    take_entry(group, entry_in_line(line))
 }
 
 // One more line, without its LF. A line that is none of these is not forgotten.
 #[tactic(auto, unfolding(crate::specs::Reports::take_line))]
-pub fn take_line(taken: Option<LinesTaken>, line: &[u8]) -> Option<LinesTaken>
+pub fn take_line(taken: Option<EntriesTaken>, line: &[u8]) -> Option<EntriesTaken>
     ensures { result ≡ take_line taken line.now }
 {
     let lines = taken?;
     if lines.begun {
-        return take_entry(lines.group, entry_of(line));
+        return take_entry(lines.group, entry_in_line(line));
     }
     take_first(lines.group, line)
 }
 
 // What is printed when the input ends.
 #[tactic(auto, unfolding(crate::specs::Reports::page_after))]
-pub fn page_after(taken: Option<LinesTaken>) -> ReportPage
+pub fn page_after(taken: Option<EntriesTaken>) -> ReportPage
     ensures { result ≡ page_after taken }
 {
     match taken {

@@ -10,7 +10,7 @@ use native.Mathlib.Omega.{arith}
 use lib.Dec.{ltb}
 use borrow.Author.Tests.{ltb-true, ltb-false}
 use Rattle.basics.proofs.Tests.{either, not_both, and_left, and_right, and_both}
-use Rattle.sets.specs.Sets.{contains}
+use Rattle.basics.specs.sets.Sets.{contains}
 use Rattle.fast_state.specs.Adopt.{better, best_below}
 use Rattle.fast_state.specs.declared.Best.{Best}
 

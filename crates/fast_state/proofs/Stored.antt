@@ -4,22 +4,22 @@ use mathlib.Core.Path.{◌≡◌, refl, sym}
 use mathlib.Core.List.{List}
 use Prim.Native.Nat.{ℕ, ◌<◌}
 use lib.ListN.{length}
-use Rattle.tables.specs.Tables.{look_up}
-use Rattle.tables.proofs.Stored.{look_up_stored}
+use Rattle.basics.specs.tables.Tables.{look_up}
+use Rattle.basics.proofs.tables.Stored.{look_up_stored}
 use Rattle.fast_state.specs.Adopt.{value_in, score_in}
 use Rattle.fast_state.specs.Fast.{to_v_after, epaxos_scores_after}
-use Rattle.fast_state.specs.declared.Entry.{Entry}
-use Rattle.fast_state.specs.declared.Entry.TheVariants.{SameEntries, Recorded, EPaxosScored, SwiftScored}
+use Rattle.fast_state.specs.declared.TableChange.{TableChange}
+use Rattle.fast_state.specs.declared.TableChange.TheVariants.{SameEntries, Recorded, EPaxosScored, SwiftScored}
 
 module _ (table : List ℕ) (long : length table ≡ 64) (p : ℕ) (process : p < 64) where
-  pub value_stored : (entry : Entry) → value_in entry table p ≡ look_up (to_v_after entry table) p
+  pub value_stored : (entry : TableChange) → value_in entry table p ≡ look_up (to_v_after entry table) p
   unfolding value_in to_v_after
   value_stored SameEntries = refl
   value_stored (Recorded proposer v) = sym (look_up_stored table long p process proposer v)
   value_stored (EPaxosScored proposer v score) = sym (look_up_stored table long p process proposer v)
   value_stored (SwiftScored proposer v score) = sym (look_up_stored table long p process proposer v)
 
-  pub score_stored : (entry : Entry) → score_in entry table p ≡ look_up (epaxos_scores_after entry table) p
+  pub score_stored : (entry : TableChange) → score_in entry table p ≡ look_up (epaxos_scores_after entry table) p
   unfolding score_in epaxos_scores_after
   score_stored SameEntries = refl
   score_stored (Recorded proposer v) = refl

@@ -3,12 +3,12 @@
 -- Assumes nothing.
 use Rattle.std.specs.Prelude.{Bool, cond, ◌&&◌, ℕ, zero, suc, List, eqb, ltb, Option, None, Some, Result, Ok, Err}
 use Rattle.message.specs.declared.Refusal.{Refusal}
-use Rattle.sets.specs.Sets.{contains, size}
-use Rattle.tables.specs.Tables.{look_up}
+use Rattle.basics.specs.sets.Sets.{contains, size}
+use Rattle.basics.specs.tables.Tables.{look_up}
 use Rattle.message.specs.declared.Refusal.TheVariants.{Panic}
 use Rattle.fast_state.specs.declared.Best.{Best}
-use Rattle.fast_state.specs.declared.Entry.{Entry}
-use Rattle.fast_state.specs.declared.Entry.TheVariants.{SameEntries, Recorded, EPaxosScored, SwiftScored}
+use Rattle.fast_state.specs.declared.TableChange.{TableChange}
+use Rattle.fast_state.specs.declared.TableChange.TheVariants.{SameEntries, Recorded, EPaxosScored, SwiftScored}
 use Rattle.fast_state.specs.declared.FastAnswers.{FastAnswers}
 use Rattle.fast_state.specs.declared.FastChange.{FastChange}
 use Rattle.round_state.specs.declared.Member.{Member}
@@ -37,13 +37,13 @@ adopted value (Some p) = Ok (Some (value p))
 
 -- the value and the score of a proposer after a change: those that are changed, and else those in the tables. They are what `to_v_after` and
 -- `epaxos_scores_after` store (proofs/Stored.antt).
-unfoldable pub value_in : Entry → List ℕ → ℕ → ℕ
+unfoldable pub value_in : TableChange → List ℕ → ℕ → ℕ
 value_in SameEntries table p = look_up table p
 value_in (Recorded proposer v) table p = cond (eqb p proposer) v (look_up table p)
 value_in (EPaxosScored proposer v score) table p = cond (eqb p proposer) v (look_up table p)
 value_in (SwiftScored proposer v score) table p = cond (eqb p proposer) v (look_up table p)
 
-unfoldable pub score_in : Entry → List ℕ → ℕ → ℕ
+unfoldable pub score_in : TableChange → List ℕ → ℕ → ℕ
 score_in SameEntries table p = look_up table p
 score_in (Recorded proposer v) table p = look_up table p
 score_in (EPaxosScored proposer v score) table p = cond (eqb p proposer) score (look_up table p)

@@ -3,13 +3,13 @@
 -- asserts that it is 0, the set is empty.
 -- Assumes nothing.
 use Rattle.std.specs.Prelude.{Bool, true, cond, not, ◌&&◌, List, ℕ, ◌-◌, leb, eqb, replicate, Option, None, Some, is_some, Result, Ok, Err}
-use Rattle.sets.specs.Sets.{contains, insert, size, is_empty}
-use Rattle.tables.specs.Tables.{look_up, store}
+use Rattle.basics.specs.sets.Sets.{contains, insert, size, is_empty}
+use Rattle.basics.specs.tables.Tables.{look_up, store}
 use Rattle.message.specs.Rounds.{increment}
 use Rattle.message.specs.declared.Refusal.{Refusal}
 use Rattle.message.specs.declared.Refusal.TheVariants.{Panic, SecondFastAnswer}
-use Rattle.fast_state.specs.declared.Entry.{Entry}
-use Rattle.fast_state.specs.declared.Entry.TheVariants.{SameEntries, Recorded, EPaxosScored, SwiftScored}
+use Rattle.fast_state.specs.declared.TableChange.{TableChange}
+use Rattle.fast_state.specs.declared.TableChange.TheVariants.{SameEntries, Recorded, EPaxosScored, SwiftScored}
 use Rattle.fast_state.specs.declared.FastAnswers.{FastAnswers}
 use Rattle.fast_state.specs.declared.FastChange.{FastChange}
 use Rattle.fast_state.specs.declared.FastState.{FastState}
@@ -32,19 +32,19 @@ abbrev pub unchanged : FastAnswers → FastChange
 unchanged answers = record { answers = answers; entry = SameEntries }
 
 -- the tables after a change: the value of one proposer is stored, and its score in the table of its mode
-unfoldable pub to_v_after : Entry → List ℕ → List ℕ
+unfoldable pub to_v_after : TableChange → List ℕ → List ℕ
 to_v_after SameEntries table = table
 to_v_after (Recorded proposer v) table = store table proposer v
 to_v_after (EPaxosScored proposer v score) table = store table proposer v
 to_v_after (SwiftScored proposer v score) table = store table proposer v
 
-unfoldable pub epaxos_scores_after : Entry → List ℕ → List ℕ
+unfoldable pub epaxos_scores_after : TableChange → List ℕ → List ℕ
 epaxos_scores_after SameEntries table = table
 epaxos_scores_after (Recorded proposer v) table = table
 epaxos_scores_after (EPaxosScored proposer v score) table = store table proposer score
 epaxos_scores_after (SwiftScored proposer v score) table = table
 
-unfoldable pub swift_scores_after : Entry → List ℕ → List ℕ
+unfoldable pub swift_scores_after : TableChange → List ℕ → List ℕ
 swift_scores_after SameEntries table = table
 swift_scores_after (Recorded proposer v) table = table
 swift_scores_after (EPaxosScored proposer v score) table = table

@@ -3,13 +3,16 @@
 // back this change, and the tables are read where they stand.
 #![tactic(auto)]
 
+pub mod epaxos;
+pub mod swift;
+
 ghost use Rattle.std.specs.Prelude.{◌≡◌};
 ghost use Rattle.fast_state.specs.Fast.{answers_of, unchanged, to_v_after, epaxos_scores_after, swift_scores_after, changed, no_answers, preaccepted_after, second_answer, is_unanswered};
 ghost use Rattle.fast_state.specs.RoundState.{new_round_state};
 
+use basics::tables::PerProcess;
 use message::{PaxosRound, Refusal};
 use round_state::{Member, PaxosState};
-use tables::PerProcess;
 
 // EPaxos and SwiftPaxos state. The Rust's map from proposers to values is an array by process, with the set of those present. Three tables of numbers, here and
 // in FastTables, and none of structs: a host lends them as arrays of numbers (C interface), and each mode reads its own.
@@ -44,7 +47,7 @@ pub struct FastTables<'a> {
 // What a call changes in the tables: nothing, the value of a proposer, or its value and its score. "Nothing" is a case of its own, and no None: it is
 // what most calls do, and no value is missing.
 #[derive(Clone, Copy, PartialEq, Eq, Debug)]
-pub enum Entry {
+pub enum TableChange {
     SameEntries,
     Recorded { proposer: u64, v: u64 },
     EPaxosScored { proposer: u64, v: u64, score: u64 },
@@ -55,7 +58,7 @@ pub enum Entry {
 #[derive(Clone, Copy, PartialEq, Eq, Debug)]
 pub struct FastChange {
     pub answers: FastAnswers,
-    pub entry: Entry,
+    pub entry: TableChange,
 }
 
 #[derive(Clone, Copy)]
@@ -88,7 +91,7 @@ impl FastAnswers {
     {
         FastChange {
             answers: self,
-            entry: Entry::SameEntries,
+            entry: TableChange::SameEntries,
         }
     }
 
@@ -108,13 +111,13 @@ impl FastAnswers {
     pub fn is_unanswered(self) -> bool
         ensures { result ≡ is_unanswered self }
     {
-        sets::is_empty(self.fast_answer_set)
+        basics::sets::is_empty(self.fast_answer_set)
             && self.fast_preaccepted == 0
-            && sets::is_empty(self.fast_proposers)
+            && basics::sets::is_empty(self.fast_proposers)
     }
 }
 
-impl Entry {
+impl TableChange {
     // Writes the entry into the tables, which are lent, since a host keeps them in memory of its own.
     #[tactic(auto, unfolding(crate::specs::Fast::to_v_after, crate::specs::Fast::epaxos_scores_after, crate::specs::Fast::swift_scores_after))]
     pub fn put(self, values: &mut PerProcess, epaxos: &mut PerProcess, swift: &mut PerProcess)
@@ -123,15 +126,15 @@ impl Entry {
         ensures swift { swift.new ≡ swift_scores_after self swift.old }
     {
         match self {
-            Entry::SameEntries => {}
-            Entry::Recorded { proposer, v } => tables::store(values, proposer, v),
-            Entry::EPaxosScored { proposer, v, score } => {
-                tables::store(values, proposer, v);
-                tables::store(epaxos, proposer, score);
+            TableChange::SameEntries => {}
+            TableChange::Recorded { proposer, v } => basics::tables::store(values, proposer, v),
+            TableChange::EPaxosScored { proposer, v, score } => {
+                basics::tables::store(values, proposer, v);
+                basics::tables::store(epaxos, proposer, score);
             }
-            Entry::SwiftScored { proposer, v, score } => {
-                tables::store(values, proposer, v);
-                tables::store(swift, proposer, score);
+            TableChange::SwiftScored { proposer, v, score } => {
+                basics::tables::store(values, proposer, v);
+                basics::tables::store(swift, proposer, score);
             }
         }
     }

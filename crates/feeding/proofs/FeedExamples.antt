@@ -3,7 +3,7 @@
 -- Assumes nothing.
 use Rattle.std.proofs.Common.{◌≡◌, refl, ℕ, [], ◌∷◌, Some, Ok, Err}
 use Rattle.raster.specs.Raster.{frequency_of}
-use Rattle.places.specs.Places.{at_front}
+use Rattle.basics.specs.elements.Places.{at_front}
 use Rattle.register.specs.Cells.{has_number, cell_inserted}
 use Rattle.register.specs.Register.{assignable, assign, release, apply_change, apply}
 use Rattle.register.specs.declared.EntryRefusal.TheVariants.{CellNotLive}
@@ -13,9 +13,9 @@ use Rattle.group_register.specs.WholeMhz.{is_odd}
 use Rattle.group_register.specs.GroupRegister.{new_group_register, gives_odd_width, apply_made, apply_in_group}
 use Rattle.group_register.specs.declared.GroupRegister.{GroupRegister}
 use Rattle.group_register.specs.declared.GroupRefusal.TheVariants.{AsRegister}
-use Rattle.catch_up.specs.Joining.{some_above, too_large, counts_from}
+use Rattle.catch_up.specs.Joining.{some_above, list_too_large, counts_from}
 use Rattle.catch_up.specs.declared.JoinRefusal.TheVariants.{OutsideLimits, Gap}
-use Rattle.feeding.specs.Feeding.{FedList, fed_list_of, entries_from, or_refused, feed_all, outside_fed, feeding_made, feeding}
+use Rattle.feeding.specs.Feeding.{FedList, fed_list_of, fed_entries_from, or_refused, feed_all, outside_fed, feeding_made, feeding}
 use Rattle.feeding.specs.declared.FeedRefusal.TheVariants.{AsList}
 use Rattle.feeding.specs.FeedCauses.{FeedCause, NoneBeforeFeed}
 use Rattle.feeding.proofs.FeedNumbers.{feed_numbered}
@@ -30,15 +30,15 @@ begun = new_group_register (settings_from 5)
 
 pub refused_in_the_middle : ((feeding begun (three_slots 0 1 2)).answer ≡ Ok (Some (record { slot = 1; why = AsRegister CellNotLive })))
     × ((feeding begun (three_slots 0 1 2)).group.register.live_count ≡ 2) × ((feeding begun (three_slots 0 1 2)).group.register.next_slot ≡ 3)
-unfolding settings_from settings_refusal feeding feeding_made too_large some_above outside_fed counts_from entries_from feed_all or_refused apply_in_group apply_made gives_odd_width is_odd apply apply_change assign release assignable frequency_of change_of has_number cell_inserted at_front
+unfolding settings_from settings_refusal feeding feeding_made list_too_large some_above outside_fed counts_from fed_entries_from feed_all or_refused apply_in_group apply_made gives_odd_width is_odd apply apply_change assign release assignable frequency_of change_of has_number cell_inserted at_front
 refused_in_the_middle = (refl, refl, refl)
 
 pub begins_past_the_next : (feeding begun (three_slots 1 2 3)).answer ≡ Err (AsList Gap)
-unfolding settings_from settings_refusal feeding feeding_made too_large some_above outside_fed counts_from
+unfolding settings_from settings_refusal feeding feeding_made list_too_large some_above outside_fed counts_from
 begins_past_the_next = refl
 
 pub not_consecutive : (feeding begun (three_slots 0 2 3)).answer ≡ Err (AsList OutsideLimits)
-unfolding settings_from settings_refusal feeding feeding_made too_large some_above outside_fed counts_from
+unfolding settings_from settings_refusal feeding feeding_made list_too_large some_above outside_fed counts_from
 not_consecutive = refl
 
 -- so its cause holds, and no earlier one

@@ -18,12 +18,12 @@ use Rattle.group_register.specs.declared.GroupRefusal.TheVariants.{Unmade as unm
 use Rattle.group_register.specs.declared.GroupRegister.{GroupRegister}
 use Rattle.group_register.specs.declared.UnmadeBy.TheVariants.{OutsideLimits, NotInCalendar}
 use Rattle.group_register.proofs.GroupLaws.{older_applied}
-use Rattle.catch_up.specs.Joining.{too_large}
+use Rattle.catch_up.specs.Joining.{list_too_large}
 use Rattle.catch_up.specs.declared.JoinRefusal.TheVariants.{NumberTooLarge, OutsideLimits, Gap}
 use Rattle.feeding.specs.declared.FeedRefusal.{FeedRefusal}
 use Rattle.feeding.specs.declared.FeedRefusal.TheVariants.{Unmade}
 use Rattle.feeding.specs.declared.FirstRefused.{FirstRefused}
-use Rattle.feeding.specs.Feeding.{FedList, commits_in, entries_in, FedTo, is_refusal, or_refused, feed_all, refused_slot, refused_number, outside_fed, begins_past, Feeding, feeding_in, not_fed, fed_by, feeding_made, feeding}
+use Rattle.feeding.specs.Feeding.{FedList, fed_commits, entries_in, FedTo, is_refusal, or_refused, feed_all, refused_slot, refused_number, outside_fed, begins_past, Feeding, feeding_in, not_fed, fed_by, feeding_made, feeding}
 
 abbrev pub unfed : GroupRegister → FedTo
 unfed g = record { group = g; first = None }
@@ -132,7 +132,7 @@ ended g end m s t u =
 pub fed_as_said : (g : GroupRegister) (l : FedList) (first : Option FirstRefused) → (feeding g l).answer ≡ Ok first
     → (is_made g.settings ≡ true) × (feeding g l ≡ fed_by (feed_all (unfed g) (entries_in l)))
 unfolding feeding feeding_made
-fed_as_said g l first said = go (is_made g.settings) (too_large (commits_in l)) (outside_fed l) (begins_past g l) said
+fed_as_said g l first said = go (is_made g.settings) (list_too_large (fed_commits l)) (outside_fed l) (begins_past g l) said
   where
     end : Feeding
     end = fed_by (feed_all (unfed g) (entries_in l))
@@ -147,7 +147,7 @@ fed_as_said g l first said = go (is_made g.settings) (too_large (commits_in l)) 
 -- and one that gives a number has left the register as it was
 pub not_fed_unchanged : (g : GroupRegister) (l : FedList) (why : FeedRefusal) → (feeding g l).answer ≡ Err why → (feeding g l).group ≡ g
 unfolding feeding feeding_made
-not_fed_unchanged g l why said = go (is_made g.settings) (too_large (commits_in l)) (outside_fed l) (begins_past g l) (feed_all (unfed g) (entries_in l)) said
+not_fed_unchanged g l why said = go (is_made g.settings) (list_too_large (fed_commits l)) (outside_fed l) (begins_past g l) (feed_all (unfed g) (entries_in l)) said
   where
     go : (m s t u : Bool) (f : FedTo) → (ended g (fed_by f) m s t u).answer ≡ Err why → (ended g (fed_by f) m s t u).group ≡ g
     go false s t u f said = refl

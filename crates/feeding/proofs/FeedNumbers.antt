@@ -9,7 +9,7 @@ use lib.ListN.{length}
 use Rattle.basics.proofs.Tests.{and_left, and_right, and_both}
 use Rattle.group_register.specs.Settings.{is_made}
 use Rattle.group_register.specs.declared.GroupRegister.{GroupRegister}
-use Rattle.catch_up.specs.Joining.{too_large, first_slot}
+use Rattle.catch_up.specs.Joining.{list_too_large, first_slot}
 use Rattle.catch_up.specs.declared.JoinRefusal.{JoinRefusal}
 use Rattle.catch_up.specs.declared.JoinRefusal.TheVariants.{NumberTooLarge, OutsideLimits, Gap, TwoValues}
 use Rattle.catch_up.proofs.Deciding.{Decides, decided, either_decides, not_decides, less_decides, equal_decides, consecutive_decides, large_decides}
@@ -17,7 +17,7 @@ use Rattle.std.specs.Prelude.{Option, None, Result, Ok, Err}
 use Rattle.feeding.specs.declared.FeedRefusal.{FeedRefusal}
 use Rattle.feeding.specs.declared.FeedRefusal.TheVariants.{AsList}
 use Rattle.feeding.specs.declared.FirstRefused.{FirstRefused}
-use Rattle.feeding.specs.Feeding.{FedList, Feeding, commits_in, entries_in, fed_to, feed_all, outside_fed, begins_past, feeding_made, feeding}
+use Rattle.feeding.specs.Feeding.{FedList, Feeding, fed_commits, entries_in, fed_to, feed_all, outside_fed, begins_past, feeding_made, feeding}
 use Rattle.feeding.specs.FeedCauses.{OutsideFed, FeedCause, NoneBeforeFeed}
 use Rattle.feeding.proofs.FeedLaws.{fed_if_made}
 
@@ -51,9 +51,9 @@ Ends r l answer =
 
 ends : (r : GroupRegister) (l : FedList) → Ends r l (feeding_made r l).answer
 unfolding feeding_made
-ends r l = ⊎_elim (λ p. inl (NumberTooLarge, p.1, tt, simp p.0)) fits (decided _ _ (large_decides (commits_in l)))
+ends r l = ⊎_elim (λ p. inl (NumberTooLarge, p.1, tt, simp p.0)) fits (decided _ _ (large_decides (fed_commits l)))
   where
-    fits : (too_large (commits_in l) ≡ false) × (FeedCause NumberTooLarge r l → ⊥) → Ends r l (feeding_made r l).answer
+    fits : (list_too_large (fed_commits l) ≡ false) × (FeedCause NumberTooLarge r l → ⊥) → Ends r l (feeding_made r l).answer
     fits p = ⊎_elim (λ q. inl (OutsideLimits, q.1, p.1, simp (p.0, q.0))) inside (decided _ _ (outside_fed_decides l))
       where
         inside : (outside_fed l ≡ false) × (FeedCause OutsideLimits r l → ⊥) → Ends r l (feeding_made r l).answer

@@ -10,19 +10,19 @@ use Rattle.std.proofs.lemmas.Bool.{or_parts}
 use borrow.Author.Tests.{eqb-true, not-false}
 use Rattle.group_register.specs.GroupRegister.{apply_in_group}
 use Rattle.feeding.specs.declared.EntryList.{EntryList}
-use Rattle.feeding.specs.Feeding.{FedList, SameLengths, fed_list, entry_in, entries_from, FedTo, fed_to, or_refused, feed_all, outside_fed}
+use Rattle.feeding.specs.Feeding.{FedList, SameLengths, fed_list, entry_in, fed_entries_from, FedTo, fed_to, or_refused, feed_all, outside_fed}
 
 -- one entry and those behind it: the entry is applied, and the first refused one told
 pub feed_next : (l : FedList) (i n : ℕ) (f : FedTo) → i < n
-    → feed_all f (entries_from l i (n - i))
+    → feed_all f (fed_entries_from l i (n - i))
     ≡ feed_all
     (fed_to (or_refused f.first (entry_in l i).slot (apply_in_group f.group (entry_in l i)).outcome) (apply_in_group f.group (entry_in l i)).group)
-    (entries_from l (i + 1) (n - (i + 1)))
-unfolding feed_all entries_from
+    (fed_entries_from l (i + 1) (n - (i + 1)))
+unfolding feed_all fed_entries_from
 feed_next l i n f h = let left : n - i ≡ suc (n - (i + 1)) = omega arith in rw left refl
 
-pub feed_end : (l : FedList) (i n : ℕ) (f : FedTo) → n ≤ i → feed_all f (entries_from l i (n - i)) ≡ f
-unfolding feed_all entries_from
+pub feed_end : (l : FedList) (i n : ℕ) (f : FedTo) → n ≤ i → feed_all f (fed_entries_from l i (n - i)) ≡ f
+unfolding feed_all fed_entries_from
 feed_end l i n f h = let none : n - i ≡ 0 = omega arith in rw none refl
 
 pub inside_same : (l : FedList) → outside_fed l ≡ false → SameLengths l

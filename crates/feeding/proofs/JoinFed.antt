@@ -4,24 +4,24 @@
 use Rattle.std.proofs.Common.{◌≡◌, sym, subst, inl, inr, ℕ, ◌≤◌, true, get_or, Option, Ok, arith}
 use Rattle.group_register.specs.Settings.{is_made}
 use Rattle.group_register.specs.declared.GroupRegister.{GroupRegister}
-use Rattle.catch_up.specs.Causes.{CommitList, TooLarge}
+use Rattle.catch_up.specs.Causes.{CommitList, ListTooLarge}
 use Rattle.catch_up.specs.Joining.{handed_back, Joins}
 use Rattle.catch_up.specs.declared.JoinRefusal.{JoinRefusal}
 use Rattle.catch_up.specs.declared.JoinRefusal.TheVariants.{NumberTooLarge, OutsideLimits, Gap, TwoValues}
 use Rattle.catch_up.proofs.Exact.{JoinOf}
 use Rattle.catch_up.proofs.Calls.{hands_join, hands_fitting}
-use Rattle.feeding.specs.Feeding.{FedList, SameLengths, commits_in, feeding}
+use Rattle.feeding.specs.Feeding.{FedList, SameLengths, fed_commits, feeding}
 use Rattle.feeding.specs.FeedCauses.{OutsideFed, FeedCause}
 use Rattle.feeding.specs.declared.FirstRefused.{FirstRefused}
 use Rattle.feeding.proofs.FeedNumbers.{fed_otherwise}
 
-module _ (a b places after : CommitList) (count : ℕ) (call : Joins a b places after (Ok count)) (l : FedList) (commits : commits_in l ≡ handed_back count after)
+module _ (a b places after : CommitList) (count : ℕ) (call : Joins a b places after (Ok count)) (l : FedList) (commits : fed_commits l ≡ handed_back count after)
     (long : SameLengths l) where
-  join : JoinOf a b (commits_in l)
+  join : JoinOf a b (fed_commits l)
   join = subst (JoinOf a b) (sym commits) (hands_join a b places after count call)
 
-  fits : TooLarge (commits_in l) → ⊥
-  fits t = hands_fitting a b places after count call (subst TooLarge commits t)
+  fits : ListTooLarge (fed_commits l) → ⊥
+  fits t = hands_fitting a b places after count call (subst ListTooLarge commits t)
 
   inside : OutsideFed l → ⊥
   inside (inl many) = omega (arith, many, join.few)

@@ -3,10 +3,10 @@
 -- Assumes nothing.
 use Rattle.std.specs.Prelude.{◌≡◌, ◌⊎◌, ◌<◌, length, get_or}
 use Rattle.group_register.specs.declared.GroupRegister.{GroupRegister}
-use Rattle.catch_up.specs.Causes.{Consecutive, TooLarge}
+use Rattle.catch_up.specs.Causes.{Consecutive, ListTooLarge}
 use Rattle.catch_up.specs.declared.JoinRefusal.{JoinRefusal}
 use Rattle.catch_up.specs.declared.JoinRefusal.TheVariants.{NumberTooLarge, OutsideLimits, Gap, TwoValues}
-use Rattle.feeding.specs.Feeding.{FedList, commits_in}
+use Rattle.feeding.specs.Feeding.{FedList, fed_commits}
 
 -- 18: "more than 4,096 entries in a list (8,192 in the one fed) or slots not consecutive within it"; slices of unequal length
 abbrev pub OutsideFed : FedList → Type 0
@@ -21,7 +21,7 @@ OutsideFed l =
 
 -- 19: "where it begins past that", the slot after the last one seen. 20 is none of a single list's.
 abbrev pub FeedCause : JoinRefusal → GroupRegister → FedList → Type 0
-FeedCause NumberTooLarge g l = TooLarge (commits_in l)
+FeedCause NumberTooLarge g l = ListTooLarge (fed_commits l)
 FeedCause OutsideLimits g l = OutsideFed l
 FeedCause Gap g l = (0 < length l.slots) × (g.register.next_slot < get_or l.slots 0 0)
 FeedCause TwoValues g l = ⊥

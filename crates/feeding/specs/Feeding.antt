@@ -11,7 +11,7 @@ use Rattle.group_register.specs.GroupRegister.{group_refusal_number, apply_in_gr
 use Rattle.group_register.specs.declared.GroupRefusal.{GroupRefusal}
 use Rattle.group_register.specs.declared.GroupRegister.{GroupRegister}
 use Rattle.catch_up.specs.Causes.{CommitList, join_number}
-use Rattle.catch_up.specs.Joining.{too_large, counts_from, first_slot}
+use Rattle.catch_up.specs.Joining.{list_too_large, counts_from, first_slot}
 use Rattle.catch_up.specs.declared.JoinRefusal.{JoinRefusal}
 use Rattle.catch_up.specs.declared.JoinRefusal.TheVariants.{NumberTooLarge, OutsideLimits, Gap}
 use Rattle.feeding.specs.declared.EntryList.{EntryList}
@@ -45,20 +45,20 @@ pub record SameLengths (l : FedList) : Type 0 where
   pub carriers : length l.carriers ≡ length l.slots
   pub widths : length l.widths ≡ length l.slots
 
-abbrev pub commits_in : FedList → CommitList
-commits_in l = record { slots = l.slots; values = l.values }
+abbrev pub fed_commits : FedList → CommitList
+fed_commits l = record { slots = l.slots; values = l.values }
 
 -- the entry at a place
 abbrev pub entry_in : FedList → ℕ → CellEntry
 entry_in l i = entry_from_numbers (get_or l.slots i 0) (get_or l.kinds i 0) (get_or l.cells i 0) (get_or l.carriers i 0) (get_or l.widths i 0)
 
 -- the entries from a place on, so many
-unfoldable pub entries_from : FedList → ℕ → ℕ → List CellEntry
-entries_from l i zero = []
-entries_from l i (suc n) = entry_in l i ∷ entries_from l (i + 1) n
+unfoldable pub fed_entries_from : FedList → ℕ → ℕ → List CellEntry
+fed_entries_from l i zero = []
+fed_entries_from l i (suc n) = entry_in l i ∷ fed_entries_from l (i + 1) n
 
 abbrev pub entries_in : FedList → List CellEntry
-entries_in l = entries_from l 0 (length l.slots)
+entries_in l = fed_entries_from l 0 (length l.slots)
 
 -- ---- entries one by one
 
@@ -139,7 +139,7 @@ fed_by f = feeding_in (Ok f.first) f.group
 -- to a register that is made: "in that order, after 2"
 unfoldable pub feeding_made : GroupRegister → FedList → Feeding
 feeding_made g l =
-    cond (too_large (commits_in l)) (not_fed NumberTooLarge g)
+    cond (list_too_large (fed_commits l)) (not_fed NumberTooLarge g)
     (cond (outside_fed l) (not_fed OutsideLimits g)
     (cond (begins_past g l) (not_fed Gap g) (fed_by (feed_all (fed_to None g) (entries_in l)))))
 

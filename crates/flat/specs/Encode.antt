@@ -78,8 +78,8 @@ encoded_core core =
 
 -- ---- replies
 
-abbrev pub no_message : FlatMessage
-no_message =
+abbrev pub no_flat_message : FlatMessage
+no_flat_message =
     record {
       kind = 0;
       slot = 0;
@@ -140,7 +140,7 @@ encoded_to (One p) message = record { kind = 1; to = p; first = not_given; messa
 encoded_to (All first) message = record { kind = 2; to = 0; first = encoded_option first; message = message }
 
 unfoldable pub encoded_outgoing : Option Outgoing → FlatOutgoing
-encoded_outgoing None = record { kind = 0; to = 0; first = not_given; message = no_message }
+encoded_outgoing None = record { kind = 0; to = 0; first = not_given; message = no_flat_message }
 encoded_outgoing (Some o) = encoded_to o.destination (encoded_message o.message)
 
 unfoldable pub encoded_commit : Option CommittedSlot → FlatCommit

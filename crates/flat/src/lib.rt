@@ -5,8 +5,9 @@
 
 ghost use Rattle.std.specs.Prelude.{◌≡◌};
 ghost use Rattle.flat.specs.Decode.{is_yes, decoded_option, decoded_round, decoded_promise, decoded_held, decoded_made, decoded_settings, decoded_core, decoded_msg, is_known, decoded_source, decoded_message, decoded_delivery};
-ghost use Rattle.flat.specs.Encode.{encoded_bool, encoded_outcome, encoded_made, encoded_option, encoded_round, encoded_promise, encoded_held, encoded_core, encoded_msg, encoded_message, encoded_to, encoded_outgoing, encoded_commit, no_promise, no_message};
+ghost use Rattle.flat.specs.Encode.{encoded_bool, encoded_outcome, encoded_made, encoded_option, encoded_round, encoded_promise, encoded_held, encoded_core, encoded_msg, encoded_message, encoded_to, encoded_outgoing, encoded_commit, no_promise, no_flat_message};
 
+use basics::tables::PerProcess;
 use calls::CommittedSlot;
 use delivery::{Delivery, Said};
 use message::{
@@ -16,7 +17,6 @@ use read_tracker::ReadTracker;
 use round_state::PaxosState;
 use settings::Settings;
 use steps::{Core, Destination, Outgoing};
-use tables::PerProcess;
 
 // A number, if it is given.
 #[repr(C)]
@@ -82,8 +82,8 @@ pub struct FlatCore {
     pub open_count: u64,
 }
 
-// Three tables of numbers, as a host lends them in arrays (C interface), and none of structs. They are changed where they stand (crates/fast_arrays): no function
-// makes this form, or the two of reads (crates/array_reads), whole, and definitions alone have them.
+// Three tables of numbers, as a host lends them in arrays (C interface), and none of structs. They are changed where they stand (crates/direct_fast/src/half.rt): no function
+// makes this form, or the two of reads (crates/arrays/src/reads.rt), whole, and definitions alone have them.
 #[repr(C)]
 #[derive(Clone, Copy)]
 pub struct FlatFast {
@@ -497,8 +497,8 @@ pub fn decode_delivery(process_count: u64, own: u64, f: FlatCall) -> Delivery
     }
 }
 
-fn no_message() -> FlatMessage
-    ensures { result ≡ no_message }
+fn no_flat_message() -> FlatMessage
+    ensures { result ≡ no_flat_message }
 {
     FlatMessage {
         kind: 0,
@@ -519,7 +519,7 @@ fn no_message() -> FlatMessage
 fn encode_msg(msg: ConsensusMsg) -> FlatMessage
     ensures { result ≡ encoded_msg msg }
 {
-    let none = no_message();
+    let none = no_flat_message();
     match msg {
         ConsensusMsg::Prepare { slot, round, rv } => FlatMessage {
             kind: PREPARE,
@@ -604,7 +604,7 @@ pub fn encode_outgoing(message: Option<Outgoing>) -> FlatOutgoing
             kind: 0,
             to: 0,
             first: FlatOption { given: 0, n: 0 },
-            message: no_message(),
+            message: no_flat_message(),
         },
         Some(outgoing) => encode_to(outgoing.destination, encode_message(outgoing.message)),
     }

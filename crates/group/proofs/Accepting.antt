@@ -1,4 +1,4 @@
--- Handling an Accept, in the classic modes and in EPaxos, is the model's `on_accept`.
+-- Handling an Accept, in the classic modes and in EPaxos, is the model's `model_on_accept`.
 -- Assumes nothing.
 use Rattle.std.specs.Prelude.{Option, None, Some, Result, Ok, Err}
 use Rattle.message.specs.declared.RoundV.{RoundV}
@@ -11,7 +11,7 @@ use native.Mathlib.Nat.{zero-lt-suc}
 use lib.Dec.{eqb, ltb, leb, eqb-zero-suc, eqb-suc-suc, eqb-suc-zero}
 use borrow.Author.Tests.{lt-ltb}
 use Rattle.basics.proofs.Tests.{either}
-use Rattle.sets.specs.Sets.{contains, count, size}
+use Rattle.basics.specs.sets.Sets.{contains, count, size}
 use Rattle.message.specs.Modes.{is_swift_paxos}
 use Rattle.message.specs.Promises.{is_process}
 use Rattle.message.specs.declared.PaxosRound.{PaxosRound}
@@ -21,9 +21,9 @@ use Rattle.message.specs.declared.RoundV.TheVariants.{FastV, PaxosV}
 use Rattle.round_state.specs.Paxos.{get_last_accepted_round, paxos_can_commit, accept_fits, after_accept, receive_accept}
 use Rattle.settings.specs.Questions.{quorums_of, delegate_of, committer_of, committer_in}
 use Rattle.settings.specs.declared.Settings.{Settings}
-use Rattle.accept.specs.Accept.{tells_committer, is_committer, accept_to, committer_hears, answer_accept, commit_message, tells_commit, commit_messages, try_commit, answered, follower, accepted, accepting}
+use Rattle.classic.specs.accept.Accept.{tells_committer, is_committer, accept_to, committer_hears, answer_accept, commit_message, tells_commit, with_commit_message, try_commit, answered, follower, accepted, accepting}
 use Rattle.enter.specs.Enter.{in_round, enter}
-use Rattle.steps.specs.Steps.{CoreStep, no_messages, one_message, two_messages, also, held_v, with_paxos, left_fast_path, stays, commits, goes_on, then_in, map_step}
+use Rattle.steps.specs.Steps.{CoreStep, no_messages, one_message, two_messages, also, held_value, with_paxos, left_fast_path, stays, commits, goes_on, then_in, map_step}
 use Rattle.steps.specs.declared.Core.{Core}
 use Rattle.steps.specs.declared.Heard.{Heard}
 use Rattle.steps.specs.declared.Messages.{Messages}
@@ -31,7 +31,7 @@ use Rattle.steps.specs.declared.Next.{Next}
 use Rattle.steps.specs.declared.Next.TheVariants.{Stays, Continues, Commits}
 use Rattle.steps.specs.declared.Outgoing.{Outgoing}
 use Rattle.consensus.proofs.Handled.{eqb_sym}
-use Rattle.agreement.specs.Model.{View, Answers, Outcome, Host, accepted_by, voted, refuse, say}
+use Rattle.agreement.specs.Model.{View, Answers, ModelOutcome, Host, accepted_by, voted, refuse, say, ModelSetup, ModelOutgoing, model_on_accept, model_after_accept, model_commits}
 use Rattle.agreement.specs.Model as model
 use Rattle.agreement.specs.Refinement.{meanings}
 use Rattle.group.specs.Claim.{member_settings}
@@ -43,7 +43,7 @@ use Rattle.group.proofs.Preparing.{asked_by, with_accepted, follows_both}
 
 fits_number : (held : Option RoundV) (round : PaxosRound) (v : ℕ) → LeaderFits (get_last_accepted_round held) → round.leader < 64
     → accept_fits held round v
-    ≡ (ltb (round_number (get_last_accepted_round held)) (round_number (Some round)) || (eqb (round_number (get_last_accepted_round held)) (round_number (Some round)) && eqb (held_v held) v))
+    ≡ (ltb (round_number (get_last_accepted_round held)) (round_number (Some round)) || (eqb (round_number (get_last_accepted_round held)) (round_number (Some round)) && eqb (held_value held) v))
 unfolding accept_fits
 fits_number None round v ok l = sym (ap (λ (t : Bool). t || (eqb 0 (round_number (Some round)) && eqb 0 v)) (lt-ltb 0 (round_number (Some round)) (zero-lt-suc _)))
 fits_number (Some (FastV p w)) round v ok l = sym (ap (λ (t : Bool). t || (eqb 0 (round_number (Some round)) && eqb w v)) (lt-ltb 0 (round_number (Some round)) (zero-lt-suc _)))
@@ -103,7 +103,7 @@ module _ (ans : Answers) (s : Settings) (i : ℕ) (no-swift : is_swift_paxos s.m
   -- ---- the commit
 
   commit_full : (v : ℕ) (core : Core) (ms : Messages) → paxos_can_commit (asked_by s i).member core.paxos ≡ true
-      → try_commit (asked_by s i) h round v core ms ≡ commits v (left_fast_path core) (commit_messages (asked_by s i) h round core ms)
+      → try_commit (asked_by s i) h round v core ms ≡ commits v (left_fast_path core) (with_commit_message (asked_by s i) h round core ms)
   unfolding try_commit
   commit_full v core ms e = simp e
 
@@ -112,26 +112,26 @@ module _ (ans : Answers) (s : Settings) (i : ℕ) (no-swift : is_swift_paxos s.m
   commit_waits v core ms e = simp e
 
   commit_messages_lem : (core : Core) (ms : Messages) → Appends ms → (tell : Bool) → tells_commit (asked_by s i) h round ≡ tell
-      → meanings meaning_of (envelopes (commit_messages (asked_by s i) h round core ms))
-      ≡ cond tell (meanings meaning_of (envelopes ms) ++ (record { destination = model.all; message = model.commit core.slot (held_v core.paxos.max_rv) } ∷ [])) (meanings meaning_of (envelopes ms))
-  unfolding commit_messages
+      → meanings meaning_of (envelopes (with_commit_message (asked_by s i) h round core ms))
+      ≡ cond tell (meanings meaning_of (envelopes ms) ++ (record { destination = model.all; message = model.commit core.slot (held_value core.paxos.max_rv) } ∷ [])) (meanings meaning_of (envelopes ms))
+  unfolding with_commit_message
   commit_messages_lem core ms app true e = ap (λ (t : Bool). meanings meaning_of (envelopes (cond t (also ms (commit_message (asked_by s i) core h.requester)) ms))) e ∙ app.behind (commit_message (asked_by s i) core h.requester)
   commit_messages_lem core ms app false e = ap (λ (t : Bool). meanings meaning_of (envelopes (cond t (also ms (commit_message (asked_by s i) core h.requester)) ms))) e
 
-  try_commit_follows : (v : ℕ) (core : Core) (ms : Messages) → Appends ms → held_v core.paxos.max_rv ≡ v → (tell : Bool) → tells_commit (asked_by s i) h round ≡ tell
-      → Follows (setup_of s) ans (Ok (try_commit (asked_by s i) h round v core ms)) (model.commits (setup_of s) (view_of ans core) (meanings meaning_of (envelopes ms)) tell)
-  unfolding model.commits size
+  try_commit_follows : (v : ℕ) (core : Core) (ms : Messages) → Appends ms → held_value core.paxos.max_rv ≡ v → (tell : Bool) → tells_commit (asked_by s i) h round ≡ tell
+      → Follows (setup_of s) ans (Ok (try_commit (asked_by s i) h round v core ms)) (model_commits (setup_of s) (view_of ans core) (meanings meaning_of (envelopes ms)) tell)
+  unfolding model_commits size
   try_commit_follows v core ms app same tell e = go (either (leb (quorums_of s).majority (count (contains core.paxos.accepted_set) 64)))
     where
-      os : List model.Outgoing
+      os : List ModelOutgoing
       os = meanings meaning_of (envelopes ms)
 
-      chosen : Outcome
+      chosen : ModelOutcome
       chosen =
           record {
             view = model.advanced (setup_of s).voters.start (view_of ans core);
-            outgoing = cond tell (os ++ (record { destination = model.all; message = model.commit core.slot (held_v core.paxos.max_rv) } ∷ [])) os;
-            decision = model.decided core.slot (held_v core.paxos.max_rv);
+            outgoing = cond tell (os ++ (record { destination = model.all; message = model.commit core.slot (held_value core.paxos.max_rv) } ∷ [])) os;
+            decision = model.decided core.slot (held_value core.paxos.max_rv);
             taken = true;
           }
 
@@ -142,7 +142,7 @@ module _ (ans : Answers) (s : Settings) (i : ℕ) (no-swift : is_swift_paxos s.m
           (record {
             seen_as =
                 ap₂
-                (λ (l : List model.Outgoing) (w : ℕ).
+                (λ (l : List ModelOutgoing) (w : ℕ).
                 record { view = model.advanced (setup_of s).voters.start (view_of ans core); outgoing = l; decision = model.decided core.slot w; taken = true })
                 (commit_messages_lem core ms app tell e)
                 (sym same);
@@ -152,13 +152,13 @@ module _ (ans : Answers) (s : Settings) (i : ℕ) (no-swift : is_swift_paxos s.m
   -- ---- the answers to an Accept
 
   -- one message to the leader l, in the round of number r
-  abbrev to_leader : Core → ℕ → ℕ → List model.Outgoing
-  to_leader core l r = record { destination = model.to l; message = model.accept core.slot r (held_v core.paxos.max_rv) } ∷ []
+  abbrev to_leader : Core → ℕ → ℕ → List ModelOutgoing
+  to_leader core l r = record { destination = model.to l; message = model.accept core.slot r (held_value core.paxos.max_rv) } ∷ []
 
-  abbrev answers_at : Core → ℕ → ℕ → ℕ → List model.Outgoing
+  abbrev answers_at : Core → ℕ → ℕ → ℕ → List ModelOutgoing
   answers_at core c l r =
       cond (eqb c 0 || eqb c (suc i) || eqb c (suc l)) (to_leader core l r)
-      (record { destination = model.to (pred c); message = model.accept core.slot r (held_v core.paxos.max_rv) } ∷ to_leader core l r)
+      (record { destination = model.to (pred c); message = model.accept core.slot r (held_value core.paxos.max_rv) } ∷ to_leader core l r)
 
   -- the third hears it exactly where the model says so
   third_told : (t : Bool) (p : ℕ) (a b : Bool) → (t && (not b && not a)) ≡ not (eqb (cond t (suc p) 0) 0 || cond t a false || cond t b false)
@@ -180,7 +180,7 @@ module _ (ans : Answers) (s : Settings) (i : ℕ) (no-swift : is_swift_paxos s.m
       third_told (tells_committer s.mode) p (eqb p i) (eqb p round.leader)
       ∙ ap₂ (λ (x y : Bool). not (eqb (cond (tells_committer s.mode) (suc p) 0) 0 || x || y)) (sym (test_third (tells_committer s.mode) p i)) (sym (test_third (tells_committer s.mode) p round.leader))
 
-  not_cond : (t : Bool) (x y : List model.Outgoing) → cond (not t) y x ≡ cond t x y
+  not_cond : (t : Bool) (x y : List ModelOutgoing) → cond (not t) y x ≡ cond t x y
   not_cond true x y = refl
   not_cond false x y = refl
 
@@ -195,8 +195,8 @@ module _ (ans : Answers) (s : Settings) (i : ℕ) (no-swift : is_swift_paxos s.m
       go false = refl
   answers_at_lem core (Some p) = go (tells_committer s.mode) refl
     where
-      two : List model.Outgoing
-      two = record { destination = model.to p; message = model.accept core.slot (round_number (Some round)) (held_v core.paxos.max_rv) } ∷ to_leader core round.leader (round_number (Some round))
+      two : List ModelOutgoing
+      two = record { destination = model.to p; message = model.accept core.slot (round_number (Some round)) (held_value core.paxos.max_rv) } ∷ to_leader core round.leader (round_number (Some round))
 
       listed : (t : Bool)
           → meanings meaning_of (envelopes (cond t (two_messages (accept_to (asked_by s i) core round p) (accept_to (asked_by s i) core round round.leader)) (one_message (accept_to (asked_by s i) core round round.leader))))
@@ -216,7 +216,7 @@ module _ (ans : Answers) (s : Settings) (i : ℕ) (no-swift : is_swift_paxos s.m
           ∙ ap
           (λ (q : ℕ).
           cond (told (cond (tells_committer s.mode) (suc p) 0)) (to_leader core round.leader (round_number (Some round)))
-          (record { destination = model.to q; message = model.accept core.slot (round_number (Some round)) (held_v core.paxos.max_rv) } ∷ to_leader core round.leader (round_number (Some round))))
+          (record { destination = model.to q; message = model.accept core.slot (round_number (Some round)) (held_value core.paxos.max_rv) } ∷ to_leader core round.leader (round_number (Some round))))
           (ap (λ (t : Bool). pred (cond t (suc p) 0)) (sym e))
       go false e =
           listed (committer_hears (asked_by s i) round p) ∙ ap (λ (t : Bool). cond t two (to_leader core round.leader (round_number (Some round)))) (committer_hears_number p)
@@ -253,10 +253,10 @@ module _ (ans : Answers) (s : Settings) (i : ℕ) (no-swift : is_swift_paxos s.m
   -- the accepted core: in the round, with the value held
   pub record Accepted (v : ℕ) (core : Core) : Type 0 where
     pub at : core.paxos.round ≡ Some round
-    pub value : held_v core.paxos.max_rv ≡ v
+    pub value : held_value core.paxos.max_rv ≡ v
 
-  abbrev outcome_of : View → Core → Outcome
-  outcome_of x0 core = model.after_accept (setup_of s) i h.src host x0 (view_of ans core)
+  abbrev outcome_of : View → Core → ModelOutcome
+  outcome_of x0 core = model_after_accept (setup_of s) i h.src host x0 (view_of ans core)
 
   accepted_leader : (v : ℕ) (core : Core) → eqb i round.leader ≡ true → accepted (asked_by s i) h round v core ≡ Ok (try_commit (asked_by s i) h round v core no_messages)
   unfolding accepted
@@ -295,21 +295,21 @@ module _ (ans : Answers) (s : Settings) (i : ℕ) (no-swift : is_swift_paxos s.m
     delegate_same : answers_it ≡ eqb h.src h.delegate
     delegate_same = ap (eqb h.src) (ap (delegate_of s s.mode) (leader_number_lem core acc.at) ∙ sym delegate_of_lem)
 
-    model_leader : leads ≡ true → outcome_of x0 core ≡ model.commits (setup_of s) (view_of ans core) [] true
-    unfolding model.after_accept
+    model_leader : leads ≡ true → outcome_of x0 core ≡ model_commits (setup_of s) (view_of ans core) [] true
+    unfolding model_after_accept
     model_leader e = simp e
 
     model_answered : leads ≡ false → answers_it ≡ true → eqb third (suc i) ≡ false → outcome_of x0 core ≡ say (view_of ans core) (model.replies (setup_of s) i third (view_of ans core))
-    unfolding model.after_accept
+    unfolding model_after_accept
     model_answered e d c = simp (e, d, c)
 
     model_committer : leads ≡ false → answers_it ≡ true → eqb third (suc i) ≡ true
-        → outcome_of x0 core ≡ model.commits (setup_of s) (view_of ans core) (model.replies (setup_of s) i third (view_of ans core)) (not (eqb host.requester (suc i)))
-    unfolding model.after_accept
+        → outcome_of x0 core ≡ model_commits (setup_of s) (view_of ans core) (model.replies (setup_of s) i third (view_of ans core)) (not (eqb host.requester (suc i)))
+    unfolding model_after_accept
     model_committer e d c = simp (e, d, c)
 
-    model_other : leads ≡ false → answers_it ≡ false → eqb third (suc i) ≡ true → outcome_of x0 core ≡ model.commits (setup_of s) (view_of ans core) [] (not (eqb host.requester (suc i)))
-    unfolding model.after_accept
+    model_other : leads ≡ false → answers_it ≡ false → eqb third (suc i) ≡ true → outcome_of x0 core ≡ model_commits (setup_of s) (view_of ans core) [] (not (eqb host.requester (suc i)))
+    unfolding model_after_accept
     model_other e d c = simp (e, d, c)
 
     accepted_follows : Follows (setup_of s) ans (accepted (asked_by s i) h round v core) (outcome_of x0 core)
@@ -325,7 +325,7 @@ module _ (ans : Answers) (s : Settings) (i : ℕ) (no-swift : is_swift_paxos s.m
         go (inr e) (inl d) (inl c) =
             follows_both (accepted_committer v core e d c)
             (model_committer (leads_number ∙ e) (delegate_same ∙ d) (third_is true c)
-            ∙ ap (λ (os : List model.Outgoing). model.commits (setup_of s) (view_of ans core) os (not (eqb host.requester (suc i)))) (sym (answers_model core acc.at)))
+            ∙ ap (λ (os : List ModelOutgoing). model_commits (setup_of s) (view_of ans core) os (not (eqb host.requester (suc i)))) (sym (answers_model core acc.at)))
             (try_commit_follows v core (answer_accept (asked_by s i) round core h.committer) (answer_appends core h.committer) acc.value (not (eqb host.requester (suc i))) (tells_other e))
         go (inr e) (inl d) (inr c) =
             follows_both (accepted_answered v core e d c) (model_answered (leads_number ∙ e) (delegate_same ∙ d) (third_is false c))
@@ -359,7 +359,7 @@ module _ (ans : Answers) (s : Settings) (i : ℕ) (no-swift : is_swift_paxos s.m
 
   accepting_follows : h.delegate ≡ delegate_of s s.mode round.leader → (v : ℕ) (core : Core) → Leaders core → core.paxos.round ≡ Some round → (x0 : View)
       → Follows (setup_of s) ans (accepting (asked_by s i) h round v core)
-      (cond (fits_model v (view_of ans core)) (model.after_accept (setup_of s) i h.src host x0 (accepted_by h.src (voted i v (view_of ans core)))) (refuse x0))
+      (cond (fits_model v (view_of ans core)) (model_after_accept (setup_of s) i h.src host x0 (accepted_by h.src (voted i v (view_of ans core)))) (refuse x0))
   accepting_follows d v core ok at x0 = go (either (accept_fits core.paxos.max_rv round v))
     where
       same : accept_fits core.paxos.max_rv round v ≡ fits_model v (view_of ans core)
@@ -367,21 +367,21 @@ module _ (ans : Answers) (s : Settings) (i : ℕ) (no-swift : is_swift_paxos s.m
           fits_number core.paxos.max_rv round v ok.in_held below
           ∙ ap (λ (r : ℕ). ltb (view_of ans core).held_round r || (eqb (view_of ans core).held_round r && eqb (view_of ans core).held_value v)) (ap round_number (sym at))
 
-      goal : Bool → Outcome
-      goal t = cond t (model.after_accept (setup_of s) i h.src host x0 (accepted_by h.src (voted i v (view_of ans core)))) (refuse x0)
+      goal : Bool → ModelOutcome
+      goal t = cond t (model_after_accept (setup_of s) i h.src host x0 (accepted_by h.src (voted i v (view_of ans core)))) (refuse x0)
 
       go : (accept_fits core.paxos.max_rv round v ≡ true) ⊎ (accept_fits core.paxos.max_rv round v ≡ false)
           → Follows (setup_of s) ans (accepting (asked_by s i) h round v core) (goal (fits_model v (view_of ans core)))
       go (inl e) =
           follows_both (accepting_fits v core e)
-          (ap goal (sym same ∙ e) ∙ ap (model.after_accept (setup_of s) i h.src host x0) (sym (accepted_view_lem v core at)))
+          (ap goal (sym same ∙ e) ∙ ap (model_after_accept (setup_of s) i h.src host x0) (sym (accepted_view_lem v core at)))
           (accepted_follows d x0 v (accepted_core v core) (record { at = at; value = refl }))
       go (inr e) = follows_both (accepting_unfit v core e) (ap goal (sym same ∙ e)) (record { seen_as = tt })
 
 -- a step that is the model's does not go on
-pub ends : (S : model.Setup) (ans : Answers) (X : Type 0) (lift : CoreStep → X) (Fits : Result X Refusal → Outcome → Type 0)
-    → ((step : Result CoreStep Refusal) (r : Outcome) → Follows S ans step r → Fits (map_step lift step) r)
-    → (step : CoreStep) (r : Outcome) (rest : Core → Result X Refusal) → Follows S ans (Ok step) r → Fits (then_in lift (Ok step) rest) r
+pub ends : (S : ModelSetup) (ans : Answers) (X : Type 0) (lift : CoreStep → X) (Fits : Result X Refusal → ModelOutcome → Type 0)
+    → ((step : Result CoreStep Refusal) (r : ModelOutcome) → Follows S ans step r → Fits (map_step lift step) r)
+    → (step : CoreStep) (r : ModelOutcome) (rest : Core → Result X Refusal) → Follows S ans (Ok step) r → Fits (then_in lift (Ok step) rest) r
 ends S ans X lift Fits lifted step r rest f = go step.next refl f.seen_as
   where
     stops : (n : Next) → step.next ≡ n → goes_on n ≡ false → Fits (then_in lift (Ok step) rest) r
@@ -395,12 +395,12 @@ ends S ans X lift Fits lifted step r rest f = go step.next refl f.seen_as
 -- An Accept is the model's, with the host's requester; X is what the handler makes of it, as in Entering.antt.
 module _ (ans : Answers) (s : Settings) (i : ℕ) (no-swift : is_swift_paxos s.mode ≡ false) (small : i < 64) (h : Heard) (src : h.src < 64) (slot : ℕ) (round : PaxosRound) (below : round.leader < 64) (v : ℕ)
     (live : h.source_live ≡ contains s.alive_replicas h.src) (delegate_of_lem : h.delegate ≡ delegate_of s s.mode round.leader) (by-requester : h.committer ≡ committer_of s h.requester)
-    (X : Type 0) (lift : CoreStep → X) (Fits : Result X Refusal → Outcome → Type 0) (lifted : (step : Result CoreStep Refusal) (r : Outcome) → Follows (setup_of s) ans step r → Fits (map_step lift step) r)
-    (rest : Core → Result X Refusal) (rest-follows : contains s.alive_replicas i ≡ true → (core : Core) (r : Outcome) → Follows (setup_of s) ans (accepting (asked_by s i) h round v core) r → Fits (rest core) r) where
+    (X : Type 0) (lift : CoreStep → X) (Fits : Result X Refusal → ModelOutcome → Type 0) (lifted : (step : Result CoreStep Refusal) (r : ModelOutcome) → Follows (setup_of s) ans step r → Fits (map_step lift step) r)
+    (rest : Core → Result X Refusal) (rest-follows : contains s.alive_replicas i ≡ true → (core : Core) (r : ModelOutcome) → Follows (setup_of s) ans (accepting (asked_by s i) h round v core) r → Fits (rest core) r) where
   pub on_accept_follows : (core : Core) → Leaders core → slot ≤ core.slot
       → Fits (then_in lift (enter (asked_by s i) h slot round core) rest)
-      (model.on_accept (setup_of s) i (view_of ans core) h.src slot (round_number (Some round)) v (record { allows = true; requester = process_number h.requester; adoptee = 0 }))
-  unfolding model.on_accept
+      (model_on_accept (setup_of s) i (view_of ans core) h.src slot (round_number (Some round)) v (record { allows = true; requester = process_number h.requester; adoptee = 0 }))
+  unfolding model_on_accept
   on_accept_follows core ok le =
       enter_follows ans s i no-swift core h slot round X lift Fits lifted ok below live le rest _
       (λ alive same no-older.

@@ -15,9 +15,9 @@ use native.Mathlib.Omega.{arith}
 use lib.Dec.{T, eqb, ltb, leb}
 use borrow.Author.Tests.{lt-ltb}
 use Rattle.basics.proofs.Tests.{either}
-use Rattle.sets.specs.Sets.{contains, count, size, fits}
-use Rattle.sets.proofs.Counting.{count_le}
-use Rattle.sets.proofs.Laws.{fits_members}
+use Rattle.basics.specs.sets.Sets.{contains, count, size, fits}
+use Rattle.basics.proofs.sets.Counting.{count_le}
+use Rattle.basics.proofs.sets.Laws.{fits_members}
 use Rattle.message.specs.Modes.{is_multi_paxos}
 use Rattle.message.specs.Rounds.{starting_round}
 use Rattle.message.specs.declared.ConsensusMessage.{ConsensusMessage}
@@ -42,10 +42,10 @@ use Rattle.steps.specs.declared.Destination.{Destination}
 use Rattle.steps.specs.declared.Destination.TheVariants.{One, All}
 use Rattle.steps.specs.declared.Messages.{Messages}
 use Rattle.steps.specs.declared.Outgoing.{Outgoing}
-use Rattle.agreement.specs.Engine.{Kind}
+use Rattle.agreement.specs.Engine.{CallKind, LogEvent, EngineClaim, LegalCalls, SentInRun, log_with_commit, log_with_proposal, empty_run, run_of_calls, run_with_call}
 use Rattle.basics.specs.Lists.{In}
 use Rattle.agreement.specs.Engine as engine
-use Rattle.agreement.specs.Model.{Setup}
+use Rattle.agreement.specs.Model.{ModelSetup, ModelDestination}
 use Rattle.agreement.specs.Model as model
 use Rattle.agreement.specs.Refinement.{SetupRules, Refines, AsModel}
 use Rattle.agreement.specs.Voting.{VotersRules}
@@ -136,7 +136,7 @@ setup_rules s limits =
     }
 
 -- a group that was not made has nobody who votes
-abbrev unmade_setup : Settings → Setup
+abbrev unmade_setup : Settings → ModelSetup
 unmade_setup s =
     record {
       voters = record { count = 64; quorum = 65; fast_path = false; fast_quorum = 65; start = (setup_of s).voters.start; live = model.empty; delegate = (setup_of s).voters.delegate };
@@ -246,12 +246,12 @@ unmade_refines s outside =
 
 -- ---- the claim of the engine's log
 
-log_claim : (s : Settings) → NotSwift s.mode → (cs : List ChosenCall) → engine.Legal (engine_of s) (engine.begin (engine_of s)) cs
-    → engine.Claim (engine.runs (engine_of s) (engine.begin (engine_of s)) cs).log
+log_claim : (s : Settings) → NotSwift s.mode → (cs : List ChosenCall) → LegalCalls (engine_of s) (empty_run (engine_of s)) cs
+    → EngineClaim (run_of_calls (engine_of s) (empty_run (engine_of s)) cs).log
 log_claim s claimed cs legal = go (either (within_limits (member_settings s 0)))
   where
     go : (within_limits (member_settings s 0) ≡ true) ⊎ (within_limits (member_settings s 0) ≡ false)
-        → engine.Claim (engine.runs (engine_of s) (engine.begin (engine_of s)) cs).log
+        → EngineClaim (run_of_calls (engine_of s) (empty_run (engine_of s)) cs).log
     go (inl e) = refines_claim (setup_of s) (setup_rules s e) (engine_of s) (made_refines s claimed) cs legal
     go (inr e) = refines_claim (unmade_setup s) (unmade_rules s) (engine_of s) (unmade_refines s e) cs legal
 
@@ -262,9 +262,9 @@ abbrev sent_of : List Entry → List (engine.Sent ConsensusMessage)
 sent_of [] = []
 sent_of (e ∷ past) = engine.sent_with e.member (envelopes e.reply.messages) (sent_of past)
 
-abbrev log_of : List Entry → List engine.Event
+abbrev log_of : List Entry → List LogEvent
 log_of [] = []
-log_of (e ∷ past) = engine.with_commit e.member (decision_of e.reply.commit) (engine.with_proposal e.member (kind_of e.call) (is_done e.reply.outcome) (log_of past))
+log_of (e ∷ past) = log_with_commit e.member (decision_of e.reply.commit) (log_with_proposal e.member (kind_of e.call) (is_done e.reply.outcome) (log_of past))
 
 abbrev run_at : (ℕ → Shard) → List Entry → engine.Run Shard ConsensusMessage
 run_at shards past = record { shards = shards; sent = sent_of past; log = log_of past }
@@ -275,8 +275,8 @@ chosen choices best [] = []
 chosen choices best (c ∷ cs) = record { of_member = c; choose = choices 0; picks_best = best 0 } ∷ chosen (later_choices choices) (λ place. best (suc place)) cs
 
 run_log : (s : Settings) (choices : Choices) (best : (place : ℕ) → PicksBest (choices place)) (shards : ℕ → Shard) (past : List Entry) (cs : List MemberCall)
-    → (engine.runs (engine_of s) (run_at shards past) (chosen choices best cs)).log ≡ log_of (entries_from choices shards past cs)
-unfolding entries_from engine.runs engine.step
+    → (run_of_calls (engine_of s) (run_at shards past) (chosen choices best cs)).log ≡ log_of (entries_from choices shards past cs)
+unfolding entries_from run_of_calls run_with_call
 run_log s choices best shards past [] = refl
 run_log s choices best shards past (c ∷ cs) =
     run_log s (later_choices choices) (λ place. best (suc place)) (after_call (choices 0) shards c) (entry_of (choices 0) shards c ∷ past) cs
@@ -317,7 +317,7 @@ in_sent e o (x ∷ past) (inl d) m =
 in_sent e o (x ∷ past) (inr h) m = in_sent_with (record { source = e.member; envelope = envelope o }) x.member (envelopes x.reply.messages) (sent_of past) (in_sent e o past h m)
 
 -- sent with that destination of the model
-abbrev SentAs : List Entry → ConsensusMessage → model.Destination → Type 0
+abbrev SentAs : List Entry → ConsensusMessage → ModelDestination → Type 0
 SentAs past message d = In (record { source = message.src; envelope = record { destination = d; message = message } }) (sent_of past)
 
 was_sent : (past : List Entry) (message : ConsensusMessage) (member : ℕ) → WasSent past message member → SentAs past message model.all ⊎ SentAs past message (model.to member)
@@ -344,8 +344,8 @@ was_sent past message member w = by_kind message.msg sent w.6
 
 -- a legal list is one of the engine's
 legal_run : (s : Settings) (choices : Choices) (best : (place : ℕ) → PicksBest (choices place)) (shards : ℕ → Shard) (past : List Entry) (cs : List MemberCall)
-    → LegalFrom s.process_count choices shards past cs → engine.Legal (engine_of s) (run_at shards past) (chosen choices best cs)
-unfolding LegalFrom engine.Legal engine.step
+    → LegalFrom s.process_count choices shards past cs → LegalCalls (engine_of s) (run_at shards past) (chosen choices best cs)
+unfolding LegalFrom LegalCalls run_with_call
 legal_run s choices best shards past [] l = tt
 legal_run s choices best shards past (c ∷ cs) l = (
   l.0,
@@ -353,7 +353,7 @@ legal_run s choices best shards past (c ∷ cs) l = (
   legal_run s (later_choices choices) (λ place. best (suc place)) (after_call (choices 0) shards c) (entry_of (choices 0) shards c ∷ past) cs l.2,
 )
   where
-    stand : (call : Call) → MayStand past c.member call → engine.WasSent (engine_of s) (run_at shards past) c.member (kind_of call)
+    stand : (call : Call) → MayStand past c.member call → SentInRun (engine_of s) (run_at shards past) c.member (kind_of call)
     stand (Propose v) m = tt
     stand (StartRead tag arrival) m = tt
     stand (Receive d) m = was_sent past d.message c.member m
@@ -361,7 +361,7 @@ legal_run s choices best shards past (c ∷ cs) l = (
 -- ---- from the log's claim to the claim of the entries
 
 -- an entry's proposal adds no commit
-proposal_slots : (member i : ℕ) (k : Kind ConsensusMessage) (t : Bool) (l : List engine.Event) → engine.commits_by member (engine.with_proposal i k t l) ≡ engine.commits_by member l
+proposal_slots : (member i : ℕ) (k : CallKind ConsensusMessage) (t : Bool) (l : List LogEvent) → engine.commits_by member (log_with_proposal i k t l) ≡ engine.commits_by member l
 proposal_slots member i (engine.proposes v) true l = refl
 proposal_slots member i (engine.proposes v) false l = refl
 proposal_slots member i (engine.delivers source c) t l = refl
@@ -375,43 +375,43 @@ slots_same member (e ∷ past) = commit e.reply.commit (slots_same member past �
     same true = refl
     same false = refl
 
-    commit : (c : Option CommittedSlot) → slot_at member past ≡ engine.commits_by member (engine.with_proposal e.member (kind_of e.call) (is_done e.reply.outcome) (log_of past))
+    commit : (c : Option CommittedSlot) → slot_at member past ≡ engine.commits_by member (log_with_proposal e.member (kind_of e.call) (is_done e.reply.outcome) (log_of past))
         → cond (eqb member e.member) (plus_commit c (slot_at member past)) (slot_at member past)
-        ≡ engine.commits_by member (engine.with_commit e.member (decision_of c) (engine.with_proposal e.member (kind_of e.call) (is_done e.reply.outcome) (log_of past)))
+        ≡ engine.commits_by member (log_with_commit e.member (decision_of c) (log_with_proposal e.member (kind_of e.call) (is_done e.reply.outcome) (log_of past)))
     commit None rest = same (eqb member e.member) ∙ rest
     commit (Some c) rest = ap (λ (n : ℕ). cond (eqb member e.member) (suc n) n) rest
 
 -- the log with a proposal or a commit more has the log before it
-claim_before_proposal : (i : ℕ) (k : Kind ConsensusMessage) (t : Bool) (l : List engine.Event) → engine.Claim (engine.with_proposal i k t l) → engine.Claim l
+claim_before_proposal : (i : ℕ) (k : CallKind ConsensusMessage) (t : Bool) (l : List LogEvent) → EngineClaim (log_with_proposal i k t l) → EngineClaim l
 claim_before_proposal i (engine.proposes v) true l c = c.1
 claim_before_proposal i (engine.proposes v) false l c = c
 claim_before_proposal i (engine.delivers source m) t l c = c
 claim_before_proposal i engine.reads t l c = c
 
-claim_before_commit : (i : ℕ) (d : model.Decision) (l : List engine.Event) → engine.Claim (engine.with_commit i d l) → engine.Claim l
+claim_before_commit : (i : ℕ) (d : model.Decision) (l : List LogEvent) → EngineClaim (log_with_commit i d l) → EngineClaim l
 claim_before_commit i model.undecided l c = c
 claim_before_commit i (model.decided s v) l c = c.3
 
-claim_before : (e : Entry) (past : List Entry) → engine.Claim (log_of (e ∷ past)) → engine.Claim (log_of past)
+claim_before : (e : Entry) (past : List Entry) → EngineClaim (log_of (e ∷ past)) → EngineClaim (log_of past)
 claim_before e past c =
     claim_before_proposal e.member (kind_of e.call) (is_done e.reply.outcome) (log_of past)
-    (claim_before_commit e.member (decision_of e.reply.commit) (engine.with_proposal e.member (kind_of e.call) (is_done e.reply.outcome) (log_of past)) c)
+    (claim_before_commit e.member (decision_of e.reply.commit) (log_with_proposal e.member (kind_of e.call) (is_done e.reply.outcome) (log_of past)) c)
 
 -- so the claim holds of the log up to each entry
-claim_at : (e : Entry) (earlier run : List Entry) → At e earlier run → engine.Claim (log_of run) → engine.Claim (log_of (e ∷ earlier))
+claim_at : (e : Entry) (earlier run : List Entry) → At e earlier run → EngineClaim (log_of run) → EngineClaim (log_of (e ∷ earlier))
 claim_at e earlier [] h c = absurd h
-claim_at e earlier (x ∷ xs) (inl d) c = subst (λ (l : List Entry). engine.Claim (log_of l)) (sym (ap₂ (λ (y : Entry) (ys : List Entry). y ∷ ys) d.0 d.1)) c
+claim_at e earlier (x ∷ xs) (inl d) c = subst (λ (l : List Entry). EngineClaim (log_of l)) (sym (ap₂ (λ (y : Entry) (ys : List Entry). y ∷ ys) d.0 d.1)) c
 claim_at e earlier (x ∷ xs) (inr h) c = claim_at e earlier xs h (claim_before x xs c)
 
 -- ---- commits
 
-in_proposal : (x : engine.Event) (i : ℕ) (k : Kind ConsensusMessage) (t : Bool) (l : List engine.Event) → In x l → In x (engine.with_proposal i k t l)
+in_proposal : (x : LogEvent) (i : ℕ) (k : CallKind ConsensusMessage) (t : Bool) (l : List LogEvent) → In x l → In x (log_with_proposal i k t l)
 in_proposal x i (engine.proposes v) true l h = inr h
 in_proposal x i (engine.proposes v) false l h = h
 in_proposal x i (engine.delivers source c) t l h = h
 in_proposal x i engine.reads t l h = h
 
-in_commit : (x : engine.Event) (i : ℕ) (d : model.Decision) (l : List engine.Event) → In x l → In x (engine.with_commit i d l)
+in_commit : (x : LogEvent) (i : ℕ) (d : model.Decision) (l : List LogEvent) → In x l → In x (log_with_commit i d l)
 in_commit x i model.undecided l h = h
 in_commit x i (model.decided s v) l h = inr h
 
@@ -421,15 +421,15 @@ in_log e earlier (x ∷ xs) slot v fast (inl d) c =
     subst (λ (y : Entry). In (engine.committed e.member slot v) (log_of (y ∷ xs))) d.0
     (subst
     (λ (o : Option CommittedSlot).
-    In (engine.committed e.member slot v) (engine.with_commit e.member (decision_of o) (engine.with_proposal e.member (kind_of e.call) (is_done e.reply.outcome) (log_of xs))))
+    In (engine.committed e.member slot v) (log_with_commit e.member (decision_of o) (log_with_proposal e.member (kind_of e.call) (is_done e.reply.outcome) (log_of xs))))
     (sym c)
     (inl refl))
 in_log e earlier (x ∷ xs) slot v fast (inr h) c =
-    in_commit (engine.committed e.member slot v) x.member (decision_of x.reply.commit) (engine.with_proposal x.member (kind_of x.call) (is_done x.reply.outcome) (log_of xs))
+    in_commit (engine.committed e.member slot v) x.member (decision_of x.reply.commit) (log_with_proposal x.member (kind_of x.call) (is_done x.reply.outcome) (log_of xs))
     (in_proposal (engine.committed e.member slot v) x.member (kind_of x.call) (is_done x.reply.outcome) (log_of xs) (in_log e earlier xs slot v fast h c))
 
 -- two commits of one slot in a log have one value
-logged_agree : (l : List engine.Event) → engine.Claim l → (i i' s v v' : ℕ) → In (engine.committed i s v) l → In (engine.committed i' s v') l → v ≡ v'
+logged_agree : (l : List LogEvent) → EngineClaim l → (i i' s v v' : ℕ) → In (engine.committed i s v) l → In (engine.committed i' s v') l → v ≡ v'
 logged_agree [] c i i' s v v' h k = absurd h
 logged_agree (engine.proposal j t w ∷ l) c i i' s v v' (inl h) k = absurd (let z : ◌≡◌ {A = ℕ} 0 1 = cc in omega arith)
 logged_agree (engine.proposal j t w ∷ l) c i i' s v v' (inr h) (inl k) = absurd (let z : ◌≡◌ {A = ℕ} 0 1 = cc in omega arith)
@@ -452,7 +452,7 @@ proposal_entry (e ∷ past) j s v h = commit e.reply.commit (λ (k : In (engine.
     later p = (p.0, p.1, inr p.2, p.3, p.4, p.5)
 
     proposed : (call : Call) → e.call ≡ call → (o : Outcome) → e.reply.outcome ≡ o → (In (engine.proposal j s v) (log_of past) → Proposed s v past)
-        → In (engine.proposal j s v) (engine.with_proposal e.member (kind_of call) (is_done o) (log_of past)) → Proposed s v (e ∷ past)
+        → In (engine.proposal j s v) (log_with_proposal e.member (kind_of call) (is_done o) (log_of past)) → Proposed s v (e ∷ past)
     proposed (Propose w) ec (Ok tt) eo rest (inl d) =
         let a : w ≡ v = cc in let b : engine.commits_by e.member (log_of past) ≡ s = cc in
         (e, past, inl (refl, refl), ec ∙ ap Propose a, eo, slots_same e.member past ∙ b)
@@ -462,26 +462,26 @@ proposal_entry (e ∷ past) j s v h = commit e.reply.commit (λ (k : In (engine.
     proposed (Receive d) ec o eo rest k = later (rest k)
 
     commit : (c : Option CommittedSlot) → (In (engine.proposal j s v) (log_of past) → Proposed s v past)
-        → In (engine.proposal j s v) (engine.with_commit e.member (decision_of c) (engine.with_proposal e.member (kind_of e.call) (is_done e.reply.outcome) (log_of past))) → Proposed s v (e ∷ past)
+        → In (engine.proposal j s v) (log_with_commit e.member (decision_of c) (log_with_proposal e.member (kind_of e.call) (is_done e.reply.outcome) (log_of past))) → Proposed s v (e ∷ past)
     commit None rest k = proposed e.call refl e.reply.outcome refl rest k
     commit (Some c) rest (inl d) = absurd (let z : ◌≡◌ {A = ℕ} 0 1 = cc in omega arith)
     commit (Some c) rest (inr k) = proposed e.call refl e.reply.outcome refl rest k
 
 -- the value of a commit was proposed in its slot, in the same call or before
-commit_proposed : (e : Entry) (earlier : List Entry) (slot v : ℕ) (fast : Bool) → e.reply.commit ≡ committed_slot slot v fast → engine.Claim (log_of (e ∷ earlier)) → Proposed slot v (e ∷ earlier)
+commit_proposed : (e : Entry) (earlier : List Entry) (slot v : ℕ) (fast : Bool) → e.reply.commit ≡ committed_slot slot v fast → EngineClaim (log_of (e ∷ earlier)) → Proposed slot v (e ∷ earlier)
 commit_proposed e earlier slot v fast c claim =
-    let l = engine.with_proposal e.member (kind_of e.call) (is_done e.reply.outcome) (log_of earlier) in
-    let k = subst (λ (o : Option CommittedSlot). engine.Claim (engine.with_commit e.member (decision_of o) l)) c claim in
+    let l = log_with_proposal e.member (kind_of e.call) (is_done e.reply.outcome) (log_of earlier) in
+    let k = subst (λ (o : Option CommittedSlot). EngineClaim (log_with_commit e.member (decision_of o) l)) c claim in
     proposal_entry (e ∷ earlier) k.1.0 slot v (in_commit (engine.proposal k.1.0 slot v) e.member (decision_of e.reply.commit) l k.1.1)
 
 -- a commit is of its member's slot
-commit_slot_lem : (e : Entry) (earlier : List Entry) (slot v : ℕ) (fast : Bool) → e.reply.commit ≡ committed_slot slot v fast → engine.Claim (log_of (e ∷ earlier)) → slot ≡ slot_at e.member earlier
+commit_slot_lem : (e : Entry) (earlier : List Entry) (slot v : ℕ) (fast : Bool) → e.reply.commit ≡ committed_slot slot v fast → EngineClaim (log_of (e ∷ earlier)) → slot ≡ slot_at e.member earlier
 commit_slot_lem e earlier slot v fast c claim =
-    let l = engine.with_proposal e.member (kind_of e.call) (is_done e.reply.outcome) (log_of earlier) in
-    let k = subst (λ (o : Option CommittedSlot). engine.Claim (engine.with_commit e.member (decision_of o) l)) c claim in
+    let l = log_with_proposal e.member (kind_of e.call) (is_done e.reply.outcome) (log_of earlier) in
+    let k = subst (λ (o : Option CommittedSlot). EngineClaim (log_with_commit e.member (decision_of o) l)) c claim in
     k.0 ∙ proposal_slots e.member e.member (kind_of e.call) (is_done e.reply.outcome) (log_of earlier) ∙ sym (slots_same e.member earlier)
 
-claim_of : (run : List Entry) → engine.Claim (log_of run) → Claim run
+claim_of : (run : List Entry) → EngineClaim (log_of run) → Claim run
 claim_of run claim =
     record {
       agree = λ slot v slot' v' c d. (
@@ -500,7 +500,7 @@ pub agreement_ties : (s : Settings) → NotSwift s.mode → (choices : Choices) 
     → LegalWith choices s cs → Claim (entries_with choices s cs)
 agreement_ties s claimed choices best cs legal =
     claim_of (entries_with choices s cs)
-    (subst engine.Claim (run_log s choices best (begun s) [] cs)
+    (subst EngineClaim (run_log s choices best (begun s) [] cs)
     (log_claim s claimed (chosen choices best cs) (legal_run s choices best (begun s) [] cs legal)))
 
 -- So does every legal list of calls on the engine, which takes the lowest of them.

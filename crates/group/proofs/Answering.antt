@@ -13,11 +13,11 @@ use lib.Dec.{eqb, ltb, leb, eqb-suc-zero}
 use lib.ListN.{length, get_or, set, replicate, length-set, length-replicate}
 use borrow.Author.Tests.{lt-ltb, ltb-true, ltb-false, le-leb, lt-leb, eq-eqb, ne_eqb, eqb-true}
 use Rattle.basics.proofs.Tests.{either, fails, and_both, and_left, and_right}
-use Rattle.sets.specs.Sets.{contains, count, size, is_empty}
-use Rattle.sets.proofs.Laws.{contains_empty}
-use Rattle.sets.proofs.Counting.{count_le, count_ext}
-use Rattle.tables.specs.Tables.{look_up, store}
-use Rattle.tables.proofs.Stored.{look_up_stored}
+use Rattle.basics.specs.sets.Sets.{contains, count, size, is_empty}
+use Rattle.basics.proofs.sets.Laws.{contains_empty}
+use Rattle.basics.proofs.sets.Counting.{count_le, count_ext}
+use Rattle.basics.specs.tables.Tables.{look_up, store}
+use Rattle.basics.proofs.tables.Stored.{look_up_stored}
 use Rattle.message.specs.Modes.{is_swift_paxos}
 use Rattle.message.specs.Promises.{value_of}
 use Rattle.message.specs.Rounds.{increment}
@@ -39,13 +39,13 @@ use Rattle.fast_state.proofs.Stored.{value_stored, score_stored}
 use Rattle.fast_state.specs.declared.FastAnswers.{FastAnswers}
 use Rattle.fast_state.specs.declared.FastChange.{FastChange}
 use Rattle.fast_state.specs.declared.FastState.{FastState}
-use Rattle.prepare.specs.Prepare.{after_own_accept}
-use Rattle.epaxos_path.specs.EPaxos.{epaxos_commit, adopting, epaxos_adopt, epaxos_decide, after_epaxos_answer, epaxos_answer}
+use Rattle.classic.specs.prepare.Prepare.{after_own_accept}
+use Rattle.fast.specs.epaxos.EPaxos.{epaxos_commit, adopting, epaxos_adopt, epaxos_decide, after_epaxos_answer, epaxos_answer}
 use Rattle.steps.specs.Steps.{CoreStep, with_paxos, map_step, with_change}
 use Rattle.steps.specs.declared.ChangeStep.{ChangeStep}
 use Rattle.steps.specs.declared.Core.{Core}
 use Rattle.steps.specs.declared.Heard.{Heard}
-use Rattle.agreement.specs.Model.{View, Answers, Host, Outcome, with_answer, with_answers, quiet, refuse, say, voted}
+use Rattle.agreement.specs.Model.{View, Answers, Host, ModelOutcome, model_with_answer, with_answers, quiet, refuse, say, voted, ModelSetup, model_score_after, model_adopts_best}
 use Rattle.agreement.specs.Model as model
 use Rattle.agreement.proofs.Answers.{count_none}
 use Rattle.group.specs.Claim.{PicksBest}
@@ -150,32 +150,32 @@ module _ (me : Member) (src p v : ℕ) (src-small : src < 64) (p-small : p < 64)
   unfolding preaccepted_after
   preaccepted_same = let le = ok.few_preaccepted in ap (λ (n : ℕ). cond (eqb p me.my_pid) n fast.fast_preaccepted) (room fast.fast_preaccepted (omega arith))
 
-  score_same : fast_half.score_after src p (look_up fast.epaxos_proposer_scores p) ≡ model.score_after src p ((answers_in fast).scores p)
+  score_same : fast_half.score_after src p (look_up fast.epaxos_proposer_scores p) ≡ model_score_after src p ((answers_in fast).scores p)
   unfolding fast_half.score_after
   score_same =
       ap (λ (n : ℕ). cond (eqb src p) (look_up fast.epaxos_proposer_scores p - 1) n) (room (look_up fast.epaxos_proposer_scores p) (ok.epaxos_high p))
-      ∙ ap (model.score_after src p) (sym (ap (λ (t : Bool). cond t (look_up fast.epaxos_proposer_scores p) 2) (lt-ltb p 64 p-small)))
+      ∙ ap (model_score_after src p) (sym (ap (λ (t : Bool). cond t (look_up fast.epaxos_proposer_scores p) 2) (lt-ltb p 64 p-small)))
 
   scores_same : (q : ℕ) → cond (ltb q 64) (look_up (store fast.epaxos_proposer_scores p (fast_half.score_after src p (look_up fast.epaxos_proposer_scores p))) q) 2
-      ≡ cond (eqb q p) (model.score_after src p ((answers_in fast).scores p)) ((answers_in fast).scores q)
+      ≡ cond (eqb q p) (model_score_after src p ((answers_in fast).scores p)) ((answers_in fast).scores q)
   scores_same q = go (either (ltb q 64))
     where
       new : ℕ
       new = fast_half.score_after src p (look_up fast.epaxos_proposer_scores p)
 
       go : (ltb q 64 ≡ true) ⊎ (ltb q 64 ≡ false) → cond (ltb q 64) (look_up (store fast.epaxos_proposer_scores p new) q) 2
-          ≡ cond (eqb q p) (model.score_after src p ((answers_in fast).scores p)) ((answers_in fast).scores q)
+          ≡ cond (eqb q p) (model_score_after src p ((answers_in fast).scores p)) ((answers_in fast).scores q)
       go (inl e) =
           ap (λ (t : Bool). cond t (look_up (store fast.epaxos_proposer_scores p new) q) 2) e ∙ stored fast.epaxos_proposer_scores ok.long_epaxos p new p-small q
           ∙ ap₂ (λ (n m : ℕ). cond (eqb q p) n m) score_same (sym (ap (λ (t : Bool). cond t (look_up fast.epaxos_proposer_scores q) 2) e))
       go (inr e) =
           let above : 64 ≤ q = ltb-false q 64 e in
           ap (λ (t : Bool). cond t (look_up (store fast.epaxos_proposer_scores p new) q) 2) e
-          ∙ sym (ap (λ (t : Bool). cond t (model.score_after src p ((answers_in fast).scores p)) ((answers_in fast).scores q)) (ne_eqb q p (λ d. omega arith))
+          ∙ sym (ap (λ (t : Bool). cond t (model_score_after src p ((answers_in fast).scores p)) ((answers_in fast).scores q)) (ne_eqb q p (λ d. omega arith))
           ∙ ap (λ (t : Bool). cond t (look_up fast.epaxos_proposer_scores q) 2) e)
 
   -- the fast half then is the model's
-  pub counted_answers : answers_in (changed counts fast) ≡ with_answer me.my_pid src p v (answers_in fast)
+  pub counted_answers : answers_in (changed counts fast) ≡ model_with_answer me.my_pid src p v (answers_in fast)
   unfolding to_v_after epaxos_scores_after
   counted_answers = λ z. record {
     answered = insert_add fast.fast_answer_set src src-small z;
@@ -188,17 +188,17 @@ module _ (me : Member) (src p v : ℕ) (src-small : src < 64) (p-small : p < 64)
 -- ---- what follows an answer
 
 -- a step of the handlers with a fast half is the model's: with the change made to the fast half
-pub record FollowsChange (S : model.Setup) (fast : FastState) (step : Result ChangeStep Refusal) (r : Outcome) : Type 0 where
+pub record FollowsChange (S : ModelSetup) (fast : FastState) (step : Result ChangeStep Refusal) (r : ModelOutcome) : Type 0 where
   pub seen_as : IfOk step (λ x. SeenAs S (answers_in (changed x.change fast)) x.core x.messages x.next r)
 
 -- a step of the core, with a change of the fast half
-pub changes_follow : (S : model.Setup) (fast : FastState) (change : FastChange) (step : Result CoreStep Refusal) (r : Outcome) → Follows S (answers_in (changed change fast)) step r
+pub changes_follow : (S : ModelSetup) (fast : FastState) (change : FastChange) (step : Result CoreStep Refusal) (r : ModelOutcome) → Follows S (answers_in (changed change fast)) step r
     → FollowsChange S fast (map_step (with_change change) step) r
 changes_follow S fast change (Ok step) r f = record { seen_as = f.seen_as }
 changes_follow S fast change (Err why) r f = record { seen_as = tt }
 
 -- a step that changes nothing of the fast half
-pub lifted : (S : model.Setup) (fast : FastState) (step : Result CoreStep Refusal) (r : Outcome) → Follows S (answers_in fast) step r
+pub lifted : (S : ModelSetup) (fast : FastState) (step : Result CoreStep Refusal) (r : ModelOutcome) → Follows S (answers_in fast) step r
     → FollowsChange S fast (map_step (with_change (unchanged (answers_of fast))) step) r
 lifted S fast step r f = changes_follow S fast (unchanged (answers_of fast)) step r (subst (λ (a : Answers). Follows S a step r) (sym (unchanged_answers fast)) f)
 
@@ -322,20 +322,20 @@ module _ (choose : Choice) (picks_best : PicksBest choose) (s : Settings) (i : �
     adopt_none p e = ap (λ (o : Option ℕ). eqb (process_number o) 0) e ∙ eqb-suc-zero p
 
     model_adopts : (p : ℕ) → chosen ≡ Some p → is_prepared (asked_by s i).member core.paxos ≡ true
-        → model.adopts (setup_of s) i host x0 (view_of ans core) ≡ model.casts (setup_of s) i x0 (ans.values p) (view_of ans core)
-    unfolding model.adopts size
+        → model_adopts_best (setup_of s) i host x0 (view_of ans core) ≡ model.casts (setup_of s) i x0 (ans.values p) (view_of ans core)
+    unfolding model_adopts_best size
     model_adopts p e prepared =
         let first = adopt_none p e in
         simp first
         (ap (λ (o : Option ℕ). cond (model.is_best (setup_of s) (pred (process_number o)) ans && model.enough_prepared (setup_of s) (view_of ans core)) (model.casts (setup_of s) i x0 (ans.values (pred (process_number o))) (view_of ans core)) (refuse x0)) e
         ∙ ap (λ (t : Bool). cond t (model.casts (setup_of s) i x0 (ans.values p) (view_of ans core)) (refuse x0)) (and_both (best_model p e) prepared))
 
-    model_adopts_nobody : chosen ≡ None → model.adopts (setup_of s) i host x0 (view_of ans core) ≡ quiet (view_of ans core)
-    unfolding model.adopts
+    model_adopts_nobody : chosen ≡ None → model_adopts_best (setup_of s) i host x0 (view_of ans core) ≡ quiet (view_of ans core)
+    unfolding model_adopts_best
     model_adopts_nobody e = let first : eqb host.adoptee 0 ≡ true = ap (λ (o : Option ℕ). eqb (process_number o) 0) e in simp first
 
     adopt_follows : (o : Option ℕ) → chosen ≡ o
-        → Follows (setup_of s) ans (epaxos_adopt (asked_by s i) round core (adopted (value_in change.entry fast.fast_proposer_to_v) o)) (model.adopts (setup_of s) i host x0 (view_of ans core))
+        → Follows (setup_of s) ans (epaxos_adopt (asked_by s i) round core (adopted (value_in change.entry fast.fast_proposer_to_v) o)) (model_adopts_best (setup_of s) i host x0 (view_of ans core))
     unfolding adopted
     adopt_follows None e = follows_both refl (model_adopts_nobody e) (record { seen_as = refl })
     adopt_follows (Some p) e = go (either (is_prepared (asked_by s i).member core.paxos))
@@ -344,13 +344,13 @@ module _ (choose : Choice) (picks_best : PicksBest choose) (s : Settings) (i : �
         same = value_stored fast.fast_proposer_to_v long_values p (picks_best.proposer _ _ p e).0 change.entry
 
         go : (is_prepared (asked_by s i).member core.paxos ≡ true) ⊎ (is_prepared (asked_by s i).member core.paxos ≡ false)
-            → Follows (setup_of s) ans (adopting (asked_by s i) round (value_in change.entry fast.fast_proposer_to_v p) core) (model.adopts (setup_of s) i host x0 (view_of ans core))
+            → Follows (setup_of s) ans (adopting (asked_by s i) round (value_in change.entry fast.fast_proposer_to_v p) core) (model_adopts_best (setup_of s) i host x0 (view_of ans core))
         go (inl t) = follows_both (ap (λ (v : ℕ). adopting (asked_by s i) round v core) same) (model_adopts p e t) (adopting_follows ans (ans.values p) t)
         go (inr t) = follows_both (adopting_unprepared _ t) refl (record { seen_as = tt })
 
     -- what epaxos_try_adopt says, as the model does
     try_follows : Follows (setup_of s) ans (epaxos_adopt (asked_by s i) round core adoption)
-        (cond (model.may_adopt (setup_of s) ans) (model.adopts (setup_of s) i host x0 (view_of ans core)) (quiet (view_of ans core)))
+        (cond (model.may_adopt (setup_of s) ans) (model_adopts_best (setup_of s) i host x0 (view_of ans core)) (quiet (view_of ans core)))
     unfolding epaxos_try_adopt size
     try_follows = go (either (contains change.answers.fast_proposers i)) (either (ltb answered (quorums_of s).majority)) (either (ltb proposers 2))
       where
@@ -363,8 +363,8 @@ module _ (choose : Choice) (picks_best : PicksBest choose) (s : Settings) (i : �
         result : Result (Option ℕ) Refusal
         result = adopted (value_in change.entry fast.fast_proposer_to_v) chosen
 
-        goal : Bool → Outcome
-        goal t = cond t (model.adopts (setup_of s) i host x0 (view_of ans core)) (quiet (view_of ans core))
+        goal : Bool → ModelOutcome
+        goal t = cond t (model_adopts_best (setup_of s) i host x0 (view_of ans core)) (quiet (view_of ans core))
 
         tried : Bool → Bool → Bool → Result (Option ℕ) Refusal
         tried a b c = cond a (cond b (Ok None) (cond c (Ok None) result)) (Err Panic)
@@ -395,7 +395,7 @@ module _ (choose : Choice) (picks_best : PicksBest choose) (s : Settings) (i : �
         steps : Bool → Result CoreStep Refusal
         steps t = cond t (Ok (epaxos_commit (asked_by s i) h v core)) (epaxos_adopt (asked_by s i) round core adoption)
 
-        fast_commit : Outcome
+        fast_commit : ModelOutcome
         fast_commit =
             record {
               view = model.advanced (setup_of s).voters.start (view_of ans core);
@@ -404,8 +404,8 @@ module _ (choose : Choice) (picks_best : PicksBest choose) (s : Settings) (i : �
               taken = true;
             }
 
-        outcomes : Bool → Outcome
-        outcomes t = cond t fast_commit (cond (model.may_adopt (setup_of s) ans) (model.adopts (setup_of s) i host x0 (view_of ans core)) (quiet (view_of ans core)))
+        outcomes : Bool → ModelOutcome
+        outcomes t = cond t fast_commit (cond (model.may_adopt (setup_of s) ans) (model_adopts_best (setup_of s) i host x0 (view_of ans core)) (quiet (view_of ans core)))
 
         go : (epaxos_can_commit (asked_by s i).member change.answers ≡ true) ⊎ (epaxos_can_commit (asked_by s i).member change.answers ≡ false)
             → Follows (setup_of s) ans (steps (epaxos_can_commit (asked_by s i).member change.answers)) (outcomes (model.fast_enough (setup_of s) ans))
@@ -440,7 +440,7 @@ module _ (choose : Choice) (picks_best : PicksBest choose) (s : Settings) (i : �
     model_again p v host e d = let n = eqb-suc-zero p in simp (n, e, d)
 
     model_first : (p v : ℕ) (host : Host) → contains fast.fast_answer_set h.src ≡ false
-        → model.answering (setup_of s) i h.src (suc p) v host x0 view ≡ model.decides (setup_of s) i v host x0 (with_answers (with_answer i h.src p v (answers_in fast)) view)
+        → model.answering (setup_of s) i h.src (suc p) v host x0 view ≡ model.decides (setup_of s) i v host x0 (with_answers (model_with_answer i h.src p v (answers_in fast)) view)
     unfolding model.answering
     model_first p v host e = let n = eqb-suc-zero p in simp (n, e)
 
@@ -459,7 +459,7 @@ module _ (choose : Choice) (picks_best : PicksBest choose) (s : Settings) (i : �
         (sym e)
         f
 
-    decided : (change : FastChange) (v : ℕ) (r : Outcome) → r ≡ model.decides (setup_of s) i v (host_with choose change fast.epaxos_proposer_scores) x0 (view_of (answers_in (changed change fast)) core)
+    decided : (change : FastChange) (v : ℕ) (r : ModelOutcome) → r ≡ model.decides (setup_of s) i v (host_with choose change fast.epaxos_proposer_scores) x0 (view_of (answers_in (changed change fast)) core)
         → FollowsChange (setup_of s) fast (map_step (with_change change) (epaxos_decide choose (asked_by s i) h round v core change fast.fast_proposer_to_v fast.epaxos_proposer_scores)) r
     decided change v r e = changes_follow (setup_of s) fast change _ r (follows_both refl e (decide_follows fast change ok.long_values ok.long_epaxos v))
 

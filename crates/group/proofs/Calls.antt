@@ -39,7 +39,7 @@ use Rattle.settings.specs.declared.Settings.{Settings}
 use Rattle.settings.proofs.Limits.{within_counts, within_members}
 use Rattle.paxos_family.specs.Commit.{commit_slot}
 use Rattle.read_tracker.specs.declared.Inserted.{Inserted}
-use Rattle.accept.specs.Accept.{accepting}
+use Rattle.classic.specs.accept.Accept.{accepting}
 use Rattle.paxos_family.specs.Process.{on_accept, process_classic, on_fast_prepare, on_fast_accept, process_change, process_fast}
 use Rattle.propose.specs.Propose.{propose_classic, propose_change, propose_fast}
 use Rattle.steps.specs.Steps.{RoundsStep, CoreStep, no_messages, stays, map_step, with_change, on_rounds, change_rounds}
@@ -65,11 +65,10 @@ use Rattle.delivery.specs.declared.Delivery.{Delivery}
 use Rattle.consensus.specs.declared.Shard.{Shard}
 use Rattle.consensus.specs.declared.State.{State}
 use Rattle.consensus.specs.declared.StateAnswer.{StateAnswer}
-use Rattle.agreement.specs.Engine.{Kind, proposes, delivers, reads, Engine}
-use Rattle.agreement.specs.Engine as engine
-use Rattle.agreement.specs.Model.{View, Answers, quiet, refuse, advanced}
+use Rattle.agreement.specs.Engine.{CallKind, proposes, delivers, reads, Engine, EngineAnswer}
+use Rattle.agreement.specs.Model.{View, Answers, quiet, refuse, advanced, ModelSetup, ModelOutcome, model_no_answers, model_on_prepare, model_on_accept, model_on_commit, model_on_propose, model_on_message}
 use Rattle.agreement.specs.Model as model
-use Rattle.agreement.specs.Refinement.{meanings, seen, AsModel, outcome, deliver}
+use Rattle.agreement.specs.Refinement.{meanings, seen_as_model, AsModel, model_outcome, deliver}
 use Rattle.group.specs.Claim.{member_settings, begun, PicksBest, MemberCall, NotSwift}
 pub use Rattle.group.specs.Steps.{is_done}
 use Rattle.group.proofs.View.{round_number, LeaderIn, LeaderFits, process_number, no_member, meaning_of, meaning_is, proposer_of, is_e_paxos, answers_in, envelopes, view_of, Leaders, setup_of, SeenAs, Follows}
@@ -83,7 +82,7 @@ use Rattle.group.proofs.Invariants.{admit_cond, source_below, message_numbers, m
 
 -- ---- the group as an engine
 
-abbrev pub kind_of : Call → Kind ConsensusMessage
+abbrev pub kind_of : Call → CallKind ConsensusMessage
 kind_of (Propose v) = proposes v
 kind_of (StartRead tag arrival) = reads
 kind_of (Receive d) = delivers d.message.src d.message
@@ -92,7 +91,7 @@ abbrev pub decision_of : Option CommittedSlot → model.Decision
 decision_of None = model.undecided
 decision_of (Some commit) = model.decided commit.slot commit.v
 
-abbrev pub answer_from : Answer → engine.Answer Shard ConsensusMessage
+abbrev pub answer_from : Answer → EngineAnswer Shard ConsensusMessage
 answer_from r =
     record {
       shard = r.shard;
@@ -125,13 +124,13 @@ core_of shard = shard.state.rounds.core
 
 -- the fast half as the model sees it: only EPaxos has one there
 abbrev pub answers_for : PFMode → FastState → Answers
-answers_for mode fast = cond (is_e_paxos mode) (answers_in fast) model.no_answers
+answers_for mode fast = cond (is_e_paxos mode) (answers_in fast) model_no_answers
 
 abbrev pub view_shard : Shard → View
 view_shard shard = view_of (answers_for shard.settings.mode shard.state.rounds.fast) (core_of shard)
 
-abbrev pub seen_answer : Answer → model.Outcome
-seen_answer r = seen view_shard meaning_of (answer_from r)
+abbrev pub seen_answer : Answer → ModelOutcome
+seen_answer r = seen_as_model view_shard meaning_of (answer_from r)
 
 -- a shard of member i
 abbrev shard_of : Settings → ℕ → Outcome → State → Shard
@@ -160,7 +159,7 @@ not_swift EPaxos c = refl
 not_swift Pando c = refl
 not_swift SwiftPaxos c = absurd c
 
-pub no_answers_seen : answers_in no_answers ≡ model.no_answers
+pub no_answers_seen : answers_in no_answers ≡ model_no_answers
 no_answers_seen = λ z. record {
   answered = no_member z;
   preaccepted = 0;
@@ -170,7 +169,7 @@ no_answers_seen = λ z. record {
 }
 
 -- after a commit the fast half begins anew
-cleared_seen : (m : PFMode) (f : FastState) → answers_for m (cond (has_fast_path m) no_answers f) ≡ model.no_answers
+cleared_seen : (m : PFMode) (f : FastState) → answers_for m (cond (has_fast_path m) no_answers f) ≡ model_no_answers
 cleared_seen Paxos f = refl
 cleared_seen MultiPaxos f = refl
 cleared_seen MultiPaxos3P f = refl
@@ -178,17 +177,17 @@ cleared_seen EPaxos f = no_answers_seen
 cleared_seen Pando f = refl
 cleared_seen SwiftPaxos f = refl
 
-pub begins_seen : (m : PFMode) → answers_for m no_answers ≡ model.no_answers
+pub begins_seen : (m : PFMode) → answers_for m no_answers ≡ model_no_answers
 begins_seen m = go (is_e_paxos m)
   where
-    go : (t : Bool) → cond t (answers_in no_answers) model.no_answers ≡ model.no_answers
+    go : (t : Bool) → cond t (answers_in no_answers) model_no_answers ≡ model_no_answers
     go true = no_answers_seen
     go false = refl
 
 -- ---- refusals
 
-pub refuse_as_model : (S : model.Setup) (i : ℕ) (x : View) (k : Kind ConsensusMessage) → AsModel meaning_of S i x k (refuse x)
-unfolding outcome
+pub refuse_as_model : (S : ModelSetup) (i : ℕ) (x : View) (k : CallKind ConsensusMessage) → AsModel meaning_of S i x k (refuse x)
+unfolding model_outcome
 refuse_as_model S i x (proposes v) = (record { allows = false; requester = 0; adoptee = 0 }, refl)
 refuse_as_model S i x (delivers source c) = inl (record { allows = false; requester = 0; adoptee = 0 }, refl)
 refuse_as_model S i x reads = (refl, refl, tt)
@@ -196,12 +195,12 @@ refuse_as_model S i x reads = (refl, refl, tt)
 -- ---- the end of a call
 
 -- a step on the rounds is the model's
-record StepFollows (s : Settings) (step : Result RoundsStep Refusal) (r : model.Outcome) : Type 0 where
+record StepFollows (s : Settings) (step : Result RoundsStep Refusal) (r : ModelOutcome) : Type 0 where
   seen_as : IfOk step (λ x. SeenAs (setup_of s) (answers_for s.mode x.state.fast) x.state.core x.messages x.next r)
 
 module _ (s : Settings) (i : ℕ) (made : Outcome) (state : State) where
   -- what is seen of an answer of the member's shard
-  abbrev seen_of : StateAnswer → model.Outcome
+  abbrev seen_of : StateAnswer → ModelOutcome
   seen_of r = seen_answer (in_shard (shard_of s i made state) r)
 
   commit_seen : (v : ℕ) (rounds : Rounds) (ms : Messages) → rounds.core.slot < 9223372036854775807
@@ -225,7 +224,7 @@ module _ (s : Settings) (i : ℕ) (made : Outcome) (state : State) where
     taken = true;
   }
 
-  finish_seen : (held : Bool) (step : Result RoundsStep Refusal) (r : model.Outcome) → StepFollows s step r → IfOk step (λ x. x.state.core.slot < 9223372036854775807)
+  finish_seen : (held : Bool) (step : Result RoundsStep Refusal) (r : ModelOutcome) → StepFollows s step r → IfOk step (λ x. x.state.core.slot < 9223372036854775807)
       → (seen_of (finish state (asked_by s i) held step) ≡ r) ⊎ (seen_of (finish state (asked_by s i) held step) ≡ refuse (view_shard (shard_of s i made state)))
   finish_seen held (Err why) r f l = inr refl
   finish_seen held (Ok step) r f l = go step.next held f.seen_as
@@ -330,7 +329,7 @@ module _ (s : Settings) (i : ℕ) (claimed : NotSwift s.mode) (choose : Choice) 
     fits : FastFits fast_state
     fits = lasts.fast_fits
 
-    abbrev as_model : Kind ConsensusMessage → StateAnswer → Type 0
+    abbrev as_model : CallKind ConsensusMessage → StateAnswer → Type 0
     as_model k r = AsModel meaning_of (setup_of s) i (view_shard shard) k (seen_of s i made state r)
 
     -- the slot of a step is that of the shard, which has one after it
@@ -339,15 +338,15 @@ module _ (s : Settings) (i : ℕ) (claimed : NotSwift s.mode) (choose : Choice) 
 
     -- a step that is the model's ends as the model's call, or is refused
     deliver_ends : (held : Bool) (source : ℕ) (message : ConsensusMessage) (host : model.Host) (step : Result RoundsStep Refusal)
-        → StepFollows s step (outcome (setup_of s) (view_shard shard) (deliver i source (meaning_of message) host)) → IfOk step (λ x. x.state.core.slot ≡ core.slot)
+        → StepFollows s step (model_outcome (setup_of s) (view_shard shard) (deliver i source (meaning_of message) host)) → IfOk step (λ x. x.state.core.slot ≡ core.slot)
         → as_model (delivers source message) (finish state (asked_by s i) held step)
     deliver_ends held source message host step f same =
-        go (finish_seen s i made state held step (outcome (setup_of s) (view_shard shard) (deliver i source (meaning_of message) host)) f (has_room step same))
+        go (finish_seen s i made state held step (model_outcome (setup_of s) (view_shard shard) (deliver i source (meaning_of message) host)) f (has_room step same))
       where
-        result : model.Outcome
+        result : ModelOutcome
         result = seen_of s i made state (finish state (asked_by s i) held step)
 
-        go : (result ≡ outcome (setup_of s) (view_shard shard) (deliver i source (meaning_of message) host)) ⊎ (result ≡ refuse (view_shard shard))
+        go : (result ≡ model_outcome (setup_of s) (view_shard shard) (deliver i source (meaning_of message) host)) ⊎ (result ≡ refuse (view_shard shard))
             → AsModel meaning_of (setup_of s) i (view_shard shard) (delivers source message) result
         go (inl r) = inl (host, r)
         go (inr r) = subst (AsModel meaning_of (setup_of s) i (view_shard shard) (delivers source message)) (sym r) (refuse_as_model (setup_of s) i (view_shard shard) (delivers source message))
@@ -364,15 +363,15 @@ module _ (s : Settings) (i : ℕ) (claimed : NotSwift s.mode) (choose : Choice) 
     processed_fast h m e = simp e
 
     fast_view : is_e_paxos s.mode ≡ true → (f : FastState) → answers_for s.mode f ≡ answers_in f
-    fast_view e f = ap (λ (t : Bool). cond t (answers_in f) model.no_answers) e
+    fast_view e f = ap (λ (t : Bool). cond t (answers_in f) model_no_answers) e
 
     -- a step of the core alone
-    classic_step_lem : (step : Result CoreStep Refusal) (r : model.Outcome) → Follows (setup_of s) (answers_for s.mode fast_state) step r → StepFollows s (map_step (on_rounds fast_state) step) r
+    classic_step_lem : (step : Result CoreStep Refusal) (r : ModelOutcome) → Follows (setup_of s) (answers_for s.mode fast_state) step r → StepFollows s (map_step (on_rounds fast_state) step) r
     classic_step_lem (Ok step) r f = record { seen_as = f.seen_as }
     classic_step_lem (Err why) r f = record { seen_as = tt }
 
     -- a step of EPaxos
-    fast_step_lem : is_e_paxos s.mode ≡ true → (step : Result ChangeStep Refusal) (r : View → model.Outcome) → FollowsChange (setup_of s) fast_state step (r (view_of (answers_in fast_state) core))
+    fast_step_lem : is_e_paxos s.mode ≡ true → (step : Result ChangeStep Refusal) (r : View → ModelOutcome) → FollowsChange (setup_of s) fast_state step (r (view_of (answers_in fast_state) core))
         → StepFollows s (map_step (change_rounds fast_state) step) (r (view_shard shard))
     fast_step_lem e (Err why) r f = record { seen_as = tt }
     fast_step_lem e (Ok step) r f =
@@ -397,8 +396,8 @@ module _ (s : Settings) (i : ℕ) (claimed : NotSwift s.mode) (choose : Choice) 
       prepare_ok : (slot : ℕ) (round : PaxosRound) (rv : RoundV) → d.message.msg ≡ Prepare slot round rv
           → (host : model.Host)
           × StepFollows s (processed choose (asked_by s i) h (Prepare slot round rv) state.rounds)
-          (outcome (setup_of s) (view_shard shard) (deliver i d.message.src (model.prepare slot (round_number (Some round)) (round_number (accept_round_of rv)) (proposer_of rv) (value_of rv)) host))
-      unfolding process_classic process_change outcome model.on_message
+          (model_outcome (setup_of s) (view_shard shard) (deliver i d.message.src (model.prepare slot (round_number (Some round)) (round_number (accept_round_of rv)) (proposer_of rv) (value_of rv)) host))
+      unfolding process_classic process_change model_outcome model_on_message
       prepare_ok slot round rv e = go (mode_is s.mode claimed)
         where
           parts : MessageFits (λ p. p < 64) (Prepare slot round rv)
@@ -414,11 +413,11 @@ module _ (s : Settings) (i : ℕ) (claimed : NotSwift s.mode) (choose : Choice) 
           slow_host = record { allows = true; requester = 0; adoptee = 0 }
 
           goal : model.Host → Result RoundsStep Refusal → Type 0
-          goal host step = StepFollows s step (model.on_prepare (setup_of s) i (view_shard shard) d.message.src slot (round_number (Some round)) (round_number (accept_round_of rv)) (proposer_of rv) (value_of rv) host)
+          goal host step = StepFollows s step (model_on_prepare (setup_of s) i (view_shard shard) d.message.src slot (round_number (Some round)) (round_number (accept_round_of rv)) (proposer_of rv) (value_of rv) host)
 
           go : ModeIs s.mode
               → (host : model.Host) × StepFollows s (processed choose (asked_by s i) h (Prepare slot round rv) state.rounds)
-              (cond host.allows (model.on_prepare (setup_of s) i (view_shard shard) d.message.src slot (round_number (Some round)) (round_number (accept_round_of rv)) (proposer_of rv) (value_of rv) host) (refuse (view_shard shard)))
+              (cond host.allows (model_on_prepare (setup_of s) i (view_shard shard) d.message.src slot (round_number (Some round)) (round_number (accept_round_of rv)) (proposer_of rv) (value_of rv) host) (refuse (view_shard shard)))
           go (is_classic no-fast no-epaxos) = (
             slow_host,
             subst (goal slow_host) (sym (processed_slow h (Prepare slot round rv) no-fast))
@@ -429,18 +428,18 @@ module _ (s : Settings) (i : ℕ) (claimed : NotSwift s.mode) (choose : Choice) 
             host-allows choose s i d.message.src fast_state rv
                 (λ (b : Bool).
                 StepFollows s (processed choose (asked_by s i) h (Prepare slot round rv) state.rounds)
-                (cond b (model.on_prepare (setup_of s) i (view_shard shard) d.message.src slot (round_number (Some round)) (round_number (accept_round_of rv)) (proposer_of rv) (value_of rv) (host_for choose s i d.message.src fast_state rv)) (refuse (view_shard shard))))
+                (cond b (model_on_prepare (setup_of s) i (view_shard shard) d.message.src slot (round_number (Some round)) (round_number (accept_round_of rv)) (proposer_of rv) (value_of rv) (host_for choose s i d.message.src fast_state rv)) (refuse (view_shard shard))))
                 (subst (goal (host_for choose s i d.message.src fast_state rv)) (sym (processed_fast h (Prepare slot round rv) has-fast))
                 (fast_step_lem epaxos
                 (on_fast_prepare choose (asked_by s i) h slot round rv core (answers_of fast_state) fast_state.fast_proposer_to_v fast_state.epaxos_proposer_scores fast_state.swift_proposer_scores)
-                (λ x. model.on_prepare (setup_of s) i x d.message.src slot (round_number (Some round)) (round_number (accept_round_of rv)) (proposer_of rv) (value_of rv) (host_for choose s i d.message.src fast_state rv))
+                (λ x. model_on_prepare (setup_of s) i x d.message.src slot (round_number (Some round)) (round_number (accept_round_of rv)) (proposer_of rv) (value_of rv) (host_for choose s i d.message.src fast_state rv))
                 (fast_prepare_follows choose picks_best s i (not_swift s.mode claimed) epaxos own_small fast_state fits h (source_small d adm.processes) round parts.0.1 slot rv parts.1 parts.2 refl delegate_of_lem core ok le))),
           )
 
       accept_ok : (slot : ℕ) (round : PaxosRound) (v : ℕ) → d.message.msg ≡ Accept slot round v
           → StepFollows s (processed choose (asked_by s i) h (Accept slot round v) state.rounds)
-          (outcome (setup_of s) (view_shard shard) (deliver i d.message.src (model.accept slot (round_number (Some round)) v) (record { allows = true; requester = process_number d.said.requester; adoptee = 0 })))
-      unfolding process_classic process_change outcome model.on_message on_accept
+          (model_outcome (setup_of s) (view_shard shard) (deliver i d.message.src (model.accept slot (round_number (Some round)) v) (record { allows = true; requester = process_number d.said.requester; adoptee = 0 })))
+      unfolding process_classic process_change model_outcome model_on_message on_accept
       accept_ok slot round v e = go (mode_is s.mode claimed)
         where
           leader : round.leader < 64
@@ -456,7 +455,7 @@ module _ (s : Settings) (i : ℕ) (claimed : NotSwift s.mode) (choose : Choice) 
           host = record { allows = true; requester = process_number d.said.requester; adoptee = 0 }
 
           goal : Result RoundsStep Refusal → Type 0
-          goal step = StepFollows s step (model.on_accept (setup_of s) i (view_shard shard) d.message.src slot (round_number (Some round)) v host)
+          goal step = StepFollows s step (model_on_accept (setup_of s) i (view_shard shard) d.message.src slot (round_number (Some round)) v host)
 
           go : ModeIs s.mode → goal (processed choose (asked_by s i) h (Accept slot round v) state.rounds)
           go (is_classic no-fast no-epaxos) =
@@ -467,7 +466,7 @@ module _ (s : Settings) (i : ℕ) (claimed : NotSwift s.mode) (choose : Choice) 
           go (is_fast has-fast epaxos single) =
               subst goal (sym (processed_fast h (Accept slot round v) has-fast))
               (fast_step_lem epaxos (on_fast_accept (asked_by s i) h slot round v core (answers_of fast_state) fast_state.swift_proposer_scores)
-              (λ x. model.on_accept (setup_of s) i x d.message.src slot (round_number (Some round)) v host)
+              (λ x. model_on_accept (setup_of s) i x d.message.src slot (round_number (Some round)) v host)
               (fast_accept_follows choose picks_best s i (not_swift s.mode claimed) epaxos own_small fast_state fits h (source_small d adm.processes) round leader slot v refl delegate_of_lem (committer_same s i d.said.requester) core ok le))
 
       -- a ForwardRequest does nothing
@@ -493,7 +492,7 @@ module _ (s : Settings) (i : ℕ) (claimed : NotSwift s.mode) (choose : Choice) 
       -- a message whose step is the model's, with some host, is handled as the model's call
       processed_ok : (m : ConsensusMsg) → d.message.msg ≡ m → (host : model.Host)
           → StepFollows s (processed choose (asked_by s i) h m state.rounds)
-          (outcome (setup_of s) (view_shard shard) (deliver i d.message.src (meaning_of (record { msg = m; src = d.message.src; last_v = d.message.last_v })) host))
+          (model_outcome (setup_of s) (view_shard shard) (deliver i d.message.src (meaning_of (record { msg = m; src = d.message.src; last_v = d.message.last_v })) host))
           → as_model (kind_of (Receive d)) (process_message choose state (asked_by s i) h d)
       processed_ok m e host f =
           subst (as_model (delivers d.message.src d.message)) (sym (processed_step m e))
@@ -507,7 +506,7 @@ module _ (s : Settings) (i : ℕ) (claimed : NotSwift s.mode) (choose : Choice) 
       on_accept_lem slot round v e = processed_ok (Accept slot round v) e (record { allows = true; requester = process_number d.said.requester; adoptee = 0 }) (accept_ok slot round v e)
 
       on_forward : (v : ℕ) → d.message.msg ≡ ForwardRequest v → as_model (kind_of (Receive d)) (process_message choose state (asked_by s i) h d)
-      unfolding outcome model.on_message
+      unfolding model_outcome model_on_message
       on_forward v e = processed_ok (ForwardRequest v) e (record { allows = true; requester = 0; adoptee = 0 }) (forward_ok v)
 
     commit_older : (slot v : ℕ) → ltb slot core.slot ≡ true → on_commit state (asked_by s i) slot v ≡ nothing state
@@ -520,7 +519,7 @@ module _ (s : Settings) (i : ℕ) (claimed : NotSwift s.mode) (choose : Choice) 
 
     on_commit_lem : (source : ℕ) (last : Option ℕ) (slot v : ℕ) → slot ≤ core.slot
         → as_model (delivers source (record { msg = Commit slot v; src = source; last_v = last })) (on_commit state (asked_by s i) slot v)
-    unfolding outcome model.on_message model.on_commit
+    unfolding model_outcome model_on_message model_on_commit
     on_commit_lem source last slot v le = go (either (ltb slot core.slot))
       where
         host : model.Host
@@ -569,11 +568,11 @@ module _ (s : Settings) (i : ℕ) (claimed : NotSwift s.mode) (choose : Choice) 
     unfolding proposing propose_fast
     proposing_fast v e = simp e
 
-    propose_ok : (v : ℕ) → StepFollows s (proposing (asked_by s i) v state.rounds) (model.on_propose (setup_of s) i (view_shard shard) v)
+    propose_ok : (v : ℕ) → StepFollows s (proposing (asked_by s i) v state.rounds) (model_on_propose (setup_of s) i (view_shard shard) v)
     propose_ok v = go (mode_is s.mode claimed)
       where
         goal : Result RoundsStep Refusal → Type 0
-        goal step = StepFollows s step (model.on_propose (setup_of s) i (view_shard shard) v)
+        goal step = StepFollows s step (model_on_propose (setup_of s) i (view_shard shard) v)
 
         go : ModeIs s.mode → goal (proposing (asked_by s i) v state.rounds)
         go (is_classic no-fast no-epaxos) =
@@ -582,17 +581,17 @@ module _ (s : Settings) (i : ℕ) (claimed : NotSwift s.mode) (choose : Choice) 
         go (is_fast has-fast epaxos single) =
             subst goal (sym (proposing_fast v has-fast))
             (fast_step_lem epaxos (propose_change (asked_by s i) v core (answers_of fast_state) fast_state.epaxos_proposer_scores fast_state.swift_proposer_scores)
-            (λ x. model.on_propose (setup_of s) i x v)
+            (λ x. model_on_propose (setup_of s) i x v)
             (fast_propose_follows choose picks_best s i (not_swift s.mode claimed) epaxos own_small fast_state fits leader_small v core ok single))
 
     propose_ends : (v : ℕ) → as_model (proposes v) (finish state (asked_by s i) true (proposing (asked_by s i) v state.rounds))
-    unfolding outcome
-    propose_ends v = go (finish_seen s i made state true (proposing (asked_by s i) v state.rounds) (model.on_propose (setup_of s) i (view_shard shard) v) (propose_ok v) (has_room _ (proposed_slot choose shard lasts limits room v)))
+    unfolding model_outcome
+    propose_ends v = go (finish_seen s i made state true (proposing (asked_by s i) v state.rounds) (model_on_propose (setup_of s) i (view_shard shard) v) (propose_ok v) (has_room _ (proposed_slot choose shard lasts limits room v)))
       where
-        result : model.Outcome
+        result : ModelOutcome
         result = seen_of s i made state (finish state (asked_by s i) true (proposing (asked_by s i) v state.rounds))
 
-        go : (result ≡ model.on_propose (setup_of s) i (view_shard shard) v) ⊎ (result ≡ refuse (view_shard shard)) → AsModel meaning_of (setup_of s) i (view_shard shard) (proposes v) result
+        go : (result ≡ model_on_propose (setup_of s) i (view_shard shard) v) ⊎ (result ≡ refuse (view_shard shard)) → AsModel meaning_of (setup_of s) i (view_shard shard) (proposes v) result
         go (inl r) = (record { allows = true; requester = 0; adoptee = 0 }, r)
         go (inr r) = (record { allows = false; requester = 0; adoptee = 0 }, r)
 
@@ -619,7 +618,7 @@ pub valid_within : (s : Settings) (i : ℕ) (shard : Shard) → Valid s i shard 
 valid_within s i _ valid e = subst (λ (x : Settings). within_limits x ≡ true) valid.own_settings (valid.lasting.made_within e)
 
 -- what is shown of each call on a shard: it is the model's, and the shard stays valid
-pub record CallOk (s : Settings) (i : ℕ) (shard : Shard) (k : Kind ConsensusMessage) (r : Answer) : Type 0 where
+pub record CallOk (s : Settings) (i : ℕ) (shard : Shard) (k : CallKind ConsensusMessage) (r : Answer) : Type 0 where
   pub as_model_lem : AsModel meaning_of (setup_of s) i (view_shard shard) k (seen_answer r)
   pub valid : Valid s i r.shard
 

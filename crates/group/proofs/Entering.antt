@@ -10,7 +10,7 @@ use native.Mathlib.Omega.{arith}
 use lib.Dec.{eqb, ltb}
 use borrow.Author.Tests.{ltb-false, eq-eqb, eqb-true}
 use Rattle.basics.proofs.Tests.{either, not_both, fails, or_left, or_right}
-use Rattle.sets.specs.Sets.{contains}
+use Rattle.basics.specs.sets.Sets.{contains}
 use Rattle.message.specs.Modes.{is_swift_paxos}
 use Rattle.message.specs.Rounds.{before}
 use Rattle.message.proofs.Order.{optional_rounds_ordered}
@@ -23,18 +23,17 @@ use Rattle.round_state.proofs.Counting.{with_sender_own, with_sender_other, with
 use Rattle.settings.specs.declared.Settings.{Settings}
 use Rattle.calls.specs.Asked.{asked_of}
 use Rattle.enter.specs.Enter.{in_round, is_older, from_live, enter}
-use Rattle.steps.specs.Steps.{CoreStep, no_messages, held_rv, held_v, with_paxos, stays, continues, then_in, map_step}
+use Rattle.steps.specs.Steps.{CoreStep, no_messages, held_rv, held_value, with_paxos, stays, continues, then_in, map_step}
 use Rattle.steps.specs.declared.Core.{Core}
 use Rattle.steps.specs.declared.Heard.{Heard}
-use Rattle.agreement.specs.Model.{View, Answers, Outcome, add, joined, quiet}
-use Rattle.agreement.specs.Model as model
+use Rattle.agreement.specs.Model.{View, Answers, ModelOutcome, add, in_later_round, quiet, model_enter}
 use Rattle.group.specs.Claim.{member_settings}
 use Rattle.group.proofs.View.{round_number, before_number, no_member, insert_add, proposer_of, view_of, Leaders, setup_of, Follows}
 
 -- ---- views
 
 -- a later round
-pub goto_view : (ans : Answers) (round : Option PaxosRound) (core : Core) → view_of ans (with_paxos (goto_round round core.paxos) core) ≡ joined (round_number round) (view_of ans core)
+pub goto_view : (ans : Answers) (round : Option PaxosRound) (core : Core) → view_of ans (with_paxos (goto_round round core.paxos) core) ≡ in_later_round (round_number round) (view_of ans core)
 goto_view ans round core =
     ap
     (λ (f : ℕ → Bool).
@@ -44,7 +43,7 @@ goto_view ans round core =
       holds = is_some core.paxos.max_rv;
       held_round = round_number (get_last_accepted_round core.paxos.max_rv);
       held_proposer = proposer_of (held_rv core.paxos.max_rv);
-      held_value = held_v core.paxos.max_rv;
+      held_value = held_value core.paxos.max_rv;
       prepared = f;
       accepted = f;
       answers = ans;
@@ -53,12 +52,12 @@ goto_view ans round core =
 
 pub in_round_view : (ans : Answers) (round : PaxosRound) (core : Core) → Leaders core → round.leader < 64
     → view_of ans (in_round round core)
-    ≡ cond (ltb (view_of ans core).round (round_number (Some round))) (joined (round_number (Some round)) (view_of ans core)) (view_of ans core)
+    ≡ cond (ltb (view_of ans core).round (round_number (Some round))) (in_later_round (round_number (Some round)) (view_of ans core)) (view_of ans core)
 unfolding in_round
 in_round_view ans round core ok l =
-    go (before core.paxos.round (Some round)) ∙ ap (λ (t : Bool). cond t (joined (round_number (Some round)) (view_of ans core)) (view_of ans core)) (before_number core.paxos.round (Some round) ok.in_round_lem l)
+    go (before core.paxos.round (Some round)) ∙ ap (λ (t : Bool). cond t (in_later_round (round_number (Some round)) (view_of ans core)) (view_of ans core)) (before_number core.paxos.round (Some round) ok.in_round_lem l)
   where
-    go : (t : Bool) → view_of ans (cond t (with_paxos (goto_round (Some round) core.paxos) core) core) ≡ cond t (joined (round_number (Some round)) (view_of ans core)) (view_of ans core)
+    go : (t : Bool) → view_of ans (cond t (with_paxos (goto_round (Some round) core.paxos) core) core) ≡ cond t (in_later_round (round_number (Some round)) (view_of ans core)) (view_of ans core)
     go true = goto_view ans (Some round) core
     go false = refl
 
@@ -138,52 +137,52 @@ module _ (ans : Answers) (s : Settings) (i : ℕ) (no-swift : is_swift_paxos s.m
       (omega arith, fails (λ t. not_both (or_right (ltb slot core.slot) t) e))
 
   -- the model's four cases
-  model_client : (k : View → Outcome) → contains s.alive_replicas i ≡ false
-      → model.enter (setup_of s) i (view_of ans core) h.src slot (round_number (Some round)) k ≡ quiet (view_of ans core)
-  unfolding model.enter
+  model_client : (k : View → ModelOutcome) → contains s.alive_replicas i ≡ false
+      → model_enter (setup_of s) i (view_of ans core) h.src slot (round_number (Some round)) k ≡ quiet (view_of ans core)
+  unfolding model_enter
   model_client k e = simp e
 
-  model_older : (k : View → Outcome) → contains s.alive_replicas i ≡ true → Leaders core → round.leader < 64 → is_older slot round core ≡ true
-      → model.enter (setup_of s) i (view_of ans core) h.src slot (round_number (Some round)) k ≡ quiet (view_of ans core)
-  unfolding model.enter
+  model_older : (k : View → ModelOutcome) → contains s.alive_replicas i ≡ true → Leaders core → round.leader < 64 → is_older slot round core ≡ true
+      → model_enter (setup_of s) i (view_of ans core) h.src slot (round_number (Some round)) k ≡ quiet (view_of ans core)
+  unfolding model_enter
   model_older k e ok l o = let d = sym (older_number ok l) ∙ o in simp (e, d)
 
-  model_live : (k : View → Outcome) → contains s.alive_replicas i ≡ true → Leaders core → round.leader < 64 → is_older slot round core ≡ false
+  model_live : (k : View → ModelOutcome) → contains s.alive_replicas i ≡ true → Leaders core → round.leader < 64 → is_older slot round core ≡ false
       → slot ≡ core.slot → contains s.alive_replicas h.src ≡ true
-      → model.enter (setup_of s) i (view_of ans core) h.src slot (round_number (Some round)) k ≡ k (view_of ans (in_round round core))
-  unfolding model.enter
+      → model_enter (setup_of s) i (view_of ans core) h.src slot (round_number (Some round)) k ≡ k (view_of ans (in_round round core))
+  unfolding model_enter
   model_live k e ok l o same v =
       let d = sym (older_number ok l) ∙ o in
       let q : eqb slot core.slot ≡ true = eq-eqb slot core.slot same in
       simp (e, d, q, v) (ap k (sym (in_round_view ans round core ok l)))
 
   -- entering is the model's, where the rest is; X is what the handler makes, of which Fits says that it is the model's
-  module _ (X : Type 0) (lift : CoreStep → X) (Fits : Result X Refusal → Outcome → Type 0) (lifted : (step : Result CoreStep Refusal) (r : Outcome) → Follows (setup_of s) ans step r → Fits (map_step lift step) r) where
+  module _ (X : Type 0) (lift : CoreStep → X) (Fits : Result X Refusal → ModelOutcome → Type 0) (lifted : (step : Result CoreStep Refusal) (r : ModelOutcome) → Follows (setup_of s) ans step r → Fits (map_step lift step) r) where
     pub enter_follows : Leaders core → round.leader < 64 → h.source_live ≡ contains s.alive_replicas h.src → slot ≤ core.slot
-        → (rest : Core → Result X Refusal) (k : View → Outcome)
+        → (rest : Core → Result X Refusal) (k : View → ModelOutcome)
         → (contains s.alive_replicas i ≡ true → slot ≡ core.slot → before (Some round) core.paxos.round ≡ false → Fits (rest (in_round round core)) (k (view_of ans (in_round round core))))
         → Fits (then_in lift (enter (asked_of (member_settings s i)) h slot round core) rest)
-        (model.enter (setup_of s) i (view_of ans core) h.src slot (round_number (Some round)) k)
+        (model_enter (setup_of s) i (view_of ans core) h.src slot (round_number (Some round)) k)
     enter_follows ok l live le rest k go_on = go (either (contains s.alive_replicas i)) (either (is_older slot round core)) (either (contains s.alive_replicas h.src))
       where
-        put : (step : Result CoreStep Refusal) (r : Outcome) → enter (asked_of (member_settings s i)) h slot round core ≡ step
-            → model.enter (setup_of s) i (view_of ans core) h.src slot (round_number (Some round)) k ≡ r → Fits (then_in lift step rest) r
+        put : (step : Result CoreStep Refusal) (r : ModelOutcome) → enter (asked_of (member_settings s i)) h slot round core ≡ step
+            → model_enter (setup_of s) i (view_of ans core) h.src slot (round_number (Some round)) k ≡ r → Fits (then_in lift step rest) r
             → Fits (then_in lift (enter (asked_of (member_settings s i)) h slot round core) rest)
-            (model.enter (setup_of s) i (view_of ans core) h.src slot (round_number (Some round)) k)
+            (model_enter (setup_of s) i (view_of ans core) h.src slot (round_number (Some round)) k)
         put step r e d f =
-            subst (λ (o : Outcome). Fits (then_in lift (enter (asked_of (member_settings s i)) h slot round core) rest) o) (sym d)
+            subst (λ (o : ModelOutcome). Fits (then_in lift (enter (asked_of (member_settings s i)) h slot round core) rest) o) (sym d)
             (subst (λ (t : Result CoreStep Refusal). Fits (then_in lift t rest) r) (sym e) f)
 
         go : (contains s.alive_replicas i ≡ true) ⊎ (contains s.alive_replicas i ≡ false)
             → (is_older slot round core ≡ true) ⊎ (is_older slot round core ≡ false)
             → (contains s.alive_replicas h.src ≡ true) ⊎ (contains s.alive_replicas h.src ≡ false)
             → Fits (then_in lift (enter (asked_of (member_settings s i)) h slot round core) rest)
-            (model.enter (setup_of s) i (view_of ans core) h.src slot (round_number (Some round)) k)
+            (model_enter (setup_of s) i (view_of ans core) h.src slot (round_number (Some round)) k)
         go (inr e) o v = put (Ok (stays core no_messages)) (quiet (view_of ans core)) (enter_client e) (model_client k e) (lifted (Ok (stays core no_messages)) (quiet (view_of ans core)) (record { seen_as = refl }))
         go (inl e) (inl o) v = put (Ok (stays core no_messages)) (quiet (view_of ans core)) (enter_older e o) (model_older k e ok l o) (lifted (Ok (stays core no_messages)) (quiet (view_of ans core)) (record { seen_as = refl }))
         go (inl e) (inr o) (inr v) =
-            put (Err SourceNotLive) (model.enter (setup_of s) i (view_of ans core) h.src slot (round_number (Some round)) k) (enter_not_live e o (live ∙ v)) refl
-            (lifted (Err SourceNotLive) (model.enter (setup_of s) i (view_of ans core) h.src slot (round_number (Some round)) k) (record { seen_as = tt }))
+            put (Err SourceNotLive) (model_enter (setup_of s) i (view_of ans core) h.src slot (round_number (Some round)) k) (enter_not_live e o (live ∙ v)) refl
+            (lifted (Err SourceNotLive) (model_enter (setup_of s) i (view_of ans core) h.src slot (round_number (Some round)) k) (record { seen_as = tt }))
         go (inl e) (inr o) (inl v) =
             put (Ok (continues (in_round round core) no_messages)) (k (view_of ans (in_round round core))) (enter_live e o (live ∙ v)) (model_live k e ok l o (not_older le o).0 v)
             (go_on e (not_older le o).0 (not_older le o).1)

@@ -10,9 +10,9 @@ use Prim.Native.Nat.{ℕ, suc, ◌+◌, ◌*◌, ◌≤◌, ◌<◌}
 use lib.Dec.{eqb, eqb-suc-zero}
 use borrow.Author.Tests.{eq-eqb, eqb-true}
 use Rattle.basics.proofs.Tests.{either, and_left, and_right}
-use Rattle.sets.specs.Sets.{contains, count, size, is_empty}
-use Rattle.sets.proofs.Laws.{contains_empty, size_empty}
-use Rattle.tables.specs.Tables.{look_up}
+use Rattle.basics.specs.sets.Sets.{contains, count, size, is_empty}
+use Rattle.basics.proofs.sets.Laws.{contains_empty, size_empty}
+use Rattle.basics.specs.tables.Tables.{look_up}
 use Rattle.message.specs.Modes.{is_multi_paxos, is_swift_paxos}
 use Rattle.message.specs.Promises.{value_of, accept_round_of}
 use Rattle.message.specs.declared.PaxosRound.{PaxosRound}
@@ -28,19 +28,19 @@ use Rattle.fast_state.specs.Fast.{answers_of, unchanged, changed, is_unanswered,
 use Rattle.fast_state.specs.declared.FastAnswers.{FastAnswers}
 use Rattle.fast_state.specs.declared.FastChange.{FastChange}
 use Rattle.fast_state.specs.declared.FastState.{FastState}
-use Rattle.accept.specs.Accept.{accepting}
+use Rattle.classic.specs.accept.Accept.{accepting}
 use Rattle.enter.specs.Enter.{in_round}
-use Rattle.epaxos_path.specs.EPaxos.{epaxos_answer}
-use Rattle.prepare.specs.Prepare.{prepared, accept_phase, with_promise, becomes_prepared, gather, has_accepted}
-use Rattle.swift_path.specs.Swift.{swift_client_prepare, swift_client_accept, swift_answered_accept}
-use Rattle.paxos_family.specs.Process.{fast_prepared, fast_promised, leads_round, starts_accept, waits, fast_answered, fast_gather, in_fast_prepare, on_fast_prepare, after_replica_accept, replica_accept, in_fast_accept, on_fast_accept}
+use Rattle.fast.specs.epaxos.EPaxos.{epaxos_answer}
+use Rattle.classic.specs.prepare.Prepare.{prepared, accept_phase, with_promise, becomes_prepared, gather, has_accepted}
+use Rattle.fast.specs.swift.Swift.{swift_client_prepare, swift_client_accept, swift_answered_accept}
+use Rattle.paxos_family.specs.Process.{fast_prepared, fast_promised, leads_round, starts_accept, waits, fast_answered, fast_gather, entered_fast_prepare, on_fast_prepare, after_replica_accept, replica_accept, entered_fast_accept, on_fast_accept}
 use Rattle.propose.specs.Propose.{not_allowed, electing, proposal_round, propose_accept, may_propose, after_own_answer, own_answer, leads_from_start, propose_change}
 use Rattle.steps.specs.Steps.{CoreStep, no_messages, stays, continues, then_in, map_step, with_change}
 use Rattle.steps.specs.declared.Asked.{Asked}
 use Rattle.steps.specs.declared.ChangeStep.{ChangeStep}
 use Rattle.steps.specs.declared.Core.{Core}
 use Rattle.steps.specs.declared.Heard.{Heard}
-use Rattle.agreement.specs.Model.{View, Answers, Host, joined, adopted, prepared_by, with_answers, say}
+use Rattle.agreement.specs.Model.{View, Answers, Host, in_later_round, holding_other_value, prepared_by, with_answers, say, ModelOutcome, model_own_answer, model_on_prepare, model_on_accept, model_on_propose, model_gathers, model_promised, model_counted}
 use Rattle.agreement.specs.Model as model
 use Rattle.group.specs.Claim.{PicksBest}
 use Rattle.group.proofs.View.{round_number, LeaderFits, process_number, proposer_of, is_e_paxos, answers_in, view_of, Leaders, setup_of, Follows}
@@ -135,61 +135,61 @@ module _ (choose : Choice) (picks_best : PicksBest choose) (s : Settings) (i : �
       held_number = sym (ap not (round_number_lem (get_last_accepted_round promised_core.paxos.max_rv)) ∙ not-not _)
 
       model_slow : has_accepted promised_core ≡ true → (c v : ℕ) (old : View)
-          → model.gathers (setup_of s) i h.src c v host x0 old counted_view ≡ model.picks (setup_of s) i x0 old counted_view
-      unfolding model.gathers
+          → model_gathers (setup_of s) i h.src c v host x0 old counted_view ≡ model.picks (setup_of s) i x0 old counted_view
+      unfolding model_gathers
       model_slow e c v old = let z = held_number ∙ ap not e in simp (epaxos, z)
 
       model_fast : has_accepted promised_core ≡ false → (c v : ℕ) (old : View)
-          → model.gathers (setup_of s) i h.src c v host x0 old counted_view ≡ model.answering (setup_of s) i h.src c v host x0 counted_view
-      unfolding model.gathers
+          → model_gathers (setup_of s) i h.src c v host x0 old counted_view ≡ model.answering (setup_of s) i h.src c v host x0 counted_view
+      unfolding model_gathers
       model_fast e c v old = let z = held_number ∙ ap not e in simp (epaxos, z)
 
       abbrev old_view : View
       old_view = view_of (answers_in fast) core
 
       fast_gather_follows : FollowsChange (setup_of s) fast (fast_gather choose (asked_by s i) h round rv core (answers_of fast) values scores swifts)
-          (model.gathers (setup_of s) i h.src (proposer_of rv) (value_of rv) host x0 old_view
-          (model.counted (setup_of s) i h.src (round_number (accept_round_of rv)) (proposer_of rv) (value_of rv) old_view))
+          (model_gathers (setup_of s) i h.src (proposer_of rv) (value_of rv) host x0 old_view
+          (model_counted (setup_of s) i h.src (round_number (accept_round_of rv)) (proposer_of rv) (value_of rv) old_view))
       unfolding receive_promise
       fast_gather_follows =
-          subst (λ (x : View). FollowsChange (setup_of s) fast (fast_gather choose (asked_by s i) h round rv core (answers_of fast) values scores swifts) (model.gathers (setup_of s) i h.src (proposer_of rv) (value_of rv) host x0 old_view x))
+          subst (λ (x : View). FollowsChange (setup_of s) fast (fast_gather choose (asked_by s i) h round rv core (answers_of fast) values scores swifts) (model_gathers (setup_of s) i h.src (proposer_of rv) (value_of rv) host x0 old_view x))
           (promise_view (answers_in fast) s i no-swift alive small h src-small round below host core rv leaders held fits)
           (go (either (has_accepted promised_core)))
         where
           go : (has_accepted promised_core ≡ true) ⊎ (has_accepted promised_core ≡ false)
-              → FollowsChange (setup_of s) fast (fast_gather choose (asked_by s i) h round rv core (answers_of fast) values scores swifts) (model.gathers (setup_of s) i h.src (proposer_of rv) (value_of rv) host x0 old_view counted_view)
+              → FollowsChange (setup_of s) fast (fast_gather choose (asked_by s i) h round rv core (answers_of fast) values scores swifts) (model_gathers (setup_of s) i h.src (proposer_of rv) (value_of rv) host x0 old_view counted_view)
           go (inl e) =
-              subst (λ (t : Result ChangeStep Refusal). FollowsChange (setup_of s) fast t (model.gathers (setup_of s) i h.src (proposer_of rv) (value_of rv) host x0 old_view counted_view)) (sym (gather_slow e))
+              subst (λ (t : Result ChangeStep Refusal). FollowsChange (setup_of s) fast t (model_gathers (setup_of s) i h.src (proposer_of rv) (value_of rv) host x0 old_view counted_view)) (sym (gather_slow e))
               (subst (FollowsChange (setup_of s) fast (map_step lift (gather (asked_by s i) h round rv core))) (sym (model_slow e (proposer_of rv) (value_of rv) old_view))
               (lifted (setup_of s) fast (gather (asked_by s i) h round rv core) (model.picks (setup_of s) i x0 old_view counted_view)
               (subst (λ (x : View). Follows (setup_of s) (answers_in fast) (gather (asked_by s i) h round rv core) (model.picks (setup_of s) i x0 old_view x))
               (sym (promise_view (answers_in fast) s i no-swift alive small h src-small round below host core rv leaders held fits))
               (gather_follows (answers_in fast) s i no-swift alive small h src-small round below host core rv leaders at held fits x0))))
           go (inr e) =
-              subst (λ (t : Result ChangeStep Refusal). FollowsChange (setup_of s) fast t (model.gathers (setup_of s) i h.src (proposer_of rv) (value_of rv) host x0 old_view counted_view)) (sym (gather_fast e))
+              subst (λ (t : Result ChangeStep Refusal). FollowsChange (setup_of s) fast t (model_gathers (setup_of s) i h.src (proposer_of rv) (value_of rv) host x0 old_view counted_view)) (sym (gather_fast e))
               (subst (FollowsChange (setup_of s) fast (epaxos_answer choose (asked_by s i) h round rv promised_core (answers_of fast) values scores)) (sym (model_fast e (proposer_of rv) (value_of rv) old_view))
               (answer_follows choose picks_best s i no-swift epaxos alive small h src-small round below x0 promised_core at fast ok rv proposer-fits))
 
     -- ---- a Prepare
 
     in_prepare_lem : contains s.alive_replicas i ≡ true → (rv : RoundV) (core : Core)
-        → in_fast_prepare choose (asked_by s i) h round rv core (answers_of fast) values scores swifts
+        → entered_fast_prepare choose (asked_by s i) h round rv core (answers_of fast) values scores swifts
         ≡ then_in lift (prepared (asked_by s i) h round rv core) (λ c. fast_gather choose (asked_by s i) h round rv c (answers_of fast) values scores swifts)
-    unfolding in_fast_prepare fast_prepared
+    unfolding entered_fast_prepare fast_prepared
     in_prepare_lem alive rv core =
         ap (λ (t : Bool). then_in lift (cond t (prepared (asked_by s i) h round rv core) (Ok (continues core no_messages))) (λ c. fast_gather choose (asked_by s i) h round rv c (answers_of fast) values scores swifts)) alive
 
     in_fast_prepare_follows : contains s.alive_replicas i ≡ true → (rv : RoundV) → LeaderFits (accept_round_of rv) → ProposerFits rv → h.delegate ≡ delegate_of s s.mode round.leader → (x0 : View)
         → (core : Core) → Leaders core → core.paxos.round ≡ Some round
-        → FollowsChange (setup_of s) fast (in_fast_prepare choose (asked_by s i) h round rv core (answers_of fast) values scores swifts)
-        (model.promised (setup_of s) i h.src (round_number (accept_round_of rv)) (proposer_of rv) (value_of rv) (host_for choose s i h.src fast rv) x0
-        (cond (view_of (answers_in fast) core).holds (view_of (answers_in fast) core) (prepared_by i (adopted (round_number (accept_round_of rv)) (proposer_of rv) (value_of rv) (view_of (answers_in fast) core)))))
+        → FollowsChange (setup_of s) fast (entered_fast_prepare choose (asked_by s i) h round rv core (answers_of fast) values scores swifts)
+        (model_promised (setup_of s) i h.src (round_number (accept_round_of rv)) (proposer_of rv) (value_of rv) (host_for choose s i h.src fast rv) x0
+        (cond (view_of (answers_in fast) core).holds (view_of (answers_in fast) core) (prepared_by i (holding_other_value (round_number (accept_round_of rv)) (proposer_of rv) (value_of rv) (view_of (answers_in fast) core)))))
     in_fast_prepare_follows alive rv fits proposer-fits d x0 core leaders at =
         subst
         (λ (t : Result ChangeStep Refusal).
         FollowsChange (setup_of s) fast t
-        (model.promised (setup_of s) i h.src (round_number (accept_round_of rv)) (proposer_of rv) (value_of rv) (host_for choose s i h.src fast rv) x0
-        (cond (view_of (answers_in fast) core).holds (view_of (answers_in fast) core) (prepared_by i (adopted (round_number (accept_round_of rv)) (proposer_of rv) (value_of rv) (view_of (answers_in fast) core))))))
+        (model_promised (setup_of s) i h.src (round_number (accept_round_of rv)) (proposer_of rv) (value_of rv) (host_for choose s i h.src fast rv) x0
+        (cond (view_of (answers_in fast) core).holds (view_of (answers_in fast) core) (prepared_by i (holding_other_value (round_number (accept_round_of rv)) (proposer_of rv) (value_of rv) (view_of (answers_in fast) core))))))
         (sym (in_prepare_lem alive rv core))
         (in_prepare_follows (answers_in fast) s i no-swift alive small h src-small round below (host_for choose s i h.src fast rv) ChangeStep lift (FollowsChange (setup_of s) fast) (lifted (setup_of s) fast) rv fits d x0
         (λ c. fast_gather choose (asked_by s i) h round rv c (answers_of fast) values scores swifts)
@@ -199,25 +199,25 @@ module _ (choose : Choice) (picks_best : PicksBest choose) (s : Settings) (i : �
     pub fast_prepare_follows : (slot : ℕ) (rv : RoundV) → LeaderFits (accept_round_of rv) → ProposerFits rv
         → h.source_live ≡ contains s.alive_replicas h.src → h.delegate ≡ delegate_of s s.mode round.leader → (core : Core) → Leaders core → slot ≤ core.slot
         → FollowsChange (setup_of s) fast (on_fast_prepare choose (asked_by s i) h slot round rv core (answers_of fast) values scores swifts)
-        (model.on_prepare (setup_of s) i (view_of (answers_in fast) core) h.src slot (round_number (Some round)) (round_number (accept_round_of rv)) (proposer_of rv) (value_of rv) (host_for choose s i h.src fast rv))
-    unfolding on_fast_prepare model.on_prepare
+        (model_on_prepare (setup_of s) i (view_of (answers_in fast) core) h.src slot (round_number (Some round)) (round_number (accept_round_of rv)) (proposer_of rv) (value_of rv) (host_for choose s i h.src fast rv))
+    unfolding on_fast_prepare model_on_prepare
     fast_prepare_follows slot rv fits proposer-fits live d core leaders le =
         enter_follows (answers_in fast) s i no-swift core h slot round ChangeStep lift (FollowsChange (setup_of s) fast) (lifted (setup_of s) fast) leaders below live le
-        (λ c. in_fast_prepare choose (asked_by s i) h round rv c (answers_of fast) values scores swifts) _
+        (λ c. entered_fast_prepare choose (asked_by s i) h round rv c (answers_of fast) values scores swifts) _
         (λ alive same no-older.
         in_fast_prepare_follows alive rv fits proposer-fits d (view_of (answers_in fast) core) (in_round round core) (in_round_leaders round core leaders below) (in_round_round round core no-older))
 
     -- ---- an Accept
 
     in_accept_lem : contains s.alive_replicas i ≡ true → (v : ℕ) (core : Core)
-        → in_fast_accept (asked_by s i) h round v core (answers_of fast) swifts
+        → entered_fast_accept (asked_by s i) h round v core (answers_of fast) swifts
         ≡ after_replica_accept (asked_by s i) h round v (answers_of fast) swifts (accepting (asked_by s i) h round v core)
-    unfolding in_fast_accept replica_accept
+    unfolding entered_fast_accept replica_accept
     in_accept_lem alive v core =
         ap (λ (t : Bool). cond t (replica_accept (asked_by s i) h round v core (answers_of fast) swifts) (swift_client_accept (asked_by s i) h round v core (answers_of fast) swifts)) alive
 
     -- what a replica makes of an Accept goes no further
-    replica_follows : (v : ℕ) (step : Result CoreStep Refusal) (r : model.Outcome) → Follows (setup_of s) (answers_in fast) step r
+    replica_follows : (v : ℕ) (step : Result CoreStep Refusal) (r : ModelOutcome) → Follows (setup_of s) (answers_in fast) step r
         → FollowsChange (setup_of s) fast (after_replica_accept (asked_by s i) h round v (answers_of fast) swifts step) r
     replica_follows v (Ok step) r f =
         ends (setup_of s) (answers_in fast) ChangeStep lift (FollowsChange (setup_of s) fast) (lifted (setup_of s) fast) step r
@@ -227,11 +227,11 @@ module _ (choose : Choice) (picks_best : PicksBest choose) (s : Settings) (i : �
     pub fast_accept_follows : (slot v : ℕ) → h.source_live ≡ contains s.alive_replicas h.src → h.delegate ≡ delegate_of s s.mode round.leader
         → h.committer ≡ committer_of s h.requester → (core : Core) → Leaders core → slot ≤ core.slot
         → FollowsChange (setup_of s) fast (on_fast_accept (asked_by s i) h slot round v core (answers_of fast) swifts)
-        (model.on_accept (setup_of s) i (view_of (answers_in fast) core) h.src slot (round_number (Some round)) v (record { allows = true; requester = process_number h.requester; adoptee = 0 }))
+        (model_on_accept (setup_of s) i (view_of (answers_in fast) core) h.src slot (round_number (Some round)) v (record { allows = true; requester = process_number h.requester; adoptee = 0 }))
     unfolding on_fast_accept
     fast_accept_follows slot v live d c core leaders le =
         on_accept_follows (answers_in fast) s i no-swift small h src-small slot round below v live d c ChangeStep lift (FollowsChange (setup_of s) fast) (lifted (setup_of s) fast)
-        (λ c. in_fast_accept (asked_by s i) h round v c (answers_of fast) swifts)
+        (λ c. entered_fast_accept (asked_by s i) h round v c (answers_of fast) swifts)
         (λ alive core1 r f.
         subst (λ (t : Result ChangeStep Refusal). FollowsChange (setup_of s) fast t r) (sym (in_accept_lem alive v core1))
         (replica_follows v (accepting (asked_by s i) h round v core1) r f))
@@ -303,22 +303,22 @@ module _ (choose : Choice) (picks_best : PicksBest choose) (s : Settings) (i : �
     view = view_of (answers_in fast) core
 
     model_fast_proposal : Allowed (answers_in fast) s i no-swift small first_small v core leaders → is_unanswered (answers_of fast) ≡ true
-        → model.on_propose (setup_of s) i view v
-        ≡ say (model.own_answer (setup_of s) i v (prepared_by i (adopted 0 (suc i) v (joined (suc i) view)))) (record { destination = model.all; message = model.prepare core.slot (suc i) 0 (suc i) v } ∷ [])
-    unfolding model.on_propose
+        → model_on_propose (setup_of s) i view v
+        ≡ say (model_own_answer (setup_of s) i v (prepared_by i (holding_other_value 0 (suc i) v (in_later_round (suc i) view)))) (record { destination = model.all; message = model.prepare core.slot (suc i) 0 (suc i) v } ∷ [])
+    unfolding model_on_propose
     model_fast_proposal may e =
         let first = may_model (answers_in fast) s i no-swift small first_small v core leaders may in
         let none : eqb (count (contains fast.fast_answer_set) 64) 0 ≡ true = no_answers_lem fast e in
         simp (first, single, epaxos, none)
 
     follows_proposal : may_propose (asked_by s i) core ≡ true → is_unanswered (answers_of fast) ≡ true → eqb (look_up scores i) 2 ≡ true
-        → FollowsChange (setup_of s) fast (propose_change (asked_by s i) v core (answers_of fast) scores swifts) (model.on_propose (setup_of s) i view v)
+        → FollowsChange (setup_of s) fast (propose_change (asked_by s i) v core (answers_of fast) scores swifts) (model_on_propose (setup_of s) i view v)
     follows_proposal m e d =
         let may = allowed (answers_in fast) s i no-swift small first_small v core leaders m in
         let r : PaxosRound = proposal_round (asked_by s i) core in
-        subst (λ (t : Result ChangeStep Refusal). FollowsChange (setup_of s) fast t (model.on_propose (setup_of s) i view v))
+        subst (λ (t : Result ChangeStep Refusal). FollowsChange (setup_of s) fast t (model_on_propose (setup_of s) i view v))
         (sym (after_step_lem (Ok counts_own) (own_first e d) m))
-        (changes_follow (setup_of s) fast counts_own _ (model.on_propose (setup_of s) i view v)
+        (changes_follow (setup_of s) fast counts_own _ (model_on_propose (setup_of s) i view v)
         (follows_both (prepare_step (answers_in fast) s i no-swift small first_small v core leaders may r (FastV i v)) (model_fast_proposal may e)
         (record {
           seen_as =
@@ -326,21 +326,21 @@ module _ (choose : Choice) (picks_best : PicksBest choose) (s : Settings) (i : �
               (promised_view (answers_in fast) s i no-swift small first_small v core leaders may r (FastV i v))
               ∙ ap₂
               (λ (n : ℕ) (a : Answers).
-              say (with_answers a (prepared_by i (adopted 0 (suc i) v (joined n view)))) (record { destination = model.all; message = model.prepare core.slot n 0 (suc i) v } ∷ []))
+              say (with_answers a (prepared_by i (holding_other_value 0 (suc i) v (in_later_round n view)))) (record { destination = model.all; message = model.prepare core.slot n 0 (suc i) v } ∷ []))
               (first_own (answers_in fast) s i no-swift small first_small v core leaders may single)
               (counted_answers (asked_by s i).member i i v small small fast ok);
         })))
 
-    pub fast_propose_follows : FollowsChange (setup_of s) fast (propose_change (asked_by s i) v core (answers_of fast) scores swifts) (model.on_propose (setup_of s) i view v)
+    pub fast_propose_follows : FollowsChange (setup_of s) fast (propose_change (asked_by s i) v core (answers_of fast) scores swifts) (model_on_propose (setup_of s) i view v)
     fast_propose_follows = go (either (may_propose (asked_by s i) core)) (either (is_unanswered (answers_of fast) && eqb (look_up scores i) 2))
       where
         go : (may_propose (asked_by s i) core ≡ true) ⊎ (may_propose (asked_by s i) core ≡ false)
             → ((is_unanswered (answers_of fast) && eqb (look_up scores i) 2) ≡ true) ⊎ ((is_unanswered (answers_of fast) && eqb (look_up scores i) 2) ≡ false)
-            → FollowsChange (setup_of s) fast (propose_change (asked_by s i) v core (answers_of fast) scores swifts) (model.on_propose (setup_of s) i view v)
+            → FollowsChange (setup_of s) fast (propose_change (asked_by s i) v core (answers_of fast) scores swifts) (model_on_propose (setup_of s) i view v)
         go (inr m) e =
-            subst (λ (t : Result ChangeStep Refusal). FollowsChange (setup_of s) fast t (model.on_propose (setup_of s) i view v)) (sym (change_refused m))
+            subst (λ (t : Result ChangeStep Refusal). FollowsChange (setup_of s) fast t (model_on_propose (setup_of s) i view v)) (sym (change_refused m))
             (record { seen_as = tt })
         go (inl m) (inr e) =
-            subst (λ (t : Result ChangeStep Refusal). FollowsChange (setup_of s) fast t (model.on_propose (setup_of s) i view v)) (sym (after_step_lem (Err Panic) (own_refused e) m))
+            subst (λ (t : Result ChangeStep Refusal). FollowsChange (setup_of s) fast t (model_on_propose (setup_of s) i view v)) (sym (after_step_lem (Err Panic) (own_refused e) m))
             (record { seen_as = tt })
         go (inl m) (inl e) = follows_proposal m (and_left (is_unanswered (answers_of fast)) (eqb (look_up scores i) 2) e) (and_right (is_unanswered (answers_of fast)) (eqb (look_up scores i) 2) e)

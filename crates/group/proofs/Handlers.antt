@@ -11,7 +11,7 @@ use mathlib.Core.List.{List, []}
 use Prim.Native.Nat.{ℕ}
 use lib.Dec.{T, eqb, eqb→eq, T_not}
 use Rattle.basics.proofs.Tests.{of-both}
-use Rattle.sets.specs.Sets.{is_empty}
+use Rattle.basics.specs.sets.Sets.{is_empty}
 use Rattle.message.specs.Modes.{has_fast_path, is_multi_paxos, is_swift_paxos}
 use Rattle.message.specs.Promises.{is_process, accept_round_of}
 use Rattle.message.specs.Rounds.{before}
@@ -30,13 +30,13 @@ use Rattle.fast_state.specs.Adopt.{Choice, epaxos_try_adopt_after}
 use Rattle.fast_state.specs.Fast.{answers_of, unchanged, epaxos_answered, epaxos_can_commit, swift_answered}
 use Rattle.fast_state.specs.declared.FastAnswers.{FastAnswers}
 use Rattle.fast_state.specs.declared.FastChange.{FastChange}
-use Rattle.accept.specs.Accept.{tells_committer, is_committer, accept_to, committer_hears, answer_accept, commit_message, tells_commit, commit_messages, try_commit, answered, follower, accepted, after_accepted, accepting}
+use Rattle.classic.specs.accept.Accept.{tells_committer, is_committer, accept_to, committer_hears, answer_accept, commit_message, tells_commit, with_commit_message, try_commit, answered, follower, accepted, after_accepted, accepting}
 use Rattle.enter.specs.Enter.{can_propose, source_taken, in_round, is_older, from_live, enter}
-use Rattle.epaxos_path.specs.EPaxos.{requester_of, adopting, epaxos_adopt, epaxos_decide, after_epaxos_answer, epaxos_answer}
-use Rattle.prepare.specs.Prepare.{hold_first, may_answer, answer_prepare, answers_nothing, preparing, after_held, prepared, off_fast_path, broadcast_accept, after_own_accept, accept_phase, with_promise, becomes_prepared, gather, has_accepted}
-use Rattle.paxos_family.specs.Process.{in_prepare, on_prepare, on_accept, process_classic, fast_prepared, fast_promised, leads_round, starts_accept, waits, fast_answered, fast_gather, in_fast_prepare, on_fast_prepare, replica_accept, in_fast_accept, on_fast_accept, process_change, process_fast, after_replica_accept}
-use Rattle.propose.specs.Propose.{proposal_round, may_propose, proposed, propose_prepare, after_own_promise, propose_accept, propose_classic, after_own_answer, own_answer, leads_from_start, propose_change, propose_fast}
-use Rattle.steps.specs.Steps.{RoundsStep, CoreStep, no_messages, also_at, also, sends, to_all, held_rv, held_v, goes_on, and_then, then_in, map_step, and_then_change, with_change, with_paxos, left_fast_path, on_rounds, change_rounds}
+use Rattle.fast.specs.epaxos.EPaxos.{requester_of, adopting, epaxos_adopt, epaxos_decide, after_epaxos_answer, epaxos_answer}
+use Rattle.classic.specs.prepare.Prepare.{hold_first, may_answer, answer_prepare, answers_nothing, preparing, after_held, prepared, off_fast_path, broadcast_accept, after_own_accept, accept_phase, with_promise, becomes_prepared, gather, has_accepted}
+use Rattle.paxos_family.specs.Process.{entered_prepare, on_prepare, on_accept, process_classic, fast_prepared, fast_promised, leads_round, starts_accept, waits, fast_answered, fast_gather, entered_fast_prepare, on_fast_prepare, replica_accept, entered_fast_accept, on_fast_accept, process_change, process_fast, after_replica_accept}
+use Rattle.propose.specs.Propose.{proposal_round, may_propose, broadcast_own, propose_prepare, after_own_promise, propose_accept, propose_classic, after_own_answer, own_answer, leads_from_start, propose_change, propose_fast}
+use Rattle.steps.specs.Steps.{RoundsStep, CoreStep, no_messages, also_at, also, sends, to_all, held_rv, held_value, goes_on, and_then, then_in, map_step, and_then_change, with_change, with_paxos, left_fast_path, on_rounds, change_rounds}
 use Rattle.read_tracker.specs.declared.Inserted.{Inserted}
 use Rattle.steps.specs.declared.Asked.{Asked}
 use Rattle.steps.specs.declared.ChangeStep.{ChangeStep}
@@ -48,7 +48,7 @@ use Rattle.steps.specs.declared.Next.{Next}
 use Rattle.steps.specs.declared.Next.TheVariants.{Stays, Continues, Commits}
 use Rattle.steps.specs.declared.Outgoing.{Outgoing}
 use Rattle.steps.specs.declared.Rounds.{Rounds}
-use Rattle.swift_path.specs.Swift.{swift_commits, after_step, after_swift_answer, swift_answer, swift_client_prepare, after_client_accept, client_accept, leader_answered, from_leader, accept_answered, after_accept_answer, swift_accept, swift_client_accept, after_replica_answer, swift_answered_accept}
+use Rattle.fast.specs.swift.Swift.{swift_commits, after_step, after_swift_answer, swift_answer, swift_client_prepare, after_client_accept, client_accept, leader_answered, from_leader, accept_answered, after_accept_answer, swift_accept, swift_client_accept, after_replica_answer, swift_answered_accept}
 use Rattle.delivery.specs.declared.Delivery.{Delivery}
 use Rattle.calls.specs.Asked.{asked_of, heard_of}
 use Rattle.calls.specs.declared.Call.{Call}
@@ -203,7 +203,7 @@ module _ (a : Asked) (Source : ℕ → Type 0) (Enters : PaxosRound → Type 0) 
     pub adopts : (v : ℕ) (core : Core) → T (not (has_accepted core)) → K core → K (with_paxos (with_held (Some (PaxosV None v)) core.paxos) core)
     pub leaves : (core : Core) → K core → K (left_fast_path core)
     pub prepare_to : (round : PaxosRound) (core : Core) (p : ℕ) → Prepares round → (p ≡ own → ⊥) → O (sends a core (One p) (Prepare core.slot round (held_rv core.paxos.max_rv)))
-    pub accept_to_all : (round : PaxosRound) (core : Core) → Prepares round → O (sends a core to_all (Accept core.slot round (held_v core.paxos.max_rv)))
+    pub accept_to_all : (round : PaxosRound) (core : Core) → Prepares round → O (sends a core to_all (Accept core.slot round (held_value core.paxos.max_rv)))
     pub accept_to_lem : (round : PaxosRound) (v : ℕ) (core : Core) (p : ℕ) → Accepts round v → K core → core.paxos.max_rv ≡ Some (PaxosV (Some round) v) → (p ≡ own → ⊥)
         → O (accept_to a core round p)
     pub commit_to_all : (core : Core) (requester : Option ℕ) → O (commit_message a core requester)
@@ -322,7 +322,7 @@ module _ (a : Asked) (Source : ℕ → Type 0) (Enters : PaxosRound → Type 0) 
 
       try_ends : (If : Messages → Option RoundV → Type 0) (round : PaxosRound) (v : ℕ) (core : Core) (ms : Messages) → OneAtMost O ms → CoreHolds core → K core
           → StepEndsOr If (Ok (try_commit a h round v core ms))
-      unfolding try_commit commit_messages
+      unfolding try_commit with_commit_message
       try_ends If round v core ms u q k =
           of-both (λ step. StepEndsOr If (Ok step)) (paxos_can_commit me core.paxos) (
             keeps.leaves core k,
@@ -415,9 +415,9 @@ module _ (a : Asked) (Source : ℕ → Type 0) (Enters : PaxosRound → Type 0) 
       Comes core (ReadResponse id next) = Unit {0}
 
       classic_ends : T (not (is_swift_paxos a.mode)) → (m : ConsensusMsg) (core : Core) → Comes core m → K core → StepEnds (process_classic a h m core)
-      unfolding process_classic on_prepare in_prepare on_accept
+      unfolding process_classic on_prepare entered_prepare on_accept
       classic_ends classic (Prepare slot round rv) core c k =
-          then_ends (Entered slot round core) (enter a h slot round core) (in_prepare a h round rv) (enter_ends slot round core c.0 k)
+          then_ends (Entered slot round core) (enter a h slot round core) (entered_prepare a h round rv) (enter_ends slot round core c.0 k)
           (λ entered k t. then_ends (Always O) (prepared a h round rv entered.state) (gather a h round rv) (prepared_ends round rv entered.state c.1 c.2 k)
           (λ first k u. gather_ends round rv first.state t.2 c.0 c.1 c.2 k))
       classic_ends classic (Accept slot round v) core c k =
@@ -498,7 +498,7 @@ module _ (a : Asked) (Source : ℕ → Type 0) (Enters : PaxosRound → Type 0) 
             go : (step : Result FastChange Refusal) → IfOk step F → ChangeEnds (after_epaxos_answer choose a h round v core values epaxos_scores step)
             go (Ok change) f =
                 with_change_ends change (epaxos_decide choose a h round v core change values epaxos_scores) f
-                (of-both StepEnds (epaxos_can_commit me change.answers) (k, ((keeps.commit_to_all core (requester_of h v (held_v core.paxos.max_rv)), tt), inr q))
+                (of-both StepEnds (epaxos_can_commit me change.answers) (k, ((keeps.commit_to_all core (requester_of h v (held_value core.paxos.max_rv)), tt), inr q))
                 (adopt_ends round core (epaxos_try_adopt_after choose me change values epaxos_scores) fresh t e k))
             go (Err why) f = tt
         epaxos_ends round (PaxosV at v) core w t e fresh q k = tt
@@ -558,14 +558,14 @@ module _ (a : Asked) (Source : ℕ → Type 0) (Enters : PaxosRound → Type 0) 
             q = fast_promise_keeps rv core source w k
 
         change_ends : (m : ConsensusMsg) (core : Core) → Comes core m → K core → ChangeEnds (process_change choose a h m core answers values epaxos_scores swift_scores)
-        unfolding process_change on_fast_prepare in_fast_prepare fast_prepared on_fast_accept in_fast_accept
+        unfolding process_change on_fast_prepare entered_fast_prepare fast_prepared on_fast_accept entered_fast_accept
         change_ends (Prepare slot round rv) core c k =
-            then_changes (Entered slot round core) (enter a h slot round core) (λ d. in_fast_prepare choose a h round rv d answers values epaxos_scores swift_scores) (enter_ends slot round core c.0 k)
+            then_changes (Entered slot round core) (enter a h slot round core) (λ d. entered_fast_prepare choose a h round rv d answers values epaxos_scores swift_scores) (enter_ends slot round core c.0 k)
             (λ entered k t. then_changes (Always O) (fast_prepared a h round rv entered.state) (λ d. fast_gather choose a h round rv d answers values epaxos_scores swift_scores)
             (fast_prepared_ends round rv entered.state c.1 c.2 k)
             (λ first k u. fast_gather_ends round rv first.state t.0 t.2 c.0 c.1 c.2 k))
         change_ends (Accept slot round v) core c k =
-            then_changes (Entered slot round core) (enter a h slot round core) (λ d. in_fast_accept a h round v d answers swift_scores) (enter_ends slot round core c.0 k)
+            then_changes (Entered slot round core) (enter a h slot round core) (λ d. entered_fast_accept a h round v d answers swift_scores) (enter_ends slot round core c.0 k)
             (λ entered k t. of-both ChangeEnds me.replica (replica_accept_ends round v entered.state (counts t.2) c.0 k (c.1 t.1))
             (swift_accept_ends round v entered.state (counts t.2) c.0 k))
         change_ends (ForwardRequest v) core c k = ((k, silent), same)
@@ -601,7 +601,7 @@ module _ (a : Asked) (Source : ℕ → Type 0) (Enters : PaxosRound → Type 0) 
     abbrev StepUncommitted : Result CoreStep Refusal → Type 0
     StepUncommitted r = IfOk r (λ step. K step.state × EndsUncommitted O step.messages step.state.paxos.max_rv step.next)
 
-    proposed_ends : (msg : ConsensusMsg) (core : Core) (step : Result PaxosState Refusal) → O (sends a core to_all msg) → After Holds core step → StepUncommitted (proposed a msg core step)
+    proposed_ends : (msg : ConsensusMsg) (core : Core) (step : Result PaxosState Refusal) → O (sends a core to_all msg) → After Holds core step → StepUncommitted (broadcast_own a msg core step)
     proposed_ends msg core (Ok s) w q = (q.0, ((w, tt), inr q.1))
     proposed_ends msg core (Err why) w q = tt
 

@@ -18,8 +18,8 @@ use lib.ListN.{take, length, length-take}
 use lib.Seq.{take_at, take-suc-set}
 use borrow.Author.Tests.{ltb-true, leb-true, le-leb}
 use Rattle.basics.proofs.Tests.{not_both, and_left, and_right, or_cases, of-both}
-use Rattle.sets.specs.Sets.{contains, size, Within}
-use Rattle.tables.specs.Tables.{look_up}
+use Rattle.basics.specs.sets.Sets.{contains, size, Within}
+use Rattle.basics.specs.tables.Tables.{look_up}
 use Rattle.message.specs.Modes.{has_fast_path, is_swift_paxos}
 use Rattle.message.specs.Promises.{accept_round_of}
 use Rattle.message.specs.Rounds.{increment, round_equal, next_leader_round, starting_round, equal, unwrap_or_default}
@@ -42,18 +42,18 @@ use Rattle.round_state.specs.Paxos.{get_last_accepted_round}
 use Rattle.fast_state.specs.Adopt.{Choice}
 use Rattle.fast_state.specs.Fast.{no_answers}
 use Rattle.fast_state.specs.declared.FastState.{FastState}
-use Rattle.read_tracker.specs.Reads.{read_id, new_read, open_places, open_reads, opening, inserted, insert_opened, open_next, insert, after_response, after_commit, has_quorum}
+use Rattle.read_tracker.specs.Reads.{read_id, new_read, open_places, open_reads, opening, inserted, insert_opened, open_next, insert_read, after_response, after_commit, has_quorum}
 use Rattle.read_tracker.specs.declared.Inserted.{Inserted}
 use Rattle.read_tracker.specs.declared.Opening.{Opening}
 use Rattle.read_tracker.specs.declared.OpenRead.{OpenRead}
 use Rattle.read_tracker.specs.declared.ReadTable.{ReadTable}
 use Rattle.read_tracker.specs.declared.ReadTracker.{ReadTracker}
 use Rattle.read_tracker.specs.declared.ServedRead.{ServedRead}
-use Rattle.places.specs.Places.{at_front}
-use Rattle.serving.specs.Serving.{has_id, kept_by_ready, served_by_ready, kept_by_commit, served_by_commit, tracked, receive_ready, commit_slot as serve_reads}
-use Rattle.serving.specs.declared.Tracked.{Tracked}
-use Rattle.serving.proofs.IdOrder.{Rising, served_ids, InOrder, new_in_order, commit_slot_in_order, receive_ready_in_order, insert_in_order}
-use Rattle.serving.proofs.NothingLost.{parted_length, commit_loses_nothing, ready_loses_nothing}
+use Rattle.basics.specs.elements.Places.{at_front}
+use Rattle.read_tracker.specs.serving.Serving.{has_id, kept_by_ready, served_by_ready, kept_by_commit, served_by_commit, tracked, receive_ready, serve_at_commit}
+use Rattle.read_tracker.specs.declared.serving.Tracked.{Tracked}
+use Rattle.read_tracker.proofs.serving.IdOrder.{Rising, served_ids, InOrder, new_in_order, commit_slot_in_order, receive_ready_in_order, insert_in_order}
+use Rattle.read_tracker.proofs.serving.NothingLost.{parted_length, commit_loses_nothing, ready_loses_nothing}
 use Rattle.enter.specs.Enter.{can_propose, source_taken}
 use Rattle.paxos_family.specs.Commit.{commit_slot}
 use Rattle.propose.specs.Propose.{electing, proposal_round, may_propose}
@@ -73,7 +73,7 @@ use Rattle.calls.specs.Decision.{admission_of}
 use Rattle.calls.specs.declared.Call.{Call}
 use Rattle.calls.specs.declared.Call.TheVariants.{Propose, StartRead, Receive}
 use Rattle.consensus.proofs.Decided.{admission, handled, by_decision, settings_kept}
-use Rattle.consensus.specs.Answers.{with_rounds, track, sent, committed, finish_at, finish}
+use Rattle.consensus.specs.Answers.{state_with_rounds, track, sent, committed, finish_at, finish}
 use Rattle.consensus.specs.Call.{new_core, new_shard, with_state, in_shard, call_with}
 use Rattle.consensus.specs.Handle.{on_commit, on_read_request, on_read_response, after_insert, read_inserted, start_read, proposing, processed, process_message, handle, handle_call}
 use Rattle.consensus.specs.declared.Answer.{Answer}
@@ -131,8 +131,8 @@ module _ (tracker : ReadTracker) (table : ReadTable) where
       let same : open_reads (tracked tracker table kept served).tracker (tracked tracker table kept served).table ≡ kept = take_at kept _ (open_places (tracked tracker table kept served).tracker) (omega arith) in
       subst LowCounts (sym same) low
 
-  commit_reads_fit : (quorum slot : ℕ) → quorum ≤ 33 → ReadsFit tracker table → (let t : Tracked = serve_reads tracker table quorum slot in ReadsFit t.tracker t.table)
-  unfolding serve_reads
+  commit_reads_fit : (quorum slot : ℕ) → quorum ≤ 33 → ReadsFit tracker table → (let t : Tracked = serve_at_commit tracker table quorum slot in ReadsFit t.tracker t.table)
+  unfolding serve_at_commit
   commit_reads_fit quorum slot small ok =
       record {
         in_order = (commit_slot_in_order tracker table quorum slot ok.in_order).0;
@@ -149,8 +149,8 @@ module _ (tracker : ReadTracker) (table : ReadTable) where
         ids_fit = ok.ids_fit;
       }
 
-  insert_reads_fit : (tag arrival : ℕ) (local : Bool) → ReadsFit tracker table → IfOk (insert tracker table tag arrival local) (λ t. ReadsFit t.tracker t.table)
-  unfolding insert open_next
+  insert_reads_fit : (tag arrival : ℕ) (local : Bool) → ReadsFit tracker table → IfOk (insert_read tracker table tag arrival local) (λ t. ReadsFit t.tracker t.table)
+  unfolding insert_read open_next
   insert_reads_fit tag arrival local ok =
       by_test Fits (leb 128 tracker.open_count) _ _ (λ t q. tt)
       (λ t. by_test Fits (ltb 9223372036854775807 tracker.next_id) _ _ (λ u q. tt)
@@ -414,7 +414,7 @@ module _ (choose : Choice) (shard : Shard) (k : Lasts shard) where
     as_it_is : CoreFits (CountedIn s) (LeadsIn shard.made) asked own_counts own_small state.rounds.core state.rounds.core
     as_it_is = record { same_slot = refl; same_tracker = refl; state_fits = k.sets_fit }
 
-    stays_lasts : (rounds : Rounds) (ms : Messages) → Fits rounds → StateLasts (sent (with_rounds state rounds) ms)
+    stays_lasts : (rounds : Rounds) (ms : Messages) → Fits rounds → StateLasts (sent (state_with_rounds state rounds) ms)
     stays_lasts rounds ms f =
         record {
           lasts =

@@ -9,8 +9,8 @@ use Prim.Native.Nat.{ℕ, ◌≤◌, ◌<◌}
 use lib.Dec.{eqb, ltb, leb}
 use borrow.Author.Tests.{lt-ltb, le-ltb, leb-true, leb-false, eqb-true}
 use Rattle.basics.proofs.Tests.{either, not_both}
-use Rattle.sets.specs.Sets.{contains, count, size, is_empty}
-use Rattle.sets.proofs.Laws.{contains_empty}
+use Rattle.basics.specs.sets.Sets.{contains, count, size, is_empty}
+use Rattle.basics.proofs.sets.Laws.{contains_empty}
 use Rattle.message.specs.Modes.{is_swift_paxos}
 use Rattle.message.specs.Promises.{value_of, accept_round_of}
 use Rattle.message.specs.Rounds.{before, equal}
@@ -25,15 +25,15 @@ use Rattle.settings.specs.Questions.{quorums_of, delegate_of}
 use Rattle.settings.specs.declared.Settings.{Settings}
 use Rattle.calls.specs.Asked.{asked_of}
 use Rattle.enter.specs.Enter.{in_round}
-use Rattle.prepare.specs.Prepare.{hold_first, answer_prepare, answers_nothing, preparing, prepared, broadcast_accept, after_own_accept, accept_phase, with_promise, becomes_prepared, gather}
+use Rattle.classic.specs.prepare.Prepare.{hold_first, answer_prepare, answers_nothing, preparing, prepared, broadcast_accept, after_own_accept, accept_phase, with_promise, becomes_prepared, gather}
 use Rattle.paxos_family.proofs.Gathering.{gather_proposes, gather_waits}
-use Rattle.paxos_family.specs.Process.{in_prepare, on_prepare}
-use Rattle.steps.specs.Steps.{CoreStep, no_messages, one_message, sends, to_all, held_rv, held_v, with_paxos, left_fast_path, stays, continues, then_in, map_step}
+use Rattle.paxos_family.specs.Process.{entered_prepare, on_prepare}
+use Rattle.steps.specs.Steps.{CoreStep, no_messages, one_message, sends, to_all, held_rv, held_value, with_paxos, left_fast_path, stays, continues, then_in, map_step}
 use Rattle.steps.specs.declared.Asked.{Asked}
 use Rattle.steps.specs.declared.Core.{Core}
 use Rattle.steps.specs.declared.Destination.TheVariants.{One}
 use Rattle.steps.specs.declared.Heard.{Heard}
-use Rattle.agreement.specs.Model.{View, Answers, Host, Outcome, add, adopted, prepared_by, voted, refuse, say, quiet}
+use Rattle.agreement.specs.Model.{View, Answers, Host, ModelOutcome, add, holding_other_value, prepared_by, voted, refuse, say, quiet, ModelSetup, model_on_prepare, model_gathers, model_promised, model_counted}
 use Rattle.agreement.specs.Model as model
 use Rattle.group.specs.Claim.{member_settings}
 use Rattle.group.proofs.View.{round_number, LeaderFits, leader_of, leader_of_lem, before_number, equal_number, proposer_of, is_e_paxos, view_of, Leaders, setup_of, Follows}
@@ -53,7 +53,7 @@ with_held ans core held f =
       holds = is_some held;
       held_round = round_number (get_last_accepted_round held);
       held_proposer = proposer_of (held_rv held);
-      held_value = held_v held;
+      held_value = held_value held;
       prepared = f;
       accepted = contains core.paxos.accepted_set;
       answers = ans;
@@ -81,7 +81,7 @@ unfolding held_after_promise
 promise_cond None rv e = absurd (not_both e refl)
 promise_cond (Some old) rv e = refl
 
-value_held_lem : (held : Option RoundV) → is_some held ≡ true → get_v held ≡ Some (held_v held)
+value_held_lem : (held : Option RoundV) → is_some held ≡ true → get_v held ≡ Some (held_value held)
 value_held_lem None e = absurd (not_both e refl)
 value_held_lem (Some rv) e = refl
 
@@ -103,11 +103,11 @@ not_leb a b = go (leb a b) refl
     go false e = sym (lt-ltb b a (leb-false a b e))
 
 -- a step and an outcome, each put in another's place
-pub follows_both : {S : model.Setup} {ans : Answers} {step t : Result CoreStep Refusal} {r o : Outcome} → step ≡ t → r ≡ o → Follows S ans t o → Follows S ans step r
-follows_both {S} {ans} {step} {t} {r} {o} e d f = subst (λ (x : Result CoreStep Refusal). Follows S ans x r) (sym e) (subst (λ (x : Outcome). Follows S ans t x) (sym d) f)
+pub follows_both : {S : ModelSetup} {ans : Answers} {step t : Result CoreStep Refusal} {r o : ModelOutcome} → step ≡ t → r ≡ o → Follows S ans t o → Follows S ans step r
+follows_both {S} {ans} {step} {t} {r} {o} e d f = subst (λ (x : Result CoreStep Refusal). Follows S ans x r) (sym e) (subst (λ (x : ModelOutcome). Follows S ans t x) (sym d) f)
 
 -- in the classic modes a handler makes a step of the core
-pub same_steps : (S : model.Setup) (ans : Answers) (step : Result CoreStep Refusal) (r : Outcome) → Follows S ans step r → Follows S ans (map_step (λ t. t) step) r
+pub same_steps : (S : ModelSetup) (ans : Answers) (step : Result CoreStep Refusal) (r : ModelOutcome) → Follows S ans step r → Follows S ans (map_step (λ t. t) step) r
 same_steps S ans (Ok step) r f = f
 same_steps S ans (Err why) r f = f
 
@@ -116,7 +116,7 @@ same_steps S ans (Err why) r f = f
 module _ (ans : Answers) (s : Settings) (i : ℕ) (alive : contains s.alive_replicas i ≡ true) (small : i < 64) where
   pub first_view : (core : Core) (rv : RoundV) → is_some core.paxos.max_rv ≡ false
       → view_of ans (with_paxos (receive_promise (asked_by s i).member i rv core.paxos) core)
-      ≡ prepared_by i (adopted (round_number (accept_round_of rv)) (proposer_of rv) (value_of rv) (view_of ans core))
+      ≡ prepared_by i (holding_other_value (round_number (accept_round_of rv)) (proposer_of rv) (value_of rv) (view_of ans core))
   unfolding receive_promise held_after_promise
   first_view core rv none =
       ap₂ (with_held ans core) (ap (λ (m : Option RoundV). held_after_promise m rv) (nothing_held_lem core.paxos.max_rv none))
@@ -151,7 +151,7 @@ module _ (ans : Answers) (s : Settings) (i : ℕ) (no-swift : is_swift_paxos s.m
 
   own_accept_state : (core : Core) → is_some core.paxos.max_rv ≡ true → is_empty core.paxos.accepted_set ≡ true
       → self_accept (asked_by s i).member round core.paxos
-      ≡ receive_accept (asked_by s i).member i round (held_v core.paxos.max_rv) core.paxos
+      ≡ receive_accept (asked_by s i).member i round (held_value core.paxos.max_rv) core.paxos
   unfolding self_accept accept_own
   own_accept_state core held empty = simp (empty, value_held_lem core.paxos.max_rv held)
 
@@ -161,23 +161,23 @@ module _ (ans : Answers) (s : Settings) (i : ℕ) (no-swift : is_swift_paxos s.m
   phase_of core step e = ap (after_own_accept (asked_by s i) round core) e
 
   -- the value that the delegate picks
-  abbrev picked : View → Outcome
+  abbrev picked : View → ModelOutcome
   picked x = say (voted i x.held_value x) (record { destination = model.all; message = model.accept x.slot x.round x.held_value } ∷ [])
 
   pub broadcast_classic : (core : Core) → broadcast_accept (asked_by s i) round core
-      ≡ stays (left_fast_path core) (one_message (sends (asked_by s i) core to_all (Accept core.slot round (held_v core.paxos.max_rv))))
+      ≡ stays (left_fast_path core) (one_message (sends (asked_by s i) core to_all (Accept core.slot round (held_value core.paxos.max_rv))))
   unfolding broadcast_accept
   broadcast_classic core = simp no-swift
 
   broadcast_follows : (core : Core) → core.paxos.round ≡ Some round
-      → Follows (setup_of s) ans (Ok (broadcast_accept (asked_by s i) round (with_paxos (after_accept (asked_by s i).member i round (held_v core.paxos.max_rv) core.paxos) core)))
+      → Follows (setup_of s) ans (Ok (broadcast_accept (asked_by s i) round (with_paxos (after_accept (asked_by s i).member i round (held_value core.paxos.max_rv) core.paxos) core)))
       (picked (view_of ans core))
   broadcast_follows core at =
-      subst (λ (t : CoreStep). Follows (setup_of s) ans (Ok t) (picked (view_of ans core))) (sym (broadcast_classic (with_paxos (after_accept (asked_by s i).member i round (held_v core.paxos.max_rv) core.paxos) core)))
+      subst (λ (t : CoreStep). Follows (setup_of s) ans (Ok t) (picked (view_of ans core))) (sym (broadcast_classic (with_paxos (after_accept (asked_by s i).member i round (held_value core.paxos.max_rv) core.paxos) core)))
       (record {
         seen_as =
-            ap₂ (λ (x : View) (r : ℕ). say x (record { destination = model.all; message = model.accept core.slot r (held_v core.paxos.max_rv) } ∷ []))
-            (own_accept_view ans s i alive small round core (held_v core.paxos.max_rv) at)
+            ap₂ (λ (x : View) (r : ℕ). say x (record { destination = model.all; message = model.accept core.slot r (held_value core.paxos.max_rv) } ∷ []))
+            (own_accept_view ans s i alive small round core (held_value core.paxos.max_rv) at)
             (ap round_number (sym at));
       })
 
@@ -187,8 +187,8 @@ module _ (ans : Answers) (s : Settings) (i : ℕ) (no-swift : is_swift_paxos s.m
 
   self_accept_fits : (core : Core) → is_some core.paxos.max_rv ≡ true → is_empty core.paxos.accepted_set ≡ true
       → self_accept (asked_by s i).member round core.paxos
-      ≡ cond (accept_fits core.paxos.max_rv round (held_v core.paxos.max_rv))
-      (Ok (after_accept (asked_by s i).member i round (held_v core.paxos.max_rv) core.paxos))
+      ≡ cond (accept_fits core.paxos.max_rv round (held_value core.paxos.max_rv))
+      (Ok (after_accept (asked_by s i).member i round (held_value core.paxos.max_rv) core.paxos))
       (Err AcceptUnlikeHeld)
   unfolding receive_accept
   self_accept_fits core held e = own_accept_state core held e
@@ -196,7 +196,7 @@ module _ (ans : Answers) (s : Settings) (i : ℕ) (no-swift : is_swift_paxos s.m
   -- the accept phase: the delegate accepts what it holds, unless something is accepted already
   phase_follows : (core : Core) → core.paxos.round ≡ Some round → is_some core.paxos.max_rv ≡ true → (x0 : View)
       → Follows (setup_of s) ans (accept_phase (asked_by s i) round core) (cond ((view_of ans core).accepted i) (refuse x0) (picked (view_of ans core)))
-  phase_follows core at held x0 = go (either (is_empty core.paxos.accepted_set)) (either (accept_fits core.paxos.max_rv round (held_v core.paxos.max_rv)))
+  phase_follows core at held x0 = go (either (is_empty core.paxos.accepted_set)) (either (accept_fits core.paxos.max_rv round (held_value core.paxos.max_rv)))
     where
       by_step : (step : Result PaxosState Refusal) → self_accept (asked_by s i).member round core.paxos ≡ step
           → Follows (setup_of s) ans (after_own_accept (asked_by s i) round core step) (cond ((view_of ans core).accepted i) (refuse x0) (picked (view_of ans core)))
@@ -204,16 +204,16 @@ module _ (ans : Answers) (s : Settings) (i : ℕ) (no-swift : is_swift_paxos s.m
       by_step step e f = subst (λ (t : Result CoreStep Refusal). Follows (setup_of s) ans t (cond ((view_of ans core).accepted i) (refuse x0) (picked (view_of ans core)))) (sym (phase_of core step e)) f
 
       go : (is_empty core.paxos.accepted_set ≡ true) ⊎ (is_empty core.paxos.accepted_set ≡ false)
-          → (accept_fits core.paxos.max_rv round (held_v core.paxos.max_rv) ≡ true) ⊎ (accept_fits core.paxos.max_rv round (held_v core.paxos.max_rv) ≡ false)
+          → (accept_fits core.paxos.max_rv round (held_value core.paxos.max_rv) ≡ true) ⊎ (accept_fits core.paxos.max_rv round (held_value core.paxos.max_rv) ≡ false)
           → Follows (setup_of s) ans (accept_phase (asked_by s i) round core) (cond ((view_of ans core).accepted i) (refuse x0) (picked (view_of ans core)))
       go (inr e) f = by_step (Err AcceptUnlikeHeld) (self_accept_full core e) (record { seen_as = tt })
       go (inl e) (inr f) = by_step (Err AcceptUnlikeHeld) (self_accept_fits core held e ∙ simp f) (record { seen_as = tt })
       go (inl e) (inl f) =
           let none : core.paxos.accepted_set ≡ 0 = eqb-true core.paxos.accepted_set 0 e in
-          by_step (Ok (after_accept (asked_by s i).member i round (held_v core.paxos.max_rv) core.paxos)) (self_accept_fits core held e ∙ simp f)
+          by_step (Ok (after_accept (asked_by s i).member i round (held_value core.paxos.max_rv) core.paxos)) (self_accept_fits core held e ∙ simp f)
           (subst
           (λ (t : Bool).
-          Follows (setup_of s) ans (Ok (broadcast_accept (asked_by s i) round (with_paxos (after_accept (asked_by s i).member i round (held_v core.paxos.max_rv) core.paxos) core)))
+          Follows (setup_of s) ans (Ok (broadcast_accept (asked_by s i) round (with_paxos (after_accept (asked_by s i).member i round (held_value core.paxos.max_rv) core.paxos) core)))
           (cond t (refuse x0) (picked (view_of ans core))))
           (sym (ap (λ (x : ℕ). contains x i) none ∙ contains_empty i))
           (broadcast_follows core at))
@@ -222,19 +222,19 @@ module _ (ans : Answers) (s : Settings) (i : ℕ) (no-swift : is_swift_paxos s.m
 
   pub promise_view : (core : Core) (rv : RoundV) → Leaders core → is_some core.paxos.max_rv ≡ true → LeaderFits (accept_round_of rv)
       → view_of ans (with_paxos (receive_promise (asked_by s i).member h.src rv core.paxos) core)
-      ≡ model.counted (setup_of s) i h.src (round_number (accept_round_of rv)) (proposer_of rv) (value_of rv) (view_of ans core)
-  unfolding receive_promise model.counted
+      ≡ model_counted (setup_of s) i h.src (round_number (accept_round_of rv)) (proposer_of rv) (value_of rv) (view_of ans core)
+  unfolding receive_promise model_counted
   promise_view core rv ok held fits =
       ap₂ (with_held ans core) (promise_cond core.paxos.max_rv rv held) (counted_add (asked_by s i).member h.src core.paxos.prepared_set alive small src-small)
       ∙ go (before (get_last_accepted_round core.paxos.max_rv) (accept_round_of rv))
       ∙ ap
       (λ (t : Bool).
-      prepared_by i (prepared_by h.src (cond t (adopted (round_number (accept_round_of rv)) (proposer_of rv) (value_of rv) (view_of ans core)) (view_of ans core))))
+      prepared_by i (prepared_by h.src (cond t (holding_other_value (round_number (accept_round_of rv)) (proposer_of rv) (value_of rv) (view_of ans core)) (view_of ans core))))
       (before_number (get_last_accepted_round core.paxos.max_rv) (accept_round_of rv) ok.in_held fits)
     where
       go : (t : Bool)
           → with_held ans core (cond t (Some rv) core.paxos.max_rv) (add i (add h.src (contains core.paxos.prepared_set)))
-          ≡ prepared_by i (prepared_by h.src (cond t (adopted (round_number (accept_round_of rv)) (proposer_of rv) (value_of rv) (view_of ans core)) (view_of ans core)))
+          ≡ prepared_by i (prepared_by h.src (cond t (holding_other_value (round_number (accept_round_of rv)) (proposer_of rv) (value_of rv) (view_of ans core)) (view_of ans core)))
       go true = refl
       go false = refl
 
@@ -265,7 +265,7 @@ module _ (ans : Answers) (s : Settings) (i : ℕ) (no-swift : is_swift_paxos s.m
 
   pub gather_follows : (core : Core) (rv : RoundV) → Leaders core → core.paxos.round ≡ Some round → is_some core.paxos.max_rv ≡ true → LeaderFits (accept_round_of rv) → (x0 : View)
       → Follows (setup_of s) ans (gather (asked_by s i) h round rv core)
-      (model.picks (setup_of s) i x0 (view_of ans core) (model.counted (setup_of s) i h.src (round_number (accept_round_of rv)) (proposer_of rv) (value_of rv) (view_of ans core)))
+      (model.picks (setup_of s) i x0 (view_of ans core) (model_counted (setup_of s) i h.src (round_number (accept_round_of rv)) (proposer_of rv) (value_of rv) (view_of ans core)))
   unfolding receive_promise
   gather_follows core rv ok at held fits x0 =
       subst
@@ -312,25 +312,25 @@ module _ (ans : Answers) (s : Settings) (i : ℕ) (no-swift : is_swift_paxos s.m
   preparing_answer core e n = simp (e, n)
 
   -- the three cases of the model
-  abbrev promised_by : Core → RoundV → View → Outcome
-  promised_by core rv x0 = model.promised (setup_of s) i h.src (round_number (accept_round_of rv)) (proposer_of rv) (value_of rv) host x0 (view_of ans core)
+  abbrev promised_by : Core → RoundV → View → ModelOutcome
+  promised_by core rv x0 = model_promised (setup_of s) i h.src (round_number (accept_round_of rv)) (proposer_of rv) (value_of rv) host x0 (view_of ans core)
 
   model_delegate : (core : Core) (rv : RoundV) (x0 : View) → eqb ((setup_of s).voters.delegate (view_of ans core).round) i ≡ true
       → promised_by core rv x0
-      ≡ model.gathers (setup_of s) i h.src (proposer_of rv) (value_of rv) host x0 (view_of ans core) (model.counted (setup_of s) i h.src (round_number (accept_round_of rv)) (proposer_of rv) (value_of rv) (view_of ans core))
-  unfolding model.promised
+      ≡ model_gathers (setup_of s) i h.src (proposer_of rv) (value_of rv) host x0 (view_of ans core) (model_counted (setup_of s) i h.src (round_number (accept_round_of rv)) (proposer_of rv) (value_of rv) (view_of ans core))
+  unfolding model_promised
   model_delegate core rv x0 e = simp e
 
   model_silent : (core : Core) (rv : RoundV) (x0 : View) → eqb ((setup_of s).voters.delegate (view_of ans core).round) i ≡ false → eqb (view_of ans core).held_round (view_of ans core).round ≡ true
       → promised_by core rv x0 ≡ quiet (view_of ans core)
-  unfolding model.promised
+  unfolding model_promised
   model_silent core rv x0 e n = simp (e, n)
 
   model_answer : (core : Core) (rv : RoundV) (x0 : View) → eqb ((setup_of s).voters.delegate (view_of ans core).round) i ≡ false → eqb (view_of ans core).held_round (view_of ans core).round ≡ false
       → promised_by core rv x0
       ≡ say (view_of ans core)
       (record { destination = model.to ((setup_of s).voters.delegate (view_of ans core).round); message = model.prepare core.slot (view_of ans core).round (view_of ans core).held_round (view_of ans core).held_proposer (view_of ans core).held_value } ∷ [])
-  unfolding model.promised
+  unfolding model_promised
   model_answer core rv x0 e n = simp (e, n)
 
   prepared_held : (core : Core) (rv : RoundV) → is_some core.paxos.max_rv ≡ true → prepared (asked_by s i) h round rv core ≡ preparing (asked_by s i) h round core
@@ -348,11 +348,11 @@ module _ (ans : Answers) (s : Settings) (i : ℕ) (no-swift : is_swift_paxos s.m
   prepared_refused core rv e n = simp (e, n)
 
   -- what the delegate makes of the promise, as the model does: `rest` is what the handler makes of it
-  module _ (X : Type 0) (lift : CoreStep → X) (Fits : Result X Refusal → Outcome → Type 0) (lifted : (step : Result CoreStep Refusal) (r : Outcome) → Follows (setup_of s) ans step r → Fits (map_step lift step) r)
+  module _ (X : Type 0) (lift : CoreStep → X) (Fits : Result X Refusal → ModelOutcome → Type 0) (lifted : (step : Result CoreStep Refusal) (r : ModelOutcome) → Follows (setup_of s) ans step r → Fits (map_step lift step) r)
       (rv : RoundV) (fits : LeaderFits (accept_round_of rv)) (delegate_of_lem : h.delegate ≡ delegate_of s s.mode round.leader) (x0 : View) (rest : Core → Result X Refusal)
       (rest-follows : (core : Core) → Leaders core → core.paxos.round ≡ Some round → is_some core.paxos.max_rv ≡ true
-      → Fits (rest core) (model.gathers (setup_of s) i h.src (proposer_of rv) (value_of rv) host x0 (view_of ans core)
-      (model.counted (setup_of s) i h.src (round_number (accept_round_of rv)) (proposer_of rv) (value_of rv) (view_of ans core)))) where
+      → Fits (rest core) (model_gathers (setup_of s) i h.src (proposer_of rv) (value_of rv) host x0 (view_of ans core)
+      (model_counted (setup_of s) i h.src (round_number (accept_round_of rv)) (proposer_of rv) (value_of rv) (view_of ans core)))) where
     preparing_follows : (core : Core) → Leaders core → core.paxos.round ≡ Some round → is_some core.paxos.max_rv ≡ true
         → Fits (then_in lift (preparing (asked_by s i) h round core) rest) (promised_by core rv x0)
     preparing_follows core ok at held = go (either (eqb h.delegate i)) (either (answers_nothing (asked_by s i) h round core)) (either (eqb h.delegate h.src || not (eqb h.delegate round.leader)))
@@ -363,7 +363,7 @@ module _ (ans : Answers) (s : Settings) (i : ℕ) (no-swift : is_swift_paxos s.m
         same : (t : Bool) → eqb h.delegate i ≡ t → eqb ((setup_of s).voters.delegate (view_of ans core).round) i ≡ t
         same t e = ap (λ (p : ℕ). eqb p i) dn ∙ e
 
-        step : (t : Result CoreStep Refusal) (r : Outcome) → preparing (asked_by s i) h round core ≡ t → promised_by core rv x0 ≡ r
+        step : (t : Result CoreStep Refusal) (r : ModelOutcome) → preparing (asked_by s i) h round core ≡ t → promised_by core rv x0 ≡ r
             → Fits (then_in lift t rest) r
             → Fits (then_in lift (preparing (asked_by s i) h round core) rest) (promised_by core rv x0)
         step t r e d f = subst (λ (z : Result CoreStep Refusal). Fits (then_in lift z rest) (promised_by core rv x0)) (sym e) (subst (Fits (then_in lift t rest)) (sym d) f)
@@ -403,20 +403,20 @@ module _ (ans : Answers) (s : Settings) (i : ℕ) (no-swift : is_swift_paxos s.m
 
     pub in_prepare_follows : (core : Core) → Leaders core → core.paxos.round ≡ Some round
         → Fits (then_in lift (prepared (asked_by s i) h round rv core) rest)
-        (model.promised (setup_of s) i h.src (round_number (accept_round_of rv)) (proposer_of rv) (value_of rv) host x0
-        (cond (view_of ans core).holds (view_of ans core) (prepared_by i (adopted (round_number (accept_round_of rv)) (proposer_of rv) (value_of rv) (view_of ans core)))))
+        (model_promised (setup_of s) i h.src (round_number (accept_round_of rv)) (proposer_of rv) (value_of rv) host x0
+        (cond (view_of ans core).holds (view_of ans core) (prepared_by i (holding_other_value (round_number (accept_round_of rv)) (proposer_of rv) (value_of rv) (view_of ans core)))))
     in_prepare_follows core ok at = go (either (is_some core.paxos.max_rv)) (either (is_empty core.paxos.prepared_set))
       where
         first : Core
         first = with_paxos (receive_promise (asked_by s i).member i rv core.paxos) core
 
-        goal : View → Outcome
-        goal x = model.promised (setup_of s) i h.src (round_number (accept_round_of rv)) (proposer_of rv) (value_of rv) host x0 x
+        goal : View → ModelOutcome
+        goal x = model_promised (setup_of s) i h.src (round_number (accept_round_of rv)) (proposer_of rv) (value_of rv) host x0 x
 
         view : Bool → View
-        view t = cond t (view_of ans core) (prepared_by i (adopted (round_number (accept_round_of rv)) (proposer_of rv) (value_of rv) (view_of ans core)))
+        view t = cond t (view_of ans core) (prepared_by i (holding_other_value (round_number (accept_round_of rv)) (proposer_of rv) (value_of rv) (view_of ans core)))
 
-        put : (t : Result CoreStep Refusal) (r : Outcome) → prepared (asked_by s i) h round rv core ≡ t → goal (view (is_some core.paxos.max_rv)) ≡ r → Fits (then_in lift t rest) r
+        put : (t : Result CoreStep Refusal) (r : ModelOutcome) → prepared (asked_by s i) h round rv core ≡ t → goal (view (is_some core.paxos.max_rv)) ≡ r → Fits (then_in lift t rest) r
             → Fits (then_in lift (prepared (asked_by s i) h round rv core) rest) (goal (view (is_some core.paxos.max_rv)))
         put t r e d f = subst (λ (z : Result CoreStep Refusal). Fits (then_in lift z rest) (goal (view (is_some core.paxos.max_rv)))) (sym e) (subst (Fits (then_in lift t rest)) (sym d) f)
 
@@ -433,18 +433,18 @@ module _ (ans : Answers) (s : Settings) (i : ℕ) (no-swift : is_swift_paxos s.m
             (preparing_follows first (first_leaders ans s i alive small core rv ok e fits) (first_round ans s i alive small core rv ∙ at) (first_held ans s i alive small core rv e))
 
   -- without a fast path the delegate picks what it holds
-  gathers_classic : is_e_paxos s.mode ≡ false → (c v : ℕ) (x0 old x : View) → model.gathers (setup_of s) i h.src c v host x0 old x ≡ model.picks (setup_of s) i x0 old x
-  unfolding model.gathers
+  gathers_classic : is_e_paxos s.mode ≡ false → (c v : ℕ) (x0 old x : View) → model_gathers (setup_of s) i h.src c v host x0 old x ≡ model.picks (setup_of s) i x0 old x
+  unfolding model_gathers
   gathers_classic e c v x0 old x = simp e
 
 -- A Prepare is the model's.
 pub on_prepare_follows : (ans : Answers) (s : Settings) (i : ℕ) → is_swift_paxos s.mode ≡ false → is_e_paxos s.mode ≡ false → i < 64 → (h : Heard) → h.src < 64 → (slot : ℕ) (round : PaxosRound) → round.leader < 64 → (rv : RoundV) → LeaderFits (accept_round_of rv)
     → h.source_live ≡ contains s.alive_replicas h.src → h.delegate ≡ delegate_of s s.mode round.leader → (core : Core) → Leaders core → slot ≤ core.slot → (host : Host)
     → Follows (setup_of s) ans (on_prepare (asked_by s i) h slot round rv core)
-    (model.on_prepare (setup_of s) i (view_of ans core) h.src slot (round_number (Some round)) (round_number (accept_round_of rv)) (proposer_of rv) (value_of rv) host)
-unfolding on_prepare model.on_prepare in_prepare
+    (model_on_prepare (setup_of s) i (view_of ans core) h.src slot (round_number (Some round)) (round_number (accept_round_of rv)) (proposer_of rv) (value_of rv) host)
+unfolding on_prepare model_on_prepare entered_prepare
 on_prepare_follows ans s i no-swift slow small h src slot round below rv fits live d core ok le host =
-    enter_follows ans s i no-swift core h slot round CoreStep (λ t. t) (Follows (setup_of s) ans) (same_steps (setup_of s) ans) ok below live le (in_prepare (asked_by s i) h round rv) _
+    enter_follows ans s i no-swift core h slot round CoreStep (λ t. t) (Follows (setup_of s) ans) (same_steps (setup_of s) ans) ok below live le (entered_prepare (asked_by s i) h round rv) _
     (λ alive same no-older.
     in_prepare_follows ans s i no-swift alive small h src round below host CoreStep (λ t. t) (Follows (setup_of s) ans) (same_steps (setup_of s) ans) rv fits d (view_of ans core) (gather (asked_by s i) h round rv)
     (λ core1 ok1 at1 held1.

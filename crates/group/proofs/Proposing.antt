@@ -1,4 +1,4 @@
--- A proposal in the classic modes is the model's `on_propose`.
+-- A proposal in the classic modes is the model's `model_on_propose`.
 -- Assumes nothing.
 use Rattle.std.specs.Prelude.{Option, None, Some, is_some, Ok, Err}
 use mathlib.Core.Path.{◌≡◌, refl, sym, ap, ap₂, subst, ◌∙◌}
@@ -10,7 +10,7 @@ use native.Mathlib.Omega.{arith}
 use lib.Dec.{eqb, leb-zero}
 use borrow.Author.Tests.{eq-eqb}
 use Rattle.basics.proofs.Tests.{either, not_both, and_left, and_right, and_both, or_cases}
-use Rattle.sets.specs.Sets.{contains}
+use Rattle.basics.specs.sets.Sets.{contains}
 use Rattle.message.specs.Promises.{value_of, accept_round_of}
 use Rattle.message.specs.Modes.{is_multi_paxos, is_swift_paxos}
 use Rattle.message.specs.Rounds.{increment, default_round, next_leader_round, starting_round, equal, unwrap_or_default}
@@ -25,10 +25,10 @@ use Rattle.round_state.specs.Paxos.{goto_round, held_after_promise, receive_prom
 use Rattle.round_state.specs.declared.PaxosState.{PaxosState}
 use Rattle.settings.specs.Questions.{delegate_of, starting_round_of, delegate_in}
 use Rattle.settings.specs.declared.Settings.{Settings}
-use Rattle.propose.specs.Propose.{not_allowed, electing, proposal_round, may_propose, proposed, propose_prepare, after_own_promise, propose_accept, propose_classic}
+use Rattle.propose.specs.Propose.{not_allowed, electing, proposal_round, may_propose, broadcast_own, propose_prepare, after_own_promise, propose_accept, propose_classic}
 use Rattle.steps.specs.Steps.{one_message, sends, to_all, with_paxos, stays}
 use Rattle.steps.specs.declared.Core.{Core}
-use Rattle.agreement.specs.Model.{View, Answers, joined, adopted, prepared_by, voted, say}
+use Rattle.agreement.specs.Model.{View, Answers, in_later_round, holding_other_value, prepared_by, voted, say, model_on_propose}
 use Rattle.agreement.specs.Model as model
 use Rattle.group.proofs.View.{round_number, leader_of, leader_of_lem, proposer_of, is_e_paxos, view_of, Leaders, setup_of, Follows}
 use Rattle.group.proofs.Entering.{goto_view}
@@ -131,7 +131,7 @@ module _ (ans : Answers) (s : Settings) (i : ℕ) (no-swift : is_swift_paxos s.m
     pub prepare_step : (r : PaxosRound) (rv : RoundV)
         → propose_prepare (asked_by s i) r rv core ≡ Ok (stays (with_paxos (promised r rv) core) (one_message (sends (asked_by s i) core to_all (Prepare core.slot r rv))))
     unfolding propose_prepare
-    prepare_step r rv = ap (proposed (asked_by s i) (Prepare core.slot r rv) core) (propose_promise r rv)
+    prepare_step r rv = ap (broadcast_own (asked_by s i) (Prepare core.slot r rv) core) (propose_promise r rv)
 
     self_accept_lem : (r : PaxosRound) → self_accept (asked_by s i).member r (promised r (PaxosV None v)) ≡ Ok (after_accept (asked_by s i).member i r v (promised r (PaxosV None v)))
     unfolding self_accept accept_own receive_accept accept_fits receive_promise held_after_promise
@@ -143,15 +143,15 @@ module _ (ans : Answers) (s : Settings) (i : ℕ) (no-swift : is_swift_paxos s.m
     unfolding propose_accept
     accept_step r =
         ap (after_own_promise (asked_by s i) r v core) (propose_promise r (PaxosV None v))
-        ∙ ap (proposed (asked_by s i) (Accept core.slot r v) core) (self_accept_lem r)
+        ∙ ap (broadcast_own (asked_by s i) (Accept core.slot r v) core) (self_accept_lem r)
 
     -- ---- their views
 
     pub promised_view : (r : PaxosRound) (rv : RoundV) → view_of ans (with_paxos (promised r rv) core)
-        ≡ prepared_by i (adopted (round_number (accept_round_of rv)) (proposer_of rv) (value_of rv) (joined (round_number (Some r)) (view_of ans core)))
+        ≡ prepared_by i (holding_other_value (round_number (accept_round_of rv)) (proposer_of rv) (value_of rv) (in_later_round (round_number (Some r)) (view_of ans core)))
     promised_view r rv =
         first_view ans s i may.alive small (with_paxos (goto_round (Some r) core.paxos) core) rv may.nothing
-        ∙ ap (λ (x : View). prepared_by i (adopted (round_number (accept_round_of rv)) (proposer_of rv) (value_of rv) x)) (goto_view ans (Some r) core)
+        ∙ ap (λ (x : View). prepared_by i (holding_other_value (round_number (accept_round_of rv)) (proposer_of rv) (value_of rv) x)) (goto_view ans (Some r) core)
 
     promised_round : (r : PaxosRound) → (promised r (PaxosV None v)).round ≡ Some r
     unfolding receive_promise
@@ -159,7 +159,7 @@ module _ (ans : Answers) (s : Settings) (i : ℕ) (no-swift : is_swift_paxos s.m
 
     accepted_view_lem : (r : PaxosRound)
         → view_of ans (with_paxos (after_accept (asked_by s i).member i r v (promised r (PaxosV None v))) core)
-        ≡ voted i v (prepared_by i (adopted 0 0 v (joined (round_number (Some r)) (view_of ans core))))
+        ≡ voted i v (prepared_by i (holding_other_value 0 0 v (in_later_round (round_number (Some r)) (view_of ans core))))
     accepted_view_lem r =
         own_accept_view ans s i may.alive small r (with_paxos (promised r (PaxosV None v)) core) v (promised_round r) ∙ ap (voted i v) (promised_view r (PaxosV None v))
 
@@ -172,15 +172,15 @@ module _ (ans : Answers) (s : Settings) (i : ℕ) (no-swift : is_swift_paxos s.m
     may_model = and_both may.alive (and_both started (ap not may.nothing))
 
     model_led : is_multi_paxos s.mode ≡ true → eqb i ((setup_of s).voters.delegate (view_of ans core).round) ≡ true
-        → model.on_propose (setup_of s) i (view_of ans core) v
-        ≡ say (voted i v (prepared_by i (adopted 0 0 v (joined (view_of ans core).round (view_of ans core))))) (record { destination = model.all; message = model.accept core.slot (view_of ans core).round v } ∷ [])
-    unfolding model.on_propose
+        → model_on_propose (setup_of s) i (view_of ans core) v
+        ≡ say (voted i v (prepared_by i (holding_other_value 0 0 v (in_later_round (view_of ans core).round (view_of ans core))))) (record { destination = model.all; message = model.accept core.slot (view_of ans core).round v } ∷ [])
+    unfolding model_on_propose
     model_led m d = simp (may_model, m, d)
 
     model_own : is_multi_paxos s.mode ≡ false → is_e_paxos s.mode ≡ false
-        → model.on_propose (setup_of s) i (view_of ans core) v
-        ≡ say (prepared_by i (adopted 0 0 v (joined (suc i) (view_of ans core)))) (record { destination = model.all; message = model.prepare core.slot (suc i) 0 0 v } ∷ [])
-    unfolding model.on_propose
+        → model_on_propose (setup_of s) i (view_of ans core) v
+        ≡ say (prepared_by i (holding_other_value 0 0 v (in_later_round (suc i) (view_of ans core)))) (record { destination = model.all; message = model.prepare core.slot (suc i) 0 0 v } ∷ [])
+    unfolding model_on_propose
     model_own m slow = simp (may_model, m, slow)
 
     abbrev pub round : PaxosRound
@@ -205,12 +205,12 @@ module _ (ans : Answers) (s : Settings) (i : ℕ) (no-swift : is_swift_paxos s.m
         ∙ own_round_lem i
 
     allowed_follows : is_e_paxos s.mode ≡ false → Follows (setup_of s) ans (cond (is_multi_paxos s.mode) (propose_accept (asked_by s i) round v core) (propose_prepare (asked_by s i) round (PaxosV None v) core))
-        (model.on_propose (setup_of s) i (view_of ans core) v)
+        (model_on_propose (setup_of s) i (view_of ans core) v)
     allowed_follows slow = go (either (is_multi_paxos s.mode))
       where
         go : (is_multi_paxos s.mode ≡ true) ⊎ (is_multi_paxos s.mode ≡ false)
             → Follows (setup_of s) ans (cond (is_multi_paxos s.mode) (propose_accept (asked_by s i) round v core) (propose_prepare (asked_by s i) round (PaxosV None v) core))
-            (model.on_propose (setup_of s) i (view_of ans core) v)
+            (model_on_propose (setup_of s) i (view_of ans core) v)
         go (inl m) =
             follows_both (ap (λ (t : Bool). cond t (propose_accept (asked_by s i) round v core) (propose_prepare (asked_by s i) round (PaxosV None v) core)) m ∙ accept_step round)
             (model_led m (led_own m))
@@ -219,7 +219,7 @@ module _ (ans : Answers) (s : Settings) (i : ℕ) (no-swift : is_swift_paxos s.m
                   ap (λ (x : View). say x (record { destination = model.all; message = model.accept core.slot (round_number (Some round)) v } ∷ [])) (accepted_view_lem round)
                   ∙ ap
                   (λ (r : ℕ).
-                  say (voted i v (prepared_by i (adopted 0 0 v (joined r (view_of ans core))))) (record { destination = model.all; message = model.accept core.slot r v } ∷ []))
+                  say (voted i v (prepared_by i (holding_other_value 0 0 v (in_later_round r (view_of ans core))))) (record { destination = model.all; message = model.accept core.slot r v } ∷ []))
                   (sym (led_round m));
             })
         go (inr m) =
@@ -230,7 +230,7 @@ module _ (ans : Answers) (s : Settings) (i : ℕ) (no-swift : is_swift_paxos s.m
                   ap (λ (x : View). say x (record { destination = model.all; message = model.prepare core.slot (round_number (Some round)) 0 0 v } ∷ [])) (promised_view round (PaxosV None v))
                   ∙ ap
                   (λ (r : ℕ).
-                  say (prepared_by i (adopted 0 0 v (joined r (view_of ans core)))) (record { destination = model.all; message = model.prepare core.slot r 0 0 v } ∷ []))
+                  say (prepared_by i (holding_other_value 0 0 v (in_later_round r (view_of ans core)))) (record { destination = model.all; message = model.prepare core.slot r 0 0 v } ∷ []))
                   (first_own m);
             })
 
@@ -245,9 +245,9 @@ module _ (ans : Answers) (s : Settings) (i : ℕ) (no-swift : is_swift_paxos s.m
   propose_refused e = simp e
 
   -- A proposal is the model's.
-  pub propose_follows : is_e_paxos s.mode ≡ false → Follows (setup_of s) ans (propose_classic (asked_by s i) v core) (model.on_propose (setup_of s) i (view_of ans core) v)
+  pub propose_follows : is_e_paxos s.mode ≡ false → Follows (setup_of s) ans (propose_classic (asked_by s i) v core) (model_on_propose (setup_of s) i (view_of ans core) v)
   propose_follows slow = go (either (may_propose (asked_by s i) core))
     where
-      go : (may_propose (asked_by s i) core ≡ true) ⊎ (may_propose (asked_by s i) core ≡ false) → Follows (setup_of s) ans (propose_classic (asked_by s i) v core) (model.on_propose (setup_of s) i (view_of ans core) v)
+      go : (may_propose (asked_by s i) core ≡ true) ⊎ (may_propose (asked_by s i) core ≡ false) → Follows (setup_of s) ans (propose_classic (asked_by s i) v core) (model_on_propose (setup_of s) i (view_of ans core) v)
       go (inl e) = follows_both (propose_allowed e) refl (allowed_follows (allowed e) slow)
       go (inr e) = follows_both (propose_refused e) refl (record { seen_as = tt })

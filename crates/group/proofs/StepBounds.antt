@@ -10,9 +10,9 @@ use native.Mathlib.Omega.{arith}
 use lib.Dec.{T, eqb, eqb→eq, ltb, T_not}
 use borrow.Author.Tests.{ltb-true, ltb-false, eqb-true}
 use Rattle.basics.proofs.Tests.{either, not_both, fails, or_cases, of-both}
-use Rattle.sets.specs.Sets.{contains, insert, size, one}
-use Rattle.sets.proofs.Laws.{contains_empty, contains_insert, contains_insert_same, insert_none, size_insert, within_insert}
-use Rattle.tables.specs.Tables.{look_up, store}
+use Rattle.basics.specs.sets.Sets.{contains, insert, size, one}
+use Rattle.basics.proofs.sets.Laws.{contains_empty, contains_insert, contains_insert_same, insert_none, size_insert, within_insert}
+use Rattle.basics.specs.tables.Tables.{look_up, store}
 use Rattle.message.specs.Modes.{has_fast_path, is_swift_paxos}
 use Rattle.message.specs.Rounds.{increment, before}
 use Rattle.message.proofs.NextLeader.{increment_next}

@@ -8,7 +8,7 @@ use native.Mathlib.Omega.{arith}
 use lib.Dec.{eqb, ltb}
 use borrow.Author.Tests.{lt-ltb, ltb-true, eq-eqb, eqb-true}
 use Rattle.basics.proofs.Tests.{and_left, and_right, and_both}
-use Rattle.sets.specs.Sets.{contains}
+use Rattle.basics.specs.sets.Sets.{contains}
 use Rattle.fast_state.specs.Adopt.{Choice, best_below, lowest_best}
 use Rattle.fast_state.proofs.Adopting.{best_below_lem}
 use Rattle.fast_state.specs.declared.FastAnswers.{FastAnswers}

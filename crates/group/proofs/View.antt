@@ -13,8 +13,8 @@ use native.Mathlib.Omega.{arith}
 use lib.Dec.{eqb, ltb}
 use borrow.Author.Tests.{lt-ltb, le-ltb, ltb-true, eqb-true, eq-eqb}
 use Rattle.basics.proofs.Tests.{same_test}
-use Rattle.sets.specs.Sets.{contains, insert}
-use Rattle.sets.proofs.Laws.{contains_empty, contains_insert}
+use Rattle.basics.specs.sets.Sets.{contains, insert}
+use Rattle.basics.proofs.sets.Laws.{contains_empty, contains_insert}
 use Rattle.message.specs.Promises.{value_of, accept_round_of}
 use Rattle.message.specs.Rounds.{before, equal}
 use Rattle.message.proofs.Order.{Earlier, round_before_lem, before_round_lem, equal_rounds, rounds_equal}
@@ -27,14 +27,14 @@ use Rattle.message.specs.declared.PFMode.TheVariants.{Paxos, MultiPaxos, MultiPa
 use Rattle.message.specs.declared.Refusal.{Refusal}
 use Rattle.message.specs.declared.RoundV.{RoundV}
 use Rattle.message.specs.declared.RoundV.TheVariants.{FastV, PaxosV}
-use Rattle.tables.specs.Tables.{look_up}
+use Rattle.basics.specs.tables.Tables.{look_up}
 use Rattle.fast_state.specs.declared.FastState.{FastState}
 use Rattle.round_state.specs.Paxos.{get_last_accepted_round}
 use Rattle.settings.specs.Questions.{quorums_of, delegate_of, committer_of, starting_round_of}
 use Rattle.settings.specs.declared.Settings.{Settings}
 use Rattle.message.specs.Modes.{is_multi_paxos}
-use Rattle.accept.specs.Accept.{tells_committer}
-use Rattle.steps.specs.Steps.{CoreStep, held_rv, held_v}
+use Rattle.classic.specs.accept.Accept.{tells_committer}
+use Rattle.steps.specs.Steps.{CoreStep, held_rv, held_value}
 use Rattle.steps.specs.declared.Core.{Core}
 use Rattle.steps.specs.declared.Destination.{Destination}
 use Rattle.steps.specs.declared.Destination.TheVariants.{One, All}
@@ -44,7 +44,7 @@ use Rattle.steps.specs.declared.Next.TheVariants.{Stays, Continues, Commits}
 use Rattle.steps.specs.declared.Outgoing.{Outgoing}
 use Rattle.consensus.proofs.Handled.{eqb_sym}
 use Rattle.agreement.specs.Engine.{Envelope}
-use Rattle.agreement.specs.Model.{View, Answers, Setup, Message, prepare, accept, commit, other, undecided, decided, Outcome, empty, add, advanced}
+use Rattle.agreement.specs.Model.{View, Answers, ModelSetup, ModelMessage, prepare, accept, commit, other, undecided, decided, ModelOutcome, empty, add, advanced, ModelDestination}
 use Rattle.agreement.specs.Model as model
 use Rattle.agreement.specs.Refinement.{meanings}
 
@@ -129,10 +129,10 @@ abbrev pub proposer_of : RoundV → ℕ
 proposer_of (FastV proposer v) = suc proposer
 proposer_of (PaxosV at v) = 0
 
-abbrev pub meaning_of : ConsensusMessage → Message
+abbrev pub meaning_of : ConsensusMessage → ModelMessage
 meaning_of m = meaning_of_msg m.msg
   where
-    meaning_of_msg : ConsensusMsg → Message
+    meaning_of_msg : ConsensusMsg → ModelMessage
     meaning_of_msg (Prepare slot round rv) = prepare slot (round_number (Some round)) (round_number (accept_round_of rv)) (proposer_of rv) (value_of rv)
     meaning_of_msg (Accept slot round v) = accept slot (round_number (Some round)) v
     meaning_of_msg (ForwardRequest v) = other
@@ -144,12 +144,12 @@ meaning_of m = meaning_of_msg m.msg
 pub meaning_is : (message : ConsensusMessage) (m : ConsensusMsg) → message.msg ≡ m → meaning_of message ≡ meaning_of (record { msg = m; src = message.src; last_v = message.last_v })
 meaning_is message m e = ap (λ (m : ConsensusMsg). meaning_of (record { msg = m; src = message.src; last_v = message.last_v })) e
 
-abbrev pub reached : Destination → model.Destination
+abbrev pub reached : Destination → ModelDestination
 reached (One p) = model.to p
 reached (All first) = model.all
 
 -- "A Commit counts as sent to every other member"
-abbrev pub destination_of : Destination → ConsensusMsg → model.Destination
+abbrev pub destination_of : Destination → ConsensusMsg → ModelDestination
 destination_of d (Prepare slot round rv) = reached d
 destination_of d (Accept slot round v) = reached d
 destination_of d (ForwardRequest v) = reached d
@@ -189,7 +189,7 @@ view_of ans core =
       holds = is_some core.paxos.max_rv;
       held_round = round_number (get_last_accepted_round core.paxos.max_rv);
       held_proposer = proposer_of (held_rv core.paxos.max_rv);
-      held_value = held_v core.paxos.max_rv;
+      held_value = held_value core.paxos.max_rv;
       prepared = contains core.paxos.prepared_set;
       accepted = contains core.paxos.accepted_set;
       answers = ans;
@@ -210,7 +210,7 @@ is_e_paxos EPaxos = true
 is_e_paxos Pando = false
 is_e_paxos SwiftPaxos = false
 
-abbrev pub setup_of : Settings → Setup
+abbrev pub setup_of : Settings → ModelSetup
 setup_of s =
     record {
       voters =
@@ -233,11 +233,11 @@ setup_of s =
 -- ---- a step as the model's outcome
 
 -- what a step leaves is the outcome r; ans is the fast half behind it
-abbrev pub SeenAs : Setup → Answers → Core → Messages → Next → Outcome → Type 0
+abbrev pub SeenAs : ModelSetup → Answers → Core → Messages → Next → ModelOutcome → Type 0
 SeenAs S ans core ms Stays r = record { view = view_of ans core; outgoing = meanings meaning_of (envelopes ms); decision = undecided; taken = true } ≡ r
 SeenAs S ans core ms Continues r = ⊥
 SeenAs S ans core ms (Commits v) r =
     record { view = advanced S.voters.start (view_of ans core); outgoing = meanings meaning_of (envelopes ms); decision = decided core.slot v; taken = true } ≡ r
 
-pub record Follows (S : Setup) (ans : Answers) (step : Result CoreStep Refusal) (r : Outcome) : Type 0 where
+pub record Follows (S : ModelSetup) (ans : Answers) (step : Result CoreStep Refusal) (r : ModelOutcome) : Type 0 where
   pub seen_as : IfOk step (λ x. SeenAs S ans x.state x.messages x.next r)

@@ -13,13 +13,13 @@ use Rattle.consensus.specs.Call.{call_of}
 use Rattle.consensus.specs.declared.Shard.{Shard}
 use Rattle.group.specs.Claim.{begun, MemberCall, Entry, after_call}
 
-pub record Step : Type 0 where
+pub record RunStep : Type 0 where
   pub member : ℕ
   pub before : Shard
   pub call : Call
 
 -- what the step handed back
-abbrev pub reply_of : Step → Reply
+abbrev pub reply_of : RunStep → Reply
 reply_of x = (call_of x.before x.call).reply
 
 -- not refused
@@ -28,32 +28,33 @@ is_done (Ok tt) = true
 is_done (Err why) = false
 
 -- the message that the handlers got in a step: that of the call, where the call has one
-abbrev pub heard_in : Call → Option Delivery
-heard_in (Propose v) = None
-heard_in (StartRead tag arrival) = None
-heard_in (Receive d) = Some d
+abbrev pub delivery_in : Call → Option Delivery
+delivery_in (Propose v) = None
+delivery_in (StartRead tag arrival) = None
+delivery_in (Receive d) = Some d
 
-abbrev pub heard : Step → Option Delivery
-heard x = heard_in x.call
+-- the message that a step delivers, where its call has one
+abbrev pub delivered : RunStep → Option Delivery
+delivered x = delivery_in x.call
 
 -- ---- the steps of a run
 
-abbrev pub step_of : (ℕ → Shard) → MemberCall → Step
+abbrev pub step_of : (ℕ → Shard) → MemberCall → RunStep
 step_of shards c = record { member = c.member; before = shards c.member; call = c.call }
 
 -- the steps of a run that goes on from some shards and earlier steps
-unfoldable pub steps_from : (ℕ → Shard) → List Step → List MemberCall → List Step
+unfoldable pub steps_from : (ℕ → Shard) → List RunStep → List MemberCall → List RunStep
 steps_from shards past [] = past
 steps_from shards past (c ∷ cs) = steps_from (after_call lowest_best shards c) (step_of shards c ∷ past) cs
 
-abbrev pub steps : Settings → List MemberCall → List Step
-steps s cs = steps_from (begun s) [] cs
+abbrev pub run_steps : Settings → List MemberCall → List RunStep
+run_steps s cs = steps_from (begun s) [] cs
 
 -- ---- seen from outside
 
-abbrev pub entry_at : Step → Entry
-entry_at x = record { member = x.member; call = x.call; reply = reply_of x }
+abbrev pub entry_of_step : RunStep → Entry
+entry_of_step x = record { member = x.member; call = x.call; reply = reply_of x }
 
-abbrev pub entries_of : List Step → List Entry
-entries_of [] = []
-entries_of (x ∷ past) = entry_at x ∷ entries_of past
+abbrev pub entries_of_steps : List RunStep → List Entry
+entries_of_steps [] = []
+entries_of_steps (x ∷ past) = entry_of_step x ∷ entries_of_steps past

@@ -6,7 +6,7 @@ use mathlib.Core.List.{List, [], ◌∷◌}
 use Prim.Native.Nat.{ℕ}
 use native.Mathlib.Omega.{arith}
 use Rattle.basics.proofs.Tests.{not_both}
-use Rattle.register.specs.Taken.{is, above, later_entries, among, cells_named, count_in, tally}
+use Rattle.register.specs.Taken.{is, above, later_entries, among, named_cells, count_in, tally}
 use Rattle.register.specs.declared.Assignment.{Assignment}
 use Rattle.register.specs.declared.CellEntry.{CellEntry}
 use Rattle.register.specs.declared.Change.TheVariants.{Assign, Release}
@@ -44,20 +44,20 @@ pub numbers : (group_number_for 5 early (entry 5 7 (Assign (carrier 1500))) ≡ 
     × (group_number_for 5 early (entry 5 8 (Assign (carrier 1000))) ≡ 0) × (group_number_for 5 early (entry 5 7 (Assign (carrier 400001))) ≡ 14)
     × (group_number_for 5 early (entry 4 7 (Assign (carrier 1500))) ≡ 64) × (group_number_for 5 early (entry 9 7 Release) ≡ 0)
     × (group_number_for 5 early (entry 9223372036854775807 7 (Assign (carrier 1500))) ≡ 2)
-unfolding group_number_given group_latest is_odd above count_in cells_named among
+unfolding group_number_given group_latest is_odd above count_in named_cells among
 numbers = (refl, refl, refl, refl, refl, refl, refl)
 
 -- cell 7 keeps its odd width
 pub odd_width_kept : group_latest 5 office 7 ≡ is (Assign (carrier 999))
-unfolding group_number_given group_latest is_odd above count_in cells_named among
+unfolding group_number_given group_latest is_odd above count_in named_cells among
 odd_width_kept = refl
 
 pub none_taken : NoneTakenOf 5 7 (entry 6 9 (Assign (carrier 2000)) ∷ entry 5 7 (Assign (carrier 1500)) ∷ []) early
-unfolding group_number_given group_latest is_odd above count_in cells_named among
+unfolding group_number_given group_latest is_odd above count_in named_cells among
 none_taken = ((λ p q. not_both q refl), ((λ p q. not_both p refl), tt))
 
 pub figures : (tally (group_makes 5) office ≡ 3) × (tally (group_supersedes 5) office ≡ 1) × (tally (group_releases 5) office ≡ 0) × (group_live_count 5 office ≡ 2)
-unfolding tally group_number_given group_latest is_odd above count_in cells_named among
+unfolding tally group_number_given group_latest is_odd above count_in named_cells among
 figures = (refl, refl, refl, refl)
 
 -- the same with a repeat between them

@@ -14,8 +14,8 @@ use Rattle.basics.proofs.Tests.{not_both, fails, and_left, and_right, of-both}
 use Rattle.raster.specs.Raster.{frequency_of}
 use Rattle.register.specs.Cells.{cell_of}
 use Rattle.register.specs.History.{register_after}
-use Rattle.register.specs.Register.{new_register, live_cells, assignable, slot_seen, older, refused, assign, apply_change, apply}
-use Rattle.register.specs.Taken.{Latest, is, is_assigned, slot_within_limit, above, change_within_limits, is_assignment, is_release, assigned_cells, later_entries, number_given}
+use Rattle.register.specs.Register.{new_register, live_cells, assignable, slot_seen, older, entry_refused, assign, apply_change, apply}
+use Rattle.register.specs.Taken.{Latest, is, is_assigned, slot_within_limit, above, change_within_limits, is_assignment, is_release, assigned_cells, later_entries, entry_number_given}
 use Rattle.register.specs.declared.Assignment.{Assignment}
 use Rattle.register.specs.declared.CellEntry.{CellEntry}
 use Rattle.register.specs.declared.Change.{Change}
@@ -80,7 +80,7 @@ odd_slot_seen from next e odd given h = let within = odd_slot from next e (sym g
 -- the slot's 2, an older slot, and then what is left
 abbrev slot_first : RegisterSettings → Register → ℕ → GroupApplied → GroupApplied
 slot_first s r slot a =
-    cond (ltb 9223372036854775806 slot) (as_register s (refused NumberTooLarge r)) (cond (ltb slot r.next_slot) (as_register s (older r)) a)
+    cond (ltb 9223372036854775806 slot) (as_register s (entry_refused NumberTooLarge r)) (cond (ltb slot r.next_slot) (as_register s (older r)) a)
 
 module _ (s : RegisterSettings) (r : Register) (e : CellEntry) where
   abbrev from : ℕ
@@ -118,19 +118,19 @@ module _ (s : RegisterSettings) (r : Register) (e : CellEntry) where
     where
       go : (t u : Bool)
           → cond (not t && not u) (group_applied s (slot_seen e.slot r) (Err OddWidth))
-          (as_register s (cond t (refused NumberTooLarge r) (cond u (older r) (apply_change e.change e.cell (slot_seen e.slot r)))))
-          ≡ cond t (as_register s (refused NumberTooLarge r)) (cond u (as_register s (older r)) (group_applied s (slot_seen e.slot r) (Err OddWidth)))
+          (as_register s (cond t (entry_refused NumberTooLarge r) (cond u (older r) (apply_change e.change e.cell (slot_seen e.slot r)))))
+          ≡ cond t (as_register s (entry_refused NumberTooLarge r)) (cond u (as_register s (older r)) (group_applied s (slot_seen e.slot r) (Err OddWidth)))
       go true u = refl
       go false true = refl
       go false false = refl
 
-  without_width_applied : as_register s (apply r (without_width e)) ≡ slot_first s r e.slot (as_register s (refused NotAssignable (slot_seen e.slot r)))
+  without_width_applied : as_register s (apply r (without_width e)) ≡ slot_first s r e.slot (as_register s (entry_refused NotAssignable (slot_seen e.slot r)))
   unfolding apply apply_change assign assignable frequency_of
   without_width_applied = go (ltb 9223372036854775806 e.slot) (ltb e.slot r.next_slot)
     where
       go : (t u : Bool)
-          → as_register s (cond t (refused NumberTooLarge r) (cond u (older r) (refused NotAssignable (slot_seen e.slot r))))
-          ≡ cond t (as_register s (refused NumberTooLarge r)) (cond u (as_register s (older r)) (as_register s (refused NotAssignable (slot_seen e.slot r))))
+          → as_register s (cond t (entry_refused NumberTooLarge r) (cond u (older r) (entry_refused NotAssignable (slot_seen e.slot r))))
+          ≡ cond t (as_register s (entry_refused NumberTooLarge r)) (cond u (as_register s (older r)) (as_register s (entry_refused NotAssignable (slot_seen e.slot r))))
       go true u = refl
       go false true = refl
       go false false = refl
@@ -140,8 +140,8 @@ module _ (s : RegisterSettings) (r : Register) (e : CellEntry) where
   entry_mapped = go (odd_within_limits from e) refl
     where
       both : (t u : Bool)
-          → (cond t (as_register s (refused NumberTooLarge r)) (cond u (as_register s (older r)) (group_applied s (slot_seen e.slot r) (Err OddWidth)))).group
-          ≡ (cond t (as_register s (refused NumberTooLarge r)) (cond u (as_register s (older r)) (as_register s (refused NotAssignable (slot_seen e.slot r))))).group
+          → (cond t (as_register s (entry_refused NumberTooLarge r)) (cond u (as_register s (older r)) (group_applied s (slot_seen e.slot r) (Err OddWidth)))).group
+          ≡ (cond t (as_register s (entry_refused NumberTooLarge r)) (cond u (as_register s (older r)) (as_register s (entry_refused NotAssignable (slot_seen e.slot r))))).group
       both true u = refl
       both false true = refl
       both false false = refl
@@ -221,7 +221,7 @@ module _ (s : RegisterSettings) (made : is_made s ≡ true) where
               twice false = refl
 
           both : (t u : Bool)
-              → group_outcome_number (cond t (as_register s (refused NumberTooLarge r)) (cond u (as_register s (older r)) (group_applied s (slot_seen e.slot r) (Err OddWidth)))).outcome
+              → group_outcome_number (cond t (as_register s (entry_refused NumberTooLarge r)) (cond u (as_register s (older r)) (group_applied s (slot_seen e.slot r) (Err OddWidth)))).outcome
               ≡ cond t 2 (cond u 64 23)
           both true u = refl
           both false true = refl
@@ -230,7 +230,7 @@ module _ (s : RegisterSettings) (made : is_made s ≡ true) where
           ap (λ (a : GroupApplied). group_outcome_number a.outcome) (plain_applied s r e h)
           ∙ in_group_number (apply (register_after mapped) e).outcome
           ∙ E6.number_given_lem mapped e
-          ∙ ap (λ (l : ℕ → Latest). number_given l mapped e) (latest_bound slot before)
+          ∙ ap (λ (l : ℕ → Latest). entry_number_given l mapped e) (latest_bound slot before)
           ∙ number_plain slot (group_latest slot before) before e h
 
   -- ---- an entry is done exactly where the entries say that it is taken

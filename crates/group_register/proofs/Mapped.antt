@@ -7,7 +7,7 @@ use mathlib.Core.List.{List, [], ◌∷◌, map}
 use Prim.Native.Nat.{ℕ}
 use lib.Dec.{eqb}
 use Rattle.basics.proofs.Tests.{not_both, fails, and_left, and_right}
-use Rattle.register.specs.Taken.{Latest, is, is_assigned, slot_within_limit, above, is_later, later_entries, change_within_limits, is_assignment, is_release, cells_named, count_in, number_given, is_taken_given, latest, is_taken, tally, makes, supersedes, releases, figures_of, live_count}
+use Rattle.register.specs.Taken.{Latest, is, is_assigned, slot_within_limit, above, is_later, later_entries, change_within_limits, is_assignment, is_release, named_cells, count_in, entry_number_given, is_taken_given, latest, is_taken, tally, makes, supersedes, is_taken_release, figures_of, live_count}
 use Rattle.register.specs.declared.CellEntry.{CellEntry}
 use Rattle.register.specs.declared.Change.TheVariants.{Assign}
 use Rattle.register.specs.declared.Figures.{Figures}
@@ -53,16 +53,16 @@ module _ (from : ℕ) where
   above_bound slot [] = refl
   above_bound slot (e ∷ es) = simp (bound_slot e, above_bound slot es)
 
-  named_bound : (es : List CellEntry) → cells_named (bound_entries from es) ≡ cells_named es
-  unfolding cells_named
+  named_bound : (es : List CellEntry) → named_cells (bound_entries from es) ≡ named_cells es
+  unfolding named_cells
   named_bound [] = refl
   named_bound (e ∷ es) = simp (bound_cell e, named_bound es)
 
   -- ---- the number of an entry
   module _ (latest : ℕ → Latest) (before : List CellEntry) (e : CellEntry) where
     -- every other entry has E6's number
-    pub number_plain : odd_within_limits from e ≡ false → number_given latest (bound_entries from before) e ≡ group_number_given from latest before e
-    unfolding number_given group_number_given
+    pub number_plain : odd_within_limits from e ≡ false → entry_number_given latest (bound_entries from before) e ≡ group_number_given from latest before e
+    unfolding entry_number_given group_number_given
     number_plain h = simp (above_bound, named_bound) (ap (behind_slot e before) (go (change_within_limits e.change) (is_odd from e) _ h))
       where
         go : (t u : Bool) (k : ℕ) → (t && u) ≡ false → cond (not t) 14 k ≡ cond (not t) 14 (cond u 23 k)
@@ -75,8 +75,8 @@ module _ (from : ℕ) where
     number_odd h = simp (and_left (change_within_limits e.change) (is_odd from e) h, and_right (change_within_limits e.change) (is_odd from e) h)
 
     -- the entry without a width has 14 in the place of 23
-    number_without_width : number_given latest (bound_entries from before) (without_width e) ≡ behind_slot e before 14
-    unfolding number_given
+    number_without_width : entry_number_given latest (bound_entries from before) (without_width e) ≡ behind_slot e before 14
+    unfolding entry_number_given
     number_without_width = simp above_bound
 
     -- so both are taken, or neither
@@ -90,7 +90,7 @@ module _ (from : ℕ) where
         not_zero false false = refl
 
         go : (t : Bool) → odd_within_limits from e ≡ t
-            → eqb (number_given latest (bound_entries from before) (cond t (without_width e) e)) 0 ≡ eqb (group_number_given from latest before e) 0
+            → eqb (entry_number_given latest (bound_entries from before) (cond t (without_width e) e)) 0 ≡ eqb (group_number_given from latest before e) 0
         go true h =
             ap (λ (k : ℕ). eqb k 0) number_without_width ∙ not_zero (not (slot_within_limit e.slot)) (not (above e.slot before))
             ∙ ap (λ (k : ℕ). eqb k 0) (sym (number_odd h))
@@ -149,7 +149,7 @@ module _ (from : ℕ) where
     makes_bound : makes (bound_entries from before) (bound_entry from e) ≡ group_makes from before e
     makes_bound = taken_and (λ x. is_assignment x.change)
 
-    releases_bound : releases (bound_entries from before) (bound_entry from e) ≡ group_releases from before e
+    releases_bound : is_taken_release (bound_entries from before) (bound_entry from e) ≡ group_releases from before e
     releases_bound = taken_and (λ x. is_release x.change)
 
     supersedes_bound : supersedes (bound_entries from before) (bound_entry from e) ≡ group_supersedes from before e
@@ -166,9 +166,9 @@ module _ (from : ℕ) where
 
   pub figures_bound : (es : List CellEntry) → figures_of (bound_entries from es) ≡ group_figures from es
   figures_bound es =
-      ap (λ (x : ℕ). figures x (tally supersedes (bound_entries from es)) (tally releases (bound_entries from es))) (tally_bound makes (group_makes from) makes_bound es)
-      ∙ ap (λ (x : ℕ). figures (tally (group_makes from) es) x (tally releases (bound_entries from es))) (tally_bound supersedes (group_supersedes from) supersedes_bound es)
-      ∙ ap (λ (x : ℕ). figures (tally (group_makes from) es) (tally (group_supersedes from) es) x) (tally_bound releases (group_releases from) releases_bound es)
+      ap (λ (x : ℕ). figures x (tally supersedes (bound_entries from es)) (tally is_taken_release (bound_entries from es))) (tally_bound makes (group_makes from) makes_bound es)
+      ∙ ap (λ (x : ℕ). figures (tally (group_makes from) es) x (tally is_taken_release (bound_entries from es))) (tally_bound supersedes (group_supersedes from) supersedes_bound es)
+      ∙ ap (λ (x : ℕ). figures (tally (group_makes from) es) (tally (group_supersedes from) es) x) (tally_bound is_taken_release (group_releases from) releases_bound es)
     where
       figures : ℕ → ℕ → ℕ → Figures
       figures m s r = record { made = m; superseded = s; released = r }

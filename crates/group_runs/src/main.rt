@@ -3,17 +3,20 @@
 // Where document 02 says on which answer the leader commits (E14), its commits are counted by the answers that it has heard.
 #![tactic(auto)]
 
+mod network;
+mod run_checks;
+
+use crate::network::{Network, Parcel};
+use crate::run_checks::{Log, next_random};
+use basics::tables::PerProcess;
 use calls::{Call, CommittedSlot, Reply};
 use delivery::{Delivery, Said};
 use group_by_value::Group;
 use message::{ConsensusMessage, ConsensusMsg, Outcome, PFMode};
-use network::{Network, Parcel};
 use refusals::Refused;
-use run_checks::{Log, next_random};
 use settings::Settings;
 use std::{fmt, io};
 use steps::Messages;
-use tables::PerProcess;
 
 const RUNS: u64 = 1000;
 
@@ -98,7 +101,7 @@ fn random_table(seed: u64, n: u64) -> PerProcess {
 // The first count processes, or all of them but the first where spare is 0.
 fn first_processes(count: u64, spare: u64) -> u64 {
     let first = if spare == 0 { 1 } else { 0 };
-    (first..count).fold(0, |set, p| sets::insert(set, p))
+    (first..count).fold(0, |set, p| basics::sets::insert(set, p))
 }
 
 // How many processes there are: 3 to 5 in three runs of four, and else 1 to 9.
@@ -248,7 +251,7 @@ fn with_answer(settings: &Settings, heard: u64, slot: u64, message: ConsensusMes
         ConsensusMsg::Accept { slot: named, .. }
             if named == slot
                 && source != settings.first_leader
-                && settings.is_live_replica(source) => { sets::insert(heard, source) }
+                && settings.is_live_replica(source) => { basics::sets::insert(heard, source) }
         _ => heard,
     }
 }
@@ -324,7 +327,7 @@ impl World {
     }
 
     fn unless_stopped(&self, member: u64, call: Call) -> Option<NextCall> {
-        if member < self.settings.process_count && !sets::contains(self.stopped, member) {
+        if member < self.settings.process_count && !basics::sets::contains(self.stopped, member) {
             Some((member, call))
         } else {
             None
@@ -352,12 +355,16 @@ impl World {
     }
 
     fn stop(&mut self, x: u64) {
-        self.stopped = sets::insert(self.stopped, remainder(x, self.settings.process_count));
+        self.stopped = basics::sets::insert(
+            self.stopped,
+            remainder(x, self.settings.process_count),
+        );
     }
 
     // Whether the message goes from one side of the group to the other.
     fn crosses(&self, parcel: &Parcel) -> bool {
-        sets::contains(self.side, parcel.message.src) != sets::contains(self.side, parcel.member)
+        basics::sets::contains(self.side, parcel.message.src)
+            != basics::sets::contains(self.side, parcel.member)
     }
 
     // A turn in which a message under way is lost or delivered, or, where it goes to the other side of the group, mostly waits.
@@ -408,8 +415,10 @@ impl World {
         let slot = self.log.slot_of(self.settings.first_leader);
         self.heard = heard_in(&self.settings, self.heard, slot, call);
         if commit.is_some() {
-            self.counts
-                .add_leader_commit(self.settings.quorums().majority, sets::size(self.heard));
+            self.counts.add_leader_commit(
+                self.settings.quorums().majority,
+                basics::sets::size(self.heard),
+            );
             self.heard = 0;
         }
     }

@@ -3,7 +3,7 @@
 use mathlib.Core.Path.{◌≡◌, refl}
 use mathlib.Core.List.{[], ◌∷◌}
 use Prim.Native.Nat.{ℕ}
-use Rattle.sets.specs.Sets.{contains, count, size}
+use Rattle.basics.specs.sets.Sets.{contains, count, size}
 use Rattle.message.specs.Modes.{mode_of_number}
 use Rattle.settings.specs.Settings.{within_limits, counts_fit, members_fit, committers_fit, mode_fits}
 use Rattle.calendar.specs.Calendar.{is_leap, year_days, days_of_years, month_days, days_of_months, is_month, is_day, is_time, is_date, days_before, minute_of}

@@ -9,7 +9,7 @@ use Prim.Native.Nat.{ℕ, ◌≤◌}
 use borrow.Author.Tests.{le-leb}
 use Rattle.consensus.specs.declared.Shard.{Shard}
 use Rattle.group.specs.Claim.{begun, Choices, MemberCall, entries_from, entries_with, LegalFrom, LegalWith}
-use Rattle.group.specs.Steps.{steps_from, steps}
+use Rattle.group.specs.Steps.{steps_from, run_steps}
 use Rattle.windows.specs.Windows.{check_windows}
 use Rattle.group_settings.specs.GroupSettings.{windows_outcome}
 use Rattle.group_settings.specs.declared.GroupSettings.{GroupSettings}
@@ -21,7 +21,7 @@ module _ (g : GroupSettings) (in_time : g.whole_mhz_from ≤ 9223372036854775806
   engine_shards = begun_in_time g (le-leb g.whole_mhz_from 9223372036854775806 in_time) (ap windows_outcome windows)
 
   module _ (cs : List MemberCall) where
-    pub engine_steps : group_steps g cs ≡ steps g.settings cs
+    pub engine_steps : group_steps g cs ≡ run_steps g.settings cs
     engine_steps = ap (λ (shards : ℕ → Shard). steps_from shards [] cs) engine_shards
 
     module _ (choices : Choices) where

@@ -4,7 +4,7 @@
 use Rattle.std.specs.Prelude.{List, [], ℕ}
 use Rattle.consensus.specs.declared.Shard.{Shard}
 use Rattle.group.specs.Claim.{member_settings, Choices, MemberCall, Entry, entries_from, LegalFrom}
-use Rattle.group.specs.Steps.{Step, steps_from}
+use Rattle.group.specs.Steps.{RunStep, steps_from}
 use Rattle.group_settings.specs.declared.GroupSettings.{GroupSettings}
 use Rattle.group_shard.specs.Begin.{begin_shard}
 
@@ -22,5 +22,5 @@ abbrev pub GroupLegal : Choices → GroupSettings → List MemberCall → Type 0
 GroupLegal choices g cs = LegalFrom g.settings.process_count choices (begun_from g) [] cs
 
 -- its steps, at our choice, as E14 sees a run
-abbrev pub group_steps : GroupSettings → List MemberCall → List Step
+abbrev pub group_steps : GroupSettings → List MemberCall → List RunStep
 group_steps g cs = steps_from (begun_from g) [] cs

@@ -18,7 +18,7 @@ use Rattle.fast_state.specs.Adopt.{lowest_best}
 use Rattle.settings.specs.Settings.{within_limits}
 use Rattle.calls.specs.declared.Call.{Call}
 use Rattle.consensus.specs.Call.{new_shard, after_calls}
-use Rattle.consensus.specs.FirstCause.{settings_causes, number_of, MadeBySettings}
+use Rattle.consensus.specs.FirstCause.{settings_causes, number_of_outcome, MadeBySettings}
 use Rattle.consensus.specs.Rows.{Row, gives, NoneHolds, FirstHolds, then}
 use Rattle.consensus.specs.declared.Answer.{Answer}
 use Rattle.consensus.specs.declared.Shard.{Shard}
@@ -85,8 +85,8 @@ marked g =
         inr (NotInCalendar, refl, first_behind rows of_group 17 none (inr (early e, inr (f, inl (ap not h, refl)))))
     go true true true fit e f h (inl (_, none)) = inr (SettingsOutsideLimits, refl, first_behind rows of_group 1 none (inr (early e, inl (f, refl))))
     go true false many fit e f h (inl (_, none)) = inr (SettingsOutsideLimits, refl, first_behind rows of_group 1 none (inl (late e, refl)))
-    go true u many fit e f h (inr (made, first)) = absurd (let z : ◌≡◌ {A = ℕ} 0 1 = ap number_of made in omega arith)
-    go false u many fit e f h (inl (made, none)) = absurd (let z : ◌≡◌ {A = ℕ} 1 0 = ap number_of made in omega arith)
+    go true u many fit e f h (inr (made, first)) = absurd (let z : ◌≡◌ {A = ℕ} 0 1 = ap number_of_outcome made in omega arith)
+    go false u many fit e f h (inl (made, none)) = absurd (let z : ◌≡◌ {A = ℕ} 1 0 = ap number_of_outcome made in omega arith)
     go false u many fit e f h (inr (_, first)) = inr (SettingsOutsideLimits, refl, first_before rows of_group 1 first)
 
 -- ---- through any list of calls

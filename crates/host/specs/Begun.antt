@@ -2,7 +2,7 @@
 -- Assumes nothing.
 use Rattle.arrays.specs.Arrays.{setup_of, setup_numbers, core_numbers}
 use Rattle.consensus.specs.Call.{new_core}
-use Rattle.fast_arrays.specs.FastArrays.{cleared}
+use Rattle.direct_fast.specs.half.FastArrays.{cleared}
 use Rattle.read_tracker.specs.Reads.{new_table}
 use Rattle.flat.specs.Encode.{encoded_core}
 use Rattle.flat.specs.Decode.{decoded_settings}

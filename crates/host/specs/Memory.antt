@@ -1,7 +1,7 @@
 -- The arrays that a host lends for a shard, as the memory of a member.
 -- Assumes nothing.
 use Rattle.std.specs.Prelude.{List, ℕ}
-use Rattle.array_reads.specs.Rows.{table_of}
+use Rattle.arrays.specs.reads.Rows.{table_of}
 use Rattle.arrays.specs.Arrays.{setup_of}
 use Rattle.arrays.specs.FastArrays.{fast_arrays}
 use Rattle.direct.specs.Stands.{Memory}

@@ -6,11 +6,11 @@ ghost use Rattle.group_settings.specs.GroupSettings.{flat_settings_number};
 ghost use Rattle.host.specs.Memory.{memory_in};
 ghost use Rattle.host.specs.Begun.{new_memory};
 
-use array_reads::{OpenReadsArray, ReadArrays, ServedReadsArray};
+use arrays::reads::{OpenReadsArray, ReadArrays, ServedReadsArray};
 use arrays::{CoreArray, SetupArray};
-use fast_arrays::{AnswersArray, FastHalf};
+use basics::tables::PerProcess;
+use direct_fast::half::{AnswersArray, FastHalf};
 use group_settings::FlatGroupSettings;
-use tables::PerProcess;
 
 // A shard as it begins from the settings of its group. Hands back the number that it is marked with, the first of its setup: 0; or of settings outside the
 // limits 1, or of windows that do not fit 17, by which every call on it is refused.

@@ -3,8 +3,8 @@
 -- Assumes nothing.
 use Rattle.std.specs.Prelude.{◌≡◌, true, false, List, [], ◌∷◌, ℕ, replicate, Option, None, Some, Result, Ok, Err}
 use Rattle.message.specs.declared.Refusal.{Refusal}
-use Rattle.sets.specs.Sets.{size}
-use Rattle.tables.specs.Tables.{look_up}
+use Rattle.basics.specs.sets.Sets.{size}
+use Rattle.basics.specs.tables.Tables.{look_up}
 use Rattle.quorum.specs.Quorum.{row_of}
 use Rattle.message.specs.declared.ConsensusMsg.{ConsensusMsg}
 use Rattle.message.specs.declared.ConsensusMsg.TheVariants.{Prepare, Commit, ReadRequest, ReadResponse}
@@ -23,8 +23,8 @@ use Rattle.fast_state.specs.Fast.{answers_of, unchanged, changed, no_answers, ep
 use Rattle.fast_state.specs.Adopt.{lowest_best, epaxos_try_adopt_after}
 use Rattle.fast_state.specs.RoundState.{new_round_state}
 use Rattle.read_tracker.specs.declared.Inserted.{Inserted}
-use Rattle.read_tracker.specs.Reads.{read_id, new_tracker, new_table, opening, inserted, insert as insert_read}
-use Rattle.serving.specs.Serving.{receive_ready, commit_slot}
+use Rattle.read_tracker.specs.Reads.{read_id, new_tracker, new_table, opening, inserted, insert_read}
+use Rattle.read_tracker.specs.serving.Serving.{receive_ready, serve_at_commit}
 use Rattle.settings.specs.declared.Settings.{Settings}
 use Rattle.steps.specs.Steps.{no_messages, one_message, to_all}
 use Rattle.consensus.specs.Call.{new_shard, call_of}
@@ -33,38 +33,38 @@ use Rattle.calls.specs.declared.Call.TheVariants.{Propose, StartRead, Receive}
 use Rattle.calls.specs.declared.Reply.{Reply}
 use Rattle.consensus.specs.declared.Shard.{Shard}
 
-pub record Row : Type 1 where
+pub record StarredRow : Type 1 where
   pub Answer : Type 0
   pub given : Answer
   pub expected : Answer
 
-abbrev pub row : {A : Type 0} → A → A → Row
+abbrev pub row : {A : Type 0} → A → A → StarredRow
 row a b = record { Answer = _; given = a; expected = b }
 
-abbrev pub AllHold : List Row → Type 0
+abbrev pub AllHold : List StarredRow → Type 0
 AllHold [] = Unit {0}
 AllHold (r ∷ rs) = (r.given ≡ r.expected) × AllHold rs
 
 -- ---- quorums
 
 -- 5 replicas give 3, 3, 4
-abbrev pub five_replicas : Row
+abbrev pub five_replicas : StarredRow
 five_replicas = row (row_of 5) (record { majority = 3; epaxos = 3; fast = 4 })
 
 -- ---- rounds
 
 -- none < (0,4) < (1,0)
-abbrev pub none_first : Row
+abbrev pub none_first : StarredRow
 none_first = row (before None (Some (round_of 0 4))) true
 
-abbrev pub group_first : Row
+abbrev pub group_first : StarredRow
 group_first = row (before (Some (round_of 0 4)) (Some (round_of 1 0))) true
 
 -- (2,3) next for 3 is (2,3), for 1 is (3,1)
-abbrev pub next_for_leader : Row
+abbrev pub next_for_leader : StarredRow
 next_for_leader = row (next_leader_round (round_of 2 3) 3) (round_of 2 3)
 
-abbrev pub next_for_lower : Row
+abbrev pub next_for_lower : StarredRow
 next_for_lower = row (next_leader_round (round_of 2 3) 1) (round_of 3 1)
 
 -- ---- the round state of a replica of five
@@ -72,16 +72,16 @@ next_for_lower = row (next_leader_round (round_of 2 3) 1) (round_of 3 1)
 abbrev pub replica : ℕ → Member
 replica p = record { my_pid = p; replica = true; quorums = row_of 5 }
 
-abbrev pub nothing_heard : PaxosState
-nothing_heard = (new_round_state None).paxos
+abbrev pub fresh_paxos : PaxosState
+fresh_paxos = (new_round_state None).paxos
 
-abbrev pub promised : ℕ → RoundV → PaxosState → PaxosState
-promised src rv s = receive_promise (replica 0) src rv s
+abbrev pub after_promises : ℕ → RoundV → PaxosState → PaxosState
+after_promises src rv s = receive_promise (replica 0) src rv s
 
 -- Promises value 7 no round, then 9 of (0,1), then 5 no round: 9 is held
-abbrev pub highest_held : Row
+abbrev pub highest_held : StarredRow
 highest_held =
-    row (promised 3 (PaxosV None 5) (promised 2 (PaxosV (Some (round_of 0 1)) 9) (promised 1 (PaxosV None 7) nothing_heard))).max_rv
+    row (after_promises 3 (PaxosV None 5) (after_promises 2 (PaxosV (Some (round_of 0 1)) 9) (after_promises 1 (PaxosV None 7) fresh_paxos))).max_rv
     (Some (PaxosV (Some (round_of 0 1)) 9))
 
 -- Replica 0 hears accept (0,2) value 9 twice from 1: count 2
@@ -92,16 +92,16 @@ abbrev pub after_heard : ℕ → PaxosState → PaxosState
 after_heard v s = state_left s (heard_accept v s)
 
 abbrev pub accepted_twice : PaxosState
-accepted_twice = after_heard 9 (after_heard 9 nothing_heard)
+accepted_twice = after_heard 9 (after_heard 9 fresh_paxos)
 
-abbrev pub counted_once : Row
+abbrev pub counted_once : StarredRow
 counted_once = row (size accepted_twice.accepted_set) 2
 
 -- Then value 8: refusal 9
-abbrev pub other_value : Row
+abbrev pub other_value : StarredRow
 other_value = row (heard_accept 8 accepted_twice) (Err AcceptUnlikeHeld)
 
-abbrev pub other_value_number : Row
+abbrev pub other_value_number : StarredRow
 other_value_number = row (refusal_number AcceptUnlikeHeld) 9
 
 -- EPaxos, five: 4 proposes 40; 1 answers proposer 0, value 10
@@ -112,56 +112,56 @@ change_left f (Err why) = unchanged (answers_of f)
 abbrev pub answers : ℕ → ℕ → ℕ → FastState → FastChange
 answers src proposer v f = change_left f (epaxos_answered (replica 4) src proposer v (answers_of f) f.epaxos_proposer_scores)
 
-abbrev pub answered : ℕ → ℕ → ℕ → FastState → FastState
-answered src proposer v f = changed (answers src proposer v f) f
+abbrev pub after_fast_answer : ℕ → ℕ → ℕ → FastState → FastState
+after_fast_answer src proposer v f = changed (answers src proposer v f) f
 
-abbrev pub proposed : FastState
-proposed =
-    answered 1 0 10
+abbrev pub proposed_and_answered : FastState
+proposed_and_answered =
+    after_fast_answer 1 0 10
     (changed (change_left no_answers (epaxos_propose_v (replica 4) 40 (answers_of no_answers) no_answers.epaxos_proposer_scores)) no_answers)
 
 -- what is adopted when one more answer comes
-abbrev pub adopts : ℕ → ℕ → ℕ → Result (Option ℕ) Refusal
-adopts src proposer v =
-    epaxos_try_adopt_after lowest_best (replica 4) (answers src proposer v proposed) proposed.fast_proposer_to_v proposed.epaxos_proposer_scores
+abbrev pub adopted_after : ℕ → ℕ → ℕ → Result (Option ℕ) Refusal
+adopted_after src proposer v =
+    epaxos_try_adopt_after lowest_best (replica 4) (answers src proposer v proposed_and_answered) proposed_and_answered.fast_proposer_to_v proposed_and_answered.epaxos_proposer_scores
 
 -- 2 answers proposer 4: adopt 10 (scores 3 and 2)
-abbrev pub adopts_best : Row
-adopts_best = row (adopts 2 4 40) (Ok (Some 10))
+abbrev pub adopts_best : StarredRow
+adopts_best = row (adopted_after 2 4 40) (Ok (Some 10))
 
-abbrev pub other_score : Row
-other_score = row (look_up (answered 2 4 40 proposed).epaxos_proposer_scores 0) 3
+abbrev pub other_score : StarredRow
+other_score = row (look_up (after_fast_answer 2 4 40 proposed_and_answered).epaxos_proposer_scores 0) 3
 
-abbrev pub own_score : Row
-own_score = row (look_up (answered 2 4 40 proposed).epaxos_proposer_scores 4) 2
+abbrev pub own_score : StarredRow
+own_score = row (look_up (after_fast_answer 2 4 40 proposed_and_answered).epaxos_proposer_scores 4) 2
 
 -- If instead of 2, 3 answers proposer 2 value 20: a tie, adopt 10
-abbrev pub tied_score : Row
-tied_score = row (look_up (answered 3 2 20 proposed).epaxos_proposer_scores 0) 3
+abbrev pub tied_score : StarredRow
+tied_score = row (look_up (after_fast_answer 3 2 20 proposed_and_answered).epaxos_proposer_scores 0) 3
 
-abbrev pub tied_other_score : Row
-tied_other_score = row (look_up (answered 3 2 20 proposed).epaxos_proposer_scores 2) 3
+abbrev pub tied_other_score : StarredRow
+tied_other_score = row (look_up (after_fast_answer 3 2 20 proposed_and_answered).epaxos_proposer_scores 2) 3
 
-abbrev pub adopts_lowest : Row
-adopts_lowest = row (adopts 3 2 20) (Ok (Some 10))
+abbrev pub adopts_lowest : StarredRow
+adopts_lowest = row (adopted_after 3 2 20) (Ok (Some 10))
 
 -- ---- reads
 
 -- Quorum 1, nothing held: a new read waits for the next response or commit
-abbrev pub opened : Inserted
-opened = inserted new_tracker new_table (opening new_tracker 7 0 true)
+abbrev pub read_opened : Inserted
+read_opened = inserted new_tracker new_table (opening new_tracker 7 0 true)
 
-abbrev pub read_taken : Row
-read_taken = row (insert_read new_tracker new_table 7 0 true) (Ok opened)
+abbrev pub read_taken : StarredRow
+read_taken = row (insert_read new_tracker new_table 7 0 true) (Ok read_opened)
 
-abbrev pub read_waits : Row
-read_waits = row opened.tracker.open_count 1
+abbrev pub read_waits : StarredRow
+read_waits = row read_opened.tracker.open_count 1
 
-abbrev pub response_serves : Row
-response_serves = row (receive_ready opened.tracker opened.table (read_id 0) 1 0 true).served_count 1
+abbrev pub response_serves : StarredRow
+response_serves = row (receive_ready read_opened.tracker read_opened.table (read_id 0) 1 0 true).served_count 1
 
-abbrev pub commit_serves : Row
-commit_serves = row (commit_slot opened.tracker opened.table 1 1).served_count 1
+abbrev pub commit_serves : StarredRow
+commit_serves = row (serve_at_commit read_opened.tracker read_opened.table 1 1).served_count 1
 
 -- ---- a group of one, in Paxos
 
@@ -195,14 +195,14 @@ sends_to_all msg =
 
 -- The first half of the instance: the proposal sends Prepare. The second half, "never commits", is `group_of_one` (crates/group/proofs/GroupOfOne.antt),
 -- since no finite row can say it.
-abbrev pub alone_proposes : Row
+abbrev pub alone_proposes : StarredRow
 alone_proposes = row (call_of alone (Propose 10)).reply (sends_to_all (Prepare 0 (round_of 0 0) (PaxosV None 10)))
 
 -- a new read is asked of all others, and waits
-abbrev pub alone_reads : Row
+abbrev pub alone_reads : StarredRow
 alone_reads = row (call_of alone (StartRead 7 0)).reply (sends_to_all (ReadRequest (read_id 0)))
 
-abbrev pub alone_waits : Row
+abbrev pub alone_waits : StarredRow
 alone_waits = row (call_of alone (StartRead 7 0)).shard.state.rounds.core.tracker.open_count 1
 
 -- with a process more, which is no replica, the quorum is 1 still, and the next response or commit from there serves the read
@@ -217,17 +217,17 @@ after_read msg =
     }))
     ).reply
 
-abbrev pub response_after_read : Row
+abbrev pub response_after_read : StarredRow
 response_after_read =
     row (after_read (ReadResponse (read_id 0) 0)) (record { outcome = Ok tt; messages = no_messages; commit = None; served_count = 1 })
 
-abbrev pub commit_after_read : Row
+abbrev pub commit_after_read : StarredRow
 commit_after_read =
     row (after_read (Commit 0 10)) (record { outcome = Ok tt; messages = no_messages; commit = committed_slot 0 10 false; served_count = 1 })
 
 -- ---- the table
 
-abbrev pub starred : List Row
+abbrev pub starred : List StarredRow
 starred =
     five_replicas
     ∷ none_first

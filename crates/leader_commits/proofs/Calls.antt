@@ -20,7 +20,7 @@ use Rattle.message.specs.declared.PFMode.{PFMode}
 use Rattle.message.specs.declared.PFMode.TheVariants.{Paxos, MultiPaxos, MultiPaxos3P, EPaxos, Pando, SwiftPaxos}
 use Rattle.message.specs.declared.PaxosRound.{PaxosRound}
 use Rattle.message.specs.declared.Refusal.{Refusal}
-use Rattle.sets.proofs.Laws.{fits_members}
+use Rattle.basics.proofs.sets.Laws.{fits_members}
 use Rattle.settings.specs.Questions.{is_live_replica, committer_in, committer_of, starting_round_of}
 use Rattle.settings.specs.Settings.{within_limits}
 use Rattle.settings.specs.declared.Settings.{Settings}
@@ -33,16 +33,15 @@ use Rattle.consensus.proofs.Decided.{by_decision}
 use Rattle.consensus.specs.Call.{call_of}
 use Rattle.consensus.specs.FirstCause.{number_alone}
 use Rattle.consensus.specs.declared.Shard.{Shard}
-use Rattle.agreement.specs.Model.{View, Message, prepare, accept, commit, other, Host, undecided, refuse, quiet, on_accept, on_propose, on_message}
-use Rattle.agreement.specs.Model as model
-use Rattle.agreement.specs.Refinement.{outcome, AsModel}
+use Rattle.agreement.specs.Model.{View, ModelMessage, prepare, accept, commit, other, Host, undecided, refuse, quiet, model_on_accept, model_on_propose, model_on_message, ModelOutcome}
+use Rattle.agreement.specs.Refinement.{model_outcome, AsModel}
 use Rattle.group.specs.Claim.{member_settings, NotSwift}
-use Rattle.group.specs.Steps.{Step, reply_of, is_done, heard_in, heard}
+use Rattle.group.specs.Steps.{RunStep, reply_of, is_done, delivery_in, delivered}
 use Rattle.group.proofs.Calls.{kind_of, not_swift, seen_answer, view_shard, Valid, valid_within, call_ok}
 use Rattle.group.proofs.Proposing.{leader_gathers}
 use Rattle.group.proofs.Ties.{lowest_picks_best}
 use Rattle.group.proofs.View.{round_number, leader_of, leader_of_lem, process_number, process_of, meaning_of, meaning_is, setup_of}
-use Rattle.leader_commits.specs.Answers.{is_accept_of, is_answer, hears}
+use Rattle.leader_commits.specs.Answers.{is_accept_of, is_answer, leader_hears}
 use Rattle.leader_commits.proofs.Led.{Led, FromLed, Expected, Proposing, Accepting, propose_leader, accept_leader}
 
 -- ---- the group as a led setup
@@ -102,19 +101,19 @@ made_or_refused s i shard valid c =
 
 -- ---- a step, seen as the model's
 
-abbrev pub seen_in : Step → model.Outcome
+abbrev pub seen_in : RunStep → ModelOutcome
 seen_in x = seen_answer (call_of x.before x.call)
 
-abbrev pub view_before : Step → View
+abbrev pub view_before : RunStep → View
 view_before x = view_shard x.before
 
 -- What a step of the leader does: it leaves what the leader knows, commits nothing, and no answer of this slot or a later one is heard and no
 -- proposal taken; or it is a proposal that is taken; or it is an accept of the leader's slot that is taken.
-pub data Does (s : Settings) (x : Step) : Type 0 where
-  rests : (seen_in x).view ≡ view_before x → (seen_in x).decision ≡ undecided → ((t : ℕ) → (view_before x).slot ≤ t → hears s t x ≡ false)
+pub data Does (s : Settings) (x : RunStep) : Type 0 where
+  rests : (seen_in x).view ≡ view_before x → (seen_in x).decision ≡ undecided → ((t : ℕ) → (view_before x).slot ≤ t → leader_hears s t x ≡ false)
       → ((v : ℕ) → x.call ≡ Propose v → (reply_of x).outcome ≡ Ok tt → ⊥) → Does s x
   proposes : (v : ℕ) → x.call ≡ Propose v → Proposing s.first_leader (view_before x) v (seen_in x) → Does s x
-  accepts : (d : Delivery) (slot : ℕ) (round : PaxosRound) (v : ℕ) → heard x ≡ Some d → d.message.msg ≡ Accept slot round v
+  accepts : (d : Delivery) (slot : ℕ) (round : PaxosRound) (v : ℕ) → delivered x ≡ Some d → d.message.msg ≡ Accept slot round v
       → Accepting (setup_of s) s.first_leader (view_before x) d.message.src slot v (seen_in x) → Numbers s → Does s x
 
 -- ---- tests
@@ -124,34 +123,34 @@ is_propose (Propose v) = true
 is_propose (StartRead tag arrival) = false
 is_propose (Receive d) = false
 
-abbrev is_accept_message : Message → Bool
+abbrev is_accept_message : ModelMessage → Bool
 is_accept_message (prepare s r a c v) = false
 is_accept_message (accept s r v) = true
 is_accept_message (commit s v) = false
 is_accept_message other = false
 
-module _ (s : Settings) (x : Step) where
+module _ (s : Settings) (x : RunStep) where
   -- a call that brings no answer
-  unheard : (t : ℕ) (c : Call) → x.call ≡ c → is_answer s t (heard_in c) ≡ false → hears s t x ≡ false
+  unheard : (t : ℕ) (c : Call) → x.call ≡ c → is_answer s t (delivery_in c) ≡ false → leader_hears s t x ≡ false
   unheard t c e f =
-      ap (λ (b : Bool). (b && eqb x.member s.first_leader) && is_done (reply_of x).outcome) (ap (λ (c : Call). is_answer s t (heard_in c)) e ∙ f)
+      ap (λ (b : Bool). (b && eqb x.member s.first_leader) && is_done (reply_of x).outcome) (ap (λ (c : Call). is_answer s t (delivery_in c)) e ∙ f)
 
   pub when_refused : seen_in x ≡ refuse (view_before x) → Does s x
   when_refused r =
-      rests (ap (λ (o : model.Outcome). o.view) r) (ap (λ (o : model.Outcome). o.decision) r)
-      (λ t le. right_fails (is_answer s t (heard x) && eqb x.member s.first_leader) _ not_done)
+      rests (ap (λ (o : ModelOutcome). o.view) r) (ap (λ (o : ModelOutcome). o.decision) r)
+      (λ t le. right_fails (is_answer s t (delivered x) && eqb x.member s.first_leader) _ not_done)
       (λ v e done. not_both (ap is_done done) not_done)
     where
       not_done : is_done (reply_of x).outcome ≡ false
-      not_done = ap (λ (o : model.Outcome). o.taken) r
+      not_done = ap (λ (o : ModelOutcome). o.taken) r
 
   when_quiet : (c : Call) → x.call ≡ c → is_propose c ≡ false → (seen_in x).view ≡ view_before x → (seen_in x).decision ≡ undecided
-      → ((t : ℕ) → (view_before x).slot ≤ t → is_answer s t (heard_in c) ≡ false) → Does s x
+      → ((t : ℕ) → (view_before x).slot ≤ t → is_answer s t (delivery_in c) ≡ false) → Does s x
   when_quiet c e no-proposal same no_commit no_answer =
       rests same no_commit (λ t le. unheard t c e (no_answer t le)) (λ v f done. not_both (ap is_propose (sym e ∙ f)) no-proposal)
 
 module _ (s : Settings) (multi : is_multi_paxos s.mode ≡ true) (none : s.committers ≡ None) (live : is_live_replica s s.first_leader ≡ true) (numbers : Numbers s)
-    (x : Step) (at : (view_before x).round ≡ (setup_of s).voters.start) where
+    (x : RunStep) (at : (view_before x).round ≡ (setup_of s).voters.start) where
   abbrev l : ℕ
   l = s.first_leader
 
@@ -165,14 +164,14 @@ module _ (s : Settings) (multi : is_multi_paxos s.mode ≡ true) (none : s.commi
   led = led_setup s multi none numbers.leader_small
 
   by_proposal : (v : ℕ) → x.call ≡ Propose v → AsModel meaning_of (setup_of s) l y (kind_of (Propose v)) (seen_in x) → Does s x
-  unfolding outcome
+  unfolding model_outcome
   by_proposal v e m = go m.0.allows refl m.1
     where
-      taken : seen_in x ≡ on_propose (setup_of s) l y v → (on_propose (setup_of s) l y v ≡ refuse y) ⊎ Proposing l y v (on_propose (setup_of s) l y v) → Does s x
+      taken : seen_in x ≡ model_on_propose (setup_of s) l y v → (model_on_propose (setup_of s) l y v ≡ refuse y) ⊎ Proposing l y v (model_on_propose (setup_of s) l y v) → Does s x
       taken r (inl f) = when_refused s x (r ∙ f)
       taken r (inr p) = proposes v e (subst (Proposing l y v) (sym r) p)
 
-      go : (b : Bool) → m.0.allows ≡ b → seen_in x ≡ cond b (on_propose (setup_of s) l y v) (refuse y) → Does s x
+      go : (b : Bool) → m.0.allows ≡ b → seen_in x ≡ cond b (model_on_propose (setup_of s) l y v) (refuse y) → Does s x
       go true f r = taken r (propose_leader (setup_of s) l led y at v)
       go false f r = when_refused s x r
 
@@ -182,22 +181,22 @@ module _ (s : Settings) (multi : is_multi_paxos s.mode ≡ true) (none : s.commi
 
   module _ (d : Delivery) (e : x.call ≡ Receive d) (m : AsModel meaning_of (setup_of s) l y (kind_of (Receive d)) (seen_in x)) where
     -- a message of the kind k is an answer of slot t only where k is an accept of it
-    no_answer : (t : ℕ) (k : ConsensusMsg) → d.message.msg ≡ k → is_accept_of t k ≡ false → is_answer s t (heard_in (Receive d)) ≡ false
+    no_answer : (t : ℕ) (k : ConsensusMsg) → d.message.msg ≡ k → is_accept_of t k ≡ false → is_answer s t (delivery_in (Receive d)) ≡ false
     no_answer t k f g =
         ap (λ (b : Bool). b && (is_live_replica s d.message.src && not (eqb d.message.src l))) (ap (is_accept_of t) f ∙ g)
 
     -- a message that has no part in the agreement
     by_other : (k : ConsensusMsg) → d.message.msg ≡ k → meaning_of d.message ≡ other → ((t : ℕ) → is_accept_of t k ≡ false) → Does s x
-    unfolding outcome on_message
+    unfolding model_outcome model_on_message
     by_other k f no_part no-accept = go m
       where
         left : seen_in x ≡ quiet y → Does s x
         left r =
-            when_quiet s x (Receive d) e refl (ap (λ (o : model.Outcome). o.view) r) (ap (λ (o : model.Outcome). o.decision) r)
+            when_quiet s x (Receive d) e refl (ap (λ (o : ModelOutcome). o.view) r) (ap (λ (o : ModelOutcome). o.decision) r)
             (λ t le. no_answer t k f (no-accept t))
 
-        taken : (h : Host) (b : Bool) → seen_in x ≡ cond b (on_message (setup_of s) l y d.message.src h (meaning_of d.message)) (refuse y) → Does s x
-        taken h true r = left (r ∙ ap (on_message (setup_of s) l y d.message.src h) no_part)
+        taken : (h : Host) (b : Bool) → seen_in x ≡ cond b (model_on_message (setup_of s) l y d.message.src h (meaning_of d.message)) (refuse y) → Does s x
+        taken h true r = left (r ∙ ap (model_on_message (setup_of s) l y d.message.src h) no_part)
         taken h false r = when_refused s x r
 
         go : AsModel meaning_of (setup_of s) l y (kind_of (Receive d)) (seen_in x) → Does s x
@@ -206,26 +205,26 @@ module _ (s : Settings) (multi : is_multi_paxos s.mode ≡ true) (none : s.commi
 
     -- an accept of the starting round
     by_accept : (slot : ℕ) (round : PaxosRound) (v : ℕ) → d.message.msg ≡ Accept slot round v → round_number (Some round) ≡ start → Does s x
-    unfolding outcome on_message
+    unfolding model_outcome model_on_message
     by_accept slot round v f first = go m
       where
         is_accept : meaning_of d.message ≡ accept slot start v
         is_accept = meaning_is d.message (Accept slot round v) f ∙ ap (λ (n : ℕ). accept slot n v) first
 
-        handled : (h : Host) → seen_in x ≡ on_accept (setup_of s) l y d.message.src slot start v h
-            → ((slot < y.slot) × (on_accept (setup_of s) l y d.message.src slot start v h ≡ quiet y))
-            ⊎ ((on_accept (setup_of s) l y d.message.src slot start v h ≡ refuse y) ⊎ Accepting (setup_of s) l y d.message.src slot v
-            (on_accept (setup_of s) l y d.message.src slot start v h))
+        handled : (h : Host) → seen_in x ≡ model_on_accept (setup_of s) l y d.message.src slot start v h
+            → ((slot < y.slot) × (model_on_accept (setup_of s) l y d.message.src slot start v h ≡ quiet y))
+            ⊎ ((model_on_accept (setup_of s) l y d.message.src slot start v h ≡ refuse y) ⊎ Accepting (setup_of s) l y d.message.src slot v
+            (model_on_accept (setup_of s) l y d.message.src slot start v h))
             → Does s x
         handled h r (inl older) =
-            when_quiet s x (Receive d) e refl (ap (λ (o : model.Outcome). o.view) (r ∙ older.1)) (ap (λ (o : model.Outcome). o.decision) (r ∙ older.1))
+            when_quiet s x (Receive d) e refl (ap (λ (o : ModelOutcome). o.view) (r ∙ older.1)) (ap (λ (o : ModelOutcome). o.decision) (r ∙ older.1))
             (λ t le. let before : slot < y.slot = older.0 in no_answer t (Accept slot round v) f (ne_eqb slot t (λ same. omega (arith, le, before, same))))
         handled h r (inr (inl out)) = when_refused s x (r ∙ out)
-        handled h r (inr (inr a)) = accepts d slot round v (ap heard_in e) f (subst (Accepting (setup_of s) l y d.message.src slot v) (sym r) a) numbers
+        handled h r (inr (inr a)) = accepts d slot round v (ap delivery_in e) f (subst (Accepting (setup_of s) l y d.message.src slot v) (sym r) a) numbers
 
-        taken : (h : Host) (b : Bool) → seen_in x ≡ cond b (on_message (setup_of s) l y d.message.src h (meaning_of d.message)) (refuse y) → Does s x
+        taken : (h : Host) (b : Bool) → seen_in x ≡ cond b (model_on_message (setup_of s) l y d.message.src h (meaning_of d.message)) (refuse y) → Does s x
         taken h true r =
-            handled h (r ∙ ap (on_message (setup_of s) l y d.message.src h) is_accept) (accept_leader (setup_of s) l led y at live d.message.src slot v h)
+            handled h (r ∙ ap (model_on_message (setup_of s) l y d.message.src h) is_accept) (accept_leader (setup_of s) l led y at live d.message.src slot v h)
         taken h false r = when_refused s x r
 
         go : AsModel meaning_of (setup_of s) l y (kind_of (Receive d)) (seen_in x) → Does s x

@@ -25,7 +25,7 @@ use Rattle.settings.specs.Questions.{starting_round_of}
 use Rattle.enter.specs.Enter.{can_propose, is_older}
 use Rattle.paxos_family.specs.Commit.{commit_slot}
 use Rattle.propose.specs.Propose.{proposal_round, may_propose}
-use Rattle.steps.specs.Steps.{CoreStep, no_messages, one_message, held_v, on_rounds}
+use Rattle.steps.specs.Steps.{CoreStep, no_messages, one_message, held_value, on_rounds}
 use Rattle.steps.specs.declared.Asked.{Asked}
 use Rattle.steps.specs.declared.Core.{Core}
 use Rattle.steps.specs.declared.Heard.{Heard}
@@ -162,7 +162,7 @@ module _ (shard : Shard) (multi : is_multi_paxos shard.settings.mode ≡ true) w
         leaves = λ d k. k;
         prepare_to = λ round d p w other. tt;
         accept_to_all = λ round d w. absurd w;
-        accept_to_lem = λ round v d p w k e other. (k.0, k.1, subst (λ (x : Option RoundV). AskedFor shard c round (held_v x)) (sym e) w);
+        accept_to_lem = λ round v d p w k e other. (k.0, k.1, subst (λ (x : Option RoundV). AskedFor shard c round (held_value x)) (sym e) w);
         commit_to_all = λ d requester. tt;
         propose_prepare_lem = λ round rv d. tt;
         propose_accept_lem = λ v d t p k. (k.0, k.1, subst (λ (x : Call). AskedFor shard x (proposal_round asked d) v) (sym p) (starts d t, refl));

@@ -9,7 +9,7 @@ use mathlib.Core.Logic.{inl, inr}
 use native.Mathlib.Omega.{arith}
 use lib.Dec.{lit<}
 use lib.ListN.{replicate}
-use Rattle.sets.specs.Sets.{contains}
+use Rattle.basics.specs.sets.Sets.{contains}
 use Rattle.message.specs.Rounds.{round_of}
 use Rattle.message.specs.declared.ConsensusMsg.TheVariants.{Accept, Commit}
 use Rattle.message.specs.declared.PFMode.TheVariants.{MultiPaxos}
@@ -17,7 +17,7 @@ use Rattle.settings.specs.declared.Settings.{Settings}
 use Rattle.consensus.specs.FirstCause.{any_from, joined}
 use Rattle.agreement.proofs.Tests.{neqb→ne}
 use Rattle.group.specs.Claim.{MemberCall, entries, Legal, At}
-use Rattle.group.specs.Steps.{Step, heard, steps_from, steps}
+use Rattle.group.specs.Steps.{RunStep, delivered, steps_from, run_steps}
 use Rattle.group.proofs.Computed.{computed}
 use Rattle.group.proofs.Example.{three, proposes, hears, commits_of, none, commits, first}
 use Rattle.leader_commits.specs.Answers.{Terms, sources, answers_came, Commits, HostHolds, SoundRequesters, SoundAnswers}
@@ -100,11 +100,11 @@ five_terms : Terms five
 unfolding contains
 five_terms = record { multi_paxos = refl; no_committer = refl; at_least_two = omega arith; live_leader = refl }
 
-abbrev Sound : Step → Type 0
-Sound x = HostHolds (heard x) × SoundRequesters five (heard x)
+abbrev Sound : RunStep → Type 0
+Sound x = HostHolds (delivered x) × SoundRequesters five (delivered x)
 
 -- what the host adds to its answers is sound
-five_sound : SoundAnswers five 0 (steps five calls_of_five)
+five_sound : SoundAnswers five 0 (run_steps five calls_of_five)
 unfolding steps_from any_from joined
 five_sound x (inl e) came = subst Sound (sym e) (refl, refl)
 five_sound x (inr (inl e)) came = subst Sound (sym e) (refl, refl)
@@ -115,7 +115,7 @@ five_sound x (inr (inr (inr (inr (inr (inl e)))))) came = subst Sound (sym e) (t
 five_sound x (inr (inr (inr (inr (inr (inr k)))))) came = absurd k
 
 -- the last step: before it one answer has come, with it two, which is majority less one; so the theorem says that the leader commits 10
-pub five_by_theorem : (x : Step) × (past : List Step) × At x past (steps five calls_of_five) × (answers_came five 0 past ≡ 1) × (answers_came five 0 (x ∷ past) ≡ 2) × Commits x 0 10
+pub five_by_theorem : (x : RunStep) × (past : List RunStep) × At x past (run_steps five calls_of_five) × (answers_came five 0 past ≡ 1) × (answers_came five 0 (x ∷ past) ≡ 2) × Commits x 0 10
 unfolding steps_from sources computed
 five_by_theorem = (
   _,

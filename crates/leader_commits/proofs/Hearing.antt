@@ -12,24 +12,24 @@ use native.Mathlib.Omega.{arith}
 use lib.Dec.{eqb}
 use borrow.Author.Tests.{eqb-false, eq-eqb, ne_eqb, not-true}
 use Rattle.basics.proofs.Tests.{either, not_both, and_left, and_right, or_left}
-use Rattle.sets.specs.Sets.{contains, count, size, insert, one}
-use Rattle.sets.proofs.Counting.{count_one_more}
-use Rattle.sets.proofs.Laws.{contains_empty, contains_insert_other, insert_none, size_insert}
+use Rattle.basics.specs.sets.Sets.{contains, count, size, insert, one}
+use Rattle.basics.proofs.sets.Counting.{count_one_more}
+use Rattle.basics.proofs.sets.Laws.{contains_empty, contains_insert_other, insert_none, size_insert}
 use Rattle.settings.specs.Questions.{is_live_replica}
 use Rattle.settings.specs.declared.Settings.{Settings}
 use Rattle.delivery.specs.declared.Delivery.{Delivery}
 use Rattle.agreement.specs.Model.{add}
-use Rattle.group.specs.Steps.{Step, reply_of, is_done, heard}
-use Rattle.leader_commits.specs.Answers.{is_accept_of, is_answer, source_of, comes, hears, sources}
+use Rattle.group.specs.Steps.{RunStep, reply_of, is_done, delivered}
+use Rattle.leader_commits.specs.Answers.{is_accept_of, is_answer, source_of, comes, leader_hears, sources}
 
 -- ---- one step more
 
-pub sources_same : (test : Step → Bool) (x : Step) (past : List Step) → test x ≡ false → sources test (x ∷ past) ≡ sources test past
+pub sources_same : (test : RunStep → Bool) (x : RunStep) (past : List RunStep) → test x ≡ false → sources test (x ∷ past) ≡ sources test past
 unfolding sources
 sources_same test x past e = simp e
 
-pub sources_more : (test : Step → Bool) (x : Step) (past : List Step) → test x ≡ true
-    → sources test (x ∷ past) ≡ insert (sources test past) (source_of (heard x))
+pub sources_more : (test : RunStep → Bool) (x : RunStep) (past : List RunStep) → test x ≡ true
+    → sources test (x ∷ past) ≡ insert (sources test past) (source_of (delivered x))
 unfolding sources
 sources_more test x past e = simp e
 
@@ -48,13 +48,13 @@ size_insert_most a p = go (dec_le 64 p)
         let most = one_most (not (contains a p)) in
         omega arith
 
-pub grows_by_one : (test : Step → Bool) (x : Step) (past : List Step) → size (sources test (x ∷ past)) ≤ size (sources test past) + 1
+pub grows_by_one : (test : RunStep → Bool) (x : RunStep) (past : List RunStep) → size (sources test (x ∷ past)) ≤ size (sources test past) + 1
 grows_by_one test x past = go (either (test x))
   where
     go : (test x ≡ true) ⊎ (test x ≡ false) → size (sources test (x ∷ past)) ≤ size (sources test past) + 1
     go (inl e) =
-        let more : size (sources test (x ∷ past)) ≡ size (insert (sources test past) (source_of (heard x))) = ap size (sources_more test x past e) in
-        let most = size_insert_most (sources test past) (source_of (heard x)) in
+        let more : size (sources test (x ∷ past)) ≡ size (insert (sources test past) (source_of (delivered x))) = ap size (sources_more test x past e) in
+        let most = size_insert_most (sources test past) (source_of (delivered x)) in
         omega arith
     go (inr e) = let same : size (sources test (x ∷ past)) ≡ size (sources test past) = ap size (sources_same test x past e) in omega arith
 
@@ -78,20 +78,20 @@ live_source s t (Some d) e =
     and_left (is_live_replica s d.message.src) (not (eqb d.message.src s.first_leader))
     (and_right (is_accept_of t d.message.msg) (is_live_replica s d.message.src && not (eqb d.message.src s.first_leader)) e)
 
-pub leader_not_counted : (s : Settings) (t : ℕ) (past : List Step) → contains (sources (hears s t) past) s.first_leader ≡ false
+pub leader_not_counted : (s : Settings) (t : ℕ) (past : List RunStep) → contains (sources (leader_hears s t) past) s.first_leader ≡ false
 unfolding sources
 leader_not_counted s t [] = contains_empty s.first_leader
-leader_not_counted s t (x ∷ past) = go (leader_not_counted s t past) (either (hears s t x))
+leader_not_counted s t (x ∷ past) = go (leader_not_counted s t past) (either (leader_hears s t x))
   where
-    go : contains (sources (hears s t) past) s.first_leader ≡ false → (hears s t x ≡ true) ⊎ (hears s t x ≡ false)
-        → contains (sources (hears s t) (x ∷ past)) s.first_leader ≡ false
+    go : contains (sources (leader_hears s t) past) s.first_leader ≡ false → (leader_hears s t x ≡ true) ⊎ (leader_hears s t x ≡ false)
+        → contains (sources (leader_hears s t) (x ∷ past)) s.first_leader ≡ false
     go rest (inl e) =
-        ap (λ (a : ℕ). contains a s.first_leader) (sources_more (hears s t) x past e)
-        ∙ contains_insert_other (sources (hears s t) past) (source_of (heard x)) s.first_leader
-        (other_source s t (heard x) (and_left (is_answer s t (heard x)) (eqb x.member s.first_leader)
+        ap (λ (a : ℕ). contains a s.first_leader) (sources_more (leader_hears s t) x past e)
+        ∙ contains_insert_other (sources (leader_hears s t) past) (source_of (delivered x)) s.first_leader
+        (other_source s t (delivered x) (and_left (is_answer s t (delivered x)) (eqb x.member s.first_leader)
         (and_left (comes s t x) (is_done (reply_of x).outcome) e)))
         ∙ rest
-    go rest (inr e) = ap (λ (a : ℕ). contains a s.first_leader) (sources_same (hears s t) x past e) ∙ rest
+    go rest (inr e) = ap (λ (a : ℕ). contains a s.first_leader) (sources_same (leader_hears s t) x past e) ∙ rest
 
 -- the leader and those that it has heard
 pub with_leader : (a l : ℕ) → l < 64 → contains a l ≡ false → count (add l (contains a)) 64 ≡ size a + 1

@@ -12,7 +12,7 @@ use native.Mathlib.Omega.{arith}
 use lib.Dec.{eqb, leb, ltb}
 use borrow.Author.Tests.{le-ltb, lt-leb, eq-eqb, leb-false, not-false}
 use Rattle.basics.proofs.Tests.{not_both}
-use Rattle.sets.proofs.Laws.{fits_members}
+use Rattle.basics.proofs.sets.Laws.{fits_members}
 use Rattle.message.specs.Modes.{is_multi_paxos, is_swift_paxos}
 use Rattle.message.specs.Rounds.{before, round_of}
 use Rattle.message.proofs.Order.{optional_rounds_ordered}
@@ -27,7 +27,7 @@ use Rattle.settings.proofs.Limits.{within_counts, within_members}
 use Rattle.fast_state.specs.Adopt.{lowest_best}
 use Rattle.delivery.specs.declared.Delivery.{Delivery}
 use Rattle.calls.specs.declared.Call.TheVariants.{Receive}
-use Rattle.consensus.specs.FirstCause.{any_above, any_from, too_large, given_number, joined, all_processes, all_numbers, given_and_different, ignored, source_not_live, leader_delegate, facts_of, handling_causes, all_causes}
+use Rattle.consensus.specs.FirstCause.{any_above, any_from, too_large, given_number, joined, all_processes, all_numbers, given_and_different, is_ignored, source_not_live, leader_delegate, facts_of, handling_causes, all_causes}
 use Rattle.consensus.specs.Panics.{Facts, fits_held, leads, accept_panics}
 use Rattle.consensus.specs.Rows.{Row, then, first_of}
 use Rattle.consensus.specs.declared.Shard.{Shard}
@@ -156,7 +156,7 @@ module _ (s : Settings) (multi : is_multi_paxos s.mode ≡ true) (limits : withi
       waits : (eqb n n && eqb l l && not d.said.value_held) ≡ not d.said.value_held
       waits = simp (eq-eqb n n refl, eq-eqb l l refl)
 
-      not_ignored : ignored (member_settings s l) state.rounds n round ≡ false
+      not_ignored : is_ignored (member_settings s l) state.rounds n round ≡ false
       not_ignored =
           let later : before (Some round) state.rounds.core.paxos.round ≡ false = ap
           (before (Some round)) in_round_lem ∙ optional_rounds_ordered.irreflexive (Some round) in

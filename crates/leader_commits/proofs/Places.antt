@@ -5,7 +5,7 @@ use mathlib.Core.Logic.{inl, inr}
 use mathlib.Core.List.{List, [], ◌∷◌}
 use Rattle.basics.specs.Lists.{In}
 use Rattle.group.specs.Claim.{Entry, At}
-use Rattle.group.specs.Steps.{Step, entry_at, entries_of}
+use Rattle.group.specs.Steps.{RunStep, entry_of_step, entries_of_steps}
 
 pub in_at : {A : Type 0} (x : A) (run : List A) → In x run → (earlier : List A) × At x earlier run
 in_at x [] k = absurd k
@@ -24,12 +24,12 @@ at_before x z past earlier (y ∷ run) (inl e) h = inr (subst (At z earlier) e.1
 at_before x z past earlier (y ∷ run) (inr k) h = inr (at_before x z past earlier run k h)
 
 -- steps and their entries
-pub at_entry : (x : Step) (past run : List Step) → At x past run → At (entry_at x) (entries_of past) (entries_of run)
+pub at_entry : (x : RunStep) (past run : List RunStep) → At x past run → At (entry_of_step x) (entries_of_steps past) (entries_of_steps run)
 at_entry x past [] k = absurd k
-at_entry x past (y ∷ run) (inl e) = inl (ap entry_at e.0, ap entries_of e.1)
+at_entry x past (y ∷ run) (inl e) = inl (ap entry_of_step e.0, ap entries_of_steps e.1)
 at_entry x past (y ∷ run) (inr k) = inr (at_entry x past run k)
 
-pub step_of : (e : Entry) (run : List Step) → In e (entries_of run) → (x : Step) × (e ≡ entry_at x)
+pub step_of : (e : Entry) (run : List RunStep) → In e (entries_of_steps run) → (x : RunStep) × (e ≡ entry_of_step x)
 step_of e [] k = absurd k
 step_of e (y ∷ run) (inl same) = (y, same)
 step_of e (y ∷ run) (inr k) = step_of e run k

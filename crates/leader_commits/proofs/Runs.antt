@@ -36,7 +36,7 @@ use Rattle.agreement.specs.Model as model
 use Rattle.agreement.specs.Refinement.{meanings}
 use Rattle.agreement.proofs.Tests.{by_test}
 use Rattle.group.specs.Claim.{member_settings, begun, ours, MemberCall, Entry, after_call, listed, messages_of, SentTo, WasSent, MayStand, LegalFrom, Legal, At, plus_commit, slot_at}
-use Rattle.group.specs.Steps.{Step, reply_of, is_done, heard, step_of, steps_from, steps, entry_at, entries_of}
+use Rattle.group.specs.Steps.{RunStep, reply_of, is_done, delivered, step_of, steps_from, run_steps, entry_of_step, entries_of_steps}
 use Rattle.group.proofs.Agreement.{begun_valid}
 use Rattle.group.proofs.Calls.{kind_of, seen_answer, view_shard, Valid, call_ok}
 use Rattle.group.proofs.Invariants.{CallLasts, call_lasts, shards_after}
@@ -90,13 +90,13 @@ module _ (s : Settings) (terms : Terms s) where
       (e : Entry) → In e past → (o : Outgoing) → In o (messages_of e.reply.messages)
       → FromLed (setup_of s).voters.start s.first_leader e.member (destination_of o.destination o.message.msg) (meaning_of o.message)
 
-  pub record Invariant (shards : ℕ → Shard) (past : List Step) : Type 0 where
+  pub record Invariant (shards : ℕ → Shard) (past : List RunStep) : Type 0 where
     pub valid : (i : ℕ) → Valid s i (shards i)
     pub in_round_lem : (i : ℕ) → (view_shard (shards i)).round ≡ (setup_of s).voters.start
-    pub sent : SentLed (entries_of past)
+    pub sent : SentLed (entries_of_steps past)
     pub leading : Leading s (view_shard (shards s.first_leader)) past
     pub made : (i : ℕ) → (shards i).made ≡ (begun s i).made
-    pub last_value : (i : ℕ) → LastAt (shards i).state.rounds.core.slot (shards i).state.rounds.core.last_v (entries_of past)
+    pub last_value : (i : ℕ) → LastAt (shards i).state.rounds.core.slot (shards i).state.rounds.core.last_v (entries_of_steps past)
     pub accepts : SentAccepts s past
 
   begun_invariant : Invariant (begun s) []
@@ -154,14 +154,14 @@ module _ (s : Settings) (terms : Terms s) where
 
   -- ---- one call more
 
-  module _ (shards : ℕ → Shard) (past : List Step) (k : Invariant shards past) (c : MemberCall) (stands : MayStand (entries_of past) c.member c.call) where
+  module _ (shards : ℕ → Shard) (past : List RunStep) (k : Invariant shards past) (c : MemberCall) (stands : MayStand (entries_of_steps past) c.member c.call) where
     abbrev i : ℕ
     i = c.member
 
     abbrev old : Shard
     old = shards c.member
 
-    abbrev step : Step
+    abbrev step : RunStep
     step = step_of shards c
 
     refused_seen : (why : Refusal) → call_of old c.call ≡ number_alone why old → seen_in step ≡ model.refuse (view_before step)
@@ -176,7 +176,7 @@ module _ (s : Settings) (terms : Terms s) where
             as_model_kept (setup_of s) l (led_setup s terms.multi_paxos terms.no_committer (numbers_within s i limits).leader_small) i (view_shard old)
             (k.in_round_lem i) meaning_of (kind_of c.call) (seen_in step)
             (call_ok s i (claimed_mode s.mode terms.multi_paxos) lowest_best lowest_picks_best old (k.valid i) c.call).as_model_lem
-            (expected (entries_of past) k.sent i c.call stands)
+            (expected (entries_of_steps past) k.sent i c.call stands)
 
     -- where the leader is called
     pub step_does : c.member ≡ s.first_leader → Does s (step_of shards c)
@@ -184,15 +184,15 @@ module _ (s : Settings) (terms : Terms s) where
       where
         no_commit : (d : Delivery) (slot v : ℕ) → c.call ≡ Receive d → d.message.msg ≡ Commit slot v → ⊥
         no_commit d slot v is commit =
-            no_commit_to_leader (entries_of past) k.sent d slot v commit
-            (subst (λ (j : ℕ). WasSent (entries_of past) d.message j) own (subst (MayStand (entries_of past) i) is stands))
+            no_commit_to_leader (entries_of_steps past) k.sent d slot v commit
+            (subst (λ (j : ℕ). WasSent (entries_of_steps past) d.message j) own (subst (MayStand (entries_of_steps past) i) is stands))
 
         go : ((why : Refusal) × (call_of old c.call ≡ number_alone why old)) ⊎ (within_limits (member_settings s i) ≡ true) → Does s step
         go (inl (why, e)) = when_refused s step (refused_seen why e)
         go (inr limits) =
             leader_does s terms.multi_paxos terms.no_committer terms.live_leader (numbers_within s i limits) step (k.in_round_lem i)
             (subst (λ (j : ℕ). Valid s j old) own (k.valid i))
-            (expected (entries_of past) k.sent i c.call stands) no_commit
+            (expected (entries_of_steps past) k.sent i c.call stands) no_commit
 
     -- what the leader knew before
     pub leading_before : c.member ≡ s.first_leader → Leading s (view_before (step_of shards c)) past
@@ -202,13 +202,13 @@ module _ (s : Settings) (terms : Terms s) where
     leading_own own (rests same no_commit unheard no-proposal) =
         subst (λ (x : View). Leading s x (step ∷ past)) (sym same)
         (leading_same s (view_before step) step past (leading_before own)
-        (slot_of_own l step past own ∙ no_commit_in (reply_of step).commit no_commit (slot_at l (entries_of past)))
+        (slot_of_own l step past own ∙ no_commit_in (reply_of step).commit no_commit (slot_at l (entries_of_steps past)))
         unheard
         (λ v mine is done. no-proposal v is done))
     leading_own own (proposes v is p) =
         subst (λ (x : View). Leading s x (step ∷ past)) (sym p.then_view)
         (leading_proposed s terms.at_least_two (view_before step) step past v (leading_before own) (k.in_round_lem i)
-        (slot_of_own l step past own ∙ no_commit_in (reply_of step).commit p.no_commit (slot_at l (entries_of past)))
+        (slot_of_own l step past own ∙ no_commit_in (reply_of step).commit p.no_commit (slot_at l (entries_of_steps past)))
         p.was_free
         is)
     leading_own own (accepts d slot round v is accept a numbers) = go (dec_le (quorums_of s).majority (answers_heard s (view_before step).slot (step ∷ past) + 1))
@@ -231,27 +231,27 @@ module _ (s : Settings) (terms : Terms s) where
     leading_other : (i ≡ l → ⊥) → Leading s (view_shard (shards l)) (step ∷ past)
     leading_other other =
         leading_same s (view_shard (shards l)) step past k.leading (slot_of_other l step past other)
-        (λ t le. ap (λ (b : Bool). b && is_done (reply_of step).outcome) (right_fails (is_answer s t (heard step)) _ (ne_eqb i l other)))
+        (λ t le. ap (λ (b : Bool). b && is_done (reply_of step).outcome) (right_fails (is_answer s t (delivered step)) _ (ne_eqb i l other)))
         (λ v own is done. other own)
 
     carries : CallCarries old c.call (call_of old c.call)
     carries =
         call_carries old (ap (λ (x : Settings). is_multi_paxos x.mode) (k.valid i).own_settings ∙ terms.multi_paxos) c.call
-        (no_prepare (entries_of past) k.sent i c.call stands)
+        (no_prepare (entries_of_steps past) k.sent i c.call stands)
 
     left : CallLasts old (call_of old c.call)
     left = call_lasts lowest_best old (k.valid i).lasting c.call
 
     -- the last value after the call
     abbrev LastOf : Shard → Type 0
-    LastOf x = LastAt x.state.rounds.core.slot x.state.rounds.core.last_v (entries_of (step ∷ past))
+    LastOf x = LastAt x.state.rounds.core.slot x.state.rounds.core.last_v (entries_of_steps (step ∷ past))
 
     last_left : LastOf (call_of old c.call).shard
     last_left =
-        subst (λ (n : ℕ). LastAt n (call_of old c.call).shard.state.rounds.core.last_v (entries_of (step ∷ past))) (sym left.slot_moves)
-        (subst (λ (u : Option ℕ). LastAt (plus_commit (reply_of step).commit old.state.rounds.core.slot) u (entries_of (step ∷ past)))
+        subst (λ (n : ℕ). LastAt n (call_of old c.call).shard.state.rounds.core.last_v (entries_of_steps (step ∷ past))) (sym left.slot_moves)
+        (subst (λ (u : Option ℕ). LastAt (plus_commit (reply_of step).commit old.state.rounds.core.slot) u (entries_of_steps (step ∷ past)))
         (sym carries.last_value)
-        (last_moves (entry_at step) (entries_of past) old.state.rounds.core.slot old.state.rounds.core.last_v (k.last_value i)
+        (last_moves (entry_of_step step) (entries_of_steps past) old.state.rounds.core.slot old.state.rounds.core.last_v (k.last_value i)
         left.of_own_slot))
 
     call_invariant : Invariant (after_call lowest_best shards c) (step_of shards c ∷ past)
@@ -273,15 +273,15 @@ module _ (s : Settings) (terms : Terms s) where
               (λ t. k.made j);
           last_value = λ j.
               by_test LastOf (eqb j i) (call_of old c.call).shard (shards j) (λ t. last_left)
-              (λ t. last_later (entry_at step) (entries_of past) (shards j).state.rounds.core.slot (shards j).state.rounds.core.last_v
+              (λ t. last_later (entry_of_step step) (entries_of_steps past) (shards j).state.rounds.core.slot (shards j).state.rounds.core.last_v
               (k.last_value j));
           accepts =
-              now_sent s terms.multi_paxos shards past k.accepts c stands (k.valid i) (no_prepare (entries_of past) k.sent i c.call stands)
+              now_sent s terms.multi_paxos shards past k.accepts c stands (k.valid i) (no_prepare (entries_of_steps past) k.sent i c.call stands)
               (k.last_value i)
               (λ own. (leading_before own).slot);
         }
       where
-        led_sent : SentLed (entries_of (step ∷ past))
+        led_sent : SentLed (entries_of_steps (step ∷ past))
         led_sent e (inl same) o m =
             subst (λ (x : ℕ). FromLed start l x (destination_of o.destination o.message.msg) (meaning_of o.message))
             (ap (λ (x : Entry). x.member) (sym same))
@@ -300,36 +300,36 @@ module _ (s : Settings) (terms : Terms s) where
   -- ---- every step of a run
 
   -- what follows of a step from the invariant before it
-  abbrev pub Follows : (Step → List Step → Type 0) → Type 0
+  abbrev pub Follows : (RunStep → List RunStep → Type 0) → Type 0
   Follows P =
-      (shards : ℕ → Shard) (past : List Step) → Invariant shards past → (c : MemberCall) → MayStand (entries_of past) c.member c.call
+      (shards : ℕ → Shard) (past : List RunStep) → Invariant shards past → (c : MemberCall) → MayStand (entries_of_steps past) c.member c.call
       → P (step_of shards c) past
 
   -- holds of every step of a legal run
-  module _ (P : Step → List Step → Type 0) (follows : Follows P) where
-    each_from : (shards : ℕ → Shard) (past : List Step) (cs : List MemberCall) → Invariant shards past
-        → LegalFrom s.process_count ours shards (entries_of past) cs
-        → ((x : Step) (earlier : List Step) → At x earlier past → P x earlier) → (x : Step) (earlier : List Step) → At x earlier (steps_from shards past cs)
+  module _ (P : RunStep → List RunStep → Type 0) (follows : Follows P) where
+    each_from : (shards : ℕ → Shard) (past : List RunStep) (cs : List MemberCall) → Invariant shards past
+        → LegalFrom s.process_count ours shards (entries_of_steps past) cs
+        → ((x : RunStep) (earlier : List RunStep) → At x earlier past → P x earlier) → (x : RunStep) (earlier : List RunStep) → At x earlier (steps_from shards past cs)
         → P x earlier
     unfolding LegalFrom steps_from
     each_from shards past [] k legal known x earlier at = known x earlier at
     each_from shards past (c ∷ cs) k legal known x earlier at =
         each_from (after_call lowest_best shards c) (step_of shards c ∷ past) cs (call_invariant shards past k c legal.1) legal.2 more x earlier at
       where
-        more : (y : Step) (before : List Step) → At y before (step_of shards c ∷ past) → P y before
+        more : (y : RunStep) (before : List RunStep) → At y before (step_of shards c ∷ past) → P y before
         more y before (inl e) =
-            subst (λ (z : Step). P z before) (sym e.0) (subst (P (step_of shards c)) (sym e.1) (follows shards past k c legal.1))
+            subst (λ (z : RunStep). P z before) (sym e.0) (subst (P (step_of shards c)) (sym e.1) (follows shards past k c legal.1))
         more y before (inr a) = known y before a
 
-    pub each_step : (cs : List MemberCall) → Legal s cs → (x : Step) (earlier : List Step) → At x earlier (steps s cs) → P x earlier
+    pub each_step : (cs : List MemberCall) → Legal s cs → (x : RunStep) (earlier : List RunStep) → At x earlier (run_steps s cs) → P x earlier
     each_step cs legal x earlier at = each_from (begun s) [] cs begun_invariant legal (λ y before a. absurd a) x earlier at
 
   -- and the invariant holds after the run
-  run_from : (shards : ℕ → Shard) (past : List Step) (cs : List MemberCall) → Invariant shards past → LegalFrom s.process_count ours shards (entries_of past) cs
+  run_from : (shards : ℕ → Shard) (past : List RunStep) (cs : List MemberCall) → Invariant shards past → LegalFrom s.process_count ours shards (entries_of_steps past) cs
       → Invariant (shards_after ours shards cs) (steps_from shards past cs)
   unfolding LegalFrom steps_from shards_after
   run_from shards past [] k legal = k
   run_from shards past (c ∷ cs) k legal = run_from (after_call lowest_best shards c) (step_of shards c ∷ past) cs (call_invariant shards past k c legal.1) legal.2
 
-  pub run_invariant : (cs : List MemberCall) → Legal s cs → Invariant (shards_after ours (begun s) cs) (steps s cs)
+  pub run_invariant : (cs : List MemberCall) → Legal s cs → Invariant (shards_after ours (begun s) cs) (run_steps s cs)
   run_invariant cs legal = run_from (begun s) [] cs begun_invariant legal

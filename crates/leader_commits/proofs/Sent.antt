@@ -34,7 +34,7 @@ use Rattle.consensus.specs.declared.Answer.{Answer}
 use Rattle.consensus.specs.declared.Shard.{Shard}
 use Rattle.consensus.proofs.Refusals.{by_first_cause}
 use Rattle.group.specs.Claim.{MemberCall, Entry, messages_of, MayStand, CommitAt, Claim, plus_commit, slot_at}
-use Rattle.group.specs.Steps.{Step, reply_of, is_done, step_of, entry_at, entries_of}
+use Rattle.group.specs.Steps.{RunStep, reply_of, is_done, step_of, entry_of_step, entries_of_steps}
 use Rattle.group.proofs.Calls.{Valid}
 use Rattle.group.proofs.Invariants.{OfSlot}
 use Rattle.leader_commits.specs.Answers.{is_accept_of, LeaderProposed}
@@ -146,46 +146,46 @@ module _ (s : Settings) where
   l = s.first_leader
 
   -- an Accept that was sent
-  abbrev pub SentIn : List Step → Option ℕ → ConsensusMsg → Type 0
+  abbrev pub SentIn : List RunStep → Option ℕ → ConsensusMsg → Type 0
   SentIn past last (Prepare slot round rv) = Unit {0}
-  SentIn past last (Accept slot round v) = (Some round ≡ starting_round_of s) × LeaderProposed s slot v past × LastAt slot last (entries_of past)
+  SentIn past last (Accept slot round v) = (Some round ≡ starting_round_of s) × LeaderProposed s slot v past × LastAt slot last (entries_of_steps past)
   SentIn past last (ForwardRequest v) = Unit {0}
   SentIn past last (Commit slot v) = Unit {0}
   SentIn past last (ReadRequest id) = Unit {0}
   SentIn past last (ReadResponse id next) = Unit {0}
 
-  abbrev pub SentAccepts : List Step → Type 0
+  abbrev pub SentAccepts : List RunStep → Type 0
   SentAccepts past =
-      (e : Entry) → In e (entries_of past) → (o : Outgoing) → In o (messages_of e.reply.messages) → SentIn past o.message.last_v o.message.msg
+      (e : Entry) → In e (entries_of_steps past) → (o : Outgoing) → In o (messages_of e.reply.messages) → SentIn past o.message.last_v o.message.msg
 
-  proposed_later : (x : Step) (past : List Step) (t v : ℕ) → LeaderProposed s t v past → LeaderProposed s t v (x ∷ past)
+  proposed_later : (x : RunStep) (past : List RunStep) (t v : ℕ) → LeaderProposed s t v past → LeaderProposed s t v (x ∷ past)
   proposed_later x past t v (z, earlier, at, own, is, done, slot) = (z, earlier, inr at, own, is, done, slot)
 
-  sent_later : (x : Step) (past : List Step) (last : Option ℕ) (m : ConsensusMsg) → SentIn past last m → SentIn (x ∷ past) last m
+  sent_later : (x : RunStep) (past : List RunStep) (last : Option ℕ) (m : ConsensusMsg) → SentIn past last m → SentIn (x ∷ past) last m
   sent_later x past last (Prepare slot round rv) h = tt
   sent_later x past last (Accept slot round v) (first, proposed, carried) =
-      (first, proposed_later x past slot v proposed, last_later (entry_at x) (entries_of past) slot last carried)
+      (first, proposed_later x past slot v proposed, last_later (entry_of_step x) (entries_of_steps past) slot last carried)
   sent_later x past last (ForwardRequest v) h = tt
   sent_later x past last (Commit slot v) h = tt
   sent_later x past last (ReadRequest id) h = tt
   sent_later x past last (ReadResponse id next) h = tt
 
   -- a message that stands in the list
-  delivered_sent : (past : List Step) → SentAccepts past → (d : Delivery) (member : ℕ) → MayStand (entries_of past) member (Receive d)
+  delivered_sent : (past : List RunStep) → SentAccepts past → (d : Delivery) (member : ℕ) → MayStand (entries_of_steps past) member (Receive d)
       → SentIn past d.message.last_v d.message.msg
   delivered_sent past sent d member (e, o, in-past, from, in-reply, same, to) =
       subst (λ (m : ConsensusMessage). SentIn past m.last_v m.msg) same (sent e in-past o in-reply)
 
   -- an answer of slot t that was sent
-  pub record AnswerSent (past : List Step) (t : ℕ) (message : ConsensusMessage) : Type 0 where
+  pub record AnswerSent (past : List RunStep) (t : ℕ) (message : ConsensusMessage) : Type 0 where
     pub round : PaxosRound
     pub v : ℕ
     pub is : message.msg ≡ Accept t round v
     pub first : Some round ≡ starting_round_of s
     pub proposed : LeaderProposed s t v past
-    pub carried : LastAt t message.last_v (entries_of past)
+    pub carried : LastAt t message.last_v (entries_of_steps past)
 
-  pub answer_sent : (past : List Step) → SentAccepts past → (t : ℕ) (d : Delivery) (member : ℕ) → MayStand (entries_of past) member (Receive d)
+  pub answer_sent : (past : List RunStep) → SentAccepts past → (t : ℕ) (d : Delivery) (member : ℕ) → MayStand (entries_of_steps past) member (Receive d)
       → is_accept_of t d.message.msg ≡ true → AnswerSent past t d.message
   answer_sent past sent t d member stands accept = go d.message.msg refl (delivered_sent past sent d member stands) accept
     where
@@ -199,7 +199,7 @@ module _ (s : Settings) where
             is = is ∙ ap (λ (n : ℕ). Accept n round v) own;
             first = first;
             proposed = subst (λ (n : ℕ). LeaderProposed s n v past) own proposed;
-            carried = subst (λ (n : ℕ). LastAt n d.message.last_v (entries_of past)) own carried;
+            carried = subst (λ (n : ℕ). LastAt n d.message.last_v (entries_of_steps past)) own carried;
           }
       go (ForwardRequest v) is h e = absurd (not_both e refl)
       go (Commit slot v) is h e = absurd (not_both e refl)
@@ -208,17 +208,17 @@ module _ (s : Settings) where
 
   -- ---- one call more
 
-  module _ (multi : is_multi_paxos s.mode ≡ true) (shards : ℕ → Shard) (past : List Step) (sent : SentAccepts past) (c : MemberCall)
-      (stands : MayStand (entries_of past) c.member c.call) (valid : Valid s c.member (shards c.member)) (none : NoPrepare c.call)
-      (last : LastAt (shards c.member).state.rounds.core.slot (shards c.member).state.rounds.core.last_v (entries_of past))
-      (slots : c.member ≡ s.first_leader → (shards c.member).state.rounds.core.slot ≡ slot_at s.first_leader (entries_of past)) where
+  module _ (multi : is_multi_paxos s.mode ≡ true) (shards : ℕ → Shard) (past : List RunStep) (sent : SentAccepts past) (c : MemberCall)
+      (stands : MayStand (entries_of_steps past) c.member c.call) (valid : Valid s c.member (shards c.member)) (none : NoPrepare c.call)
+      (last : LastAt (shards c.member).state.rounds.core.slot (shards c.member).state.rounds.core.last_v (entries_of_steps past))
+      (slots : c.member ≡ s.first_leader → (shards c.member).state.rounds.core.slot ≡ slot_at s.first_leader (entries_of_steps past)) where
     abbrev old : Shard
     old = shards c.member
 
     abbrev n : ℕ
     n = old.state.rounds.core.slot
 
-    abbrev step : Step
+    abbrev step : RunStep
     step = step_of shards c
 
     -- only the leader proposes
@@ -237,7 +237,7 @@ module _ (s : Settings) where
     asked_for (StartRead tag arrival) is done round v no_way = absurd no_way
     asked_for (Receive d) is done round v (slot, accept, reaches) =
         let sent-before : SentIn past d.message.last_v (Accept slot round v) =
-        subst (SentIn past d.message.last_v) accept (delivered_sent past sent d c.member (subst (MayStand (entries_of past) c.member) is stands)) in
+        subst (SentIn past d.message.last_v) accept (delivered_sent past sent d c.member (subst (MayStand (entries_of_steps past) c.member) is stands)) in
         let same : slot ≡ n = omega (arith, reaches, not_ahead old d slot round v accept (subst (λ (x : Call). (call_of old x).reply.outcome ≡ Ok tt) is done)) in
         (sent-before.0, proposed_later step past n v (subst (λ (m : ℕ). LeaderProposed s m v past) same sent-before.1))
 
@@ -257,12 +257,12 @@ module _ (s : Settings) where
         by_kind (Prepare slot round rv) u h = tt
         by_kind (Accept slot round v) u (own, carried, asked) =
             let a = asked_for c.call refl (sent_taken old c.call o sent_here) round v asked in
-            let now : LastAt n u (entries_of (step ∷ past)) =
-            last_later (entry_at step) (entries_of past) n u (subst (λ (x : Option ℕ). LastAt n x (entries_of past)) (sym carried) last) in (
+            let now : LastAt n u (entries_of_steps (step ∷ past)) =
+            last_later (entry_of_step step) (entries_of_steps past) n u (subst (λ (x : Option ℕ). LastAt n x (entries_of_steps past)) (sym carried) last) in (
               a.0,
               subst (λ (m : ℕ). LeaderProposed s m v (step ∷ past)) (sym own) a.1,
               subst
-                  (λ (m : ℕ). LastAt m u (entries_of (step ∷ past))) (sym own) now,
+                  (λ (m : ℕ). LastAt m u (entries_of_steps (step ∷ past))) (sym own) now,
             )
         by_kind (ForwardRequest v) u h = tt
         by_kind (Commit slot v) u h = tt

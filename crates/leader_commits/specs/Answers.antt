@@ -3,7 +3,7 @@
 -- Assumes nothing.
 use Rattle.std.specs.Prelude.{◌≡◌, ◌↔◌, Bool, true, false, cond, not, ◌&&◌, List, [], ◌∷◌, ℕ, ◌+◌, ◌≤◌, ◌<◌, eqb, Ok, Option, None, Some}
 use Rattle.basics.specs.Lists.{In}
-use Rattle.sets.specs.Sets.{insert, size}
+use Rattle.basics.specs.sets.Sets.{insert, size}
 use Rattle.message.specs.Modes.{is_multi_paxos}
 use Rattle.message.specs.declared.ConsensusMsg.{ConsensusMsg}
 use Rattle.message.specs.declared.ConsensusMsg.TheVariants.{Prepare, Accept, ForwardRequest, Commit, ReadRequest, ReadResponse}
@@ -15,7 +15,7 @@ use Rattle.calls.specs.declared.Call.TheVariants.{Propose}
 use Rattle.consensus.specs.FirstCause.{given_number, joined, any_above, any_from}
 use Rattle.consensus.specs.Rows.{Row, gives}
 use Rattle.group.specs.Claim.{MemberCall, At, slot_at}
-use Rattle.group.specs.Steps.{Step, reply_of, is_done, heard, steps, entries_of}
+use Rattle.group.specs.Steps.{RunStep, reply_of, is_done, delivered, run_steps, entries_of_steps}
 
 -- ---- the terms
 
@@ -46,49 +46,49 @@ source_of None = 0
 source_of (Some d) = d.message.src
 
 -- an answer comes to the leader
-abbrev pub comes : Settings → ℕ → Step → Bool
-comes s t x = is_answer s t (heard x) && eqb x.member s.first_leader
+abbrev pub comes : Settings → ℕ → RunStep → Bool
+comes s t x = is_answer s t (delivered x) && eqb x.member s.first_leader
 
 -- and the leader hears it: it is not refused
-abbrev pub hears : Settings → ℕ → Step → Bool
-hears s t x = comes s t x && is_done (reply_of x).outcome
+abbrev pub leader_hears : Settings → ℕ → RunStep → Bool
+leader_hears s t x = comes s t x && is_done (reply_of x).outcome
 
 -- the set of the sources of the steps that pass a test
-unfoldable pub sources : (Step → Bool) → List Step → ℕ
+unfoldable pub sources : (RunStep → Bool) → List RunStep → ℕ
 sources test [] = 0
-sources test (x ∷ past) = cond (test x) (insert (sources test past) (source_of (heard x))) (sources test past)
+sources test (x ∷ past) = cond (test x) (insert (sources test past) (source_of (delivered x))) (sources test past)
 
 -- "the distinct live replicas whose accept of that slot it has heard, itself not counted": how many
-abbrev pub answers_heard : Settings → ℕ → List Step → ℕ
-answers_heard s t past = size (sources (hears s t) past)
+abbrev pub answers_heard : Settings → ℕ → List RunStep → ℕ
+answers_heard s t past = size (sources (leader_hears s t) past)
 
 -- the same of all that came, refused ones too
-abbrev pub answers_came : Settings → ℕ → List Step → ℕ
+abbrev pub answers_came : Settings → ℕ → List RunStep → ℕ
 answers_came s t past = size (sources (comes s t) past)
 
 -- ---- "after the leader has proposed"
 
 -- the leader proposed v in slot t, and was not refused
-abbrev pub LeaderProposed : Settings → ℕ → ℕ → List Step → Type 0
+abbrev pub LeaderProposed : Settings → ℕ → ℕ → List RunStep → Type 0
 LeaderProposed s t v past =
-    (x : Step) × (earlier : List Step) × At x earlier past × (x.member ≡ s.first_leader) × (x.call ≡ Propose v) × ((reply_of x).outcome ≡ Ok tt)
-    × (slot_at s.first_leader (entries_of earlier) ≡ t)
+    (x : RunStep) × (earlier : List RunStep) × At x earlier past × (x.member ≡ s.first_leader) × (x.call ≡ Propose v) × ((reply_of x).outcome ≡ Ok tt)
+    × (slot_at s.first_leader (entries_of_steps earlier) ≡ t)
 
 -- x is a step of the run, of the leader, which has proposed v in its slot t before
-pub record AfterProposal (s : Settings) (cs : List MemberCall) (t v : ℕ) (x : Step) (past : List Step) : Type 0 where
-  pub stands : At x past (steps s cs)
+pub record AfterProposal (s : Settings) (cs : List MemberCall) (t v : ℕ) (x : RunStep) (past : List RunStep) : Type 0 where
+  pub stands : At x past (run_steps s cs)
   pub leader : x.member ≡ s.first_leader
   pub proposed : LeaderProposed s t v past
-  pub in_slot : slot_at s.first_leader (entries_of past) ≡ t
+  pub in_slot : slot_at s.first_leader (entries_of_steps past) ≡ t
 
-abbrev pub Commits : Step → ℕ → ℕ → Type 0
+abbrev pub Commits : RunStep → ℕ → ℕ → Type 0
 Commits x t v = (fast : Bool) × ((reply_of x).commit ≡ committed_slot t v fast)
 
 -- ---- the claim
 
 -- Before the step there are fewer answers than majority less one. The leader commits v in the step exactly where the step brings them to majority less
 -- one; and it commits nothing else. Counted are the answers that were heard, or all that came.
-pub record CommitsOnAnswer (answers : List Step → ℕ) (s : Settings) (t v : ℕ) (x : Step) (past : List Step) : Type 0 where
+pub record CommitsOnAnswer (answers : List RunStep → ℕ) (s : Settings) (t v : ℕ) (x : RunStep) (past : List RunStep) : Type 0 where
   pub not_yet : answers past + 1 < (quorums_of s).majority
   pub exactly : Commits x t v ↔ (answers (x ∷ past) + 1 ≡ (quorums_of s).majority)
   pub no_other : (slot w : ℕ) → Commits x slot w → (slot ≡ t) × (w ≡ v)
@@ -118,8 +118,8 @@ SoundRequesters s None = Unit {0}
 SoundRequesters s (Some d) = any_from s.process_count (requesters_in d) ≡ false
 
 -- both with every answer of slot t that has come: the host is sound
-abbrev pub SoundAnswers : Settings → ℕ → List Step → Type 0
-SoundAnswers s t past = (x : Step) → In x past → comes s t x ≡ true → HostHolds (heard x) × SoundRequesters s (heard x)
+abbrev pub SoundAnswers : Settings → ℕ → List RunStep → Type 0
+SoundAnswers s t past = (x : RunStep) → In x past → comes s t x ≡ true → HostHolds (delivered x) × SoundRequesters s (delivered x)
 
 -- ---- the document's words
 
@@ -128,17 +128,17 @@ BringsCommit t None = ⊥
 BringsCommit t (Some d) = (v : ℕ) × (d.message.msg ≡ Commit t v)
 
 -- "no Commit for that slot came earlier"
-abbrev pub NoCommitCame : Settings → ℕ → List Step → Type 0
-NoCommitCame s t past = (x : Step) → In x past → x.member ≡ s.first_leader → BringsCommit t (heard x) → ⊥
+abbrev pub NoCommitCame : Settings → ℕ → List RunStep → Type 0
+NoCommitCame s t past = (x : RunStep) → In x past → x.member ≡ s.first_leader → BringsCommit t (delivered x) → ⊥
 
 -- "no answer was refused"
-abbrev pub NoAnswerRefused : Settings → ℕ → List Step → Type 0
-NoAnswerRefused s t past = (x : Step) → In x past → comes s t x ≡ true → is_done (reply_of x).outcome ≡ true
+abbrev pub NoAnswerRefused : Settings → ℕ → List RunStep → Type 0
+NoAnswerRefused s t past = (x : RunStep) → In x past → comes s t x ≡ true → is_done (reply_of x).outcome ≡ true
 
 -- "it commits on the very answer that brings the distinct live replicas whose accept of that slot it has heard, itself not counted, to majority less
 -- one, given that the host holds the value, no Commit for that slot came earlier, and no answer was refused. Without such a Commit it does not commit
 -- before that answer."
-pub record AsAsked (s : Settings) (t v : ℕ) (x : Step) (past : List Step) : Type 0 where
-  pub commits : HostHolds (heard x) → NoCommitCame s t past → NoAnswerRefused s t (x ∷ past)
+pub record AsAsked (s : Settings) (t v : ℕ) (x : RunStep) (past : List RunStep) : Type 0 where
+  pub commits : HostHolds (delivered x) → NoCommitCame s t past → NoAnswerRefused s t (x ∷ past)
       → (answers_came s t past + 1 ≡ (quorums_of s).majority → ⊥) → answers_came s t (x ∷ past) + 1 ≡ (quorums_of s).majority → Commits x t v
   pub not_before : NoCommitCame s t (x ∷ past) → answers_heard s t (x ∷ past) + 1 < (quorums_of s).majority → (slot w : ℕ) → Commits x slot w → ⊥

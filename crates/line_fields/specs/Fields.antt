@@ -29,14 +29,14 @@ one_number s =
     cond s.malformed None
     (cond s.above_limit None (cond (ltb 0 s.before) None (cond s.has_digit (Some s.value) None)))
 
-abbrev pub is_number : Option ℕ → Bool
-is_number (Some n) = true
-is_number None = false
+abbrev pub has_number_field : Option ℕ → Bool
+has_number_field (Some n) = true
+has_number_field None = false
 
 -- the number, and 0 where there is none
-abbrev pub value_of : Option ℕ → ℕ
-value_of (Some n) = n
-value_of None = 0
+abbrev pub value_or_zero : Option ℕ → ℕ
+value_or_zero (Some n) = n
+value_or_zero None = 0
 
 -- the number that a line holds from a place to its end
 unfoldable pub number_from : List ℕ → ℕ → Option ℕ

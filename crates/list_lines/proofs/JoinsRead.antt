@@ -6,7 +6,7 @@ use lib.ListN.{length-map}
 use lib.Seq.{take_at}
 use borrow.Author.Tests.{ltb-true, ltb-false, lt-ltb}
 use Rattle.basics.proofs.Tests.{either}
-use Rattle.places.specs.Places.{at_front}
+use Rattle.basics.specs.elements.Places.{at_front}
 use Rattle.texts.specs.declared.Output.{Output}
 use Rattle.texts.specs.Text.{put, each, field}
 use Rattle.texts.proofs.Putting.{Reached, put_then, reached_next, reached_all}
@@ -14,7 +14,7 @@ use Rattle.line_fields.specs.Fields.{begins, number_field}
 use Rattle.texts.specs.Text.{ascii}
 use Rattle.planning_lines.specs.Answers.{bad_line_text}
 use Rattle.catch_up.specs.Causes.{CommitList, Commit, beside}
-use Rattle.catch_up.specs.Joining.{list_of, too_large, outside, joining, join_answer, join_count, Gives, Joins}
+use Rattle.catch_up.specs.Joining.{list_of, list_too_large, outside, joining, join_answer, join_count, Gives, Joins}
 use Rattle.catch_up.specs.declared.JoinRefusal.{JoinRefusal}
 use Rattle.line_fields.specs.declared.NumberField.{NumberField}
 use Rattle.catch_up.proofs.Exact.{is_join}
@@ -22,8 +22,8 @@ use Rattle.list_lines.specs.declared.LineItem.{LineItem}
 use Rattle.list_lines.specs.declared.LineList.{LineList}
 use Rattle.list_lines.specs.declared.JoinQuestion.{JoinQuestion}
 use Rattle.list_lines.specs.Lists.{list_behind, ends_at, last_list, commits_of}
-use Rattle.list_lines.specs.Kept.{kept_of, kept_commits}
-use Rattle.list_lines.specs.Joins.{JoinLine, join_asked, behind_first, commit_text, joining_text, asked_text, join_text, kept_asked, kept_refused, unless_refused, kept_joining, joined_text}
+use Rattle.list_lines.specs.Kept.{kept_items, kept_commits}
+use Rattle.list_lines.specs.Joins.{JoinLine, join_asked, behind_first_list, listed_commit_text, joining_text, join_line_text, join_text, kept_asked, kept_refused, unless_kept_refused, kept_joining, joined_text}
 use Rattle.list_lines.proofs.Kept.{kept_count, kept_large, commits_kept}
 use Rattle.list_lines.proofs.ListsRead.{kept_end, kept_some, kept_none}
 
@@ -64,19 +64,19 @@ module _ (j : JoinLine) where
   n : B.count ≡ length j.second
   n = kept_count (ends_at j.end j.first + 2) j.second
 
-  large_a : A.too_large ≡ too_large (commits_of j.first)
+  large_a : A.too_large ≡ list_too_large (commits_of j.first)
   large_a = kept_large j.end j.first
 
-  large_b : B.too_large ≡ too_large (commits_of j.second)
+  large_b : B.too_large ≡ list_too_large (commits_of j.second)
   large_b = kept_large (ends_at j.end j.first + 2) j.second
 
   pub lists_joined : Same
   unfolding kept_joining kept_refused joining
   lists_joined =
-      ⊎_elim (λ (t : (too_large (commits_of j.first) || too_large (commits_of j.second)) ≡ true). simp (large_a, large_b, t)) fit
-      (either (too_large (commits_of j.first) || too_large (commits_of j.second)))
+      ⊎_elim (λ (t : (list_too_large (commits_of j.first) || list_too_large (commits_of j.second)) ≡ true). simp (large_a, large_b, t)) fit
+      (either (list_too_large (commits_of j.first) || list_too_large (commits_of j.second)))
     where
-      fit : (too_large (commits_of j.first) || too_large (commits_of j.second)) ≡ false → Same
+      fit : (list_too_large (commits_of j.first) || list_too_large (commits_of j.second)) ≡ false → Same
       fit p =
           ⊎_elim (λ (t : ltb 8192 (length j.first) ≡ true). simp (large_a, large_b, p, m, t, longer j.first t)) few_a (either (ltb 8192 (length j.first)))
         where
@@ -115,7 +115,7 @@ module _ (q : JoinQuestion) where
   unfolding kept_joining
   fits l e = go (kept_refused q) e
     where
-      go : (r : Result (Unit {0}) JoinRefusal) → unless_refused r kept_join ≡ Ok l → Fits l
+      go : (r : Result (Unit {0}) JoinRefusal) → unless_kept_refused r kept_join ≡ Ok l → Fits l
       go (Err why) e = cc
       go (Ok u) e =
           let J = is_join (kept_commits q.first) (kept_commits q.second) 8192 l e in
@@ -127,7 +127,7 @@ module _ (q : JoinQuestion) where
   unfolding kept_joining at_front
   refused_given s v why (Ok count) e h = absurd h
   refused_given s v why (Err given) e h =
-      subst (λ (r : Result (Unit {0}) JoinRefusal). Gives (unless_refused r kept_join) (list_of s v) (list_of s v) (Err given)) e
+      subst (λ (r : Result (Unit {0}) JoinRefusal). Gives (unless_kept_refused r kept_join) (list_of s v) (list_of s v) (Err given)) e
       (record { answered = ap Err h; slots = refl; values = refl })
 
   pub joined_given : (s v s' v' : List ℕ) (r : Result ℕ JoinRefusal) (a b : CommitList)
@@ -137,7 +137,7 @@ module _ (q : JoinQuestion) where
   joined_given s v s' v' r a b ea eb e ls lv given =
       let g = subst₂ (λ (x y : CommitList). Joins x y (list_of s v) (list_of s' v') r) ea eb given in
       let most : min (length s) (length v) ≡ 8192 = omega arith in
-      subst (λ (x : Result (Unit {0}) JoinRefusal). Gives (unless_refused x kept_join) (list_of s v) (list_of s' v') r) e
+      subst (λ (x : Result (Unit {0}) JoinRefusal). Gives (unless_kept_refused x kept_join) (list_of s v) (list_of s' v') r) e
       (subst (λ (n : ℕ). Gives (joining (kept_commits q.first) (kept_commits q.second) n) (list_of s v) (list_of s' v') r) most g)
 
   module _ (s v s' v' : List ℕ) (r : Result ℕ JoinRefusal) (gives : Gives (kept_joining q) (list_of s v) (list_of s' v') r) where
@@ -163,13 +163,13 @@ module _ (q : JoinQuestion) where
 
 module _ (line : List ℕ) where
   pub asked_answer : (q : JoinQuestion) → Some q ≡ option_map kept_asked (join_asked line) → joining_text (kept_joining q) ≡ join_text line
-  unfolding asked_text
+  unfolding join_line_text
   asked_answer q e =
       let j = kept_some kept_asked (join_asked line) q e in
       rw j.1 (ap joining_text (ap kept_joining j.2 ∙ lists_joined j.0))
 
   pub asked_bad : None ≡ option_map kept_asked (join_asked line) → bad_line_text ≡ join_text line
-  unfolding asked_text
+  unfolding join_line_text
   asked_bad e = rw (kept_none kept_asked (join_asked line) e) refl
 
 -- ---- what the line asks
@@ -180,33 +180,33 @@ module _ (line : List ℕ) (field : NumberField) (at : field ≡ number_field li
   no_places e = simp (← at, e)
 
   module _ (places : ℕ) (given : field.number ≡ Some places) where
-    pub no_first : None ≡ option_map (kept_of field.end) (list_behind false line field.end) → None ≡ option_map kept_asked (join_asked line)
+    pub no_first : None ≡ option_map (kept_items field.end) (list_behind false line field.end) → None ≡ option_map kept_asked (join_asked line)
     unfolding join_asked
-    no_first e = simp (← at, given, kept_none (kept_of field.end) (list_behind false line field.end) e)
+    no_first e = simp (← at, given, kept_none (kept_items field.end) (list_behind false line field.end) e)
 
-    module _ (first : LineList) (read : Some first ≡ option_map (kept_of field.end) (list_behind false line field.end)) where
+    module _ (first : LineList) (read : Some first ≡ option_map (kept_items field.end) (list_behind false line field.end)) where
       pub no_bar : begins (ascii " |") (drop first.end line) ≡ false → None ≡ option_map kept_asked (join_asked line)
-      unfolding join_asked behind_first
+      unfolding join_asked behind_first_list
       no_bar b =
-          let whole = kept_some (kept_of field.end) (list_behind false line field.end) first read in
+          let whole = kept_some (kept_items field.end) (list_behind false line field.end) first read in
           let end : first.end ≡ ends_at field.end whole.0 = ap (λ (l : LineList). l.end) whole.2 ∙ kept_end field.end whole.0 in
           simp (← at, given, whole.1, ← end, b)
 
       module _ (bar : begins (ascii " |") (drop first.end line) ≡ true) where
-        pub no_second : None ≡ option_map (kept_of (first.end + 2)) (last_list false line (first.end + 2)) → None ≡ option_map kept_asked (join_asked line)
-        unfolding join_asked behind_first
+        pub no_second : None ≡ option_map (kept_items (first.end + 2)) (last_list false line (first.end + 2)) → None ≡ option_map kept_asked (join_asked line)
+        unfolding join_asked behind_first_list
         no_second e =
-            let whole = kept_some (kept_of field.end) (list_behind false line field.end) first read in
+            let whole = kept_some (kept_items field.end) (list_behind false line field.end) first read in
             let end : first.end ≡ ends_at field.end whole.0 = ap (λ (l : LineList). l.end) whole.2 ∙ kept_end field.end whole.0 in
-            simp (← at, given, whole.1, ← end, bar, kept_none (kept_of (first.end + 2)) (last_list false line (first.end + 2)) e)
+            simp (← at, given, whole.1, ← end, bar, kept_none (kept_items (first.end + 2)) (last_list false line (first.end + 2)) e)
 
-        pub both_asked : (second : LineList) → Some second ≡ option_map (kept_of (first.end + 2)) (last_list false line (first.end + 2))
+        pub both_asked : (second : LineList) → Some second ≡ option_map (kept_items (first.end + 2)) (last_list false line (first.end + 2))
             → Some (record { places = places; first = first; second = second }) ≡ option_map kept_asked (join_asked line)
-        unfolding join_asked behind_first
+        unfolding join_asked behind_first_list
         both_asked second e =
-            let whole = kept_some (kept_of field.end) (list_behind false line field.end) first read in
+            let whole = kept_some (kept_items field.end) (list_behind false line field.end) first read in
             let end : first.end ≡ ends_at field.end whole.0 = ap (λ (l : LineList). l.end) whole.2 ∙ kept_end field.end whole.0 in
-            let last = kept_some (kept_of (first.end + 2)) (last_list false line (first.end + 2)) second e in
+            let last = kept_some (kept_items (first.end + 2)) (last_list false line (first.end + 2)) second e in
             simp (← at, given, whole.1, ← end, bar, last.1)
             (ap₂ (λ (f s : LineList). Some (record { places = places; first = f; second = s })) whole.2 last.2)
 
@@ -227,16 +227,16 @@ beside_long (x ∷ s) [] e = absurd (omega arith)
 beside_long (x ∷ s) (y ∷ v) e = ap suc (beside_long s v (omega arith))
 
 -- one more is put
-pub commit_put : (s v : List ℕ) (i : ℕ) (p q t u : Output) → Reached commit_text (beside s v) i p q → i < length s → length s ≡ length v
-    → t ≡ put (field (get_or s i 0)) p → u ≡ put (field (get_or v i 0)) t → Reached commit_text (beside s v) (i + 1) u q
-unfolding commit_text
+pub commit_put : (s v : List ℕ) (i : ℕ) (p q t u : Output) → Reached listed_commit_text (beside s v) i p q → i < length s → length s ≡ length v
+    → t ≡ put (field (get_or s i 0)) p → u ≡ put (field (get_or v i 0)) t → Reached listed_commit_text (beside s v) (i + 1) u q
+unfolding listed_commit_text
 commit_put s v i p q t u h l e f g =
     let d : Commit = record { slot = 0; value = 0 } in
-    let both : u ≡ put (commit_text (get_or (beside s v) i d)) p =
-    put_then _ _ p f g ∙ ap (λ (c : Commit). put (commit_text c) p) (sym (beside_at s v i d l e)) in
+    let both : u ≡ put (listed_commit_text (get_or (beside s v) i d)) p =
+    put_then _ _ p f g ∙ ap (λ (c : Commit). put (listed_commit_text c) p) (sym (beside_at s v i d l e)) in
     reached_next d h both (omega (arith, beside_long s v e))
 
 -- all are put
-pub all_put : (s v : List ℕ) (i : ℕ) (p q : Output) → Reached commit_text (beside s v) i p q → length s ≤ i → length s ≡ length v
-    → p ≡ put (each commit_text (beside s v)) q
+pub all_put : (s v : List ℕ) (i : ℕ) (p q : Output) → Reached listed_commit_text (beside s v) i p q → length s ≤ i → length s ≡ length v
+    → p ≡ put (each listed_commit_text (beside s v)) q
 all_put s v i p q h l e = reached_all h (omega (arith, beside_long s v e))

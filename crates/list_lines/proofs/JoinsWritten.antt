@@ -9,12 +9,12 @@ use Rattle.line_fields.specs.Fields.{same_to, begins, field_end, next_field, num
 use Rattle.line_fields.proofs.FieldsRead.{FieldEnds, first_digit, field_read, behind_field, number_before, end_before}
 use Rattle.register.specs.declared.Change.TheVariants.{Release}
 use Rattle.register_lines.specs.Entries.{second}
-use Rattle.entry_lines.specs.declared.Said.TheVariants.{Changed}
-use Rattle.catch_up.specs.Causes.{CommitList, Commit, commits, beside}
+use Rattle.entry_lines.specs.declared.CellSaid.TheVariants.{Changed}
+use Rattle.catch_up.specs.Causes.{CommitList, Commit, listed_commits, beside}
 use Rattle.catch_up.specs.Joining.{joining}
 use Rattle.list_lines.specs.declared.LineItem.{LineItem}
-use Rattle.list_lines.specs.Lists.{commit_at, item_at, list_ends, with_item, items_from, list_behind, ends_at, to_the_end, last_list, slots_of, values_of, commits_of}
-use Rattle.list_lines.specs.Joins.{behind_first, join_asked, commit_text, commits_text, joining_text, asked_text, join_text}
+use Rattle.list_lines.specs.Lists.{commit_at, item_at, list_ends, with_item, items_from, list_behind, ends_at, to_the_end, last_list, item_slots, item_values, commits_of}
+use Rattle.list_lines.specs.Joins.{behind_first_list, join_asked, listed_commit_text, commits_text, joining_text, join_line_text, join_text}
 use Rattle.list_lines.specs.Written.{join_written, CommitsFit, ListFits}
 
 -- ---- what stands behind a list: nothing, or the bar
@@ -87,16 +87,16 @@ next_begins line end rest e =
 
 -- the text of the entries behind one, and what stands behind the list
 abbrev rest_text : List Commit → List ℕ → List ℕ
-rest_text cs tail = each commit_text cs ++ tail
+rest_text cs tail = each listed_commit_text cs ++ tail
 
 rest_ends : (cs : List Commit) (tail : List ℕ) → Ends tail → FieldEnds (rest_text cs tail)
-unfolding each commit_text field
+unfolding each listed_commit_text field
 rest_ends [] tail t = field_ends tail t
 rest_ends (c ∷ cs) tail t = inr (_, refl)
 
 more_text : (c : Commit) (cs : List Commit) (tail : List ℕ) → rest_text (c ∷ cs) tail ≡ 32 ∷ (decimal c.slot ++ (32 ∷ (decimal c.value ++ rest_text cs tail)))
-unfolding each commit_text field
-more_text c cs tail = append_assoc (commit_text c) (each commit_text cs) tail ∙ ap (λ (l : List ℕ). 32 ∷ l) (append_assoc (decimal c.slot) _ _)
+unfolding each listed_commit_text field
+more_text c cs tail = append_assoc (listed_commit_text c) (each listed_commit_text cs) tail ∙ ap (λ (l : List ℕ). 32 ∷ l) (append_assoc (decimal c.slot) _ _)
 
 module _ (line : List ℕ) (at n : ℕ) (item : LineItem) where
   last_item : item_at false line at ≡ Some item → list_ends line item.end ≡ true → items_from false line at (suc n) ≡ Some (item ∷ [])
@@ -153,12 +153,12 @@ module _ (line : List ℕ) (tail : List ℕ) (ends : Ends tail) where
 
 -- a line has more bytes than entries
 many_bytes : (cs : List Commit) (tail : List ℕ) → length cs ≤ length (rest_text cs tail)
-unfolding each commit_text field
+unfolding each listed_commit_text field
 many_bytes [] tail = omega arith
 many_bytes (c ∷ cs) tail =
-    let more : length (rest_text (c ∷ cs) tail) ≡ length (commit_text c) + length (rest_text cs tail) =
-    ap length (append_assoc (commit_text c) _ tail) ∙ length-append (commit_text c) _ in
-    let some : 0 < length (commit_text c) = omega arith in
+    let more : length (rest_text (c ∷ cs) tail) ≡ length (listed_commit_text c) + length (rest_text cs tail) =
+    ap length (append_assoc (listed_commit_text c) _ tail) ∙ length-append (listed_commit_text c) _ in
+    let some : 0 < length (listed_commit_text c) = omega arith in
     omega (arith, many_bytes cs tail)
 
 module _ (line : List ℕ) (tail : List ℕ) (ends : Ends tail) where
@@ -185,11 +185,11 @@ module _ (line : List ℕ) (tail : List ℕ) (ends : Ends tail) where
 
 -- ---- its columns
 
-slots_on : (items : List LineItem) → slots_of items ≡ map (λ (c : Commit). c.slot) (entries_on items)
+slots_on : (items : List LineItem) → item_slots items ≡ map (λ (c : Commit). c.slot) (entries_on items)
 slots_on [] = refl
 slots_on (i ∷ items) = ap (λ (l : List ℕ). i.slot ∷ l) (slots_on items)
 
-values_on : (items : List LineItem) → values_of items ≡ map (λ (c : Commit). c.value) (entries_on items)
+values_on : (items : List LineItem) → item_values items ≡ map (λ (c : Commit). c.value) (entries_on items)
 values_on [] = refl
 values_on (i ∷ items) = ap (λ (l : List ℕ). i.value ∷ l) (values_on items)
 
@@ -202,11 +202,11 @@ columns_back (x ∷ s) (y ∷ v) e =
     let rest = columns_back s v (omega arith) in
     (ap (λ (l : List ℕ). x ∷ l) rest.0, ap (λ (l : List ℕ). y ∷ l) rest.1)
 
-same_list : (l : CommitList) (items : List LineItem) → length l.slots ≡ length l.values → entries_on items ≡ commits l → commits_of items ≡ l
+same_list : (l : CommitList) (items : List LineItem) → length l.slots ≡ length l.values → entries_on items ≡ listed_commits l → commits_of items ≡ l
 same_list l items same e =
     let back = columns_back l.slots l.values same in
-    let slots : slots_of items ≡ l.slots = slots_on items ∙ ap (map (λ (c : Commit). c.slot)) e ∙ back.0 in
-    let values : values_of items ≡ l.values = values_on items ∙ ap (map (λ (c : Commit). c.value)) e ∙ back.1 in
+    let slots : item_slots items ≡ l.slots = slots_on items ∙ ap (map (λ (c : Commit). c.slot)) e ∙ back.0 in
+    let values : item_values items ≡ l.values = values_on items ∙ ap (map (λ (c : Commit). c.value)) e ∙ back.1 in
     ap₂ (λ (s v : List ℕ). record { slots = s; values = v }) slots values
 
 -- ---- the line
@@ -224,14 +224,14 @@ module _ (places : ℕ) (a b : CommitList) (fits : places ≤ 184467440737095516
   bar : Ends tail
   bar = inr (commits_text b, refl)
 
-  number : drop 5 line ≡ decimal places ++ rest_text (commits a) tail
+  number : drop 5 line ≡ decimal places ++ rest_text (listed_commits a) tail
   unfolding field
   number = refl
 
-  first : ListRead line (list_behind false line end) end (commits a) tail
+  first : ListRead line (list_behind false line end) end (listed_commits a) tail
   first =
-      list_read line tail bar (commits a) end fits_a.numbers (field_within line 5)
-      (end_before line 5 places fits (rest_text (commits a) tail) (rest_ends (commits a) tail bar) number)
+      list_read line tail bar (listed_commits a) end fits_a.numbers (field_within line 5)
+      (end_before line 5 places fits (rest_text (listed_commits a) tail) (rest_ends (listed_commits a) tail bar) number)
 
   abbrev second_end : ℕ
   second_end = ends_at end first.all + 2
@@ -239,9 +239,9 @@ module _ (places : ℕ) (a b : CommitList) (fits : places ≤ 184467440737095516
   long : length line - ends_at end first.all ≡ suc (suc (length (commits_text b)))
   long = sym (length-drop (ends_at end first.all) line) ∙ ap length first.behind
 
-  last : ListRead line (list_behind false line second_end) second_end (commits b) []
+  last : ListRead line (list_behind false line second_end) second_end (listed_commits b) []
   last =
-      list_read line [] (inl refl) (commits b) second_end fits_b.numbers (omega (arith, long))
+      list_read line [] (inl refl) (listed_commits b) second_end fits_b.numbers (omega (arith, long))
       (sym (drop-drop 2 (ends_at end first.all) line) ∙ ap (drop 2) first.behind ∙ sym (append-nil (commits_text b)))
 
   whole : last_list false line second_end ≡ Some last.all
@@ -253,11 +253,11 @@ module _ (places : ℕ) (a b : CommitList) (fits : places ≤ 184467440737095516
       rw last.read (simp (eq-eqb (ends_at second_end last.all) (length line) here))
 
   asked : join_asked line ≡ Some (record { places = places; end = end; first = first.all; second = last.all })
-  unfolding join_asked behind_first
+  unfolding join_asked behind_first_list
   asked =
-      let value = number_before line 5 places fits (rest_text (commits a) tail) (rest_ends (commits a) tail bar) number in
+      let value = number_before line 5 places fits (rest_text (listed_commits a) tail) (rest_ends (listed_commits a) tail bar) number in
       simp (value, first.read, ap (begins (ascii " |")) first.behind ∙ bar_begins (commits_text b), whole)
 
   pub join_read : join_text line ≡ joining_text (joining a b places)
-  unfolding asked_text
+  unfolding join_line_text
   join_read = simp (asked, same_list a first.all fits_a.same first.commits, same_list b last.all fits_b.same last.commits)

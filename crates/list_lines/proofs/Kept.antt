@@ -4,13 +4,13 @@ use Rattle.std.proofs.Common.{◌≡◌, ◌∙◌, refl, sym, ap, ap₂, ℕ, �
 use lib.ListN.{length-append, length-map, length-replicate}
 use lib.Seq.{take_at}
 use borrow.Author.Tests.{lt-ltb}
-use Rattle.places.specs.Places.{at_front}
-use Rattle.places.proofs.Lists.{front_push, front_length, front_none}
-use Rattle.catch_up.specs.Joining.{list_of, some_above, too_large}
+use Rattle.basics.specs.elements.Places.{at_front}
+use Rattle.basics.proofs.elements.Lists.{front_push, front_length, front_none}
+use Rattle.catch_up.specs.Joining.{list_of, some_above, list_too_large}
 use Rattle.list_lines.specs.declared.LineItem.{LineItem}
 use Rattle.list_lines.specs.declared.LineList.{LineList}
-use Rattle.list_lines.specs.Lists.{slots_of, values_of, commits_of, numbers_of, entries_of}
-use Rattle.list_lines.specs.Kept.{nothing_kept, kept_at, kept_more, kept_all, kept_of, kept_commits, kept_entries}
+use Rattle.list_lines.specs.Lists.{item_slots, item_values, commits_of, numbers_of_entry, entries_of}
+use Rattle.list_lines.specs.Kept.{nothing_kept, kept_at, kept_more, kept_all, kept_items, kept_commits, kept_entries}
 
 -- ---- of all entries
 
@@ -26,8 +26,8 @@ or_gathered false false true true w = refl
 or_gathered false false true false w = refl
 or_gathered false false false t w = refl
 
-large_of_kept : (l : LineList) (items : List LineItem) → (kept_all l items).too_large ≡ (l.too_large || too_large (commits_of items))
-unfolding kept_all kept_more too_large some_above
+large_of_kept : (l : LineList) (items : List LineItem) → (kept_all l items).too_large ≡ (l.too_large || list_too_large (commits_of items))
+unfolding kept_all kept_more list_too_large some_above
 large_of_kept l [] = sym (none l.too_large)
   where
     none : (t : Bool) → (t || false) ≡ t
@@ -35,12 +35,12 @@ large_of_kept l [] = sym (none l.too_large)
     none false = refl
 large_of_kept l (i ∷ items) =
     large_of_kept (kept_more i l) items
-    ∙ or_gathered l.too_large _ _ (some_above 9223372036854775806 (slots_of items)) (some_above 9223372036854775807 (values_of items))
+    ∙ or_gathered l.too_large _ _ (some_above 9223372036854775806 (item_slots items)) (some_above 9223372036854775807 (item_values items))
 
-pub kept_count : (end : ℕ) (items : List LineItem) → (kept_of end items).count ≡ length items
+pub kept_count : (end : ℕ) (items : List LineItem) → (kept_items end items).count ≡ length items
 kept_count end items = count_of_kept (nothing_kept end) items ∙ zero-add (length items)
 
-pub kept_large : (end : ℕ) (items : List LineItem) → (kept_of end items).too_large ≡ too_large (commits_of items)
+pub kept_large : (end : ℕ) (items : List LineItem) → (kept_items end items).too_large ≡ list_too_large (commits_of items)
 kept_large end items = large_of_kept (nothing_kept end) items
 
 -- ---- of the first ones, in each column
@@ -77,7 +77,7 @@ module _ {A : Type 0} where
     column_stored l (i ∷ items) = column_stored (kept_more i l) items ∙ ap (λ (p : List A). kept_from p (l.count + 1) (map field items)) (one i l)
 
     column_kept : (end : ℕ) (items : List LineItem) → length (column (nothing_kept end)) ≡ 8192 → length items ≤ 8192
-        → take (kept_of end items).count (column (kept_of end items)) ≡ map field items
+        → take (kept_items end items).count (column (kept_items end items)) ≡ map field items
     column_kept end items room few =
         let long : length (map field items) ≡ length items = length-map items field in
         ap₂ (λ (n : ℕ) (p : List A). take n p) (kept_count end items ∙ sym long) (column_stored (nothing_kept end) items)
@@ -87,43 +87,43 @@ module _ (end : ℕ) (items : List LineItem) (few : length items ≤ 8192) where
   room : length {A = ℕ} (replicate 8192 0) ≡ 8192
   room = length-replicate {A = ℕ} 8192 0
 
-  kept_slots : take (kept_of end items).count (kept_of end items).slots ≡ slots_of items
+  kept_slots : take (kept_items end items).count (kept_items end items).slots ≡ item_slots items
   unfolding kept_more
   kept_slots = column_kept (λ l. l.slots) (λ i. i.slot) (λ i l. refl) end items room few
 
-  kept_values : take (kept_of end items).count (kept_of end items).values ≡ values_of items
+  kept_values : take (kept_items end items).count (kept_items end items).values ≡ item_values items
   unfolding kept_more
   kept_values = column_kept (λ l. l.values) (λ i. i.value) (λ i l. refl) end items room few
 
-  kept_kinds : take (kept_of end items).count (kept_of end items).kinds ≡ (entries_of items).cells.kinds
+  kept_kinds : take (kept_items end items).count (kept_items end items).kinds ≡ (entries_of items).cells.kinds
   unfolding kept_more
-  kept_kinds = column_kept (λ l. l.kinds) (λ i. (numbers_of i.said).kind) (λ i l. refl) end items room few
+  kept_kinds = column_kept (λ l. l.kinds) (λ i. (numbers_of_entry i.said).kind) (λ i l. refl) end items room few
 
-  kept_cells : take (kept_of end items).count (kept_of end items).cells ≡ (entries_of items).cells.cells
+  kept_cells : take (kept_items end items).count (kept_items end items).cells ≡ (entries_of items).cells.cells
   unfolding kept_more
   kept_cells = column_kept (λ l. l.cells) (λ i. i.cell) (λ i l. refl) end items room few
 
-  kept_carriers : take (kept_of end items).count (kept_of end items).carriers ≡ (entries_of items).cells.carriers
+  kept_carriers : take (kept_items end items).count (kept_items end items).carriers ≡ (entries_of items).cells.carriers
   unfolding kept_more
-  kept_carriers = column_kept (λ l. l.carriers) (λ i. (numbers_of i.said).carrier) (λ i l. refl) end items room few
+  kept_carriers = column_kept (λ l. l.carriers) (λ i. (numbers_of_entry i.said).carrier) (λ i l. refl) end items room few
 
-  kept_widths : take (kept_of end items).count (kept_of end items).widths ≡ (entries_of items).cells.widths
+  kept_widths : take (kept_items end items).count (kept_items end items).widths ≡ (entries_of items).cells.widths
   unfolding kept_more
-  kept_widths = column_kept (λ l. l.widths) (λ i. (numbers_of i.said).width) (λ i l. refl) end items room few
+  kept_widths = column_kept (λ l. l.widths) (λ i. (numbers_of_entry i.said).width) (λ i l. refl) end items room few
 
   room_signed : length {A = ℤ} (replicate 8192 (pos 0)) ≡ 8192
   room_signed = length-replicate {A = ℤ} 8192 (pos 0)
 
-  kept_xs : take (kept_of end items).count (kept_of end items).xs ≡ (entries_of items).xs
+  kept_xs : take (kept_items end items).count (kept_items end items).xs ≡ (entries_of items).xs
   unfolding kept_more
-  kept_xs = column_kept (λ l. l.xs) (λ i. (numbers_of i.said).x) (λ i l. refl) end items room_signed few
+  kept_xs = column_kept (λ l. l.xs) (λ i. (numbers_of_entry i.said).x) (λ i l. refl) end items room_signed few
 
-  kept_ys : take (kept_of end items).count (kept_of end items).ys ≡ (entries_of items).ys
+  kept_ys : take (kept_items end items).count (kept_items end items).ys ≡ (entries_of items).ys
   unfolding kept_more
-  kept_ys = column_kept (λ l. l.ys) (λ i. (numbers_of i.said).y) (λ i l. refl) end items room_signed few
+  kept_ys = column_kept (λ l. l.ys) (λ i. (numbers_of_entry i.said).y) (λ i l. refl) end items room_signed few
 
-  pub commits_kept : kept_commits (kept_of end items) ≡ commits_of items
+  pub commits_kept : kept_commits (kept_items end items) ≡ commits_of items
   commits_kept = ap₂ list_of kept_slots kept_values
 
-  pub entries_kept : kept_entries (kept_of end items) ≡ entries_of items
+  pub entries_kept : kept_entries (kept_items end items) ≡ entries_of items
   entries_kept = rw (kept_slots, kept_values, kept_kinds, kept_cells, kept_carriers, kept_widths, kept_xs, kept_ys) refl

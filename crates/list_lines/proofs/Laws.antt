@@ -8,7 +8,7 @@ use Rattle.texts.specs.Text.{ascii, with_bytes, put}
 use Rattle.texts.proofs.Lengths.{put_fits, number, decimal_length, each_length}
 use Rattle.line_fields.specs.Fields.{line_text, begins}
 use Rattle.planning_lines.specs.Answers.{bad_line_text}
-use Rattle.catch_up.specs.Causes.{CommitList, Commit, commits, join_number}
+use Rattle.catch_up.specs.Causes.{CommitList, Commit, listed_commits, join_number}
 use Rattle.catch_up.specs.Joining.{joining}
 use Rattle.catch_up.specs.declared.JoinRefusal.{JoinRefusal}
 use Rattle.catch_up.proofs.Exact.{is_join}
@@ -16,17 +16,17 @@ use Rattle.feeding.specs.Feeding.{feed_refusal_number}
 use Rattle.feeding.specs.declared.FeedRefusal.{FeedRefusal}
 use Rattle.positions.specs.Placed.{position_refusal_number}
 use Rattle.positions.specs.declared.PlacedRegister.{PlacedRegister}
-use Rattle.placed_feeding.specs.PlacedFeeding.{feeding}
-use Rattle.placed_feeding.specs.declared.FirstRefused.{FirstRefused}
+use Rattle.placed_feeding.specs.PlacedFeeding.{feeding_placed}
+use Rattle.placed_feeding.specs.declared.FirstPlacedRefused.{FirstPlacedRefused}
 use Rattle.list_lines.specs.declared.LineItem.{LineItem}
 use Rattle.list_lines.specs.Lists.{commits_of, entries_of}
-use Rattle.list_lines.specs.Joins.{JoinLine, join_asked, commit_text, commits_text, joining_text, asked_text, join_text}
-use Rattle.list_lines.specs.Feeds.{refused_text, first_text, fed_text, feed_text}
+use Rattle.list_lines.specs.Joins.{JoinLine, join_asked, listed_commit_text, commits_text, joining_text, join_line_text, join_text}
+use Rattle.list_lines.specs.Feeds.{refused_text, first_text, fed_text, feed_line_text}
 use Rattle.list_lines.specs.Answers.{placed_after_list_line}
 use Rattle.list_lines.proofs.JoinsRead.{beside_long}
 
-commit_length : (c : Commit) → length (commit_text c) ≤ 42
-unfolding commit_text
+commit_length : (c : Commit) → length (listed_commit_text c) ≤ 42
+unfolding listed_commit_text
 commit_length c = simp length-append (omega (arith, number c.slot, number c.value))
 
 refusal_length : (n : ℕ) → length (line_text (ascii "refused") n) ≤ 29
@@ -41,28 +41,28 @@ joining_length a b places = go (joining a b places) refl
     go (Err why) e = omega (arith, refusal_length (join_number why))
     go (Ok l) e =
         let J = is_join a b places l e in
-        let few : length (commits l) ≤ 8192 = omega (arith, beside_long l.slots l.values J.same, J.few) in
-        let all : length (commits_text l) ≤ 42 * 8192 = le_trans (each_length commit_text 42 commit_length (commits l)) (mul-le-mul_left 42 few) in
+        let few : length (listed_commits l) ≤ 8192 = omega (arith, beside_long l.slots l.values J.same, J.few) in
+        let all : length (commits_text l) ≤ 42 * 8192 = le_trans (each_length listed_commit_text 42 commit_length (listed_commits l)) (mul-le-mul_left 42 few) in
         simp length-append (omega (arith, decimal_length (length l.slots)))
 
-asked_length : (asked : Option JoinLine) → length (asked_text asked) ≤ 344085
-unfolding asked_text bad_line_text
+asked_length : (asked : Option JoinLine) → length (join_line_text asked) ≤ 344085
+unfolding join_line_text bad_line_text
 asked_length (Some j) = joining_length (commits_of j.first) (commits_of j.second) j.places
 asked_length None = omega arith
 
-first_length : (f : Option FirstRefused) → length (first_text f) ≤ 60
+first_length : (f : Option FirstPlacedRefused) → length (first_text f) ≤ 60
 unfolding first_text refused_text line_text
 first_length None = omega arith
 first_length (Some f) = simp length-append (omega (arith, number f.slot, number (position_refusal_number f.why)))
 
-fed_length : (fed : Result (Option FirstRefused) FeedRefusal) → length (fed_text fed) ≤ 60
+fed_length : (fed : Result (Option FirstPlacedRefused) FeedRefusal) → length (fed_text fed) ≤ 60
 unfolding fed_text
 fed_length (Ok f) = first_length f
 fed_length (Err why) = omega (arith, refusal_length (feed_refusal_number why))
 
-feed_length : (g : PlacedRegister) (asked : Option (List LineItem)) → length (feed_text g asked) ≤ 60
-unfolding feed_text bad_line_text
-feed_length g (Some items) = fed_length (feeding g (entries_of items)).answer
+feed_length : (g : PlacedRegister) (asked : Option (List LineItem)) → length (feed_line_text g asked) ≤ 60
+unfolding feed_line_text bad_line_text
+feed_length g (Some items) = fed_length (feeding_placed g (entries_of items)).answer
 feed_length g None = omega arith
 
 pub join_answer_whole : (line : List ℕ) (o : Output) → o.at + 344085 ≤ length o.bytes.now
@@ -71,9 +71,9 @@ pub join_answer_whole : (line : List ℕ) (o : Output) → o.at + 344085 ≤ len
 join_answer_whole line o room = put_fits (join_text line) o (omega (arith, asked_length (join_asked line)))
 
 pub feed_answer_whole : (g : PlacedRegister) (asked : Option (List LineItem)) (o : Output) → o.at + 60 ≤ length o.bytes.now
-    → put (feed_text g asked) o
-    ≡ with_bytes o (take o.at o.bytes.now ++ feed_text g asked ++ drop (o.at + length (feed_text g asked)) o.bytes.now) (o.at + length (feed_text g asked))
-feed_answer_whole g asked o room = put_fits (feed_text g asked) o (omega (arith, feed_length g asked))
+    → put (feed_line_text g asked) o
+    ≡ with_bytes o (take o.at o.bytes.now ++ feed_line_text g asked ++ drop (o.at + length (feed_line_text g asked)) o.bytes.now) (o.at + length (feed_line_text g asked))
+feed_answer_whole g asked o room = put_fits (feed_line_text g asked) o (omega (arith, feed_length g asked))
 
 -- "Joining takes no register."
 pub join_leaves : (g : PlacedRegister) (line : List ℕ) → begins (ascii "join ") line ≡ true → placed_after_list_line g line ≡ g

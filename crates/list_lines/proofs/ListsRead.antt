@@ -8,7 +8,7 @@ use Rattle.stored_lines.proofs.Answered.{begins_long}
 use Rattle.list_lines.specs.declared.LineItem.{LineItem}
 use Rattle.list_lines.specs.declared.LineList.{LineList}
 use Rattle.list_lines.specs.Lists.{item_at, list_ends, with_item, items_from, list_behind, ends_at, to_the_end, last_list}
-use Rattle.list_lines.specs.Kept.{kept_more, kept_all, kept_of}
+use Rattle.list_lines.specs.Kept.{kept_more, kept_all, kept_items}
 
 -- ---- one turn: what is kept of the entries so far, and of the rest
 
@@ -60,7 +60,7 @@ unfolding kept_all kept_more
 end_of_kept l [] = refl
 end_of_kept l (i ∷ items) = end_of_kept (kept_more i l) items
 
-pub kept_end : (end : ℕ) (items : List LineItem) → (kept_of end items).end ≡ ends_at end items
+pub kept_end : (end : ℕ) (items : List LineItem) → (kept_items end items).end ≡ ends_at end items
 kept_end end items = end_of_kept _ items
 
 -- ---- a list that is read, or none
@@ -78,21 +78,21 @@ kept_none f None e = refl
 kept_none f (Some a) e = cc
 
 module _ (fed : Bool) (line : List ℕ) (end : ℕ) where
-  pub last_none : None ≡ option_map (kept_of end) (list_behind fed line end) → None ≡ option_map (kept_of end) (last_list fed line end)
+  pub last_none : None ≡ option_map (kept_items end) (list_behind fed line end) → None ≡ option_map (kept_items end) (last_list fed line end)
   unfolding last_list
-  last_none e = rw (kept_none (kept_of end) (list_behind fed line end) e) refl
+  last_none e = rw (kept_none (kept_items end) (list_behind fed line end) e) refl
 
-  module _ (l : LineList) (read : Some l ≡ option_map (kept_of end) (list_behind fed line end)) where
-    pub last_some : l.end ≡ length line → Some l ≡ option_map (kept_of end) (last_list fed line end)
+  module _ (l : LineList) (read : Some l ≡ option_map (kept_items end) (list_behind fed line end)) where
+    pub last_some : l.end ≡ length line → Some l ≡ option_map (kept_items end) (last_list fed line end)
     unfolding last_list to_the_end
     last_some h =
-        let whole = kept_some (kept_of end) (list_behind fed line end) l read in
+        let whole = kept_some (kept_items end) (list_behind fed line end) l read in
         let ends : ends_at end whole.0 ≡ length line = sym (kept_end end whole.0) ∙ sym (ap (λ (x : LineList). x.end) whole.2) ∙ h in
         rw whole.1 (simp (eq-eqb (ends_at end whole.0) (length line) ends) (ap Some whole.2))
 
-    pub last_other : (l.end ≡ length line → ⊥) → None ≡ option_map (kept_of end) (last_list fed line end)
+    pub last_other : (l.end ≡ length line → ⊥) → None ≡ option_map (kept_items end) (last_list fed line end)
     unfolding last_list to_the_end
     last_other h =
-        let whole = kept_some (kept_of end) (list_behind fed line end) l read in
+        let whole = kept_some (kept_items end) (list_behind fed line end) l read in
         let ends : ends_at end whole.0 ≡ length line → ⊥ = λ e. h (ap (λ (x : LineList). x.end) whole.2 ∙ kept_end end whole.0 ∙ e) in
         rw whole.1 (simp (ne_eqb (ends_at end whole.0) (length line) ends))

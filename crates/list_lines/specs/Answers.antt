@@ -6,7 +6,7 @@ use Rattle.line_fields.specs.Fields.{begins}
 use Rattle.positions.specs.declared.PlacedRegister.{PlacedRegister}
 use Rattle.position_lines.specs.Answers.{placed_after_line, placed_line_answer}
 use Rattle.list_lines.specs.Joins.{join_text}
-use Rattle.list_lines.specs.Feeds.{feed_asked, after_feed, feed_text}
+use Rattle.list_lines.specs.Feeds.{feed_asked, after_feed, feed_line_text}
 
 -- the register after a line: joining takes no register
 unfoldable pub placed_after_list_line : PlacedRegister → List ℕ → PlacedRegister
@@ -17,4 +17,4 @@ placed_after_list_line p line =
 unfoldable pub list_line_answer : PlacedRegister → List ℕ → List ℕ
 list_line_answer p line =
     cond (begins (ascii "join ") line) (join_text line)
-    (cond (begins (ascii "feed") line) (feed_text p (feed_asked line)) (placed_line_answer p line))
+    (cond (begins (ascii "feed") line) (feed_line_text p (feed_asked line)) (placed_line_answer p line))

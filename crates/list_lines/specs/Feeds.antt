@@ -11,8 +11,8 @@ use Rattle.feeding.specs.declared.FeedRefusal.{FeedRefusal}
 use Rattle.feeding.specs.declared.FeedRefusal.TheVariants.{Unmade}
 use Rattle.positions.specs.Placed.{position_refusal_number}
 use Rattle.positions.specs.declared.PlacedRegister.{PlacedRegister}
-use Rattle.placed_feeding.specs.PlacedFeeding.{Feeding, feeding_in, not_fed, feeding}
-use Rattle.placed_feeding.specs.declared.FirstRefused.{FirstRefused}
+use Rattle.placed_feeding.specs.PlacedFeeding.{PlacedFeeding, feeding_placed_in, not_fed_placed, feeding_placed}
+use Rattle.placed_feeding.specs.declared.FirstPlacedRefused.{FirstPlacedRefused}
 use Rattle.list_lines.specs.declared.LineItem.{LineItem}
 use Rattle.list_lines.specs.declared.LineList.{LineList}
 use Rattle.list_lines.specs.Lists.{last_list, entries_of}
@@ -24,7 +24,7 @@ feed_asked line = last_list true line 4
 
 -- the register that it leaves: a bad line "changes nothing"
 unfoldable pub after_feed : PlacedRegister → Option (List LineItem) → PlacedRegister
-after_feed p (Some items) = (feeding p (entries_of items)).placed
+after_feed p (Some items) = (feeding_placed p (entries_of items)).placed
 after_feed p None = p
 
 -- ---- the answer
@@ -33,24 +33,24 @@ unfoldable pub refused_text : ℕ → ℕ → List ℕ
 refused_text slot number = ascii "fed, slot" ++ field slot ++ line_text (ascii " refused") number
 
 -- "hands back the first refused slot, if any, with its number"
-unfoldable pub first_text : Option FirstRefused → List ℕ
+unfoldable pub first_text : Option FirstPlacedRefused → List ℕ
 first_text None = ascii "fed\n"
 first_text (Some f) = refused_text f.slot (position_refusal_number f.why)
 
-unfoldable pub fed_text : Result (Option FirstRefused) FeedRefusal → List ℕ
+unfoldable pub fed_text : Result (Option FirstPlacedRefused) FeedRefusal → List ℕ
 fed_text (Ok first) = first_text first
 fed_text (Err why) = line_text (ascii "refused") (feed_refusal_number why)
 
-unfoldable pub feed_text : PlacedRegister → Option (List LineItem) → List ℕ
-feed_text p (Some items) = fed_text (feeding p (entries_of items)).answer
-feed_text p None = bad_line_text
+unfoldable pub feed_line_text : PlacedRegister → Option (List LineItem) → List ℕ
+feed_line_text p (Some items) = fed_text (feeding_placed p (entries_of items)).answer
+feed_line_text p None = bad_line_text
 
 -- ---- steps of the code
 
 -- of the list as it is kept, 2 and 18 of all that was read, and else what stands in the places is fed
-unfoldable pub kept_feeding_made : PlacedRegister → LineList → Feeding
-kept_feeding_made p l = cond l.too_large (not_fed NumberTooLarge p) (cond (ltb 8192 l.count) (not_fed OutsideLimits p) (feeding p (kept_entries l)))
+unfoldable pub kept_feeding_made : PlacedRegister → LineList → PlacedFeeding
+kept_feeding_made p l = cond l.too_large (not_fed_placed NumberTooLarge p) (cond (ltb 8192 l.count) (not_fed_placed OutsideLimits p) (feeding_placed p (kept_entries l)))
 
 -- before these, the number of a register that is not made
-unfoldable pub kept_feeding : PlacedRegister → LineList → Feeding
-kept_feeding p l = cond (is_made p.group.settings) (kept_feeding_made p l) (feeding_in (Err (Unmade (unmade_by p.group.settings))) p)
+unfoldable pub kept_feeding : PlacedRegister → LineList → PlacedFeeding
+kept_feeding p l = cond (is_made p.group.settings) (kept_feeding_made p l) (feeding_placed_in (Err (Unmade (unmade_by p.group.settings))) p)

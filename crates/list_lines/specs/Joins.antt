@@ -3,16 +3,16 @@
 use Rattle.std.specs.Prelude.{false, cond, ◌||◌, List, ◌++◌, ℕ, ◌+◌, ltb, length, take, drop, Option, Some, None, Result, Ok, Err}
 use Rattle.std.specs.Option.{option_map, option_and_then}
 use Rattle.texts.specs.Text.{ascii, decimal, field, each}
-use Rattle.line_fields.specs.Fields.{is_number, value_of, begins, number_field, line_text}
+use Rattle.line_fields.specs.Fields.{has_number_field, value_or_zero, begins, number_field, line_text}
 use Rattle.planning_lines.specs.Answers.{bad_line_text}
-use Rattle.catch_up.specs.Causes.{CommitList, Commit, commits, join_number}
+use Rattle.catch_up.specs.Causes.{CommitList, Commit, listed_commits, join_number}
 use Rattle.catch_up.specs.Joining.{list_of, joining}
 use Rattle.catch_up.specs.declared.JoinRefusal.{JoinRefusal}
 use Rattle.catch_up.specs.declared.JoinRefusal.TheVariants.{NumberTooLarge, OutsideLimits}
 use Rattle.list_lines.specs.declared.LineItem.{LineItem}
 use Rattle.list_lines.specs.declared.JoinQuestion.{JoinQuestion}
 use Rattle.list_lines.specs.Lists.{list_behind, ends_at, last_list, commits_of}
-use Rattle.list_lines.specs.Kept.{kept_of, kept_commits}
+use Rattle.list_lines.specs.Kept.{kept_items, kept_commits}
 
 -- ---- what the line asks
 
@@ -27,45 +27,45 @@ abbrev pub join_line : ℕ → ℕ → List LineItem → List LineItem → JoinL
 join_line places end first second = record { places = places; end = end; first = first; second = second }
 
 -- the bar stands behind a blank, and behind it the second list
-unfoldable pub behind_first : List ℕ → ℕ → ℕ → List LineItem → Option JoinLine
-behind_first line places end first =
+unfoldable pub behind_first_list : List ℕ → ℕ → ℕ → List LineItem → Option JoinLine
+behind_first_list line places end first =
     cond (begins (ascii " |") (drop (ends_at end first) line))
     (option_map (join_line places end first) (last_list false line (ends_at end first + 2))) None
 
 -- `join` and its blank are five bytes
 unfoldable pub join_asked : List ℕ → Option JoinLine
 join_asked line =
-    cond (is_number (number_field line 5).number)
-    (option_and_then (behind_first line (value_of (number_field line 5).number) (number_field line 5).end)
+    cond (has_number_field (number_field line 5).number)
+    (option_and_then (behind_first_list line (value_or_zero (number_field line 5).number) (number_field line 5).end)
     (list_behind false line (number_field line 5).end))
     None
 
 -- ---- the answer
 
 -- a slot and its value
-unfoldable pub commit_text : Commit → List ℕ
-commit_text c = field c.slot ++ field c.value
+unfoldable pub listed_commit_text : Commit → List ℕ
+listed_commit_text c = field c.slot ++ field c.value
 
 abbrev pub commits_text : CommitList → List ℕ
-commits_text l = each commit_text (commits l)
+commits_text l = each listed_commit_text (listed_commits l)
 
 -- the count and the entries, or `refused` and the number
 unfoldable pub joining_text : Result CommitList JoinRefusal → List ℕ
 joining_text (Ok l) = decimal (length l.slots) ++ commits_text l ++ ascii "\n"
 joining_text (Err why) = line_text (ascii "refused") (join_number why)
 
-unfoldable pub asked_text : Option JoinLine → List ℕ
-asked_text (Some j) = joining_text (joining (commits_of j.first) (commits_of j.second) j.places)
-asked_text None = bad_line_text
+unfoldable pub join_line_text : Option JoinLine → List ℕ
+join_line_text (Some j) = joining_text (joining (commits_of j.first) (commits_of j.second) j.places)
+join_line_text None = bad_line_text
 
 -- what is written for a line that begins with `join` and a blank
 abbrev pub join_text : List ℕ → List ℕ
-join_text line = asked_text (join_asked line)
+join_text line = join_line_text (join_asked line)
 
 -- ---- steps of the code
 
 abbrev pub kept_asked : JoinLine → JoinQuestion
-kept_asked j = record { places = j.places; first = kept_of j.end j.first; second = kept_of (ends_at j.end j.first + 2) j.second }
+kept_asked j = record { places = j.places; first = kept_items j.end j.first; second = kept_items (ends_at j.end j.first + 2) j.second }
 
 -- of the lists as they are kept: 2 and 18 of all that was read
 unfoldable pub kept_refused : JoinQuestion → Result (Unit {0}) JoinRefusal
@@ -74,12 +74,12 @@ kept_refused q =
     (cond (ltb 8192 q.first.count || (ltb 8192 q.second.count || ltb q.places 8192)) (Err OutsideLimits) (Ok tt))
 
 -- and else the join of what stands in the places
-abbrev pub unless_refused : Result (Unit {0}) JoinRefusal → Result CommitList JoinRefusal → Result CommitList JoinRefusal
-unless_refused (Err why) joined = Err why
-unless_refused (Ok u) joined = joined
+abbrev pub unless_kept_refused : Result (Unit {0}) JoinRefusal → Result CommitList JoinRefusal → Result CommitList JoinRefusal
+unless_kept_refused (Err why) joined = Err why
+unless_kept_refused (Ok u) joined = joined
 
 unfoldable pub kept_joining : JoinQuestion → Result CommitList JoinRefusal
-kept_joining q = unless_refused (kept_refused q) (joining (kept_commits q.first) (kept_commits q.second) 8192)
+kept_joining q = unless_kept_refused (kept_refused q) (joining (kept_commits q.first) (kept_commits q.second) 8192)
 
 -- the text of an answer whose entries stand in the first of the lent places
 unfoldable pub joined_text : Result ℕ JoinRefusal → List ℕ → List ℕ → List ℕ

@@ -1,14 +1,14 @@
 -- What is kept of a list as it is read: how many entries it has and whether a number is too large, of all of them; and the first 8,192, as many as may
 -- be fed. These are steps of the code: what a line asks is said of the whole list (Joins, Feeds).
 -- Assumes nothing.
-use Rattle.std.specs.Prelude.{Bool, cond, ◌||◌, List, [], ◌∷◌, ℕ, ◌+◌, ℤ, pos, ltb, length, set, take, replicate}
+use Rattle.std.specs.Prelude.{Bool, cond, ◌||◌, List, [], ◌∷◌, ℕ, ◌+◌, pos, ltb, length, set, take, replicate}
 use Rattle.catch_up.specs.Causes.{CommitList}
 use Rattle.catch_up.specs.Joining.{list_of}
 use Rattle.feeding.specs.Feeding.{fed_list_of}
 use Rattle.placed_feeding.specs.PlacedFeeding.{PlacedColumns, placed_columns}
 use Rattle.list_lines.specs.declared.LineItem.{LineItem}
 use Rattle.list_lines.specs.declared.LineList.{LineList}
-use Rattle.list_lines.specs.Lists.{numbers_of}
+use Rattle.list_lines.specs.Lists.{numbers_of_entry}
 
 -- 2, of one entry
 abbrev pub above_limits : LineItem → Bool
@@ -43,12 +43,12 @@ kept_more i l =
       end = i.end;
       slots = kept_at l.slots l.count i.slot;
       values = kept_at l.values l.count i.value;
-      kinds = kept_at l.kinds l.count (numbers_of i.said).kind;
+      kinds = kept_at l.kinds l.count (numbers_of_entry i.said).kind;
       cells = kept_at l.cells l.count i.cell;
-      carriers = kept_at l.carriers l.count (numbers_of i.said).carrier;
-      widths = kept_at l.widths l.count (numbers_of i.said).width;
-      xs = kept_at l.xs l.count (numbers_of i.said).x;
-      ys = kept_at l.ys l.count (numbers_of i.said).y;
+      carriers = kept_at l.carriers l.count (numbers_of_entry i.said).carrier;
+      widths = kept_at l.widths l.count (numbers_of_entry i.said).width;
+      xs = kept_at l.xs l.count (numbers_of_entry i.said).x;
+      ys = kept_at l.ys l.count (numbers_of_entry i.said).y;
     }
 
 unfoldable pub kept_all : LineList → List LineItem → LineList
@@ -56,8 +56,8 @@ kept_all l [] = l
 kept_all l (i ∷ items) = kept_all (kept_more i l) items
 
 -- of a list behind a field that ends there
-abbrev pub kept_of : ℕ → List LineItem → LineList
-kept_of end items = kept_all (nothing_kept end) items
+abbrev pub kept_items : ℕ → List LineItem → LineList
+kept_items end items = kept_all (nothing_kept end) items
 
 -- what stands in the places
 abbrev pub kept_commits : LineList → CommitList

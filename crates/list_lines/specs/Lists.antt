@@ -3,13 +3,13 @@
 use Rattle.std.specs.Prelude.{Bool, true, cond, ◌&&◌, List, [], ◌∷◌, map, ℕ, zero, suc, ◌+◌, pos, eqb, length, drop, Option, Some, None}
 use Rattle.std.specs.Option.{option_map, option_and_then}
 use Rattle.texts.specs.Text.{ascii}
-use Rattle.line_fields.specs.Fields.{is_number, value_of, begins, next_field, number_field}
+use Rattle.line_fields.specs.Fields.{has_number_field, value_or_zero, begins, next_field, number_field}
 use Rattle.register.specs.declared.Change.TheVariants.{Assign, Release}
 use Rattle.register_lines.specs.Entries.{second}
-use Rattle.entry_lines.specs.Entries.{said_at}
+use Rattle.entry_lines.specs.Entries.{line_said_at}
 use Rattle.entry_lines.specs.declared.LineSaid.{LineSaid}
-use Rattle.entry_lines.specs.declared.Said.{Said}
-use Rattle.entry_lines.specs.declared.Said.TheVariants.{Changed, Placed}
+use Rattle.entry_lines.specs.declared.CellSaid.{CellSaid}
+use Rattle.entry_lines.specs.declared.CellSaid.TheVariants.{Changed, Placed}
 use Rattle.catch_up.specs.Causes.{CommitList}
 use Rattle.feeding.specs.Feeding.{fed_list_of}
 use Rattle.placed_feeding.specs.PlacedFeeding.{PlacedColumns, placed_columns}
@@ -21,11 +21,11 @@ use Rattle.list_lines.specs.declared.LineItem.{LineItem}
 -- `s v`
 unfoldable pub commit_at : List ℕ → ℕ → Option LineItem
 commit_at line at =
-    cond (is_number (number_field line at).number && is_number (number_field line (second line at)).number)
+    cond (has_number_field (number_field line at).number && has_number_field (number_field line (second line at)).number)
     (Some
     (record {
-      slot = value_of (number_field line at).number;
-      value = value_of (number_field line (second line at)).number;
+      slot = value_or_zero (number_field line at).number;
+      value = value_or_zero (number_field line (second line at)).number;
       cell = 0;
       said = Changed Release;
       end = (number_field line (second line at)).end;
@@ -37,7 +37,7 @@ abbrev pub entry_beside : LineItem → LineSaid → LineItem
 entry_beside i s = record { slot = i.slot; value = i.value; cell = s.cell; said = s.said; end = s.end }
 
 unfoldable pub with_entry : List ℕ → LineItem → Option LineItem
-with_entry line i = option_map (entry_beside i) (said_at line (next_field line i.end))
+with_entry line i = option_map (entry_beside i) (line_said_at line (next_field line i.end))
 
 unfoldable pub item_at : Bool → List ℕ → ℕ → Option LineItem
 item_at fed line at = cond fed (option_and_then (with_entry line) (commit_at line at)) (commit_at line at)
@@ -83,24 +83,24 @@ last_list fed line end = option_and_then (to_the_end line end) (list_behind fed 
 
 -- ---- its columns
 
-abbrev pub slots_of : List LineItem → List ℕ
-slots_of items = map (λ (i : LineItem). i.slot) items
+abbrev pub item_slots : List LineItem → List ℕ
+item_slots items = map (λ (i : LineItem). i.slot) items
 
-abbrev pub values_of : List LineItem → List ℕ
-values_of items = map (λ (i : LineItem). i.value) items
+abbrev pub item_values : List LineItem → List ℕ
+item_values items = map (λ (i : LineItem). i.value) items
 
 abbrev pub commits_of : List LineItem → CommitList
-commits_of items = record { slots = slots_of items; values = values_of items }
+commits_of items = record { slots = item_slots items; values = item_values items }
 
 -- an entry in numbers: kind 1 is an assignment, kind 2 a release and kind 3 a position
-abbrev pub numbers_of : Said → EntryNumbers
-numbers_of (Changed (Assign a)) = record { kind = 1; carrier = a.carrier; width = a.width; x = pos 0; y = pos 0 }
-numbers_of (Changed Release) = record { kind = 2; carrier = 0; width = 0; x = pos 0; y = pos 0 }
-numbers_of (Placed p) = record { kind = 3; carrier = 0; width = 0; x = p.x; y = p.y }
+abbrev pub numbers_of_entry : CellSaid → EntryNumbers
+numbers_of_entry (Changed (Assign a)) = record { kind = 1; carrier = a.carrier; width = a.width; x = pos 0; y = pos 0 }
+numbers_of_entry (Changed Release) = record { kind = 2; carrier = 0; width = 0; x = pos 0; y = pos 0 }
+numbers_of_entry (Placed p) = record { kind = 3; carrier = 0; width = 0; x = p.x; y = p.y }
 
 abbrev pub entries_of : List LineItem → PlacedColumns
 entries_of items =
     placed_columns
-    (fed_list_of (slots_of items) (values_of items) (map (λ (i : LineItem). (numbers_of i.said).kind) items) (map (λ (i : LineItem). i.cell) items)
-    (map (λ (i : LineItem). (numbers_of i.said).carrier) items) (map (λ (i : LineItem). (numbers_of i.said).width) items))
-    (map (λ (i : LineItem). (numbers_of i.said).x) items) (map (λ (i : LineItem). (numbers_of i.said).y) items)
+    (fed_list_of (item_slots items) (item_values items) (map (λ (i : LineItem). (numbers_of_entry i.said).kind) items) (map (λ (i : LineItem). i.cell) items)
+    (map (λ (i : LineItem). (numbers_of_entry i.said).carrier) items) (map (λ (i : LineItem). (numbers_of_entry i.said).width) items))
+    (map (λ (i : LineItem). (numbers_of_entry i.said).x) items) (map (λ (i : LineItem). (numbers_of_entry i.said).y) items)

@@ -2,7 +2,7 @@
 -- Assumes nothing.
 use Rattle.std.specs.Prelude.{◌≡◌, List, [], ◌∷◌, ◌++◌, ℕ, ◌≤◌, length}
 use Rattle.texts.specs.Text.{ascii, field}
-use Rattle.catch_up.specs.Causes.{CommitList, Commit, commits}
+use Rattle.catch_up.specs.Causes.{CommitList, Commit, listed_commits}
 use Rattle.list_lines.specs.Joins.{commits_text}
 
 -- `join PLACES s v s v .. | s v ..`
@@ -17,4 +17,4 @@ CommitsFit (c ∷ cs) = (c.slot ≤ 18446744073709551615) × (c.value ≤ 184467
 -- so do those of a list, which has a value beside each slot
 pub record ListFits (l : CommitList) : Type 0 where
   pub same : length l.slots ≡ length l.values
-  pub numbers : CommitsFit (commits l)
+  pub numbers : CommitsFit (listed_commits l)

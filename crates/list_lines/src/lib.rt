@@ -8,17 +8,17 @@ ghost use Rattle.std.specs.Option.{option_map};
 ghost use Rattle.texts.specs.Text.{put};
 ghost use Rattle.catch_up.specs.Joining.{list_of, lent_list, lent_places, SamePlaces, join_count, Gives};
 ghost use Rattle.feeding.specs.Feeding.{fed_list};
-ghost use Rattle.placed_feeding.specs.PlacedFeeding.{placed_list, feeding_in};
-ghost use Rattle.list_lines.specs.Lists.{commit_at, with_entry, item_at, list_ends, items_from, list_behind, last_list, numbers_of};
-ghost use Rattle.list_lines.specs.Kept.{above_limits, nothing_kept, kept_more, kept_of, kept_commits, kept_entries};
+ghost use Rattle.placed_feeding.specs.PlacedFeeding.{placed_list, feeding_placed_in};
+ghost use Rattle.list_lines.specs.Lists.{commit_at, with_entry, item_at, list_ends, items_from, list_behind, last_list, numbers_of_entry};
+ghost use Rattle.list_lines.specs.Kept.{above_limits, nothing_kept, kept_more, kept_items, kept_commits, kept_entries};
 ghost use Rattle.list_lines.specs.Joins.{join_asked, commits_text, joining_text, join_text, joined_text, kept_refused, kept_joining, kept_asked};
-ghost use Rattle.list_lines.specs.Feeds.{feed_asked, after_feed, refused_text, first_text, fed_text, feed_text, kept_feeding};
+ghost use Rattle.list_lines.specs.Feeds.{feed_asked, after_feed, refused_text, first_text, fed_text, feed_line_text, kept_feeding};
 ghost use Rattle.list_lines.specs.Answers.{placed_after_list_line, list_line_answer};
 
 use catch_up::{JoinRefusal, LentList, LentPlaces};
-use entry_lines::Said;
+use entry_lines::CellSaid;
 use feeding::{EntryList, FeedRefusal};
-use placed_feeding::{FirstRefused, PlacedList};
+use placed_feeding::{FirstPlacedRefused, PlacedList};
 use positions::PlacedRegister;
 use refusals::Refused;
 use register::{CellNumber, Change};
@@ -31,7 +31,7 @@ pub struct LineItem {
     pub slot: u64,
     pub value: u64,
     pub cell: CellNumber,
-    pub said: Said,
+    pub said: CellSaid,
     pub end: usize,
 }
 
@@ -87,7 +87,7 @@ fn commit_at(line: &[u8], at: usize) -> Option<LineItem>
         slot: slot.number?,
         value: value.number?,
         cell: 0,
-        said: Said::Changed(Change::Release),
+        said: CellSaid::Changed(Change::Release),
         end: value.end,
     })
 }
@@ -97,7 +97,7 @@ fn commit_at(line: &[u8], at: usize) -> Option<LineItem>
 fn with_entry(line: &[u8], item: LineItem) -> Option<LineItem>
     ensures { result ≡ with_entry line.now item }
 {
-    let beside = entry_lines::said_at(line, line_fields::next_field(line, item.end))?;
+    let beside = entry_lines::line_said_at(line, line_fields::next_field(line, item.end))?;
     Some(LineItem {
         cell: beside.cell,
         said: beside.said,
@@ -134,8 +134,8 @@ fn above_limits(item: LineItem) -> bool
 }
 
 // Kind 1 is an assignment, kind 2 a release and kind 3 a position.
-fn numbers_of(said: Said) -> EntryNumbers
-    ensures { result ≡ numbers_of said }
+fn numbers_of_entry(said: CellSaid) -> EntryNumbers
+    ensures { result ≡ numbers_of_entry said }
 {
     let none = EntryNumbers {
         kind: 2,
@@ -145,14 +145,14 @@ fn numbers_of(said: Said) -> EntryNumbers
         y: 0,
     };
     match said {
-        Said::Changed(Change::Assign(assignment)) => EntryNumbers {
+        CellSaid::Changed(Change::Assign(assignment)) => EntryNumbers {
             kind: 1,
             carrier: assignment.carrier,
             width: assignment.width,
             ..none
         },
-        Said::Changed(Change::Release) => none,
-        Said::Placed(position) => EntryNumbers {
+        CellSaid::Changed(Change::Release) => none,
+        CellSaid::Placed(position) => EntryNumbers {
             kind: 3,
             x: position.x,
             y: position.y,
@@ -189,7 +189,7 @@ impl LineList {
     {
         let at = self.count;
         if at < MOST_KEPT {
-            let numbers = numbers_of(item.said);
+            let numbers = numbers_of_entry(item.said);
             self.slots[at] = item.slot;
             self.values[at] = item.value;
             self.kinds[at] = numbers.kind;
@@ -238,7 +238,7 @@ impl LineList {
 #[tactic(auto, using(crate::proofs::ListsRead::turn_none, crate::proofs::ListsRead::turn_last, crate::proofs::ListsRead::no_turn))]
 fn read_items(line: &[u8], end: usize, fed: bool) -> Option<LineList>
     requires { end < length line.now }
-    ensures { result ≡ option_map (kept_of end) (items_from fed line.now (end + 1) (length line.now)) }
+    ensures { result ≡ option_map (kept_items end) (items_from fed line.now (end + 1) (length line.now)) }
 {
     let mut list = LineList::new(end);
     let mut at = end + 1;
@@ -256,7 +256,7 @@ fn read_items(line: &[u8], end: usize, fed: bool) -> Option<LineList>
 // The list behind a field that ends there.
 #[tactic(auto, using(crate::proofs::ListsRead::blank_inside), unfolding(crate::specs::Lists::list_behind, crate::specs::Kept::kept_all))]
 fn list_behind(line: &[u8], end: usize, fed: bool) -> Option<LineList>
-    ensures { result ≡ option_map (kept_of end) (list_behind fed line.now end) }
+    ensures { result ≡ option_map (kept_items end) (list_behind fed line.now end) }
 {
     if list_ends(line, end) {
         return Some(LineList::new(end));
@@ -270,7 +270,7 @@ fn list_behind(line: &[u8], end: usize, fed: bool) -> Option<LineList>
 // The same, of a list with which the line ends.
 #[tactic(auto, using(crate::proofs::ListsRead::last_none, crate::proofs::ListsRead::last_some, crate::proofs::ListsRead::last_other))]
 fn last_list(line: &[u8], end: usize, fed: bool) -> Option<LineList>
-    ensures { result ≡ option_map (kept_of end) (last_list fed line.now end) }
+    ensures { result ≡ option_map (kept_items end) (last_list fed line.now end) }
 {
     let list = list_behind(line, end, fed)?;
     if list.end == line.len() {
@@ -398,8 +398,8 @@ fn answer_join(line: &[u8], out: &mut Output<'_>)
 fn feed_kept(
     placed: &mut PlacedRegister,
     list: &LineList,
-) -> Result<Option<FirstRefused>, FeedRefusal>
-    ensures { feeding_in result placed.new ≡ kept_feeding placed.old list.now }
+) -> Result<Option<FirstPlacedRefused>, FeedRefusal>
+    ensures { feeding_placed_in result placed.new ≡ kept_feeding placed.old list.now }
 {
     if !placed.group.settings.is_made() {
         return Err(FeedRefusal::Unmade(placed.group.settings.unmade_by()));
@@ -429,7 +429,7 @@ fn put_refused(out: &mut Output<'_>, slot: u64, number: u64)
 }
 
 #[tactic(auto, unfolding(crate::specs::Feeds::first_text))]
-fn put_first(out: &mut Output<'_>, first: Option<FirstRefused>)
+fn put_first(out: &mut Output<'_>, first: Option<FirstPlacedRefused>)
     ensures { out.new ≡ put (first_text first) out.old }
 {
     match first {
@@ -439,7 +439,7 @@ fn put_first(out: &mut Output<'_>, first: Option<FirstRefused>)
 }
 
 #[tactic(auto, unfolding(crate::specs::Feeds::fed_text))]
-fn put_fed(out: &mut Output<'_>, fed: Result<Option<FirstRefused>, FeedRefusal>)
+fn put_fed(out: &mut Output<'_>, fed: Result<Option<FirstPlacedRefused>, FeedRefusal>)
     ensures { out.new ≡ put (fed_text fed) out.old }
 {
     match fed {
@@ -453,7 +453,7 @@ fn put_fed(out: &mut Output<'_>, fed: Result<Option<FirstRefused>, FeedRefusal>)
 #[tactic(auto, using(crate::proofs::FeedsRead::bad_register, crate::proofs::FeedsRead::bad_answer))]
 fn answer_feed(placed: &mut PlacedRegister, line: &[u8], out: &mut Output<'_>)
     ensures placed { placed.new ≡ after_feed placed.old (feed_asked line.now) }
-    ensures put { out.new ≡ put (feed_text placed.old (feed_asked line.now)) out.old }
+    ensures put { out.new ≡ put (feed_line_text placed.old (feed_asked line.now)) out.old }
 {
     match last_list(line, 4, true) {
         Some(list) => {

@@ -4,3 +4,4 @@ pub mod Promises
 pub mod Messages
 pub mod Refusals
 pub mod Outcomes
+pub mod limits

@@ -2,6 +2,8 @@
 // document 02 adds to it.
 #![tactic(auto)]
 
+pub mod limits;
+
 ghost use Rattle.std.specs.Prelude.{◌≡◌, ◌-◌};
 ghost use Rattle.message.specs.Modes.{mode_of_number, is_multi_paxos, is_swift_paxos, has_fast_path};
 ghost use Rattle.message.specs.Rounds.{increment, starting_round, next_leader_round};

@@ -3,7 +3,7 @@
 use Rattle.std.specs.Prelude.{cond, ℕ, ◌+◌, ltb, get_or, set, replicate, Option, None, Some}
 use Rattle.steps.specs.declared.Outgoing.{Outgoing}
 use Rattle.calls.specs.declared.CommittedSlot.{CommittedSlot}
-use Rattle.sets.specs.Sets.{contains, insert}
+use Rattle.basics.specs.sets.Sets.{contains, insert}
 use Rattle.message.specs.declared.ConsensusMsg.TheVariants.{ForwardRequest}
 use Rattle.steps.specs.declared.Destination.TheVariants.{One}
 use Rattle.steps.specs.declared.Messages.{Messages}

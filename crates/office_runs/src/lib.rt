@@ -2,7 +2,7 @@
 #![tactic(auto)]
 
 ghost use Rattle.std.specs.Prelude.{◌≡◌};
-ghost use Rattle.sets.specs.Sets.{insert};
+ghost use Rattle.basics.specs.sets.Sets.{insert};
 ghost use Rattle.enabled_runs.specs.Listing.{is_commit_message, is_sent_to};
 ghost use Rattle.enabled_runs.specs.Offices.{office_settings, requester_of_value, message_requester, held_requester, heard_by};
 ghost use Rattle.office_runs.specs.Runs.{office, value_proposed, no_sending, sending_at, with_last, with_message, with_messages, with_commit_by, new_run, office_shard, with_answer, after_proposal, after_delivery, trial_of};
@@ -286,7 +286,7 @@ impl OfficeRun {
     fn after_proposal(self, member: u64) -> Option<OfficeRun>
         ensures { result ≡ after_proposal self member }
     {
-        if sets::contains(self.proposed, member) {
+        if basics::sets::contains(self.proposed, member) {
             return None;
         }
         let shard = self.shard_of(member);
@@ -296,7 +296,7 @@ impl OfficeRun {
             return None;
         }
         let mut run = self.with_answer(member, RunEvent::Proposes(member), answer);
-        run.proposed = sets::insert(run.proposed, member);
+        run.proposed = basics::sets::insert(run.proposed, member);
         Some(run)
     }
 

@@ -11,7 +11,7 @@ use Prim.Native.Nat.{ℕ}
 use lib.Dec.{eqb, leb}
 use borrow.Author.Tests.{eqb-true}
 use Rattle.basics.proofs.Tests.{not_both}
-use Rattle.sets.specs.Sets.{size}
+use Rattle.basics.specs.sets.Sets.{size}
 use Rattle.paxos.specs.PaxosMadeSimple.{Proposal, is_majority, learns}
 use Rattle.paxos.specs.PaxosMadeSimple.Message.{acceptance}
 use Rattle.message.specs.Modes.{is_swift_paxos, has_fast_path}
@@ -25,7 +25,7 @@ use Rattle.message.specs.declared.Refusal.{Refusal}
 use Rattle.message.specs.declared.Refusal.TheVariants.{Panic}
 use Rattle.round_state.specs.Paxos.{receive_accept, accept_fits, after_accept, paxos_can_commit}
 use Rattle.round_state.specs.declared.PaxosState.{PaxosState}
-use Rattle.accept.specs.Accept.{tells_committer, is_committer, accept_to, committer_hears, answer_accept, tells_commit, commit_messages, try_commit, answered, follower, accepted as accepted_step, after_accepted, accepting}
+use Rattle.classic.specs.accept.Accept.{tells_committer, is_committer, accept_to, committer_hears, answer_accept, tells_commit, with_commit_message, try_commit, answered, follower, accepted as accepted_step, after_accepted, accepting}
 use Rattle.paxos_family.specs.Commit.{commit_slot}
 use Rattle.steps.specs.Steps.{CoreStep, no_messages, one_message, two_messages, also, first_served, with_paxos, left_fast_path, stays, continues, commits as commits_step}
 use Rattle.steps.specs.declared.Asked.{Asked}
@@ -40,7 +40,7 @@ use Rattle.consensus.specs.declared.State.{State}
 use Rattle.consensus.proofs.Entered.{not_swift}
 use Rattle.consensus.proofs.Handled.{eqb_sym}
 use Rattle.paper.specs.Replica.{Replica, replica_of}
-use Rattle.paper.specs.PaperCall.{Seen, Place, Known, in_places, is_one_of, but, leaves, commits, addressed, learners, is_learner, to_each, served_first, informs, learning, counts, committers_in}
+use Rattle.paper.specs.PaperCall.{Seen, Place, Known, in_places, is_one_of, but, leaves, commits_learned, addressed, learners, is_learner, to_each, served_first, informs, learning, counts_and_learns, committers_as_learners}
 use Rattle.paper.proofs.Views.{place_in, known_in, state_seen, seen_after, taken_no, push, Agrees, agrees, through, no_refusal, agree_both, agree_unless, accept_counted}
 use Rattle.paper.proofs.InOrder.{then_accept}
 use Rattle.paper.proofs.Handlers.{off_paxos}
@@ -139,7 +139,7 @@ module _ (state : State) (a : Asked) (h : Heard) (there : Bool) (acceptors : ℕ
           Tells : Messages → List ℕ → Type 0
           Tells x committers = Lists x (acceptances (but me (but n.leader committers ++ (n.leader ∷ []))))
 
-          no_committer : (m : PFMode) → Tells (one_message to_leader) (committers_in m None)
+          no_committer : (m : PFMode) → Tells (one_message to_leader) (committers_as_learners m None)
           no_committer Paxos = leader_told
           no_committer MultiPaxos = leader_told
           no_committer MultiPaxos3P = leader_told
@@ -149,7 +149,7 @@ module _ (state : State) (a : Asked) (h : Heard) (there : Bool) (acceptors : ℕ
 
           by_mode : (q : ℕ) (m : PFMode) → has_fast_path m ≡ false
               → Tells (cond (tells_committer m && (not (eqb q n.leader) && not (eqb q me)))
-              (two_messages (accept_to a off n q) to_leader) (one_message to_leader)) (committers_in m (Some q))
+              (two_messages (accept_to a off n q) to_leader) (one_message to_leader)) (committers_as_learners m (Some q))
           by_mode q Paxos e = leader_told
           by_mode q MultiPaxos e = leader_told
           by_mode q MultiPaxos3P e = committer_told q
@@ -157,7 +157,7 @@ module _ (state : State) (a : Asked) (h : Heard) (there : Bool) (acceptors : ℕ
           by_mode q Pando e = leader_told
           by_mode q SwiftPaxos e = absurd (not_both refl e)
 
-          by_committer : (q : Optional ℕ) → Tells (answer_accept a n off q) (committers_in a.mode q)
+          by_committer : (q : Optional ℕ) → Tells (answer_accept a n off q) (committers_as_learners a.mode q)
           by_committer None = no_committer a.mode
           by_committer (Some q) = by_mode q a.mode classic
 
@@ -172,7 +172,7 @@ module _ (state : State) (a : Asked) (h : Heard) (there : Bool) (acceptors : ℕ
         by_leader q false e = or_turned (eqb me q) (eqb me n.leader)
 
         go : (m : PFMode) (q : Optional ℕ) → has_fast_path m ≡ false
-            → is_one_of me (but n.leader (committers_in m q) ++ (n.leader ∷ [])) ≡ (eqb me n.leader || (tells_committer m && is_process q me))
+            → is_one_of me (but n.leader (committers_as_learners m q) ++ (n.leader ∷ [])) ≡ (eqb me n.leader || (tells_committer m && is_process q me))
         go Paxos q e = refl
         go MultiPaxos q e = refl
         go MultiPaxos3P None e = refl
@@ -182,8 +182,8 @@ module _ (state : State) (a : Asked) (h : Heard) (there : Bool) (acceptors : ℕ
         go Pando q e = refl
         go SwiftPaxos q e = absurd (not_both refl e)
 
-    tells_paper : (x : Messages) (ms : List Outgoing) → Lists x ms → commit_messages a h n off x ≡ in_places (ms ++ informs here known proposal)
-    unfolding commit_messages tells_commit informs
+    tells_paper : (x : Messages) (ms : List Outgoing) → Lists x ms → with_commit_message a h n off x ≡ in_places (ms ++ informs here known proposal)
+    unfolding with_commit_message tells_commit informs
     tells_paper x ms (same, room) =
         ap (λ (p : Optional ℕ). cond tells (also x (addressed here (All p) (Commit core.slot v))) x) (first_served_lem h.requester)
         ∙ ap (λ (l : Bool). by l (is_process h.requester me)) (eqb_sym n.leader me)
@@ -213,7 +213,7 @@ module _ (state : State) (a : Asked) (h : Heard) (there : Bool) (acceptors : ℕ
         go false true = same ∙ ap in_places (sym (append-nil ms))
         go false false = room told_all
 
-    commit_paper : (ms : List Outgoing) → Agrees (seen_taken (commits_step v (left_fast_path off) (in_places ms))) (commits here v ms)
+    commit_paper : (ms : List Outgoing) → Agrees (seen_taken (commits_step v (left_fast_path off) (in_places ms))) (commits_learned here v ms)
     unfolding committed commit_slot
     commit_paper ms =
         agree_unless state_seen there
@@ -222,14 +222,14 @@ module _ (state : State) (a : Asked) (h : Heard) (there : Bool) (acceptors : ℕ
           slot = increment
               core.slot;
           last = Some v;
-          replica = (commits here v ms).replica;
+          replica = (commits_learned here v ms).replica;
           messages = in_places ms;
           commit = committed_slot core.slot v (t && false);
         }) classic))
         (λ e. no_refusal refl)
 
     learns_paper : (x : Messages) (ms : List Outgoing) → Lists x ms
-        → Agrees (seen_taken (try_commit a h n v off x)) (counts here known proposal (replica_of after) ms)
+        → Agrees (seen_taken (try_commit a h n v off x)) (counts_and_learns here known proposal (replica_of after) ms)
     unfolding try_commit learning learns
     learns_paper x ms lists =
         through refl
@@ -260,7 +260,7 @@ module _ (state : State) (a : Asked) (h : Heard) (there : Bool) (acceptors : ℕ
     announced l d = cond d (acceptances (cond l [] (but me (learners here known n)))) []
 
     abbrev rule : Replica → List Outgoing → Bool → Seen
-    rule r ms learner = cond learner (counts here known proposal r ms) (leaves here r ms)
+    rule r ms learner = cond learner (counts_and_learns here known proposal r ms) (leaves here r ms)
 
     by_roles : (l d c : Bool) → leads ≡ l → Agrees (seen_step (step l d c)) (rule (replica_of after) (announced l d) (l || c))
     by_roles true true c e = learns_paper no_messages [] (refl, λ m. refl)

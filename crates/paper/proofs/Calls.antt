@@ -33,11 +33,11 @@ use Rattle.settings.specs.Settings.{counts_fit, within_limits}
 use Rattle.settings.specs.Questions.{committer_of, quorums_of}
 use Rattle.settings.specs.declared.Settings.{Settings}
 use Rattle.enter.specs.Enter.{in_round}
-use Rattle.prepare.specs.Prepare.{prepared, gather}
-use Rattle.accept.specs.Accept.{accepting}
+use Rattle.classic.specs.prepare.Prepare.{prepared, gather}
+use Rattle.classic.specs.accept.Accept.{accepting}
 use Rattle.propose.specs.Propose.{propose_fast, propose_classic}
 use Rattle.paxos_family.specs.Commit.{commit_slot}
-use Rattle.paxos_family.specs.Process.{in_prepare as in_prepare_step, on_prepare, on_accept, process_classic, process_fast}
+use Rattle.paxos_family.specs.Process.{entered_prepare, on_prepare, on_accept, process_classic, process_fast}
 use Rattle.steps.specs.Steps.{RoundsStep, CoreStep, no_messages, one_message, and_then, map_step, on_rounds}
 use Rattle.steps.specs.declared.Asked.{Asked}
 use Rattle.steps.specs.declared.Core.{Core}
@@ -54,12 +54,12 @@ use Rattle.consensus.proofs.Decided.{handled, by_decision, settings_kept}
 use Rattle.consensus.proofs.Entered.{not_swift, committer_same, prepare_delegate, accept_delegate}
 use Rattle.consensus.proofs.FirstCause.{Gives, first_start, first_cause_lem}
 use Rattle.consensus.proofs.Refusals.{refusal_numbered}
-use Rattle.consensus.specs.FirstCause.{number_alone, number_of, is_live, leader_delegate, promise_delegate, led_from_start}
+use Rattle.consensus.specs.FirstCause.{number_alone, number_of_outcome, is_live, leader_delegate, promise_delegate, led_from_start}
 use Rattle.consensus.specs.Handle.{proposing, processed, process_message, on_commit, on_read_request, on_read_response, read_inserted, after_insert, start_read, handle, handle_call}
 use Rattle.consensus.specs.declared.Shard.{Shard}
 use Rattle.consensus.specs.declared.State.{State}
-use Rattle.paper.specs.Replica.{Replica, responded_of, enters}
-use Rattle.paper.specs.PaperCall.{Seen, Place, Known, place_of, proposer_by, committers_in, known_of, seen, commits, receives_prepare, receives_accept, proposes_own, received, OfPaxos, InPaxos, LeavesPaxos, beginning, AtBeginning, replica_in, refused_with, by_rules, paper_call}
+use Rattle.paper.specs.Replica.{Replica, responded_of, enters_number}
+use Rattle.paper.specs.PaperCall.{Seen, Place, Known, place_of, proposer_by, committers_as_learners, known_of, seen, commits_learned, prepare_received, accept_received, proposes_own, received, OfPaxos, InPaxos, LeavesPaxos, beginning, AtBeginning, replica_in, refused_with, by_rules, paper_call}
 use Rattle.paper.specs.Runs.{ClassicMode, Reached, new, called}
 use Rattle.paper.proofs.Views.{place_in, known_in, state_seen, seen_after, taken_no, Agrees, agrees, through, no_refusal, agree_both, round_entered, not_exceeded}
 use Rattle.paper.proofs.InOrder.{kept, then_prepare, prepare_in_order, then_accept, accept_in_order}
@@ -137,7 +137,7 @@ known_same s classic d =
   where
     with : Optional ℕ → ℕ → Known
     with committer proposer =
-        record { src = d.message.src; proposer = proposer; requester = d.said.requester; committers = committers_in s.mode committer }
+        record { src = d.message.src; proposer = proposer; requester = d.said.requester; committers = committers_as_learners s.mode committer }
 
 -- ---- calls
 
@@ -176,11 +176,11 @@ module _ (shard : Shard) (classic : has_fast_path shard.settings.mode ≡ false)
     abbrev seen_step : Result CoreStep Refusal → Seen
     seen_step step = seen_after state a there step
 
-    prepare_paper : (slot : ℕ) (n : PaxosRound) (rv : RoundV) → Agrees (seen_step (on_prepare a h slot n rv core)) (receives_prepare here known slot n rv)
-    unfolding on_prepare in_prepare_step
+    prepare_paper : (slot : ℕ) (n : PaxosRound) (rv : RoundV) → Agrees (seen_step (on_prepare a h slot n rv core)) (prepare_received here known slot n rv)
+    unfolding on_prepare entered_prepare
     prepare_paper slot n rv =
         through refl
-        (enter_paper state a h there acceptors classic quorum slot n (in_prepare_step a h n rv) (ends (enters n old))
+        (enter_paper state a h there acceptors classic quorum slot n (entered_prepare a h n rv) (ends (enters_number n old))
         (λ replica free.
         through (ap (λ (c : Core). seen_step (and_then (prepared a h n rv c) (gather a h n rv))) (entered_core state a h there acceptors classic quorum n))
         (prepared_paper state a h there acceptors classic quorum replica n rv (in_round n core).paxos (not_exceeded n core free))
@@ -191,12 +191,12 @@ module _ (shard : Shard) (classic : has_fast_path shard.settings.mode ≡ false)
         ends r = then_prepare here known n rv (kept here known n rv r)
 
     accept_paper : (slot : ℕ) (n : PaxosRound) (v : ℕ)
-        → Agrees (seen_step (on_accept a h slot n v core)) (receives_accept here known slot (record { number = n; value = v }))
+        → Agrees (seen_step (on_accept a h slot n v core)) (accept_received here known slot (record { number = n; value = v }))
     unfolding on_accept
     accept_paper slot n v =
         through refl
         (enter_paper state a h there acceptors classic quorum slot n (accepting a h n v)
-        (then_accept here known (record { number = n; value = v }) (enters n old))
+        (then_accept here known (record { number = n; value = v }) (enters_number n old))
         (λ replica free.
         through (ap (λ (c : Core). seen_step (accepting a h n v c)) (entered_core state a h there acceptors classic quorum n))
         (accepting_paper state a h there acceptors classic quorum replica n v (in_round n core).paxos (not_exceeded n core free))
@@ -224,7 +224,7 @@ module _ (shard : Shard) (classic : has_fast_path shard.settings.mode ≡ false)
           slot = increment
               core.slot;
           last = Some v;
-          replica = (commits here v []).replica;
+          replica = (commits_learned here v []).replica;
           messages = no_messages;
           commit = committed_slot core.slot v
               (t && not core.slot_left_fast_path);
@@ -266,7 +266,7 @@ module _ (shard : Shard) (classic : has_fast_path shard.settings.mode ≡ false)
       above why = ne_eqb (refusal_number why) 0 (λ e. not_both (refusal_numbered why) (ap (ltb 0) e))
 
       go : {n : ℕ} → Gives shard (call_of shard c) n → seen (call_of shard c) ≡ by n
-      go (inl (taken, e)) = taken_by_rules c p (ap number_of taken) ∙ ap by (sym e)
+      go (inl (taken, e)) = taken_by_rules c p (ap number_of_outcome taken) ∙ ap by (sym e)
       go (inr (why, e, n)) = ap seen e ∙ ap (λ (t : Bool). cond t (by_rules shard c) (refused_with (refusal_number why) shard)) (sym (above why)) ∙ ap by (sym n)
 
 -- ---- calls that are not of the paper

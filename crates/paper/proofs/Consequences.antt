@@ -11,9 +11,9 @@ use lib.Dec.{eqb}
 use borrow.Author.Tests.{eqb-true, eqb-false}
 use Rattle.basics.proofs.Tests.{not_both}
 use Rattle.basics.specs.Lists.{In}
-use Rattle.sets.specs.Sets.{contains, insert, size}
-use Rattle.sets.proofs.Laws.{contains_insert_other}
-use Rattle.paxos.specs.PaxosMadeSimple.{Proposal, higher, highest, value_or, choice, is_majority, proposes}
+use Rattle.basics.specs.sets.Sets.{contains, insert, size}
+use Rattle.basics.proofs.sets.Laws.{contains_insert_other}
+use Rattle.paxos.specs.PaxosMadeSimple.{Proposal, higher, highest, value_or_own, choice, is_majority, proposes}
 use Rattle.message.specs.Modes.{has_fast_path}
 use Rattle.message.specs.Rounds.{round_before}
 use Rattle.message.specs.declared.PaxosRound.{PaxosRound}
@@ -24,28 +24,28 @@ use Rattle.settings.specs.Settings.{within_limits}
 use Rattle.calls.specs.declared.Call.{Call}
 use Rattle.consensus.specs.Call.{call_of}
 use Rattle.consensus.specs.declared.Shard.{Shard}
-use Rattle.paper.specs.Replica.{Replica, report_of, accepted_of, wish_of, responded_of, replica_of, round_of, held_of, state_of, own_value, first_wish, unless_accepted, is_there, keeps_something, proposer_in, also_self, hears}
+use Rattle.paper.specs.Replica.{Replica, report_of, accepted_of, wish_of, responded_of, replica_of, engine_round, engine_held, engine_state, own_value, first_wish, unless_accepted, is_there, keeps_something, proposer_in, also_self, hears}
 use Rattle.paper.specs.PaperCall.{Seen, InPaxos, paper_call}
 use Rattle.paper.specs.Runs.{Response, reports_of, hears_all, with_all}
 use Rattle.paper.proofs.Calls.{call_as_paper}
 
 -- ---- the new shard
 
-round_back : (o : Optional PaxosRound) → round_of (responded_of o) ≡ o
+round_back : (o : Optional PaxosRound) → engine_round (responded_of o) ≡ o
 round_back None = refl
 round_back (Some n) = refl
 
-held_back : (held : Optional RoundV) → held_of (accepted_of held) (wish_of held) ≡ held
+held_back : (held : Optional RoundV) → engine_held (accepted_of held) (wish_of held) ≡ held
 held_back None = refl
 held_back (Some (FastV proposer v)) = refl
 held_back (Some (PaxosV None v)) = refl
 held_back (Some (PaxosV (Some n) v)) = refl
 
-pub state_back : (p : PaxosState) → state_of (replica_of p) ≡ p
+pub state_back : (p : PaxosState) → engine_state (replica_of p) ≡ p
 state_back p =
     ap (λ (o : Optional PaxosRound). record {
       round = o;
-      max_rv = held_of (accepted_of p.max_rv)
+      max_rv = engine_held (accepted_of p.max_rv)
           (wish_of p.max_rv);
       prepared_set = p.prepared_set;
       accepted_set = p.accepted_set;
@@ -55,22 +55,22 @@ state_back p =
 
 -- the round, what is held, and who is counted, in the shard that a call leaves
 pub call_leaves : (shard : Shard) → has_fast_path shard.settings.mode ≡ false → within_limits shard.settings ≡ true → (c : Call) → InPaxos c
-    → (call_of shard c).shard.state.rounds.core.paxos ≡ state_of (paper_call shard c).replica
+    → (call_of shard c).shard.state.rounds.core.paxos ≡ engine_state (paper_call shard c).replica
 call_leaves shard classic within c paxos =
-    sym (state_back (call_of shard c).shard.state.rounds.core.paxos) ∙ ap (λ (s : Seen). state_of s.replica) (call_as_paper shard classic within c paxos)
+    sym (state_back (call_of shard c).shard.state.rounds.core.paxos) ∙ ap (λ (s : Seen). engine_state s.replica) (call_as_paper shard classic within c paxos)
 
 -- ---- the proposer's choice
 
 -- where a proposal was reported, the own value does not count
 own_unused : (x y : ℕ) (p : Proposal PaxosRound ℕ) (rs : List (Option (Proposal PaxosRound ℕ)))
-    → value_or round_before x (highest round_before (some p) rs) ≡ value_or round_before y (highest round_before (some p) rs)
+    → value_or_own round_before x (highest round_before (some p) rs) ≡ value_or_own round_before y (highest round_before (some p) rs)
 unfolding highest
 own_unused x y p [] = refl
 own_unused x y p (none ∷ rs) = own_unused x y p rs
 own_unused x y p (some q ∷ rs) = go (round_before p.number q.number) (own_unused x y q rs) (own_unused x y p rs)
   where
     value : ℕ → Option (Proposal PaxosRound ℕ) → ℕ
-    value v best = value_or round_before v (highest round_before best rs)
+    value v best = value_or_own round_before v (highest round_before best rs)
 
     go : (t : Bool) → value x (some q) ≡ value y (some q) → value x (some p) ≡ value y (some p)
         → value x (cond t (some q) (some p)) ≡ value y (cond t (some q) (some p))
@@ -79,7 +79,7 @@ own_unused x y p (some q ∷ rs) = go (round_before p.number q.number) (own_unus
 
 abbrev KeepsOwn : Option RoundV → RoundV → List (Option (Proposal PaxosRound ℕ)) → Option (Proposal PaxosRound ℕ) → Type 0
 KeepsOwn wish rv rs best =
-    value_or round_before (own_value (unless_accepted best (first_wish wish rv))) (highest round_before best rs) ≡ value_or round_before (own_value wish)
+    value_or_own round_before (own_value (unless_accepted best (first_wish wish rv))) (highest round_before best rs) ≡ value_or_own round_before (own_value wish)
     (highest round_before best rs)
 
 own_kept : (accepted : Option (Proposal PaxosRound ℕ)) (wish : Option RoundV) (rv : RoundV) (rs : List (Option (Proposal PaxosRound ℕ)))
@@ -123,8 +123,8 @@ counted_by {X} {A} {B} src me q x xs one = go
 
 module _ (me : ℕ) where
   heard_value : (r : Replica) (ps : List Response) → keeps_something r ≡ true
-      → value_or round_before (own_value (hears_all me r ps).wish) (hears_all me r ps).acceptor.accepted
-      ≡ value_or round_before (own_value r.wish) (highest round_before r.acceptor.accepted (reports_of ps))
+      → value_or_own round_before (own_value (hears_all me r ps).wish) (hears_all me r ps).acceptor.accepted
+      ≡ value_or_own round_before (own_value r.wish) (highest round_before r.acceptor.accepted (reports_of ps))
   unfolding highest hears
   heard_value r [] e = refl
   heard_value r (p ∷ ps) e =

@@ -8,7 +8,7 @@ use mathlib.Core.Option.{Option, none, some}
 use Prim.Native.Nat.{ℕ}
 use lib.Dec.{eqb, ltb, leb}
 use Rattle.basics.proofs.Tests.{not_both}
-use Rattle.sets.specs.Sets.{size, is_empty}
+use Rattle.basics.specs.sets.Sets.{size, is_empty}
 use Rattle.paxos.specs.PaxosMadeSimple.{Message, is_majority, exceeded, accepted_in, proposal_of, proposes}
 use Rattle.paxos.specs.PaxosMadeSimple.Message.{promise}
 use Rattle.message.specs.Modes.{is_swift_paxos, has_fast_path}
@@ -21,8 +21,8 @@ use Rattle.message.specs.declared.RoundV.{RoundV}
 use Rattle.round_state.specs.Paxos.{get_v, get_last_accepted_round, goto_round, held_after_promise, receive_promise, paxos_propose_v, self_accept, accept_own, receive_accept, accept_fits, after_accept}
 use Rattle.round_state.specs.declared.PaxosState.{PaxosState}
 use Rattle.enter.specs.Enter.{in_round, is_older, from_live, enter}
-use Rattle.prepare.specs.Prepare.{hold_first, may_answer, answer_prepare, answers_nothing, preparing, after_held, prepared, off_fast_path, broadcast_accept, after_own_accept, accept_phase, with_promise, becomes_prepared, gather}
-use Rattle.steps.specs.Steps.{CoreStep, sends, to_all, held_v, with_paxos, left_fast_path, stays, and_then}
+use Rattle.classic.specs.prepare.Prepare.{hold_first, may_answer, answer_prepare, answers_nothing, preparing, after_held, prepared, off_fast_path, broadcast_accept, after_own_accept, accept_phase, with_promise, becomes_prepared, gather}
+use Rattle.steps.specs.Steps.{CoreStep, sends, to_all, held_value, with_paxos, left_fast_path, stays, and_then}
 use Rattle.steps.specs.declared.Asked.{Asked}
 use Rattle.steps.specs.declared.Core.{Core}
 use Rattle.steps.specs.declared.Destination.TheVariants.{One}
@@ -31,7 +31,7 @@ use Rattle.steps.specs.declared.Heard.{Heard}
 use Rattle.consensus.proofs.Entered.{not_swift}
 use Rattle.consensus.specs.declared.State.{State}
 use Rattle.paper.specs.Replica.{Replica, accepted_of, replica_of, keeps_something, proposer_in, newly, hears, accepts_with}
-use Rattle.paper.specs.PaperCall.{Seen, Place, Known, in_places, leaves, nothing, takes_part, to_proposer, requesting, gathers}
+use Rattle.paper.specs.PaperCall.{Seen, Place, Known, in_places, leaves, nothing_happens, takes_part_in_slot, to_proposer, requesting, proposes_on_majority}
 use Rattle.paper.proofs.Views.{place_in, known_in, seen_after, taken_no, push, once, Agrees, agrees, through, no_refusal, agree_both, agree_unless, held_kept, held_brings, held_value_lem, held_accepted_in, exceeded_older, promise_heard, accept_counted}
 use Rattle.paper.proofs.InOrder.{or_false, kept, then_prepare}
 
@@ -48,7 +48,7 @@ nested true true e x y = refl
 nested true false true x y = refl
 nested true false false x y = refl
 
-held_has_value : (held : Optional RoundV) → is_some held ≡ true → get_v held ≡ Some (held_v held)
+held_has_value : (held : Optional RoundV) → is_some held ≡ true → get_v held ≡ Some (held_value held)
 held_has_value None e = absurd (not_both e refl)
 held_has_value (Some rv) e = refl
 
@@ -87,7 +87,7 @@ module _ (state : State) (a : Asked) (h : Heard) (there : Bool) (acceptors : ℕ
   pub enter_paper : (slot : ℕ) (n : PaxosRound) (rest : Core → Result CoreStep Refusal) (rule : Seen)
       → (a.member.replica ≡ true → before (Some n) core.paxos.round ≡ false → Agrees (seen_step (rest (in_round n core))) rule)
       → Agrees (seen_step (and_then (enter a h slot n core) rest))
-      (cond (takes_part here slot && not (exceeded round_before old.acceptor.responded n)) rule (nothing here))
+      (cond (takes_part_in_slot here slot && not (exceeded round_before old.acceptor.responded n)) rule (nothing_happens here))
   unfolding enter is_older from_live
   enter_paper slot n rest rule go =
       through refl
@@ -102,7 +102,7 @@ module _ (state : State) (a : Asked) (h : Heard) (there : Bool) (acceptors : ℕ
       (neither_right (ltb slot core.slot) (before (Some n) core.paxos.round) o))
       (λ l. no_refusal refl)))
       (λ r. agrees refl))
-      (nested a.member.replica (ltb slot core.slot) (exceeded round_before old.acceptor.responded n) rule (nothing here))
+      (nested a.member.replica (ltb slot core.slot) (exceeded round_before old.acceptor.responded n) rule (nothing_happens here))
     where
       f : Result CoreStep Refusal → Seen
       f step = seen_step (and_then step rest)
@@ -142,7 +142,7 @@ module _ (state : State) (a : Asked) (h : Heard) (there : Bool) (acceptors : ℕ
           (λ e. no_refusal refl)
         where
           v : ℕ
-          v = held_v q.max_rv
+          v = held_value q.max_rv
 
           g : Result PaxosState Refusal → Seen
           g result = seen_step (after_own_accept a n (with_paxos q core) result)
@@ -155,8 +155,8 @@ module _ (state : State) (a : Asked) (h : Heard) (there : Bool) (acceptors : ℕ
       requests_none r = refl
 
       gather_paper : (p : PaxosState) → before (Some n) p.round ≡ false
-          → Agrees (seen_step (gather a h n rv (with_paxos p core))) (gathers here known n rv (replica_of p))
-      unfolding gather gathers becomes_prepared receive_promise proposes
+          → Agrees (seen_step (gather a h n rv (with_paxos p core))) (proposes_on_majority here known n rv (replica_of p))
+      unfolding gather proposes_on_majority becomes_prepared receive_promise proposes
       gather_paper p free =
           through refl
           (agree_both seen_step (becomes_prepared a (with_paxos p core) (with_promise a h rv (with_paxos p core)))

@@ -12,8 +12,8 @@ use Prim.Native.Nat.{ℕ}
 use lib.Dec.{ltb}
 use Rattle.basics.proofs.Tests.{not_both}
 use Rattle.basics.specs.Lists.{In}
-use Rattle.sets.specs.Sets.{contains, size}
-use Rattle.paxos.specs.PaxosMadeSimple.{Proposal, Acceptor, is_majority, greater, exceeded, higher, responds, prepare, accepts, accept}
+use Rattle.basics.specs.sets.Sets.{contains, size}
+use Rattle.paxos.specs.PaxosMadeSimple.{Proposal, Acceptor, is_majority, greater, exceeded, higher, responds, prepare, accepts_proposal, accept}
 use Rattle.message.specs.Modes.{is_swift_paxos, has_fast_path}
 use Rattle.message.specs.Rounds.{round_before, before}
 use Rattle.message.proofs.Order.{rounds_ordered}
@@ -29,7 +29,7 @@ use Rattle.calls.specs.Commits.{committed_slot}
 use Rattle.calls.specs.declared.Call.{Call}
 use Rattle.calls.specs.declared.Call.TheVariants.{Receive}
 use Rattle.consensus.specs.Call.{call_of}
-use Rattle.consensus.specs.FirstCause.{number_of, leader_delegate, facts_of, ignored, source_not_live, unmade, admission_causes, handling_causes, all_causes, first_cause, ByFirstCause}
+use Rattle.consensus.specs.FirstCause.{number_of_outcome, leader_delegate, facts_of, is_ignored, source_not_live, unmade, admission_causes, handling_causes, all_causes, first_cause, ByFirstCause}
 use Rattle.consensus.specs.Panics.{Facts, fits_held, accept_panics}
 use Rattle.consensus.specs.Rows.{Row, gives, then, NoneHolds}
 use Rattle.consensus.proofs.FirstCause.{number_is_first_cause}
@@ -38,9 +38,9 @@ use Rattle.consensus.proofs.Refusals.{by_first_cause, refusal_numbered}
 use Rattle.consensus.specs.declared.Answer.{Answer}
 use Rattle.consensus.specs.declared.Shard.{Shard}
 use Rattle.consensus.proofs.Decided.{settings_kept}
-use Rattle.paper.specs.Replica.{Replica, enters, also_self, accepts_with}
+use Rattle.paper.specs.Replica.{Replica, enters_number, also_self, accepts_with}
 use Rattle.paper.specs.PaperCall.{replica_in}
-use Rattle.paper.specs.Runs.{Acceptance, accepts_all, Announced, acceptance_of, Counted, none_yet, one_counted}
+use Rattle.paper.specs.Runs.{Acceptance, accepts_all, Announced, acceptance_of, AcceptancesTaken, none_yet, one_counted}
 use Rattle.paper.proofs.Views.{exceeded_older, accept_higher}
 use Rattle.paper.proofs.Consequences.{counted_by, also_members}
 use Rattle.paper.proofs.Roles.{accepted_acceptor, entered_acceptor, accept_leaves, learner_learns}
@@ -56,7 +56,7 @@ none_holds shard c e = go (by_first_cause lowest_best shard c)
     go (inr (why, d, first)) =
         absurd
         (not_both (refusal_numbered why)
-        (ap (ltb 0) (sym (ap (λ (r : Answer). number_of r.reply.outcome) d) ∙ number_is_first_cause lowest_best shard c ∙ e)))
+        (ap (ltb 0) (sym (ap (λ (r : Answer). number_of_outcome r.reply.outcome) d) ∙ number_is_first_cause lowest_best shard c ∙ e)))
 
 none_behind : (xs ys : List Row) → NoneHolds (then xs ys) → NoneHolds ys
 unfolding then
@@ -84,7 +84,7 @@ module _ (shard : Shard) (classic : has_fast_path shard.settings.mode ≡ false)
   abbrev old : Replica
   old = replica_in shard
 
-  not_ignored : ignored shard.settings shard.state.rounds a.slot n ≡ false
+  not_ignored : is_ignored shard.settings shard.state.rounds a.slot n ≡ false
   not_ignored =
       ap (λ (t : Bool). not (t || is_swift_paxos shard.settings.mode) || ltb a.slot shard.state.rounds.core.slot || later) a.handled.replica
       ∙ ap (λ (t : Bool). t || later) a.handled.own
@@ -117,15 +117,15 @@ module _ (shard : Shard) (classic : has_fast_path shard.settings.mode ≡ false)
 
 accept_responded : (x : Acceptor PaxosRound ℕ) (p : Proposal PaxosRound ℕ) → (accept round_before x p).responded ≡ x.responded
 unfolding accept
-accept_responded x p = go (accepts round_before x p)
+accept_responded x p = go (accepts_proposal round_before x p)
   where
     go : (t : Bool) → (cond t (record { responded = x.responded; accepted = higher round_before x.accepted (some p) }) x).responded ≡ x.responded
     go true = refl
     go false = refl
 
 -- what is entered has responded to the number, and is not entered again
-entered_number : (n : PaxosRound) (r : Replica) → exceeded round_before r.acceptor.responded n ≡ false → (enters n r).acceptor.responded ≡ some n
-unfolding enters prepare responds
+entered_number : (n : PaxosRound) (r : Replica) → exceeded round_before r.acceptor.responded n ≡ false → (enters_number n r).acceptor.responded ≡ some n
+unfolding enters_number prepare responds
 entered_number n r free = go r.acceptor.responded refl free
   where
     entry : Bool → Replica
@@ -148,13 +148,13 @@ entered_number n r free = go r.acceptor.responded refl free
     go none e f = ap (λ (o : Option PaxosRound). (entry (greater round_before n o)).acceptor.responded) e
     go (some m) e f = ap (λ (o : Option PaxosRound). (entry (greater round_before n o)).acceptor.responded) e ∙ by_test m e f (round_before m n) refl
 
-stays_in : (n : PaxosRound) (r : Replica) → r.acceptor.responded ≡ some n → enters n r ≡ r
-unfolding enters responds
+stays_in : (n : PaxosRound) (r : Replica) → r.acceptor.responded ≡ some n → enters_number n r ≡ r
+unfolding enters_number responds
 stays_in n r e =
     ap (λ (t : Bool). cond t (record { acceptor = prepare round_before r.acceptor n; wish = r.wish; promised = 0; agreed = 0 }) r)
     (ap (greater round_before n) e ∙ rounds_ordered.irreflexive n)
 
-entered_accepted : (n : PaxosRound) (r : Replica) → (enters n r).acceptor.accepted ≡ r.acceptor.accepted
+entered_accepted : (n : PaxosRound) (r : Replica) → (enters_number n r).acceptor.accepted ≡ r.acceptor.accepted
 unfolding prepare
 entered_accepted n r = ap (λ (x : Acceptor PaxosRound ℕ). x.accepted) (entered_acceptor n r) ∙ go (responds round_before r.acceptor n)
   where
@@ -165,7 +165,7 @@ entered_accepted n r = ap (λ (x : Acceptor PaxosRound ℕ). x.accepted) (entere
 -- one that has responded to the number accepts in it
 accepts_in : (x : Acceptor PaxosRound ℕ) (p : Proposal PaxosRound ℕ) → x.responded ≡ some p.number
     → (accept round_before x p).accepted ≡ higher round_before x.accepted (some p)
-unfolding accept accepts
+unfolding accept accepts_proposal
 accepts_in x p e =
     ap (λ (t : Bool). (cond (not t) (record { responded = x.responded; accepted = higher round_before x.accepted (some p) }) x).accepted)
     (ap (λ (o : Option PaxosRound). exceeded round_before o p.number) e ∙ rounds_ordered.irreflexive p.number)
@@ -208,7 +208,7 @@ agreed_heard : (me : ℕ) (n : PaxosRound) (r : Replica) (xs : List Acceptance) 
 unfolding accepts_with
 agreed_heard me n r [] q e = inl e
 agreed_heard me n r (x ∷ xs) q e =
-    counted_by (λ (y : Acceptance). y.src) me q x xs (taken (accepts round_before r.acceptor (record { number = n; value = x.value })))
+    counted_by (λ (y : Acceptance). y.src) me q x xs (taken (accepts_proposal round_before r.acceptor (record { number = n; value = x.value })))
     (agreed_heard me n (accepts_with me x.src (record { number = n; value = x.value }) r) xs q e)
   where
     taken : (t : Bool) → contains (cond t (record {
@@ -230,11 +230,11 @@ module _ (n : PaxosRound) (first : Shard) (classic : has_fast_path first.setting
 
   -- the replica in the number, with nobody else counted than before
   abbrev pub begin : Replica
-  begin = enters n (replica_in first)
+  begin = enters_number n (replica_in first)
 
   record Since (xs : List Acceptance) (shard : Shard) : Type 0 where
     settings : shard.settings ≡ first.settings
-    counted : enters n (replica_in shard) ≡ accepts_all me n begin xs
+    counted : enters_number n (replica_in shard) ≡ accepts_all me n begin xs
     free : exceeded round_before (replica_in shard).acceptor.responded n ≡ false
     one : (x : Acceptance) → In x xs → (replica_in shard).acceptor.accepted ≡ some (record { number = n; value = x.value })
 
@@ -256,25 +256,25 @@ module _ (n : PaxosRound) (first : Shard) (classic : has_fast_path first.setting
     same_since x i = same_value_lem n x.value v (ap (λ (o : Option (Proposal PaxosRound ℕ)). higher round_before o (some p)) (sym (s.one x i)) ∙ highest_now)
 
     abbrev next : Replica
-    next = accepts_with shard.settings.my_pid d.message.src p (enters n (replica_in shard))
+    next = accepts_with shard.settings.my_pid d.message.src p (enters_number n (replica_in shard))
 
     next_counted : next ≡ accepts_all me n begin (one_more xs (acceptance_of d v))
     next_counted =
-        ap (λ (x : Settings). accepts_with x.my_pid d.message.src p (enters n (replica_in shard))) s.settings
+        ap (λ (x : Settings). accepts_with x.my_pid d.message.src p (enters_number n (replica_in shard))) s.settings
         ∙ ap (accepts_with me d.message.src p) s.counted
         ∙ accepted_last me n begin xs (acceptance_of d v)
 
-    next_acceptor : next.acceptor ≡ accept round_before (enters n (replica_in shard)).acceptor p
-    next_acceptor = accepted_acceptor shard.settings.my_pid d.message.src p (enters n (replica_in shard))
+    next_acceptor : next.acceptor ≡ accept round_before (enters_number n (replica_in shard)).acceptor p
+    next_acceptor = accepted_acceptor shard.settings.my_pid d.message.src p (enters_number n (replica_in shard))
 
     next_number_lem : next.acceptor.responded ≡ some n
     next_number_lem =
-        ap (λ (x : Acceptor PaxosRound ℕ). x.responded) next_acceptor ∙ accept_responded (enters n (replica_in shard)).acceptor p ∙ entered_number n (replica_in shard) s.free
+        ap (λ (x : Acceptor PaxosRound ℕ). x.responded) next_acceptor ∙ accept_responded (enters_number n (replica_in shard)).acceptor p ∙ entered_number n (replica_in shard) s.free
 
     next_accepted : next.acceptor.accepted ≡ some p
     next_accepted =
         ap (λ (x : Acceptor PaxosRound ℕ). x.accepted) next_acceptor
-        ∙ accepts_in (enters n (replica_in shard)).acceptor p (entered_number n (replica_in shard) s.free)
+        ∙ accepts_in (enters_number n (replica_in shard)).acceptor p (entered_number n (replica_in shard) s.free)
         ∙ ap (λ (o : Option (Proposal PaxosRound ℕ)). higher round_before o (some p)) (entered_accepted n (replica_in shard))
         ∙ highest_now
 
@@ -282,7 +282,7 @@ module _ (n : PaxosRound) (first : Shard) (classic : has_fast_path first.setting
     counted_more c =
         record {
           settings = settings_kept lowest_best shard (Receive d) ∙ s.settings;
-          counted = ap (enters n) after ∙ stays_in n next next_number_lem ∙ next_counted;
+          counted = ap (enters_number n) after ∙ stays_in n next next_number_lem ∙ next_counted;
           free =
               ap (λ (r : Replica). exceeded round_before r.acceptor.responded n) after ∙ ap
               (λ (o : Option PaxosRound). exceeded round_before o n) next_number_lem ∙ rounds_ordered.irreflexive n;
@@ -296,19 +296,19 @@ module _ (n : PaxosRound) (first : Shard) (classic : has_fast_path first.setting
         go x (inl i) = ap (λ (w : ℕ). some (record { number = n; value = w })) (sym (same_since x i))
         go x (inr e) = ap (λ (y : Acceptance). some (record { number = n; value = y.value })) (sym e)
 
-  counted_since : (xs : List Acceptance) (shard : Shard) → Counted n first xs shard → Since xs shard
+  counted_since : (xs : List Acceptance) (shard : Shard) → AcceptancesTaken n first xs shard → Since xs shard
   counted_since xs shard none_yet = record { settings = refl; counted = refl; free = newer; one = λ x i. absurd i }
   counted_since xs shard (one_counted {xs = ys} {shard = earlier} d v c a quiet) = counted_more ys earlier (counted_since ys earlier c) d v a quiet
 
   -- Those that are counted in one number have accepted one proposal, the one that the replica has accepted itself.
-  pub counted_one_proposal : (xs : List Acceptance) (shard : Shard) → Counted n first xs shard → (x : Acceptance) → In x xs
+  pub counted_one_proposal : (xs : List Acceptance) (shard : Shard) → AcceptancesTaken n first xs shard → (x : Acceptance) → In x xs
       → (replica_in shard).acceptor.accepted ≡ some (record { number = n; value = x.value })
   counted_one_proposal xs shard c = (counted_since xs shard c).one
 
   -- Section 2.3 over a list of calls: a replica that has since taken the Accepts xs, and committed nothing, takes one more and commits. What it commits is
   -- the value of that one, a majority is counted, and each of those was counted before the list, or is the replica itself, or has sent an Accept of that
   -- value in the number.
-  pub learned_from_majority : (xs : List Acceptance) (shard : Shard) → Counted n first xs shard → (d : Delivery) (v : ℕ) → Announced n shard d v
+  pub learned_from_majority : (xs : List Acceptance) (shard : Shard) → AcceptancesTaken n first xs shard → (d : Delivery) (v : ℕ) → Announced n shard d v
       → (at w : ℕ) (fast : Bool) → (call_of shard (Receive d)).reply.commit ≡ committed_slot at w fast
       → (w ≡ v) × (is_majority acceptors (size (accepts_all me n begin (xs ++ (acceptance_of d v ∷ []))).agreed) ≡ true)
       × ((q : ℕ) → contains (accepts_all me n begin (xs ++ (acceptance_of d v ∷ []))).agreed q ≡ true

@@ -23,8 +23,8 @@ use Rattle.round_state.specs.Paxos.{goto_round, held_after_promise, receive_prom
 use Rattle.round_state.specs.declared.PaxosState.{PaxosState}
 use Rattle.settings.specs.declared.Settings.{Settings}
 use Rattle.enter.specs.Enter.{can_propose}
-use Rattle.proposal.specs.Proposal.{proposal_round, electing, may_propose}
-use Rattle.propose.specs.Propose.{proposed, propose_prepare, after_own_promise, propose_accept, propose_classic}
+use Rattle.propose.specs.proposal.Proposal.{proposal_round, electing, may_propose}
+use Rattle.propose.specs.Propose.{broadcast_own, propose_prepare, after_own_promise, propose_accept, propose_classic}
 use Rattle.steps.specs.Steps.{CoreStep, sends, to_all}
 use Rattle.steps.specs.declared.Asked.{Asked}
 use Rattle.steps.specs.declared.Core.{Core}
@@ -33,7 +33,7 @@ use Rattle.calls.specs.Asked.{asked_of}
 use Rattle.consensus.proofs.Entered.{not_swift}
 use Rattle.consensus.specs.declared.State.{State}
 use Rattle.paper.specs.Replica.{Replica, accepted_of, wish_of, responded_of, replica_of, brings, is_there, number_or, proposer_in, hears, accepts_with}
-use Rattle.paper.specs.PaperCall.{Seen, Place, leaves, requesting, own_number, begins, proposes_own}
+use Rattle.paper.specs.PaperCall.{Seen, Place, leaves, requesting, own_number, begins_proposal, proposes_own}
 use Rattle.paper.proofs.Views.{place_in, seen_after, Agrees, agrees, no_refusal, agree_both, agree_unless, promise_heard, accept_counted}
 use Rattle.paper.proofs.InOrder.{or_false}
 
@@ -162,19 +162,19 @@ module _ (settings : Settings) (state : State) (acceptors : ℕ) (classic : has_
 
     -- Paxos and Pando: the prepare request
     prepare_request_lem : seen_step (propose_prepare a n rv core)
-        ≡ leaves here (begins here v)
-        (sends a core to_all (Prepare core.slot n (brings none (begins here v).wish)) ∷ [])
+        ≡ leaves here (begins_proposal here v)
+        (sends a core to_all (Prepare core.slot n (brings none (begins_proposal here v).wish)) ∷ [])
     unfolding propose_prepare paxos_propose_v hears
     prepare_request_lem =
-        ap (λ (p : PaxosState). seen_step (proposed a (Prepare core.slot n rv) core (paxos_propose_v a.member rv p))) in_round_lem
+        ap (λ (p : PaxosState). seen_step (broadcast_own a (Prepare core.slot n rv) core (paxos_propose_v a.member rv p))) in_round_lem
         ∙ ap (λ (r : Replica). leaves here r (sends a core to_all (Prepare core.slot n rv) ∷ [])) own_heard
         ∙ ap (λ (r : Replica). leaves here (heard r) (sends a core to_all (Prepare core.slot n (brings none (heard r).wish)) ∷ [])) (sym started)
 
     -- MultiPaxos and MultiPaxos3P: the accept request
     accept_request_lem : seen_step (propose_accept a n v core)
         ≡ leaves here
-        (accepts_with here.self a.member.my_pid (proposal_of round_before (proposer_in n (begins here v))) (begins here v))
-        (sends a core to_all (Accept core.slot n (proposal_of round_before (proposer_in n (begins here v))).value) ∷ [])
+        (accepts_with here.self a.member.my_pid (proposal_of round_before (proposer_in n (begins_proposal here v))) (begins_proposal here v))
+        (sends a core to_all (Accept core.slot n (proposal_of round_before (proposer_in n (begins_proposal here v))).value) ∷ [])
     unfolding propose_accept paxos_propose_v self_accept accept_own receive_accept accept_fits receive_promise held_after_promise hears choice highest
     accept_request_lem =
         ap (λ (p : PaxosState). seen_step (after_own_promise a n v core (paxos_propose_v a.member rv p))) in_round_lem

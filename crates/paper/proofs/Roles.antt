@@ -12,8 +12,8 @@ use mathlib.Core.Option.{Option, none, some}
 use Prim.Native.Nat.{ℕ}
 use lib.Dec.{eqb, ltb}
 use Rattle.basics.proofs.Tests.{not_both, fails, or_left, or_right, of-both}
-use Rattle.sets.specs.Sets.{size}
-use Rattle.paxos.specs.PaxosMadeSimple.{Proposal, Acceptor, Message, is_majority, greater, exceeded, higher, responds, prepare, response, accepted_in, ignores, accepts, accept, announcement, proposes, learns}
+use Rattle.basics.specs.sets.Sets.{size}
+use Rattle.paxos.specs.PaxosMadeSimple.{Proposal, Acceptor, Message, is_majority, greater, exceeded, higher, responds, prepare, response, accepted_in, ignores, accepts_proposal, accept, announcement, proposes, learns}
 use Rattle.paxos.specs.PaxosMadeSimple.Message.{promise, acceptance}
 use Rattle.message.specs.Modes.{has_fast_path}
 use Rattle.message.specs.Rounds.{round_before}
@@ -30,8 +30,8 @@ use Rattle.delivery.specs.declared.Delivery.{Delivery}
 use Rattle.calls.specs.declared.Call.TheVariants.{Receive}
 use Rattle.consensus.specs.Call.{call_of}
 use Rattle.consensus.specs.declared.Shard.{Shard}
-use Rattle.paper.specs.Replica.{Replica, report_of, enters, or_again, promises, unless_accepted, is_there, keeps_something, proposer_in, newly, also_self, hears, takes_up, accepts_with}
-use Rattle.paper.specs.PaperCall.{Known, known_of, is_one_of, but, Seen, Place, place_of, seen, in_places, leaves, nothing, commits, sending, takes_part, prepared_with, to_proposer, responding, requesting, gathers, hearing, receives_prepare, learners, is_learner, is_leader, announced_to, to_each, informs, learning, counts, received, OfPaxos, replica_in, refused_with, by_rules, paper_call}
+use Rattle.paper.specs.Replica.{Replica, report_of, enters_number, or_again, promises, unless_accepted, is_there, keeps_something, proposer_in, newly, also_self, hears, takes_up, accepts_with}
+use Rattle.paper.specs.PaperCall.{Known, known_of, is_one_of, but, Seen, Place, place_of, seen, in_places, leaves, nothing_happens, commits_learned, sending, takes_part_in_slot, replica_after_prepare, to_proposer, responding, requesting, proposes_on_majority, hearing, prepare_received, learners, is_learner, is_leader, announced_to, to_each, informs, learning, counts_and_learns, received, OfPaxos, replica_in, refused_with, by_rules, paper_call}
 use Rattle.paper.specs.Runs.{Handled, Response, hears_all, with_all}
 use Rattle.paper.proofs.InOrder.{later_not_exceeded, exceeded_not_later, kept, then_prepare, prepared_in, prepare_in_order, announced, then_accept, accept_in_order}
 use Rattle.paper.proofs.Calls.{call_as_paper}
@@ -55,9 +55,9 @@ committed_value (Some commit) = commit.v
 
 pub accepted_acceptor : (me src : ℕ) (p : Proposal PaxosRound ℕ) (r : Replica) → (accepts_with me src p r).acceptor ≡ accept round_before r.acceptor p
 unfolding accepts_with accept
-accepted_acceptor me src p r = go (accepts round_before r.acceptor p) refl
+accepted_acceptor me src p r = go (accepts_proposal round_before r.acceptor p) refl
   where
-    go : (t : Bool) → accepts round_before r.acceptor p ≡ t
+    go : (t : Bool) → accepts_proposal round_before r.acceptor p ≡ t
         → (cond t (record {
           acceptor = accept round_before r.acceptor p;
           wish = none;
@@ -70,8 +70,8 @@ accepted_acceptor me src p r = go (accepts round_before r.acceptor p) refl
         ap (λ (t : Bool). cond t (record { responded = r.acceptor.responded; accepted = higher round_before r.acceptor.accepted (some p) }) r.acceptor)
         (sym e)
 
-pub entered_acceptor : (n : PaxosRound) (r : Replica) → (enters n r).acceptor ≡ prepare round_before r.acceptor n
-unfolding enters prepare
+pub entered_acceptor : (n : PaxosRound) (r : Replica) → (enters_number n r).acceptor ≡ prepare round_before r.acceptor n
+unfolding enters_number prepare
 entered_acceptor n r = go (responds round_before r.acceptor n) refl
   where
     go : (t : Bool) → responds round_before r.acceptor n ≡ t
@@ -83,7 +83,7 @@ entered_acceptor n r = go (responds round_before r.acceptor n) refl
 -- an older number is neither responded to nor accepted in
 older_accept : (x : Acceptor PaxosRound ℕ) (p : Proposal PaxosRound ℕ) → exceeded round_before x.responded p.number ≡ true
     → accept round_before (prepare round_before x p.number) p ≡ x
-unfolding prepare responds accept accepts
+unfolding prepare responds accept accepts_proposal
 older_accept x p e =
     ap (λ (t : Bool). accept round_before (cond t (record { responded = some p.number; accepted = x.accepted }) x) p)
     (exceeded_not_later x.responded p.number e)
@@ -143,14 +143,14 @@ module _ (shard : Shard) (classic : has_fast_path shard.settings.mode ≡ false)
       ∙ ap (λ (k : ℕ). cond (eqb k 0) (by_rules shard (Receive d)) (refused_with k shard)) handled.free
       ∙ ap (received here h) e
 
-  takes : takes_part here slot ≡ true
+  takes : takes_part_in_slot here slot ≡ true
   takes = ap (λ (t : Bool). t && not (ltb slot shard.state.rounds.core.slot)) handled.replica ∙ ap not handled.own
 
   -- it takes part, and what remains is the number
-  entered : (rule : Seen) → cond (takes_part here slot && not older) rule (nothing here) ≡ cond older (nothing here) rule
-  entered rule = ap (λ (t : Bool). cond (t && not older) rule (nothing here)) takes ∙ turned older
+  entered : (rule : Seen) → cond (takes_part_in_slot here slot && not older) rule (nothing_happens here) ≡ cond older (nothing_happens here) rule
+  entered rule = ap (λ (t : Bool). cond (t && not older) rule (nothing_happens here)) takes ∙ turned older
     where
-      turned : (t : Bool) → cond (not t) rule (nothing here) ≡ cond t (nothing here) rule
+      turned : (t : Bool) → cond (not t) rule (nothing_happens here) ≡ cond t (nothing_happens here) rule
       turned true = refl
       turned false = refl
 
@@ -161,9 +161,9 @@ module _ (shard : Shard) (classic : has_fast_path shard.settings.mode ≡ false)
     abbrev ends : Replica → Seen
     ends r = then_prepare here h n rv (kept here h n rv r)
 
-    prepare_handled : seen (call_of shard (Receive d)) ≡ cond older (nothing here) (ends (enters n old))
+    prepare_handled : seen (call_of shard (Receive d)) ≡ cond older (nothing_happens here) (ends (enters_number n old))
     unfolding received
-    prepare_handled = by_rule (Prepare slot n rv) message tt ∙ prepare_in_order here h n rv slot ∙ entered (ends (enters n old))
+    prepare_handled = by_rule (Prepare slot n rv) message tt ∙ prepare_in_order here h n rv slot ∙ entered (ends (enters_number n old))
 
     -- the acceptor that has responded to n
     abbrev now : Replica
@@ -171,10 +171,10 @@ module _ (shard : Shard) (classic : has_fast_path shard.settings.mode ≡ false)
 
     -- the paper's acceptor responds: so does the replica, once it has entered the number
     responded : responds round_before old.acceptor n ≡ true → seen (call_of shard (Receive d)) ≡ ends now
-    unfolding enters prepare responds
+    unfolding enters_number prepare responds
     responded f =
         prepare_handled
-        ∙ ap (λ (t : Bool). cond t (nothing here) (ends (enters n old))) (later_not_exceeded old.acceptor.responded n f)
+        ∙ ap (λ (t : Bool). cond t (nothing_happens here) (ends (enters_number n old))) (later_not_exceeded old.acceptor.responded n f)
         ∙ ap (λ (t : Bool). ends
         (cond t (record { acceptor = cond t now.acceptor old.acceptor; wish = old.wish; promised = 0; agreed = 0 }) old)) f
 
@@ -186,7 +186,7 @@ module _ (shard : Shard) (classic : has_fast_path shard.settings.mode ≡ false)
     promised_in : (r : Replica) → eqb h.proposer me ≡ false → accepted_in round_before n r.acceptor.accepted ≡ false
         → then_prepare here h n rv r ≡ leaves here r (sending here r.wish (promise n r.acceptor.accepted) (One h.proposer) ∷ [])
     promised_in r other fresh =
-        ap (λ (t : Bool). cond t (gathers here h n rv r) (answer (accepted_in round_before n r.acceptor.accepted))) other ∙ ap answer fresh
+        ap (λ (t : Bool). cond t (proposes_on_majority here h n rv r) (answer (accepted_in round_before n r.acceptor.accepted))) other ∙ ap answer fresh
       where
         answer : Bool → Seen
         answer t = leaves here r (to_proposer here h r.wish (cond t none (some (promise n r.acceptor.accepted))))
@@ -277,17 +277,17 @@ module _ (shard : Shard) (classic : has_fast_path shard.settings.mode ≡ false)
     -- Where the paper's acceptor ignores the request, nothing is sent.
     pub acceptor_ignores : eqb h.proposer me ≡ false → ignores round_before old.acceptor n ≡ true
         → (call_of shard (Receive d)).reply.messages ≡ in_places []
-    unfolding received receives_prepare responding promises
+    unfolding received prepare_received responding promises
     acceptor_ignores other ignored =
         ap (λ (s : Seen). s.messages)
         (by_rule (Prepare slot n rv) message tt
-        ∙ ap (λ (t : Bool). cond t (cond (eqb h.proposer me) (hearing here h n rv) (responding here h n rv)) (nothing here)) takes
+        ∙ ap (λ (t : Bool). cond t (cond (eqb h.proposer me) (hearing here h n rv) (responding here h n rv)) (nothing_happens here)) takes
         ∙ ap (λ (t : Bool). cond t (hearing here h n rv) (responding here h n rv)) other)
         ∙ ap (λ (r : Replica). answer (promises n r.acceptor)) as_it_was
         ∙ ap (λ (t : Bool). answer (cond t none (or_again n old.acceptor (response round_before old.acceptor n)))) ignored
       where
         answer : Option (Message PaxosRound ℕ) → Messages
-        answer m = in_places (to_proposer here h (prepared_with here h n rv).wish m)
+        answer m = in_places (to_proposer here h (replica_after_prepare here h n rv).wish m)
 
         -- it takes up nothing
         as_it_was : takes_up me n rv old ≡ old
@@ -297,23 +297,23 @@ module _ (shard : Shard) (classic : has_fast_path shard.settings.mode ≡ false)
     -- the accept request of the paper's proposer where that one proposes and did not before.
     pub proposer_enters : eqb h.proposer me ≡ true → older ≡ false
         → seen (call_of shard (Receive d))
-        ≡ requesting here (hears me h.src rv (prepared_with here h n rv))
-        (newly (proposes round_before acceptors (proposer_in n (prepared_with here h n rv)))
-        (proposes round_before acceptors (proposer_in n (hears me h.src rv (prepared_with here h n rv)))))
-    unfolding gathers
+        ≡ requesting here (hears me h.src rv (replica_after_prepare here h n rv))
+        (newly (proposes round_before acceptors (proposer_in n (replica_after_prepare here h n rv)))
+        (proposes round_before acceptors (proposer_in n (hears me h.src rv (replica_after_prepare here h n rv)))))
+    unfolding proposes_on_majority
     proposer_enters gathering newer =
         prepare_handled
-        ∙ ap (λ (t : Bool). cond t (nothing here) (ends (enters n old))) newer
+        ∙ ap (λ (t : Bool). cond t (nothing_happens here) (ends (enters_number n old))) newer
         ∙ ap (then_prepare here h n rv) (sym (prepared_in here h n rv newer))
-        ∙ ap (λ (t : Bool). cond t (gathers here h n rv r) (leaves here r
+        ∙ ap (λ (t : Bool). cond t (proposes_on_majority here h n rv r) (leaves here r
         (to_proposer here h r.wish (cond (accepted_in round_before n r.acceptor.accepted) none (some (promise n r.acceptor.accepted)))))) gathering
       where
         r : Replica
-        r = prepared_with here h n rv
+        r = replica_after_prepare here h n rv
 
     -- one that is in the number and keeps something is as it was
-    prepared_before : keeps_something old ≡ true → old.acceptor.responded ≡ some n → prepared_with here h n rv ≡ old
-    unfolding enters responds takes_up
+    prepared_before : keeps_something old ≡ true → old.acceptor.responded ≡ some n → replica_after_prepare here h n rv ≡ old
+    unfolding enters_number responds takes_up
     prepared_before keeps entry =
         ap (λ (t : Bool). takes_up me n rv (cond t (record { acceptor = prepare round_before old.acceptor n; wish = old.wish; promised = 0; agreed = 0 }) old))
         (ap (greater round_before n) entry ∙ rounds_ordered.irreflexive n)
@@ -359,26 +359,26 @@ module _ (shard : Shard) (classic : has_fast_path shard.settings.mode ≡ false)
     p = record { number = n; value = v }
 
     abbrev counted : Replica
-    counted = accepts_with me h.src p (enters n old)
+    counted = accepts_with me h.src p (enters_number n old)
 
-    accept_handled : seen (call_of shard (Receive d)) ≡ cond older (nothing here) (then_accept here h p (enters n old))
+    accept_handled : seen (call_of shard (Receive d)) ≡ cond older (nothing_happens here) (then_accept here h p (enters_number n old))
     unfolding received
-    accept_handled = by_rule (Accept slot n v) message tt ∙ accept_in_order here h p slot ∙ entered (then_accept here h p (enters n old))
+    accept_handled = by_rule (Accept slot n v) message tt ∙ accept_in_order here h p slot ∙ entered (then_accept here h p (enters_number n old))
 
     -- what holds of every way in which an Accept can end holds of the call
-    of_accept : (P : Seen → Type 0) → (older ≡ true → P (nothing here)) → ((ms : List Outgoing) → P (leaves here counted ms))
-        → ((ms : List Outgoing) → is_majority acceptors (size counted.agreed) ≡ true → P (commits here v ms)) → P (seen (call_of shard (Receive d)))
+    of_accept : (P : Seen → Type 0) → (older ≡ true → P (nothing_happens here)) → ((ms : List Outgoing) → P (leaves here counted ms))
+        → ((ms : List Outgoing) → is_majority acceptors (size counted.agreed) ≡ true → P (commits_learned here v ms)) → P (seen (call_of shard (Receive d)))
     unfolding learning learns
     of_accept P stay leave commit = subst P (sym accept_handled) (by_age older refl)
       where
-        count : (ms : List Outgoing) → P (counts here h p counted ms)
+        count : (ms : List Outgoing) → P (counts_and_learns here h p counted ms)
         count ms = go (is_majority acceptors (size counted.agreed)) refl
           where
             go : (t : Bool) → is_majority acceptors (size counted.agreed) ≡ t → P (learning here h p counted ms (cond t (some v) none))
             go true e = commit (ms ++ informs here h p) e
             go false e = leave ms
 
-        by_age : (t : Bool) → older ≡ t → P (cond t (nothing here) (then_accept here h p (enters n old)))
+        by_age : (t : Bool) → older ≡ t → P (cond t (nothing_happens here) (then_accept here h p (enters_number n old)))
         by_age true e = stay e
         by_age false e = of-both P (is_learner here h n) (count (announced here h p)) (leave (announced here h p))
 
@@ -386,7 +386,7 @@ module _ (shard : Shard) (classic : has_fast_path shard.settings.mode ≡ false)
     -- each of the distinguished learners but itself
     announced_by : is_leader here h n ≡ false → eqb h.src h.proposer ≡ true → (m : Message PaxosRound ℕ)
         → announcement round_before old.acceptor p ≡ some m → (older ≡ false) × (announced here h p ≡ to_each here h (but me (learners here h n)) (some m))
-    unfolding announcement accepts
+    unfolding announcement accepts_proposal
     announced_by other asked m e = go older refl e
       where
         told : Bool → List ℕ → Option (Message PaxosRound ℕ) → List Outgoing
@@ -404,12 +404,12 @@ module _ (shard : Shard) (classic : has_fast_path shard.settings.mode ≡ false)
 
     -- and what it makes of the Accept is by whether it is one of them
     by_learner : older ≡ false → (t : Bool) → is_learner here h n ≡ t → (ms : List Outgoing) → announced here h p ≡ ms
-        → seen (call_of shard (Receive d)) ≡ cond t (counts here h p counted ms) (leaves here counted ms)
+        → seen (call_of shard (Receive d)) ≡ cond t (counts_and_learns here h p counted ms) (leaves here counted ms)
     by_learner newer t learner ms told =
         accept_handled
-        ∙ ap (λ (o : Bool). cond o (nothing here) (then_accept here h p (enters n old))) newer
-        ∙ ap (λ (l : Bool). cond l (counts here h p counted (announced here h p)) (leaves here counted (announced here h p))) learner
-        ∙ ap (λ (xs : List Outgoing). cond t (counts here h p counted xs) (leaves here counted xs)) told
+        ∙ ap (λ (o : Bool). cond o (nothing_happens here) (then_accept here h p (enters_number n old))) newer
+        ∙ ap (λ (l : Bool). cond l (counts_and_learns here h p counted (announced here h p)) (leaves here counted (announced here h p))) learner
+        ∙ ap (λ (xs : List Outgoing). cond t (counts_and_learns here h p counted xs) (leaves here counted xs)) told
 
     -- At another than a distinguished learner each of them is told, and nothing else happens.
     pub acceptor_announces : is_learner here h n ≡ false → eqb h.src h.proposer ≡ true
@@ -451,7 +451,7 @@ module _ (shard : Shard) (classic : has_fast_path shard.settings.mode ≡ false)
         of_accept (λ (s : Seen). s.commit ≡ None → s.replica.acceptor ≡ accept round_before (prepare round_before old.acceptor n) p)
         (λ e c. sym (older_accept old.acceptor p e))
         (λ ms c.
-        accepted_acceptor me h.src p (enters n old) ∙ ap (λ (x : Acceptor PaxosRound ℕ). accept round_before x p) (entered_acceptor n old))
+        accepted_acceptor me h.src p (enters_number n old) ∙ ap (λ (x : Acceptor PaxosRound ℕ). accept round_before x p) (entered_acceptor n old))
         (λ ms m c. absurd (not_both refl (ap is_commit c)))
 
     -- Section 2.3: what an Accept commits is its value, and a majority of the replicas is counted as having accepted it in the number.

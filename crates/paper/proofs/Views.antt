@@ -13,8 +13,8 @@ use lib.Bits.{bit_or, or_step, or_zero_r}
 use lib.Dec.{eqb, ltb}
 use borrow.Author.Tests.{eqb-true}
 use Rattle.basics.proofs.Tests.{not_both, same_test, of-both}
-use Rattle.sets.specs.Sets.{insert}
-use Rattle.paxos.specs.PaxosMadeSimple.{Proposal, Acceptor, greater, exceeded, higher, responds, prepare, accepted_in, accepts, accept, highest, choice}
+use Rattle.basics.specs.sets.Sets.{insert}
+use Rattle.paxos.specs.PaxosMadeSimple.{Proposal, Acceptor, greater, exceeded, higher, responds, prepare, accepted_in, accepts_proposal, accept, highest, choice}
 use Rattle.message.specs.Rounds.{round_before, round_equal, before, equal}
 use Rattle.message.proofs.Order.{rounds_ordered, optional_rounds_ordered, round_equal_lem, equal_round}
 use Rattle.message.specs.declared.PaxosRound.{PaxosRound}
@@ -25,16 +25,16 @@ use Rattle.round_state.specs.Paxos.{get_last_accepted_round, held_after_promise,
 use Rattle.round_state.specs.declared.PaxosState.{PaxosState}
 use Rattle.round_state.proofs.Holding.{accept_fits_lem}
 use Rattle.enter.specs.Enter.{in_round}
-use Rattle.steps.specs.Steps.{CoreStep, held_rv, held_v, map_step, on_rounds}
+use Rattle.steps.specs.Steps.{CoreStep, held_rv, held_value, map_step, on_rounds}
 use Rattle.steps.specs.declared.Asked.{Asked}
 use Rattle.steps.specs.declared.Core.{Core}
 use Rattle.steps.specs.declared.Heard.{Heard}
-use Rattle.paper.specs.Replica.{Replica, report_of, accepted_of, wish_of, responded_of, replica_of, brings, own_value, enters, first_wish, unless_accepted, is_there, newly, also_self, hears, accepts_with}
+use Rattle.paper.specs.Replica.{Replica, report_of, accepted_of, wish_of, responded_of, replica_of, brings, own_value, enters_number, first_wish, unless_accepted, is_there, newly, also_self, hears, accepts_with}
 use Rattle.consensus.specs.Answers.{finish}
-use Rattle.consensus.specs.FirstCause.{number_of}
+use Rattle.consensus.specs.FirstCause.{number_of_outcome}
 use Rattle.consensus.specs.declared.State.{State}
 use Rattle.consensus.specs.declared.StateAnswer.{StateAnswer}
-use Rattle.paper.specs.PaperCall.{Place, Known, Seen, committers_in}
+use Rattle.paper.specs.PaperCall.{Place, Known, Seen, committers_as_learners}
 
 -- ---- places
 
@@ -52,13 +52,13 @@ place_in a acceptors core =
     }
 
 abbrev pub known_in : Asked → Heard → Known
-known_in a h = record { src = h.src; proposer = h.delegate; requester = h.requester; committers = committers_in a.mode h.committer }
+known_in a h = record { src = h.src; proposer = h.delegate; requester = h.requester; committers = committers_as_learners a.mode h.committer }
 
 -- `seen`, of what a call makes of the state
 abbrev pub state_seen : StateAnswer → Seen
 state_seen r =
     record {
-      outcome = number_of r.reply.outcome;
+      outcome = number_of_outcome r.reply.outcome;
       slot = r.state.rounds.core.slot;
       last = r.state.rounds.core.last_v;
       replica = replica_of r.state.rounds.core.paxos;
@@ -143,7 +143,7 @@ held_brings (Some (FastV proposer v)) = refl
 held_brings (Some (PaxosV None v)) = refl
 held_brings (Some (PaxosV (Some n) v)) = refl
 
-pub held_value_lem : (held : Optional RoundV) → held_v held ≡ choice round_before (own_value (wish_of held)) (accepted_of held ∷ [])
+pub held_value_lem : (held : Optional RoundV) → held_value held ≡ choice round_before (own_value (wish_of held)) (accepted_of held ∷ [])
 unfolding choice highest
 held_value_lem None = refl
 held_value_lem (Some (FastV proposer v)) = refl
@@ -184,8 +184,8 @@ greater_later None n = refl
 greater_later (Some m) n = refl
 
 -- a round is entered as the acceptor responds to its number
-pub round_entered : (n : PaxosRound) (core : Core) → replica_of (in_round n core).paxos ≡ enters n (replica_of core.paxos)
-unfolding in_round enters prepare responds
+pub round_entered : (n : PaxosRound) (core : Core) → replica_of (in_round n core).paxos ≡ enters_number n (replica_of core.paxos)
+unfolding in_round enters_number prepare responds
 round_entered n core =
     both (λ (c : Core). replica_of c.paxos) (before core.paxos.round (Some n)) (responds round_before (replica_of core.paxos).acceptor n)
     (greater_later core.paxos.round n)
@@ -348,7 +348,7 @@ module _ (a : Asked) (replica : a.member.replica ≡ true) where
   -- an accept that fits, in a number that is not exceeded
   pub accept_counted : (src : ℕ) (n : PaxosRound) (v : ℕ) (p : PaxosState) → before (Some n) p.round ≡ false → accept_fits p.max_rv n v ≡ true
       → replica_of (after_accept a.member src n v p) ≡ accepts_with a.member.my_pid src (record { number = n; value = v }) (replica_of p)
-  unfolding accepts_with accept accepts
+  unfolding accepts_with accept accepts_proposal
   accept_counted src n v p free fit =
       ap (λ (x : Option (Proposal PaxosRound ℕ)). made (record { responded = responded_of p.round; accepted = x })
       (counted a.member src p.accepted_set)) (accept_higher p.max_rv n v fit)

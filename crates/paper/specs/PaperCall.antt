@@ -4,15 +4,15 @@
 -- (crates/consensus/specs/FirstCause.antt, demand 1) is left to that cause, and every other call follows the rules. `paper_call` at the end is what the
 -- theorems of proofs/ are about. Of the engine's definitions this page cites the order and the next number of rounds (`round_before`, `next_leader_round`,
 -- `default_round`, `increment`), sets of processes (`size`) and a commit as the host is told it (`committed_slot`); of demand 1's page the causes
--- (`first_cause`, at our choice among the best of EPaxos, which no classic mode asks for), a number as it is given (`number_of`), who is live, a process that
+-- (`first_cause`, at our choice among the best of EPaxos, which no classic mode asks for), a number as it is given (`number_of_outcome`), who is live, a process that
 -- is given or is oneself, the delegates, the committer of a value and the starting round.
 -- Assumes nothing.
 use Rattle.std.specs.Prelude.{◌≡◌, Bool, false, cond, not, ◌&&◌, ◌||◌, List, [], ◌∷◌, ◌++◌, map, ℕ, eqb, ltb, Option as Optional, None, Some}
 use Rattle.calls.specs.Commits.{committed_slot}
 use Rattle.calls.specs.declared.CommittedSlot.{CommittedSlot}
 use Rattle.std.proofs.Math.Option.{Option, none, some}
-use Rattle.sets.specs.Sets.{size}
-use Rattle.paxos.specs.PaxosMadeSimple.{Proposal, Message, prepare, accepts, announcement, asks, proposal_of, proposes, learns}
+use Rattle.basics.specs.sets.Sets.{size}
+use Rattle.paxos.specs.PaxosMadeSimple.{Proposal, Message, prepare, accepts_proposal, announcement, asks, proposal_of, proposes, learns}
 use Rattle.paxos.specs.PaxosMadeSimple.Message.{accept_request}
 use Rattle.message.specs.Rounds.{increment, round_before, next_leader_round, default_round}
 use Rattle.message.specs.declared.ConsensusMsg.{ConsensusMsg}
@@ -31,10 +31,10 @@ use Rattle.steps.specs.declared.Outgoing.{Outgoing}
 use Rattle.delivery.specs.declared.Delivery.{Delivery}
 use Rattle.calls.specs.declared.Call.{Call}
 use Rattle.calls.specs.declared.Call.TheVariants.{Propose, StartRead, Receive}
-use Rattle.consensus.specs.FirstCause.{number_of, given_number, is_live, is_oneself, leader_delegate, value_committer, starts_in, first_cause}
+use Rattle.consensus.specs.FirstCause.{number_of_outcome, given_number, is_live, is_oneself, leader_delegate, value_committer, starts_in, first_cause}
 use Rattle.consensus.specs.declared.Answer.{Answer}
 use Rattle.consensus.specs.declared.Shard.{Shard}
-use Rattle.paper.specs.Replica.{Replica, responded_of, replica_of, written, enters, promises, is_there, abandons, proposer_in, newly, hears, takes_up, accepts_with, number_or}
+use Rattle.paper.specs.Replica.{Replica, responded_of, replica_of, written, enters_number, promises, is_there, abandons, proposer_in, newly, hears, takes_up, accepts_with, number_or}
 
 -- ---- what is seen of a call
 
@@ -50,7 +50,7 @@ pub record Seen : Type 0 where
 abbrev pub seen : Answer → Seen
 seen r =
     record {
-      outcome = number_of r.reply.outcome;
+      outcome = number_of_outcome r.reply.outcome;
       slot = r.shard.state.rounds.core.slot;
       last = r.shard.state.rounds.core.last_v;
       replica = replica_of r.shard.state.rounds.core.paxos;
@@ -65,13 +65,13 @@ abbrev pub first_sent : List Outgoing → Optional Outgoing
 first_sent [] = None
 first_sent (m ∷ ms) = Some m
 
-abbrev pub behind_first : List Outgoing → List Outgoing
-behind_first [] = []
-behind_first (m ∷ ms) = ms
+abbrev pub sent_behind_first : List Outgoing → List Outgoing
+sent_behind_first [] = []
+sent_behind_first (m ∷ ms) = ms
 
 -- The messages of a call stand in three places, in the order of the list. There is room for all: at most two announcements and a Commit.
 abbrev pub in_places : List Outgoing → Messages
-in_places ms = record { first = first_sent ms; second = first_sent (behind_first ms); third = first_sent (behind_first (behind_first ms)) }
+in_places ms = record { first = first_sent ms; second = first_sent (sent_behind_first ms); third = first_sent (sent_behind_first (sent_behind_first ms)) }
 
 -- ---- lists of processes
 
@@ -114,14 +114,14 @@ module _ (here : Place) where
   abbrev pub leaves : Replica → List Outgoing → Seen
   leaves r ms = record { outcome = 0; slot = here.slot; last = here.last; replica = r; messages = in_places ms; commit = None }
 
-  abbrev pub nothing : Seen
-  nothing = leaves here.old []
+  abbrev pub nothing_happens : Seen
+  nothing_happens = leaves here.old []
 
   -- The value is learned. Section 3: the next slot is an instance of its own, with a replica that has responded to nothing (in MultiPaxos and
   -- MultiPaxos3P, to the first leader's number) and accepted nothing. DIFFERENCE ("what a message carries besides"): a commit has a fast mark, which no
   -- classic mode sets.
-  abbrev pub commits : ℕ → List Outgoing → Seen
-  commits v ms =
+  abbrev pub commits_learned : ℕ → List Outgoing → Seen
+  commits_learned v ms =
       record {
         outcome = 0;
         slot = increment here.slot;
@@ -141,8 +141,8 @@ module _ (here : Place) where
 
   -- DIFFERENCE ("a process that is no acceptor"): as a proposer and as a learner as well, an acceptor alone takes part. DIFFERENCE ("a message of a slot that
   -- is committed"): it does so in its own slot alone, and ignores an older one.
-  abbrev pub takes_part : ℕ → Bool
-  takes_part slot = here.acceptor && not (ltb slot here.slot)
+  abbrev pub takes_part_in_slot : ℕ → Bool
+  takes_part_in_slot slot = here.acceptor && not (ltb slot here.slot)
 
   -- Phase 2 (a): the accept request; the proposer's own acceptor accepts. DIFFERENCE ("whom a request goes to"): it goes to all.
   -- DIFFERENCE ("a group of one, in MultiPaxos and MultiPaxos3P"): it is counted, and where it alone is a majority the value is not learned.
@@ -159,8 +159,8 @@ module _ (here : Place) where
   own_number = next_leader_round (number_or default_round here.old.acceptor.responded) here.self
 
   -- nobody is counted in the number yet but the own acceptor, which promises; the value is the wish
-  abbrev pub begins : ℕ → Replica
-  begins v =
+  abbrev pub begins_proposal : ℕ → Replica
+  begins_proposal v =
       hears here.self here.self (PaxosV None v)
       (record { acceptor = prepare round_before here.old.acceptor own_number; wish = here.old.wish; promised = 0; agreed = 0 })
 
@@ -170,16 +170,16 @@ module _ (here : Place) where
   unfoldable pub proposes_own : ℕ → Seen
   proposes_own v =
       cond (is_there here.start)
-      (requesting (begins v) (some (proposal_of round_before (proposer_in own_number (begins v)))))
-      (leaves (begins v) (sending (begins v).wish (asks round_before (proposer_in own_number (begins v))) (All None) ∷ []))
+      (requesting (begins_proposal v) (some (proposal_of round_before (proposer_in own_number (begins_proposal v)))))
+      (leaves (begins_proposal v) (sending (begins_proposal v).wish (asks round_before (proposer_in own_number (begins_proposal v))) (All None) ∷ []))
 
   module _ (known : Known) where
     -- ---- Prepare
 
-    -- The replica after a Prepare of the number n: its acceptor is what the paper's `prepare` leaves (`enters`), but for what it takes up. DIFFERENCE
+    -- The replica after a Prepare of the number n: its acceptor is what the paper's `prepare` leaves (`enters_number`), but for what it takes up. DIFFERENCE
     -- ("a prepare request for a proposal that is held as accepted"): the number is entered also where the request is ignored for that reason.
-    abbrev pub prepared_with : PaxosRound → RoundV → Replica
-    prepared_with n rv = takes_up here.self n rv (enters n here.old)
+    abbrev pub replica_after_prepare : PaxosRound → RoundV → Replica
+    replica_after_prepare n rv = takes_up here.self n rv (enters_number n here.old)
 
     -- Phase 1 (b): the response, to the proposer
     abbrev pub to_proposer : Option RoundV → Option (Message PaxosRound ℕ) → List Outgoing
@@ -189,11 +189,11 @@ module _ (here : Place) where
     -- At an acceptor: the response is that of the acceptor as it was before the call, but for what it takes up.
     unfoldable pub responding : PaxosRound → RoundV → Seen
     responding n rv =
-        leaves (prepared_with n rv) (to_proposer (prepared_with n rv).wish (promises n (takes_up here.self n rv here.old).acceptor))
+        leaves (replica_after_prepare n rv) (to_proposer (replica_after_prepare n rv).wish (promises n (takes_up here.self n rv here.old).acceptor))
 
     -- At the proposer: it hears the promise, and proposes when a majority has responded.
-    unfoldable pub gathers : PaxosRound → RoundV → Replica → Seen
-    gathers n rv r =
+    unfoldable pub proposes_on_majority : PaxosRound → RoundV → Replica → Seen
+    proposes_on_majority n rv r =
         requesting (hears here.self known.src rv r)
         (newly (proposes round_before here.acceptors (proposer_in n r))
         (proposes round_before here.acceptors (proposer_in n (hears here.self known.src rv r))))
@@ -201,11 +201,11 @@ module _ (here : Place) where
     -- It does so unless the proposal is abandoned. Its own acceptor has responded to the number, or does so now: DIFFERENCE ("who proposes"), Pando's delegate
     -- with the Prepare of the leader; DIFFERENCE ("a promise in a number that was not asked for"), any proposer with the first promise that comes.
     unfoldable pub hearing : PaxosRound → RoundV → Seen
-    hearing n rv = cond (abandons here.old.acceptor n) nothing (gathers n rv (prepared_with n rv))
+    hearing n rv = cond (abandons here.old.acceptor n) nothing_happens (proposes_on_majority n rv (replica_after_prepare n rv))
 
     -- DIFFERENCE ("requests and answers"): a Prepare is a promise at the proposer, and a prepare request at every other
-    unfoldable pub receives_prepare : ℕ → PaxosRound → RoundV → Seen
-    receives_prepare slot n rv = cond (takes_part slot) (cond (eqb known.proposer here.self) (hearing n rv) (responding n rv)) nothing
+    unfoldable pub prepare_received : ℕ → PaxosRound → RoundV → Seen
+    prepare_received slot n rv = cond (takes_part_in_slot slot) (cond (eqb known.proposer here.self) (hearing n rv) (responding n rv)) nothing_happens
 
     -- ---- Accept
 
@@ -230,7 +230,7 @@ module _ (here : Place) where
     to_each ps (some m) = map (λ (p : ℕ). sending none m (One p)) ps
 
     -- Phase 2 (b) and section 2.3: the acceptor as it was before the call announces that it accepts an accept request, which comes from the proposer. Any
-    -- other Accept is an acceptance; what it brings the replica to accept (`accepted_with`) is not announced.
+    -- other Accept is an acceptance; what it brings the replica to accept (`replica_after_accept`) is not announced.
     unfoldable pub announces : Proposal PaxosRound ℕ → List Outgoing
     announces p = cond (eqb known.src known.proposer) (to_each (announced_to p.number) (announcement round_before here.old.acceptor p)) []
 
@@ -252,39 +252,39 @@ module _ (here : Place) where
     -- the value that a majority has accepted is committed
     unfoldable pub learning : Proposal PaxosRound ℕ → Replica → List Outgoing → Option ℕ → Seen
     learning p r ms none = leaves r ms
-    learning p r ms (some v) = commits v (ms ++ informs p)
+    learning p r ms (some v) = commits_learned v (ms ++ informs p)
 
-    abbrev pub counts : Proposal PaxosRound ℕ → Replica → List Outgoing → Seen
-    counts p r ms = learning p r ms (learns round_before here.acceptors (size r.agreed) p)
+    abbrev pub counts_and_learns : Proposal PaxosRound ℕ → Replica → List Outgoing → Seen
+    counts_and_learns p r ms = learning p r ms (learns round_before here.acceptors (size r.agreed) p)
 
     -- The replica after an Accept: its acceptor is what the paper's `accept` leaves (`accepts_with`). DIFFERENCE ("an accept request"): the number is entered
     -- before. The source is counted. DIFFERENCE ("requests and answers"): also that of an accept request, whose own acceptor has accepted. DIFFERENCE
     -- ("an answer to an accept request"): a learner that gets an acceptance accepts as well, as if it were an accept request.
-    abbrev pub accepted_with : Proposal PaxosRound ℕ → Replica
-    accepted_with p = accepts_with here.self known.src p (enters p.number here.old)
+    abbrev pub replica_after_accept : Proposal PaxosRound ℕ → Replica
+    replica_after_accept p = accepts_with here.self known.src p (enters_number p.number here.old)
 
     -- DIFFERENCE ("an acceptance with a lower number"): a learner that has responded to a greater number, and so does not accept, ignores an acceptance
     abbrev pub listens : Proposal PaxosRound ℕ → Bool
-    listens p = is_learner p.number && accepts round_before here.old.acceptor p
+    listens p = is_learner p.number && accepts_proposal round_before here.old.acceptor p
 
     -- An acceptor announces; a distinguished learner counts as well, and learns.
-    unfoldable pub in_accept : Proposal PaxosRound ℕ → Seen
-    in_accept p = cond (listens p) (counts p (accepted_with p) (announces p)) (leaves (accepted_with p) (announces p))
+    unfoldable pub acts_on_accept : Proposal PaxosRound ℕ → Seen
+    acts_on_accept p = cond (listens p) (counts_and_learns p (replica_after_accept p) (announces p)) (leaves (replica_after_accept p) (announces p))
 
-    unfoldable pub receives_accept : ℕ → Proposal PaxosRound ℕ → Seen
-    receives_accept slot p = cond (takes_part slot) (in_accept p) nothing
+    unfoldable pub accept_received : ℕ → Proposal PaxosRound ℕ → Seen
+    accept_received slot p = cond (takes_part_in_slot slot) (acts_on_accept p) nothing_happens
 
     -- ---- messages
 
     -- A Commit is what a distinguished learner informs with, and is believed; one of a slot that is committed says nothing new. A ForwardRequest is for the
     -- host. Reads are no part of the paper (`InPaxos`).
     unfoldable pub received : ConsensusMsg → Seen
-    received (Prepare slot n rv) = receives_prepare slot n rv
-    received (Accept slot n v) = receives_accept slot (record { number = n; value = v })
-    received (ForwardRequest v) = nothing
-    received (Commit slot v) = cond (ltb slot here.slot) nothing (commits v [])
-    received (ReadRequest id) = nothing
-    received (ReadResponse id next) = nothing
+    received (Prepare slot n rv) = prepare_received slot n rv
+    received (Accept slot n v) = accept_received slot (record { number = n; value = v })
+    received (ForwardRequest v) = nothing_happens
+    received (Commit slot v) = cond (ltb slot here.slot) nothing_happens (commits_learned v [])
+    received (ReadRequest id) = nothing_happens
+    received (ReadResponse id next) = nothing_happens
 
 -- ---- a call on a shard
 
@@ -329,13 +329,13 @@ proposer_by s (ReadRequest id) = 0
 proposer_by s (ReadResponse id next) = 0
 
 -- MultiPaxos3P has learners beside the leader: the committer of the value, where it has one
-abbrev pub committers_in : PFMode → Optional ℕ → List ℕ
-committers_in Paxos committer = []
-committers_in MultiPaxos committer = []
-committers_in MultiPaxos3P committer = given_number committer
-committers_in EPaxos committer = []
-committers_in Pando committer = []
-committers_in SwiftPaxos committer = []
+abbrev pub committers_as_learners : PFMode → Optional ℕ → List ℕ
+committers_as_learners Paxos committer = []
+committers_as_learners MultiPaxos committer = []
+committers_as_learners MultiPaxos3P committer = given_number committer
+committers_as_learners EPaxos committer = []
+committers_as_learners Pando committer = []
+committers_as_learners SwiftPaxos committer = []
 
 -- what is known of a message, with the requester that the host names for its value
 abbrev pub known_of : Settings → Delivery → Known
@@ -344,13 +344,13 @@ known_of s d =
       src = d.message.src;
       proposer = proposer_by s d.message.msg;
       requester = d.said.requester;
-      committers = committers_in s.mode (value_committer s d.said.requester);
+      committers = committers_as_learners s.mode (value_committer s d.said.requester);
     }
 
 -- a call by the rules; a new read is not of the paper (`InPaxos`), whatever stands here
 unfoldable pub by_rules : Shard → Call → Seen
 by_rules shard (Propose v) = proposes_own (place_of shard) v
-by_rules shard (StartRead tag arrival) = nothing (place_of shard)
+by_rules shard (StartRead tag arrival) = nothing_happens (place_of shard)
 by_rules shard (Receive d) = received (place_of shard) (known_of shard.settings d) d.message.msg
 
 -- a refusal is its number, and nothing else happens

@@ -4,8 +4,8 @@
 -- Assumes nothing.
 use Rattle.std.specs.Prelude.{Bool, true, false, cond, ◌||◌, [], ◌∷◌, ℕ, Option as Optional, None, Some}
 use Rattle.std.proofs.Math.Option.{Option, none, some}
-use Rattle.sets.specs.Sets.{insert, size}
-use Rattle.paxos.specs.PaxosMadeSimple.{Proposal, Acceptor, Message, Proposer, exceeded, higher, responds, prepare, response, ignores, accepts, accept}
+use Rattle.basics.specs.sets.Sets.{insert, size}
+use Rattle.paxos.specs.PaxosMadeSimple.{Proposal, Acceptor, Message, Proposer, exceeded, higher, responds, prepare, response, ignores, accepts_proposal, accept}
 use Rattle.paxos.specs.PaxosMadeSimple.Message.{prepare_request, promise, accept_request, acceptance}
 use Rattle.message.specs.Rounds.{round_before}
 use Rattle.message.specs.declared.ConsensusMsg.{ConsensusMsg}
@@ -22,6 +22,7 @@ use Rattle.round_state.specs.declared.PaxosState.{PaxosState}
 -- DIFFERENCE ("the proposer's memory"): the highest-numbered proposal that was reported to the proposer is kept in the acceptor.
 -- DIFFERENCE ("what is promised"): every Prepare brings a value. `wish` is the one that is kept while no proposal is: the own one, or the first
 -- that came.
+-- `promised` and `agreed` are the sets `prepared_set` and `accepted_set` of the engine's Paxos half, by the paper's words.
 pub record Replica : Type 0 where
   pub acceptor : Acceptor PaxosRound ℕ
   pub wish : Option RoundV
@@ -62,20 +63,20 @@ replica_of p =
     }
 
 -- and back: the replica is the whole Paxos half of the round state (`state_back`)
-abbrev pub round_of : Option PaxosRound → Optional PaxosRound
-round_of none = None
-round_of (some n) = Some n
+abbrev pub engine_round : Option PaxosRound → Optional PaxosRound
+engine_round none = None
+engine_round (some n) = Some n
 
-abbrev pub held_of : Option (Proposal PaxosRound ℕ) → Option RoundV → Optional RoundV
-held_of (some p) wish = Some (PaxosV (Some p.number) p.value)
-held_of none none = None
-held_of none (some rv) = Some rv
+abbrev pub engine_held : Option (Proposal PaxosRound ℕ) → Option RoundV → Optional RoundV
+engine_held (some p) wish = Some (PaxosV (Some p.number) p.value)
+engine_held none none = None
+engine_held none (some rv) = Some rv
 
-abbrev pub state_of : Replica → PaxosState
-state_of r =
+abbrev pub engine_state : Replica → PaxosState
+engine_state r =
     record {
-      round = round_of r.acceptor.responded;
-      max_rv = held_of r.acceptor.accepted r.wish;
+      round = engine_round r.acceptor.responded;
+      max_rv = engine_held r.acceptor.accepted r.wish;
       prepared_set = r.promised;
       accepted_set = r.agreed;
     }
@@ -108,8 +109,8 @@ written slot wish (acceptance p) = Accept slot p.number p.value
 -- ---- the acceptor: a prepare request
 
 -- The acceptor has a prepare request of the number n. Where it responds, what was counted belongs to a lower number and is forgotten.
-unfoldable pub enters : PaxosRound → Replica → Replica
-enters n r =
+unfoldable pub enters_number : PaxosRound → Replica → Replica
+enters_number n r =
     cond (responds round_before r.acceptor n)
     (record { acceptor = prepare round_before r.acceptor n; wish = r.wish; promised = 0; agreed = 0 })
     r
@@ -191,6 +192,6 @@ number_or n (some m) = m
 -- Phase 2 (b): the acceptor has an accept request. Where it accepts, the replica wishes nothing more, and as a learner counts who has accepted.
 unfoldable pub accepts_with : ℕ → ℕ → Proposal PaxosRound ℕ → Replica → Replica
 accepts_with me src p r =
-    cond (accepts round_before r.acceptor p)
+    cond (accepts_proposal round_before r.acceptor p)
     (record { acceptor = accept round_before r.acceptor p; wish = none; promised = r.promised; agreed = also_self me src r.agreed })
     r

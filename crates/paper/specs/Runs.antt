@@ -3,7 +3,7 @@
 -- Assumes nothing.
 use Rattle.std.specs.Prelude.{◌≡◌, true, false, List, [], ◌∷◌, ◌++◌, ℕ, eqb, ltb, None, Ok}
 use Rattle.std.proofs.Math.Option.{Option}
-use Rattle.sets.specs.Sets.{size}
+use Rattle.basics.specs.sets.Sets.{size}
 use Rattle.paxos.specs.PaxosMadeSimple.{Proposal, Proposer}
 use Rattle.message.specs.declared.ConsensusMsg.TheVariants.{Prepare, Accept}
 use Rattle.message.specs.declared.PaxosRound.{PaxosRound}
@@ -101,8 +101,8 @@ abbrev pub acceptance_of : Delivery → ℕ → Acceptance
 acceptance_of d v = record { src = d.message.src; value = v }
 
 -- the shard has taken them one after the other, and has committed nothing
-pub data Counted (n : PaxosRound) (first : Shard) : List Acceptance → Shard → Type 0 where
-  none_yet : Counted n first [] first
-  one_counted : {xs : List Acceptance} {shard : Shard} (d : Delivery) (v : ℕ) → Counted n first xs shard → Announced n shard d v
+pub data AcceptancesTaken (n : PaxosRound) (first : Shard) : List Acceptance → Shard → Type 0 where
+  none_yet : AcceptancesTaken n first [] first
+  one_counted : {xs : List Acceptance} {shard : Shard} (d : Delivery) (v : ℕ) → AcceptancesTaken n first xs shard → Announced n shard d v
       → (call_of shard (Receive d)).reply.commit ≡ None
-      → Counted n first (xs ++ (acceptance_of d v ∷ [])) (call_of shard (Receive d)).shard
+      → AcceptancesTaken n first (xs ++ (acceptance_of d v ∷ [])) (call_of shard (Receive d)).shard

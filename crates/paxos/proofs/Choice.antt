@@ -8,7 +8,7 @@ use mathlib.Core.List.{List, [], ◌∷◌, ◌++◌}
 use mathlib.Core.Option.{Option, none, some}
 use Rattle.basics.specs.Lists.{In}
 use Rattle.basics.proofs.Tests.{either, not_both}
-use Rattle.paxos.specs.PaxosMadeSimple.{Ordered, Proposal, higher, highest, value_or, choice}
+use Rattle.paxos.specs.PaxosMadeSimple.{Ordered, Proposal, higher, highest, value_or_own, choice}
 
 -- the highest-numbered proposal so far is at least another one that was reported: there is one, and its number is not below the other's
 abbrev pub AtLeast : {Number Value : Type 0} → (Number → Number → Bool) → Option (Proposal Number Value) → Option (Proposal Number Value) → Type 0
@@ -115,4 +115,4 @@ module _ {Number Value : Type 0} (before : Number → Number → Bool) where
   pub choice_kept : (own : Value) (rs ss : List (Option (Proposal Number Value)))
       → choice before own (highest before none rs ∷ ss) ≡ choice before own (rs ++ ss)
   unfolding choice highest
-  choice_kept own rs ss = ap (value_or before own) (highest_kept none rs ss)
+  choice_kept own rs ss = ap (value_or_own before own) (highest_kept none rs ss)

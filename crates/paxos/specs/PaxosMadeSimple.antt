@@ -87,15 +87,15 @@ module _ {Number Value : Type 0} (before : Number → Number → Bool) where
   -- Phase 2 (b): "If an acceptor receives an accept request for a proposal numbered n, it accepts the proposal unless it has already
   -- responded to a prepare request having a number greater than n." That is P1a: "An acceptor can accept a proposal numbered n iff it has not
   -- responded to a prepare request having a number greater than n"; so it accepts the first proposal that it receives (P1).
-  unfoldable pub accepts : Acceptor Number Value → Proposal Number Value → Bool
-  accepts a p = not (exceeded before a.responded p.number)
+  unfoldable pub accepts_proposal : Acceptor Number Value → Proposal Number Value → Bool
+  accepts_proposal a p = not (exceeded before a.responded p.number)
 
   unfoldable pub accept : Acceptor Number Value → Proposal Number Value → Acceptor Number Value
-  accept a p = cond (accepts a p) (record { responded = a.responded; accepted = higher a.accepted (some p) }) a
+  accept a p = cond (accepts_proposal a p) (record { responded = a.responded; accepted = higher a.accepted (some p) }) a
 
   -- Section 2.3: "have each acceptor, whenever it accepts a proposal, respond to all learners, sending them the proposal"
   unfoldable pub announcement : Acceptor Number Value → Proposal Number Value → Option (Message Number Value)
-  announcement a p = cond (accepts a p) (some (acceptance p)) none
+  announcement a p = cond (accepts_proposal a p) (some (acceptance p)) none
 
   -- ---- 2.2: the proposer
 
@@ -104,16 +104,16 @@ module _ {Number Value : Type 0} (before : Number → Number → Bool) where
   highest best [] = best
   highest best (r ∷ rs) = highest (higher best r) rs
 
-  abbrev pub value_or : Value → Option (Proposal Number Value) → Value
-  value_or own none = own
-  value_or own (some p) = p.value
+  abbrev pub value_or_own : Value → Option (Proposal Number Value) → Value
+  value_or_own own none = own
+  value_or_own own (some p) = p.value
 
   -- Phase 2 (a): "v is the value of the highest-numbered proposal among the responses, or is any value if the responses reported no proposals".
   -- It is there for P2c, from which P2b, P2a and P2 follow: of a majority, (a) none has accepted a proposal numbered less than n, or (b) v is the value of
   -- the highest-numbered proposal among all proposals numbered less than n that they have accepted. That P2c holds needs more than this definition: the
   -- responses of a majority, each true when it was sent, and acceptors that keep what they promised.
   unfoldable pub choice : Value → List (Option (Proposal Number Value)) → Value
-  choice own responses = value_or own (highest none responses)
+  choice own responses = value_or_own own (highest none responses)
 
 -- a proposer in a number of its own, with the value that it would propose: how many acceptors have responded to its prepare request, and what
 -- they reported

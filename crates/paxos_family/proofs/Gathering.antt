@@ -11,8 +11,8 @@ use native.Mathlib.Omega.{arith}
 use lib.Dec.{leb}
 use borrow.Author.Tests.{leb-true, le-leb}
 use Rattle.basics.proofs.Tests.{either, and_right}
-use Rattle.sets.specs.Sets.{size, is_empty}
-use Rattle.sets.proofs.Laws.{size_within}
+use Rattle.basics.specs.sets.Sets.{size, is_empty}
+use Rattle.basics.proofs.sets.Laws.{size_within}
 use Rattle.message.specs.Modes.{is_swift_paxos}
 use Rattle.message.specs.declared.PaxosRound.{PaxosRound}
 use Rattle.message.specs.declared.Refusal.{Refusal}
@@ -22,7 +22,7 @@ use Rattle.round_state.specs.Paxos.{get_v, is_prepared, counted, receive_promise
 use Rattle.round_state.specs.declared.Member.{Member}
 use Rattle.round_state.specs.declared.PaxosState.{PaxosState}
 use Rattle.round_state.proofs.Counting.{counted_keeps}
-use Rattle.prepare.specs.Prepare.{broadcast_accept, after_own_accept, accept_phase, with_promise, becomes_prepared, gather}
+use Rattle.classic.specs.prepare.Prepare.{broadcast_accept, after_own_accept, accept_phase, with_promise, becomes_prepared, gather}
 use Rattle.steps.specs.Steps.{CoreStep, no_messages, with_paxos, left_fast_path, stays}
 use Rattle.steps.specs.declared.Asked.{Asked}
 use Rattle.steps.specs.declared.Core.{Core}

@@ -11,11 +11,11 @@ use Rattle.message.specs.declared.RoundV.{RoundV}
 use Rattle.fast_state.specs.Adopt.{Choice}
 use Rattle.fast_state.specs.Fast.{answers_of, unchanged}
 use Rattle.fast_state.specs.declared.FastAnswers.{FastAnswers}
-use Rattle.accept.specs.Accept.{accepting}
+use Rattle.classic.specs.accept.Accept.{accepting}
 use Rattle.enter.specs.Enter.{enter}
-use Rattle.epaxos_path.specs.EPaxos.{epaxos_answer}
-use Rattle.swift_path.specs.Swift.{swift_client_prepare, swift_client_accept, swift_answered_accept}
-use Rattle.prepare.specs.Prepare.{prepared, accept_phase, with_promise, becomes_prepared, gather, has_accepted}
+use Rattle.fast.specs.epaxos.EPaxos.{epaxos_answer}
+use Rattle.fast.specs.swift.Swift.{swift_client_prepare, swift_client_accept, swift_answered_accept}
+use Rattle.classic.specs.prepare.Prepare.{prepared, accept_phase, with_promise, becomes_prepared, gather, has_accepted}
 use Rattle.steps.specs.Steps.{RoundsStep, CoreStep, no_messages, stays, continues, and_then, map_step, with_change, and_then_change, change_rounds}
 use Rattle.steps.specs.declared.Asked.{Asked}
 use Rattle.steps.specs.declared.ChangeStep.{ChangeStep}
@@ -26,12 +26,12 @@ use Rattle.steps.specs.declared.Rounds.{Rounds}
 -- ---- the classic modes
 
 -- a Prepare in the entered round
-unfoldable pub in_prepare : Asked → Heard → PaxosRound → RoundV → Core → Result CoreStep Refusal
-in_prepare a h round rv core = and_then (prepared a h round rv core) (gather a h round rv)
+unfoldable pub entered_prepare : Asked → Heard → PaxosRound → RoundV → Core → Result CoreStep Refusal
+entered_prepare a h round rv core = and_then (prepared a h round rv core) (gather a h round rv)
 
 -- process_message, Prepare
 unfoldable pub on_prepare : Asked → Heard → ℕ → PaxosRound → RoundV → Core → Result CoreStep Refusal
-on_prepare a h slot round rv core = and_then (enter a h slot round core) (in_prepare a h round rv)
+on_prepare a h slot round rv core = and_then (enter a h slot round core) (entered_prepare a h round rv)
 
 -- process_message, Accept
 unfoldable pub on_accept : Asked → Heard → ℕ → PaxosRound → ℕ → Core → Result CoreStep Refusal
@@ -86,14 +86,14 @@ module _ (choose : Choice) where
       (fast_answered a h round rv (fast_promised a h rv core) answers values epaxos_scores swift_scores))
 
   -- a Prepare in the entered round
-  unfoldable pub in_fast_prepare : Asked → Heard → PaxosRound → RoundV → Core → FastAnswers → List ℕ → List ℕ → List ℕ → Result ChangeStep Refusal
-  in_fast_prepare a h round rv core answers values epaxos_scores swift_scores =
+  unfoldable pub entered_fast_prepare : Asked → Heard → PaxosRound → RoundV → Core → FastAnswers → List ℕ → List ℕ → List ℕ → Result ChangeStep Refusal
+  entered_fast_prepare a h round rv core answers values epaxos_scores swift_scores =
       and_then_change answers (fast_prepared a h round rv core) (λ c. fast_gather a h round rv c answers values epaxos_scores swift_scores)
 
   -- process_message, Prepare
   unfoldable pub on_fast_prepare : Asked → Heard → ℕ → PaxosRound → RoundV → Core → FastAnswers → List ℕ → List ℕ → List ℕ → Result ChangeStep Refusal
   on_fast_prepare a h slot round rv core answers values epaxos_scores swift_scores =
-      and_then_change answers (enter a h slot round core) (λ c. in_fast_prepare a h round rv c answers values epaxos_scores swift_scores)
+      and_then_change answers (enter a h slot round core) (λ c. entered_fast_prepare a h round rv c answers values epaxos_scores swift_scores)
 
 -- an Accept at a replica: a SwiftPaxos committer that has answered goes on, with the messages of its answer
 abbrev pub after_replica_accept : Asked → Heard → PaxosRound → ℕ → FastAnswers → List ℕ → Result CoreStep Refusal → Result ChangeStep Refusal
@@ -105,14 +105,14 @@ unfoldable pub replica_accept : Asked → Heard → PaxosRound → ℕ → Core 
 replica_accept a h round v core answers swift_scores = after_replica_accept a h round v answers swift_scores (accepting a h round v core)
 
 -- an Accept in the entered round; at a client process_answers_at_swift_paxos_client
-unfoldable pub in_fast_accept : Asked → Heard → PaxosRound → ℕ → Core → FastAnswers → List ℕ → Result ChangeStep Refusal
-in_fast_accept a h round v core answers swift_scores =
+unfoldable pub entered_fast_accept : Asked → Heard → PaxosRound → ℕ → Core → FastAnswers → List ℕ → Result ChangeStep Refusal
+entered_fast_accept a h round v core answers swift_scores =
     cond a.member.replica (replica_accept a h round v core answers swift_scores) (swift_client_accept a h round v core answers swift_scores)
 
 -- process_message, Accept
 unfoldable pub on_fast_accept : Asked → Heard → ℕ → PaxosRound → ℕ → Core → FastAnswers → List ℕ → Result ChangeStep Refusal
 on_fast_accept a h slot round v core answers swift_scores =
-    and_then_change answers (enter a h slot round core) (λ c. in_fast_accept a h round v c answers swift_scores)
+    and_then_change answers (enter a h slot round core) (λ c. entered_fast_accept a h round v c answers swift_scores)
 
 -- process_message, with what changes in the fast half
 unfoldable pub process_change : Choice → Asked → Heard → ConsensusMsg → Core → FastAnswers → List ℕ → List ℕ → List ℕ → Result ChangeStep Refusal

@@ -3,7 +3,7 @@
 
 ghost use Rattle.std.specs.Prelude.{◌≡◌, true, false, Ok};
 ghost use Rattle.steps.specs.Steps.{goes_on};
-ghost use Rattle.paxos_family.specs.Process.{in_prepare, on_prepare, on_accept, process_classic, fast_prepared, fast_promised, leads_round, starts_accept, waits, fast_answered, fast_gather, in_fast_prepare, on_fast_prepare, replica_accept, in_fast_accept, on_fast_accept, process_change, process_fast};
+ghost use Rattle.paxos_family.specs.Process.{entered_prepare, on_prepare, on_accept, process_classic, fast_prepared, fast_promised, leads_round, starts_accept, waits, fast_answered, fast_gather, entered_fast_prepare, on_fast_prepare, replica_accept, entered_fast_accept, on_fast_accept, process_change, process_fast};
 ghost use Rattle.paxos_family.specs.Commit.{commit_core, commit_slot, next_core, next_slot};
 ghost use Rattle.fast_state.specs.Adopt.{lowest_best};
 
@@ -32,18 +32,21 @@ fn and_then<F: FnOnce(Core) -> Result<CoreStep, Refusal>>(
 }
 
 // A Prepare in the entered round: the delegate goes on and counts the promise.
-#[tactic(auto, unfolding(crate::specs::Process::in_prepare))]
-fn in_prepare(
+#[tactic(auto, unfolding(crate::specs::Process::entered_prepare))]
+fn entered_prepare(
     asked: Asked,
     heard: Heard,
     round: PaxosRound,
     rv: RoundV,
     core: Core,
 ) -> Result<CoreStep, Refusal>
-    ensures { result ≡ in_prepare asked heard round rv core }
+    ensures { result ≡ entered_prepare asked heard round rv core }
 {
-    let step = prepare::prepared(asked, heard, round, rv, core)?;
-    and_then(step, |core| prepare::gather(asked, heard, round, rv, core))
+    let step = classic::prepare::prepared(asked, heard, round, rv, core)?;
+    and_then(
+        step,
+        |core| classic::prepare::gather(asked, heard, round, rv, core),
+    )
 }
 
 #[tactic(auto, unfolding(crate::specs::Process::on_prepare))]
@@ -58,7 +61,7 @@ fn on_prepare(
     ensures { result ≡ on_prepare asked heard slot round rv core }
 {
     let step = enter::enter(asked, heard, slot, round, core)?;
-    and_then(step, |core| in_prepare(asked, heard, round, rv, core))
+    and_then(step, |core| entered_prepare(asked, heard, round, rv, core))
 }
 
 #[tactic(auto, unfolding(crate::specs::Process::on_accept))]
@@ -73,7 +76,10 @@ fn on_accept(
     ensures { result ≡ on_accept asked heard slot round v core }
 {
     let step = enter::enter(asked, heard, slot, round, core)?;
-    and_then(step, |core| accept::accepting(asked, heard, round, v, core))
+    and_then(
+        step,
+        |core| classic::accept::accepting(asked, heard, round, v, core),
+    )
 }
 
 // A message in the classic modes, which change the core alone. A ForwardRequest does nothing; Commit and reads are handled before.
@@ -111,7 +117,7 @@ fn fast_prepared(
     ensures { result ≡ fast_prepared asked heard round rv core }
 {
     if asked.member.replica {
-        return prepare::prepared(asked, heard, round, rv, core);
+        return classic::prepare::prepared(asked, heard, round, rv, core);
     }
     Ok(core.continues(steps::no_messages()))
 }
@@ -122,7 +128,7 @@ fn fast_promised(asked: Asked, heard: Heard, rv: RoundV, core: Core) -> Core
     ensures { result ≡ fast_promised asked heard rv core }
 {
     if asked.member.replica {
-        return prepare::with_promise(asked, heard, rv, core);
+        return classic::prepare::with_promise(asked, heard, rv, core);
     }
     core
 }
@@ -141,9 +147,10 @@ fn starts_accept(asked: Asked, round: PaxosRound, core: Core, promised: Core) ->
     ensures { result ≡ starts_accept asked round core promised }
 {
     if asked.mode.is_swift_paxos() {
-        return leads_round(asked, round) && !prepare::has_accepted(promised);
+        return leads_round(asked, round) && !classic::prepare::has_accepted(promised);
     }
-    prepare::has_accepted(promised) && prepare::becomes_prepared(asked, core, promised)
+    classic::prepare::has_accepted(promised)
+        && classic::prepare::becomes_prepared(asked, core, promised)
 }
 
 #[tactic(auto, unfolding(crate::specs::Process::waits))]
@@ -153,7 +160,7 @@ fn waits(asked: Asked, round: PaxosRound, promised: Core) -> bool
     if asked.mode.is_swift_paxos() {
         return leads_round(asked, round);
     }
-    prepare::has_accepted(promised)
+    classic::prepare::has_accepted(promised)
 }
 
 // Any other promise is an answer on the fast path.
@@ -170,7 +177,7 @@ fn fast_answered(
     ensures { result ≡ fast_answered lowest_best asked heard round rv promised answers tables.entry.values.now tables.entry.epaxos_scores.now tables.entry.swift_scores.now }
 {
     if asked.mode.is_swift_paxos() {
-        return swift_path::swift_client_prepare(
+        return fast::swift::swift_client_prepare(
             asked,
             heard,
             round,
@@ -180,7 +187,7 @@ fn fast_answered(
             tables.swift_scores,
         );
     }
-    epaxos_path::epaxos_answer(
+    fast::epaxos::epaxos_answer(
         asked,
         heard,
         round,
@@ -207,7 +214,7 @@ fn fast_gather(
 {
     let promised = fast_promised(asked, heard, rv, core);
     if starts_accept(asked, round, core, promised) {
-        return Ok(prepare::accept_phase(asked, round, promised)?.unchanged(answers));
+        return Ok(classic::prepare::accept_phase(asked, round, promised)?.unchanged(answers));
     }
     if waits(asked, round, promised) {
         return Ok(promised.stays_unchanged(answers));
@@ -215,8 +222,8 @@ fn fast_gather(
     fast_answered(asked, heard, round, rv, promised, answers, tables)
 }
 
-#[tactic(auto, unfolding(crate::specs::Process::in_fast_prepare))]
-fn in_fast_prepare(
+#[tactic(auto, unfolding(crate::specs::Process::entered_fast_prepare))]
+fn entered_fast_prepare(
     asked: Asked,
     heard: Heard,
     round: PaxosRound,
@@ -225,7 +232,7 @@ fn in_fast_prepare(
     answers: FastAnswers,
     tables: FastTables,
 ) -> Result<ChangeStep, Refusal>
-    ensures { result ≡ in_fast_prepare lowest_best asked heard round rv core answers tables.entry.values.now tables.entry.epaxos_scores.now tables.entry.swift_scores.now }
+    ensures { result ≡ entered_fast_prepare lowest_best asked heard round rv core answers tables.entry.values.now tables.entry.epaxos_scores.now tables.entry.swift_scores.now }
 {
     let step = fast_prepared(asked, heard, round, rv, core)?;
     if step.next.goes_on() {
@@ -249,7 +256,7 @@ fn on_fast_prepare(
 {
     let step = enter::enter(asked, heard, slot, round, core)?;
     if step.next.goes_on() {
-        return in_fast_prepare(asked, heard, round, rv, step.state, answers, tables);
+        return entered_fast_prepare(asked, heard, round, rv, step.state, answers, tables);
     }
     Ok(step.unchanged(answers))
 }
@@ -267,9 +274,9 @@ fn replica_accept(
 ) -> Result<ChangeStep, Refusal>
     ensures { result ≡ replica_accept asked heard round v core answers tables.entry.swift_scores.now }
 {
-    let step = accept::accepting(asked, heard, round, v, core)?;
+    let step = classic::accept::accepting(asked, heard, round, v, core)?;
     if step.next.goes_on() {
-        return swift_path::swift_answered_accept(
+        return fast::swift::swift_answered_accept(
             asked,
             heard,
             round,
@@ -283,8 +290,8 @@ fn replica_accept(
     Ok(step.unchanged(answers))
 }
 
-#[tactic(auto, unfolding(crate::specs::Process::in_fast_accept))]
-fn in_fast_accept(
+#[tactic(auto, unfolding(crate::specs::Process::entered_fast_accept))]
+fn entered_fast_accept(
     asked: Asked,
     heard: Heard,
     round: PaxosRound,
@@ -293,12 +300,12 @@ fn in_fast_accept(
     answers: FastAnswers,
     tables: FastTables,
 ) -> Result<ChangeStep, Refusal>
-    ensures { result ≡ in_fast_accept asked heard round v core answers tables.entry.swift_scores.now }
+    ensures { result ≡ entered_fast_accept asked heard round v core answers tables.entry.swift_scores.now }
 {
     if asked.member.replica {
         return replica_accept(asked, heard, round, v, core, answers, tables);
     }
-    swift_path::swift_client_accept(asked, heard, round, v, core, answers, tables.swift_scores)
+    fast::swift::swift_client_accept(asked, heard, round, v, core, answers, tables.swift_scores)
 }
 
 #[tactic(auto, unfolding(crate::specs::Process::on_fast_accept))]
@@ -316,7 +323,7 @@ fn on_fast_accept(
 {
     let step = enter::enter(asked, heard, slot, round, core)?;
     if step.next.goes_on() {
-        return in_fast_accept(asked, heard, round, v, step.state, answers, tables);
+        return entered_fast_accept(asked, heard, round, v, step.state, answers, tables);
     }
     Ok(step.unchanged(answers))
 }

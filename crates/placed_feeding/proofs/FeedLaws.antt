@@ -1,12 +1,12 @@
 -- Feeding a list to a register with positions is applying its entries one by one; the register below is the one that E10's feeding of the same list leaves.
 -- Assumes nothing.
 use mathlib.Core.Path.{◌≡◌, refl, sym, ap, ◌∙◌}
-use mathlib.Core.Bool.{Bool, true, false, cond, ◌||◌, not}
+use mathlib.Core.Bool.{Bool, true, false, cond, ◌||◌}
 use mathlib.Core.List.{List, [], ◌∷◌, ◌++◌}
 use mathlib.Core.Logic.{◌↔◌}
 use Prim.Native.Nat.{ℕ, zero, suc, ◌+◌}
 use lib.Dec.{eqb}
-use lib.ListN.{length, get_or}
+use lib.ListN.{length}
 use borrow.Author.Tests.{eqb-true, eq-eqb}
 use Rattle.basics.proofs.Tests.{not_both}
 use Rattle.std.specs.Prelude.{Option, Some, None, Result, Ok, Err}
@@ -16,7 +16,7 @@ use Rattle.register_arrays.specs.Columns.{change_of, entry_from_numbers}
 use Rattle.group_register.specs.Settings.{unmade_by, is_made}
 use Rattle.group_register.specs.GroupRegister.{apply_in_group}
 use Rattle.group_register.specs.declared.GroupRegister.{GroupRegister}
-use Rattle.catch_up.specs.Joining.{too_large}
+use Rattle.catch_up.specs.Joining.{list_too_large}
 use Rattle.catch_up.specs.declared.JoinRefusal.TheVariants.{NumberTooLarge, OutsideLimits, Gap}
 use Rattle.feeding.specs.Feeding as cells
 use Rattle.feeding.specs.declared.FeedRefusal.{FeedRefusal}
@@ -25,8 +25,8 @@ use Rattle.feeding.specs.declared.FirstRefused.{FirstRefused as FirstCell}
 use Rattle.feeding.proofs.FeedLaws.{number_refuses}
 use Rattle.positions.specs.Placed.{position_refusal_number, apply_entry}
 use Rattle.positions.specs.PlacedTaken.{cell_entry}
-use Rattle.positions.specs.declared.Entry.{Entry}
-use Rattle.positions.specs.declared.Entry.TheVariants.{OfCell, OfPosition}
+use Rattle.positions.specs.declared.PlacedEntry.{PlacedEntry}
+use Rattle.positions.specs.declared.PlacedEntry.TheVariants.{OfCell, OfPosition}
 use Rattle.positions.specs.declared.PlacedRegister.{PlacedRegister}
 use Rattle.positions.specs.declared.Position.{Position}
 use Rattle.positions.specs.declared.PositionRefusal.{PositionRefusal}
@@ -34,25 +34,25 @@ use Rattle.positions.specs.declared.PositionRefusal.TheVariants.{OutsideGrid, As
 use Rattle.positions.proofs.Steps.{placed_number}
 use Rattle.positions.proofs.Laws.{entry_below}
 use Rattle.position_arrays.specs.Row.{placed_entry_of}
-use Rattle.placed_feeding.specs.PlacedFeeding.{PlacedColumns, placed_entry_in, placed_entries_from, placed_entries_in, PlacedTo, placed_to, or_refused, slot_of, feed_all, outside_placed, Feeding, feeding_in, not_fed, fed_by, feeding_made, feeding}
-use Rattle.placed_feeding.specs.declared.FirstRefused.{FirstRefused}
+use Rattle.placed_feeding.specs.PlacedFeeding.{PlacedColumns, placed_entry_in, placed_entries_from, placed_entries_in, PlacedTo, placed_to, or_placed_refused, entry_slot, feed_all_placed, outside_placed, PlacedFeeding, feeding_placed_in, not_fed_placed, placed_fed_by, feeding_placed_made, feeding_placed}
+use Rattle.placed_feeding.specs.declared.FirstPlacedRefused.{FirstPlacedRefused}
 
 -- ---- entries one by one
 
-abbrev pub apply_all : PlacedRegister → List Entry → PlacedRegister
+abbrev pub apply_all : PlacedRegister → List PlacedEntry → PlacedRegister
 apply_all p [] = p
 apply_all p (e ∷ es) = apply_all (apply_entry p e).placed es
 
-pub fed_one_by_one : (f : PlacedTo) (es : List Entry) → (feed_all f es).placed ≡ apply_all f.placed es
-unfolding feed_all
+pub fed_one_by_one : (f : PlacedTo) (es : List PlacedEntry) → (feed_all_placed f es).placed ≡ apply_all f.placed es
+unfolding feed_all_placed
 fed_one_by_one f [] = refl
 fed_one_by_one f (e ∷ es) =
-    fed_one_by_one (placed_to (or_refused f.first (slot_of e) (apply_entry f.placed e).outcome) (apply_entry f.placed e).placed) es
+    fed_one_by_one (placed_to (or_placed_refused f.first (entry_slot e) (apply_entry f.placed e).outcome) (apply_entry f.placed e).placed) es
 
 -- ---- "it hands back the first refused slot, if any, with its number"
 
 -- none of the entries is refused in its turn
-abbrev pub AllTaken : PlacedRegister → List Entry → Type 0
+abbrev pub AllTaken : PlacedRegister → List PlacedEntry → Type 0
 AllTaken p [] = Unit {0}
 AllTaken p (e ∷ es) = (cells.is_refusal (placed_number (apply_entry p e).outcome) ≡ false) × AllTaken (apply_entry p e).placed es
 
@@ -60,32 +60,32 @@ refusal_counts : (why : PositionRefusal) → cells.is_refusal (position_refusal_
 refusal_counts OutsideGrid = refl
 refusal_counts (AsGroup why) = number_refuses why
 
-stays_first : (p : PlacedRegister) (first : FirstRefused) (es : List Entry) → (feed_all (placed_to (Some first) p) es).first ≡ Some first
-unfolding feed_all or_refused
+stays_first : (p : PlacedRegister) (first : FirstPlacedRefused) (es : List PlacedEntry) → (feed_all_placed (placed_to (Some first) p) es).first ≡ Some first
+unfolding feed_all_placed or_placed_refused
 stays_first p first [] = refl
 stays_first p first (e ∷ es) = stays_first (apply_entry p e).placed first es
 
-taken_none : (slot : ℕ) (outcome : Result Entered PositionRefusal) → cells.is_refusal (placed_number outcome) ≡ false → or_refused None slot outcome ≡ None
-unfolding or_refused
+taken_none : (slot : ℕ) (outcome : Result Entered PositionRefusal) → cells.is_refusal (placed_number outcome) ≡ false → or_placed_refused None slot outcome ≡ None
+unfolding or_placed_refused
 taken_none slot (Ok entered) t = refl
 taken_none slot (Err why) t = absurd (not_both (refusal_counts why) t)
 
-pub none_refused : (p : PlacedRegister) (es : List Entry) → AllTaken p es → (feed_all (placed_to None p) es).first ≡ None
-unfolding feed_all
+pub none_refused : (p : PlacedRegister) (es : List PlacedEntry) → AllTaken p es → (feed_all_placed (placed_to None p) es).first ≡ None
+unfolding feed_all_placed
 none_refused p [] t = refl
-none_refused p (e ∷ es) t = simp (taken_none (slot_of e) (apply_entry p e).outcome t.0) (none_refused (apply_entry p e).placed es t.1)
+none_refused p (e ∷ es) t = simp (taken_none (entry_slot e) (apply_entry p e).outcome t.0) (none_refused (apply_entry p e).placed es t.1)
 
 -- the first refused slot, and why
-pub first_refused : (p : PlacedRegister) (before : List Entry) (e : Entry) (after : List Entry) → AllTaken p before
+pub first_refused : (p : PlacedRegister) (before : List PlacedEntry) (e : PlacedEntry) (after : List PlacedEntry) → AllTaken p before
     → (why : PositionRefusal) → (apply_entry (apply_all p before) e).outcome ≡ Err why
-    → (feed_all (placed_to None p) (before ++ (e ∷ after))).first ≡ Some (record { slot = slot_of e; why = why })
-unfolding feed_all or_refused
+    → (feed_all_placed (placed_to None p) (before ++ (e ∷ after))).first ≡ Some (record { slot = entry_slot e; why = why })
+unfolding feed_all_placed or_placed_refused
 first_refused p [] e after t why is =
-    ap (λ (o : Result Entered PositionRefusal). (feed_all (placed_to (or_refused None (slot_of e) o) (apply_entry p e).placed) after).first) is
-    ∙ stays_first (apply_entry p e).placed (record { slot = slot_of e; why = why }) after
+    ap (λ (o : Result Entered PositionRefusal). (feed_all_placed (placed_to (or_placed_refused None (entry_slot e) o) (apply_entry p e).placed) after).first) is
+    ∙ stays_first (apply_entry p e).placed (record { slot = entry_slot e; why = why }) after
 first_refused p (b ∷ before) e after t why is =
-    ap (λ (x : Option FirstRefused). (feed_all (placed_to x (apply_entry p b).placed) (before ++ (e ∷ after))).first)
-    (taken_none (slot_of b) (apply_entry p b).outcome t.0)
+    ap (λ (x : Option FirstPlacedRefused). (feed_all_placed (placed_to x (apply_entry p b).placed) (before ++ (e ∷ after))).first)
+    (taken_none (entry_slot b) (apply_entry p b).outcome t.0)
     ∙ first_refused (apply_entry p b).placed before e after t.1 why is
 
 -- ---- the register below: what it sees of an entry in numbers is E10's entry of the same numbers, where a position is of no kind
@@ -102,8 +102,8 @@ seen_in_numbers slot kind cell carrier width p = go (eqb kind 3) refl
     go false e = refl
 
 all_below : (l : PlacedColumns) (i n : ℕ) (f : PlacedTo) (g : cells.FedTo) → g.group ≡ f.placed.group
-    → (feed_all f (placed_entries_from l i n)).placed.group ≡ (cells.feed_all g (cells.entries_from l.cells i n)).group
-unfolding feed_all placed_entries_from cells.feed_all cells.entries_from
+    → (feed_all_placed f (placed_entries_from l i n)).placed.group ≡ (cells.feed_all g (cells.fed_entries_from l.cells i n)).group
+unfolding feed_all_placed placed_entries_from cells.feed_all cells.fed_entries_from
 all_below l i zero f g same = sym same
 all_below l i (suc n) f g same =
     all_below l (i + 1) n _ _
@@ -122,15 +122,15 @@ module _ (p : PlacedRegister) (l : PlacedColumns) (xs : length l.xs ≡ length l
       none false = refl
 
   abbrev end : PlacedTo
-  end = feed_all (placed_to None p) (placed_entries_in l)
+  end = feed_all_placed (placed_to None p) (placed_entries_in l)
 
   abbrev end_below : cells.FedTo
   end_below = cells.feed_all (cells.fed_to None p.group) (cells.entries_in l.cells)
 
   -- what each call comes to, by whether the register is made and by the causes of 2, 18 and 19
-  abbrev ended : (m s t u : Bool) → Feeding
+  abbrev ended : (m s t u : Bool) → PlacedFeeding
   ended m s t u =
-      cond m (cond s (not_fed NumberTooLarge p) (cond t (not_fed OutsideLimits p) (cond u (not_fed Gap p) (fed_by end)))) (feeding_in (Err (Unmade (unmade_by p.group.settings))) p)
+      cond m (cond s (not_fed_placed NumberTooLarge p) (cond t (not_fed_placed OutsideLimits p) (cond u (not_fed_placed Gap p) (placed_fed_by end)))) (feeding_placed_in (Err (Unmade (unmade_by p.group.settings))) p)
 
   abbrev ended_below : (m s t u : Bool) → cells.Feeding
   ended_below m s t u =
@@ -140,8 +140,8 @@ module _ (p : PlacedRegister) (l : PlacedColumns) (xs : length l.xs ≡ length l
       (cells.feeding_in (Err (Unmade (unmade_by p.group.settings))) p.group)
 
   -- its figures and cells are those of E10's feeding
-  pub fed_below : (feeding p l).placed.group ≡ (cells.feeding p.group l.cells).group
-  unfolding feeding feeding_made cells.feeding cells.feeding_made
+  pub fed_below : (feeding_placed p l).placed.group ≡ (cells.feeding p.group l.cells).group
+  unfolding feeding_placed feeding_placed_made cells.feeding cells.feeding_made
   fed_below =
       ap (λ (t : Bool). (ended made large t past).placed.group) outside_as_cells ∙ go made large (cells.outside_fed l.cells) past
     where
@@ -149,7 +149,7 @@ module _ (p : PlacedRegister) (l : PlacedColumns) (xs : length l.xs ≡ length l
       made = is_made p.group.settings
 
       large : Bool
-      large = too_large (cells.commits_in l.cells)
+      large = list_too_large (cells.fed_commits l.cells)
 
       past : Bool
       past = cells.begins_past p.group l.cells
@@ -162,8 +162,8 @@ module _ (p : PlacedRegister) (l : PlacedColumns) (xs : length l.xs ≡ length l
       go true false false false = all_below l 0 (length l.cells.slots) (placed_to None p) (cells.fed_to None p.group) refl
 
   -- and it is refused where that is, with the same number
-  pub refused_as_cells : (why : FeedRefusal) → ((feeding p l).answer ≡ Err why) ↔ ((cells.feeding p.group l.cells).answer ≡ Err why)
-  unfolding feeding feeding_made cells.feeding cells.feeding_made
+  pub refused_as_cells : (why : FeedRefusal) → ((feeding_placed p l).answer ≡ Err why) ↔ ((cells.feeding p.group l.cells).answer ≡ Err why)
+  unfolding feeding_placed feeding_placed_made cells.feeding cells.feeding_made
   refused_as_cells why = (
     λ h. (go made large (cells.outside_fed l.cells) past).0 (sym (ap (λ (t : Bool). (ended made large t past).answer) outside_as_cells) ∙ h),
     λ h. ap (λ (t : Bool). (ended made large t past).answer) outside_as_cells ∙ (go made large (cells.outside_fed l.cells) past).1 h,
@@ -173,24 +173,24 @@ module _ (p : PlacedRegister) (l : PlacedColumns) (xs : length l.xs ≡ length l
       made = is_made p.group.settings
 
       large : Bool
-      large = too_large (cells.commits_in l.cells)
+      large = list_too_large (cells.fed_commits l.cells)
 
       past : Bool
       past = cells.begins_past p.group l.cells
 
-      fed_not : (first : Option FirstRefused) → ◌≡◌ {A = Result (Option FirstRefused) FeedRefusal} (Ok first) (Err why) → ⊥
+      fed_not : (first : Option FirstPlacedRefused) → ◌≡◌ {A = Result (Option FirstPlacedRefused) FeedRefusal} (Ok first) (Err why) → ⊥
       fed_not first e = cc
 
       fed_not_below : (first : Option FirstCell) → ◌≡◌ {A = Result (Option FirstCell) FeedRefusal} (Ok first) (Err why) → ⊥
       fed_not_below first e = cc
 
-      same : (x : FeedRefusal) → (◌≡◌ {A = Result (Option FirstRefused) FeedRefusal} (Err x) (Err why)) ↔ (◌≡◌ {A = Result (Option FirstCell) FeedRefusal} (Err x) (Err why))
+      same : (x : FeedRefusal) → (◌≡◌ {A = Result (Option FirstPlacedRefused) FeedRefusal} (Err x) (Err why)) ↔ (◌≡◌ {A = Result (Option FirstCell) FeedRefusal} (Err x) (Err why))
       same x = (λ e. there x e, λ e. back x e)
         where
-          there : (x : FeedRefusal) → ◌≡◌ {A = Result (Option FirstRefused) FeedRefusal} (Err x) (Err why) → ◌≡◌ {A = Result (Option FirstCell) FeedRefusal} (Err x) (Err why)
+          there : (x : FeedRefusal) → ◌≡◌ {A = Result (Option FirstPlacedRefused) FeedRefusal} (Err x) (Err why) → ◌≡◌ {A = Result (Option FirstCell) FeedRefusal} (Err x) (Err why)
           there x e = cc
 
-          back : (x : FeedRefusal) → ◌≡◌ {A = Result (Option FirstCell) FeedRefusal} (Err x) (Err why) → ◌≡◌ {A = Result (Option FirstRefused) FeedRefusal} (Err x) (Err why)
+          back : (x : FeedRefusal) → ◌≡◌ {A = Result (Option FirstCell) FeedRefusal} (Err x) (Err why) → ◌≡◌ {A = Result (Option FirstPlacedRefused) FeedRefusal} (Err x) (Err why)
           back x e = cc
 
       go : (m s t u : Bool) → ((ended m s t u).answer ≡ Err why) ↔ ((ended_below m s t u).answer ≡ Err why)
@@ -201,15 +201,15 @@ module _ (p : PlacedRegister) (l : PlacedColumns) (xs : length l.xs ≡ length l
       go true false false false = (λ e. absurd (fed_not end.first e), λ e. absurd (fed_not_below end_below.first e))
 
 -- a list that gives a number has left the register as it was, positions and all
-pub not_fed_unchanged : (p : PlacedRegister) (l : PlacedColumns) (why : FeedRefusal) → (feeding p l).answer ≡ Err why → (feeding p l).placed ≡ p
-unfolding feeding feeding_made
+pub not_fed_unchanged : (p : PlacedRegister) (l : PlacedColumns) (why : FeedRefusal) → (feeding_placed p l).answer ≡ Err why → (feeding_placed p l).placed ≡ p
+unfolding feeding_placed feeding_placed_made
 not_fed_unchanged p l why said =
-    go (is_made p.group.settings) (too_large (cells.commits_in l.cells)) (outside_placed l) (cells.begins_past p.group l.cells)
-    (feed_all (placed_to None p) (placed_entries_in l)) said
+    go (is_made p.group.settings) (list_too_large (cells.fed_commits l.cells)) (outside_placed l) (cells.begins_past p.group l.cells)
+    (feed_all_placed (placed_to None p) (placed_entries_in l)) said
   where
-    call : PlacedTo → (m s t u : Bool) → Feeding
+    call : PlacedTo → (m s t u : Bool) → PlacedFeeding
     call f m s t u =
-        cond m (cond s (not_fed NumberTooLarge p) (cond t (not_fed OutsideLimits p) (cond u (not_fed Gap p) (fed_by f)))) (feeding_in (Err (Unmade (unmade_by p.group.settings))) p)
+        cond m (cond s (not_fed_placed NumberTooLarge p) (cond t (not_fed_placed OutsideLimits p) (cond u (not_fed_placed Gap p) (placed_fed_by f)))) (feeding_placed_in (Err (Unmade (unmade_by p.group.settings))) p)
 
     go : (m s t u : Bool) (f : PlacedTo) → (call f m s t u).answer ≡ Err why → (call f m s t u).placed ≡ p
     go false s t u f said = refl

@@ -1,7 +1,7 @@
 -- A register gives the number of the settings that it was begun from, the same that a shard gives: 1, or 17 of a window (document 02, E13 and E8).
 -- Assumes nothing.
 use mathlib.Core.Path.{◌≡◌, refl, ap, ◌∙◌}
-use mathlib.Core.Bool.{true, cond}
+use mathlib.Core.Bool.{cond}
 use mathlib.Core.List.{List, reverse_aux}
 use mathlib.Core.Logic.{◌⊎◌, inl, inr}
 use Prim.Native.Nat.{ℕ}

@@ -3,7 +3,7 @@
 use mathlib.Core.Path.{◌≡◌, refl}
 use Prim.Native.Nat.{ℕ}
 use lib.IntN.{ℤ}
-use Rattle.positions.specs.declared.Entry.TheVariants.{OfPosition}
+use Rattle.positions.specs.declared.PlacedEntry.TheVariants.{OfPosition}
 use Rattle.position_arrays.specs.Row.{placed_entry_of}
 use Rattle.planning_host.specs.Reach.{question_of}
 

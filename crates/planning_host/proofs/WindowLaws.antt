@@ -6,13 +6,12 @@ use mathlib.Core.Bool.{Bool, cond}
 use mathlib.Core.Logic.{inl, inr}
 use Prim.Native.Nat.{ℕ}
 use native.Mathlib.Omega.{arith}
-use lib.Dec.{eqb}
 use borrow.Author.Tests.{ne_eqb}
-use Rattle.std.specs.Prelude.{Ok, Err}
+use Rattle.std.specs.Prelude.{Ok}
 use Rattle.group_settings.specs.GroupSettings.{decoded_group_settings, flat_settings_number, NumberBySettings, FlatNumberBySettings}
 use Rattle.group_settings.specs.declared.FlatGroupSettings.{FlatGroupSettings}
 use Rattle.group_settings.proofs.Numbers.{flat_number_by_settings}
-use Rattle.windows.specs.Windows.{refusal_number, check_windows, no_windows, kept_of, check_kept, ask_checked, ask_kept, ask_windows}
+use Rattle.windows.specs.Windows.{window_check_number, check_windows, no_windows, kept_of, check_kept, ask_checked, ask_kept, ask_windows}
 use Rattle.windows.proofs.Kept.{kept_answers}
 use Rattle.windows.proofs.Laws.{made_always}
 use Rattle.planning_host.specs.Asked.{kept_settings}
@@ -37,13 +36,13 @@ module _ (f : FlatGroupSettings) where
   asked_of_windows none minute = simp none (kept_answers f.windows minute)
 
   -- settings that are not made give their number, 1 or 17, whatever is asked
-  pub asked_unmade : (flat_settings_number f ≡ 0 → ⊥) → (minute : ℕ) → refusal_number (ask_kept (kept_settings f) minute) ≡ flat_settings_number f
+  pub asked_unmade : (flat_settings_number f ≡ 0 → ⊥) → (minute : ℕ) → window_check_number (ask_kept (kept_settings f) minute) ≡ flat_settings_number f
   unfolding ask_kept check_kept ask_checked
   asked_unmade not-0 minute =
-      ap (λ (t : Bool). refusal_number (ask_kept (cond t (kept_of f.windows) (no_windows (flat_settings_number f))) minute)) (ne_eqb (flat_settings_number f) 0 not-0)
+      ap (λ (t : Bool). window_check_number (ask_kept (cond t (kept_of f.windows) (no_windows (flat_settings_number f))) minute)) (ne_eqb (flat_settings_number f) 0 not-0)
       ∙ go (flat_settings_number f) not-0 (is_number f)
     where
-      go : (n : ℕ) → (n ≡ 0 → ⊥) → IsNumber n → refusal_number (ask_kept (no_windows n) minute) ≡ n
+      go : (n : ℕ) → (n ≡ 0 → ⊥) → IsNumber n → window_check_number (ask_kept (no_windows n) minute) ≡ n
       go n off (inl e) = absurd (off e)
       go n off (inr (inl e)) = rw e refl
       go n off (inr (inr e)) = rw e refl

@@ -14,11 +14,11 @@ use Rattle.planning_host.specs.declared.FlatWindowAnswer.{FlatWindowAnswer}
 abbrev pub kept_settings : FlatGroupSettings → KeptArrays
 kept_settings f = cond (eqb (flat_settings_number f) 0) (kept_of f.windows) (no_windows (flat_settings_number f))
 
-abbrev pub window_answer : ℕ → ℕ → FlatWindowAnswer
-window_answer answer minute = record { answer = answer; minute = minute }
+abbrev pub answer_with_minute : ℕ → ℕ → FlatWindowAnswer
+answer_with_minute answer minute = record { answer = answer; minute = minute }
 
 abbrev pub flat_window_answer : Result WindowAnswer WindowRefusal → FlatWindowAnswer
-flat_window_answer (Ok Inside) = window_answer 65 0
-flat_window_answer (Ok (Next minute)) = window_answer 66 minute
-flat_window_answer (Ok NoneFollows) = window_answer 67 0
-flat_window_answer (Err why) = window_answer (window_refusal_number why) 0
+flat_window_answer (Ok Inside) = answer_with_minute 65 0
+flat_window_answer (Ok (Next minute)) = answer_with_minute 66 minute
+flat_window_answer (Ok NoneFollows) = answer_with_minute 67 0
+flat_window_answer (Err why) = answer_with_minute (window_refusal_number why) 0

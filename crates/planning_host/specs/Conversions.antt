@@ -29,12 +29,12 @@ flat_minute_answer None = record { refusal = 17; value = 0 }
 abbrev pub flat_minute : Date → FlatValue
 flat_minute d = flat_minute_answer (to_minute d)
 
-abbrev pub no_date : Date
-no_date = record { year = 0; month = 0; day = 0; hour = 0; minute = 0 }
+abbrev pub flat_no_date : Date
+flat_no_date = record { year = 0; month = 0; day = 0; hour = 0; minute = 0 }
 
 abbrev pub flat_date_answer : Option Date → FlatDateAnswer
 flat_date_answer (Some d) = record { refusal = 0; date = d }
-flat_date_answer None = record { refusal = 17; date = no_date }
+flat_date_answer None = record { refusal = 17; date = flat_no_date }
 
 abbrev pub flat_date : ℕ → FlatDateAnswer
 flat_date minute = flat_date_answer (to_date minute)

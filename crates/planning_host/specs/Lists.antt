@@ -11,7 +11,7 @@ use Rattle.feeding.specs.declared.FeedRefusal.{FeedRefusal}
 use Rattle.feeding.specs.declared.FirstRefused.{FirstRefused}
 use Rattle.positions.specs.declared.PlacedRegister.{PlacedRegister}
 use Rattle.placed_feeding.specs.PlacedFeeding as placed
-use Rattle.placed_feeding.specs.declared.FirstRefused.{FirstRefused as FirstPlacedRefused}
+use Rattle.placed_feeding.specs.declared.FirstPlacedRefused.{FirstPlacedRefused}
 use Rattle.planning_host.specs.Conversions.{flat_value}
 use Rattle.planning_host.specs.declared.FlatFed.{FlatFed}
 use Rattle.planning_host.specs.declared.FlatValue.{FlatValue}
@@ -36,9 +36,9 @@ pub record FeedsFlat (g : GroupRegister) (l : FedList) (after : GroupRegister) (
 
 -- the same of a register with positions
 abbrev pub flat_placed_fed : Result (Option FirstPlacedRefused) FeedRefusal → FlatFed
-flat_placed_fed (Ok first) = record { refusal = 0; slot = placed.refused_slot first; number = placed.refused_number first }
+flat_placed_fed (Ok first) = record { refusal = 0; slot = placed.placed_refused_slot first; number = placed.placed_refused_number first }
 flat_placed_fed (Err why) = record { refusal = feed_refusal_number why; slot = 0; number = 0 }
 
 pub record FeedsPlacedFlat (p : PlacedRegister) (l : placed.PlacedColumns) (after : PlacedRegister) (answer : FlatFed) : Type 0 where
-  pub placed_after : after ≡ (placed.feeding p l).placed
-  pub numbers : answer ≡ flat_placed_fed (placed.feeding p l).answer
+  pub placed_after : after ≡ (placed.feeding_placed p l).placed
+  pub numbers : answer ≡ flat_placed_fed (placed.feeding_placed p l).answer

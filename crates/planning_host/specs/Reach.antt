@@ -4,7 +4,7 @@ use Rattle.std.specs.Prelude.{ℕ, ℤ, List, Result}
 use Rattle.register.specs.Refusals.{outcome_number}
 use Rattle.group_arrays.specs.GroupColumns.{group_in}
 use Rattle.positions.specs.Placed.{placed, position_refusal_number, apply_entry}
-use Rattle.positions.specs.declared.Entry.{Entry}
+use Rattle.positions.specs.declared.PlacedEntry.{PlacedEntry}
 use Rattle.positions.specs.declared.PlacedRegister.{PlacedRegister}
 use Rattle.position_arrays.specs.Row.{positions_in}
 use Rattle.position_arrays.specs.declared.CellPosition.{CellPosition}
@@ -19,15 +19,15 @@ abbrev pub placed_in_arrays : List ℕ → List ℕ → List ℕ → List ℕ �
 placed_in_arrays settings cells carriers widths figures positions = placed (group_in settings cells carriers widths figures) (positions_in positions)
 
 -- the register after an entry, and the number of what became of it
-abbrev pub after_placed_entry : PlacedRegister → Entry → PlacedRegister × ℕ
+abbrev pub after_placed_entry : PlacedRegister → PlacedEntry → PlacedRegister × ℕ
 after_placed_entry p e = ((apply_entry p e).placed, outcome_number position_refusal_number (apply_entry p e).outcome)
 
 abbrev pub question_of : ℕ → ℤ → ℤ → ℕ → Question
 question_of width x y distance = record { width = width; position = record { x = x; y = y }; distance = distance }
 
-abbrev pub flat_answer : Result ℕ ReachRefusal → FlatValue
-flat_answer answer = flat_value reach_refusal_number answer
+abbrev pub flat_reach_answer : Result ℕ ReachRefusal → FlatValue
+flat_reach_answer answer = flat_value reach_refusal_number answer
 
 -- how many cells are listed, and the lent places
 abbrev pub flat_list : Result ℕ ReachRefusal × List ℕ → FlatValue × List ℕ
-flat_list (answer, numbers) = (flat_answer answer, numbers)
+flat_list (answer, numbers) = (flat_reach_answer answer, numbers)

@@ -17,7 +17,7 @@ ghost use Rattle.group_register.specs.Settings.{is_made};
 ghost use Rattle.position_arrays.specs.Row.{positions_in, Plain, placed_entry_of};
 ghost use Rattle.reach.specs.Cells.{cells_of};
 ghost use Rattle.reach.specs.Reach.{conflicts_of, first_free};
-ghost use Rattle.planning_host.specs.Reach.{placed_in_arrays, after_placed_entry, question_of, flat_answer, flat_list};
+ghost use Rattle.planning_host.specs.Reach.{placed_in_arrays, after_placed_entry, question_of, flat_reach_answer, flat_list};
 ghost use Rattle.planning_host.specs.Lists.{JoinsFlat, flat_fed, FeedsFlat, flat_placed_fed, FeedsPlacedFlat};
 ghost use Rattle.placed_feeding.specs.PlacedFeeding.{placed_columns};
 
@@ -331,7 +331,7 @@ pub extern "C" fn chanbook_placed_entry(
     entry_number(position_arrays::apply(settings, &mut columns, &mut row, entry))
 }
 
-fn flat_placed_fed(fed: Result<Option<placed_feeding::FirstRefused>, FeedRefusal>) -> FlatFed
+fn flat_placed_fed(fed: Result<Option<placed_feeding::FirstPlacedRefused>, FeedRefusal>) -> FlatFed
     ensures { result ≡ flat_placed_fed fed }
 {
     let refusal = refusal(fed);
@@ -439,7 +439,7 @@ pub extern "C" fn chanbook_first_free(
     y: i64,
     distance: u64,
 ) -> FlatValue
-    ensures { result ≡ flat_answer (first_free (settings_in settings.now) (cells_of (placed_in_arrays settings.now cells.now carriers.now widths.now figures.now positions.now)) first last (question_of width x y distance)) }
+    ensures { result ≡ flat_reach_answer (first_free (settings_in settings.now) (cells_of (placed_in_arrays settings.now cells.now carriers.now widths.now figures.now positions.now)) first last (question_of width x y distance)) }
 {
     let lent = LentCells {
         settings,

@@ -20,14 +20,14 @@ use Rattle.line_fields.specs.Fields.{same_to, begins, is_line, number_from, line
 use Rattle.line_fields.proofs.ReadBack.{number_read}
 use Rattle.register.specs.declared.CellEntry.{CellEntry}
 use Rattle.group_register.specs.declared.GroupApplied.{GroupApplied}
-use Rattle.register_lines.specs.Written.{entry_line, register_line, EntryFits}
+use Rattle.register_lines.specs.Written.{cell_entry_line, register_line, CellEntryFits}
 use Rattle.register_lines.specs.declared.RegisterQuestion.TheVariants.{Begin, Enter}
 use Rattle.register_lines.proofs.EntriesRead.{entry_no_register, register_begins, entry_read}
 use Rattle.register_lines.proofs.Lengths.{register_answer_length}
-use Rattle.planning_lines.specs.declared.Question.{Question}
-use Rattle.planning_lines.specs.declared.Question.TheVariants.{FrequencyOf, CarrierOf, OfRegister, BadLine}
-use Rattle.planning_lines.specs.Questions.{register_question, question_of}
-use Rattle.planning_lines.specs.Answers.{value_text, bad_line_text, answer_text}
+use Rattle.planning_lines.specs.declared.PlainQuestion.{PlainQuestion}
+use Rattle.planning_lines.specs.declared.PlainQuestion.TheVariants.{FrequencyOf, CarrierOf, OfRegister, BadLine}
+use Rattle.planning_lines.specs.Questions.{register_question, plain_question_of}
+use Rattle.planning_lines.specs.Answers.{value_text, bad_line_text, plain_answer_text}
 
 -- ---- the words
 
@@ -51,34 +51,34 @@ number_line n = ascii "number" ++ field n
 abbrev khz_line : ℕ → List ℕ
 khz_line f = ascii "khz" ++ field f
 
-pub number_asks : (n : ℕ) → n ≤ 18446744073709551615 → question_of (number_line n) ≡ FrequencyOf n
-unfolding question_of number_from field
+pub number_asks : (n : ℕ) → n ≤ 18446744073709551615 → plain_question_of (number_line n) ≡ FrequencyOf n
+unfolding plain_question_of number_from field
 number_asks n l = rw (number_begins (decimal n), number_read n l) refl
 
-pub khz_asks : (f : ℕ) → f ≤ 18446744073709551615 → question_of (khz_line f) ≡ CarrierOf f
-unfolding question_of number_from field
+pub khz_asks : (f : ℕ) → f ≤ 18446744073709551615 → plain_question_of (khz_line f) ≡ CarrierOf f
+unfolding plain_question_of number_from field
 khz_asks f l = rw (khz_no_number (decimal f), khz_begins (decimal f), number_read f l) refl
 
 -- ---- "14, no raster number or no raster frequency"; else the table's value
 
 pub number_answered : (a : GroupApplied) (n f : ℕ) → n ≤ 18446744073709551615 → OnRaster n f
-    → answer_text (question_of (number_line n)) a ≡ line_text (ascii "khz") f
-unfolding answer_text value_text
+    → plain_answer_text (plain_question_of (number_line n)) a ≡ line_text (ascii "khz") f
+unfolding plain_answer_text value_text
 number_answered a n f l row = simp (number_asks n l, on_raster_frequency n f row)
 
 pub number_refused : (a : GroupApplied) (n : ℕ) → n ≤ 18446744073709551615 → ((f : ℕ) → OnRaster n f → ⊥)
-    → answer_text (question_of (number_line n)) a ≡ ascii "refused 14\n"
-unfolding answer_text value_text line_text field decimal digit_count
+    → plain_answer_text (plain_question_of (number_line n)) a ≡ ascii "refused 14\n"
+unfolding plain_answer_text value_text line_text field decimal digit_count
 number_refused a n l off = simp (number_asks n l, raster_number_refused n off)
 
 pub khz_answered : (a : GroupApplied) (n f : ℕ) → f ≤ 18446744073709551615 → OnRaster n f
-    → answer_text (question_of (khz_line f)) a ≡ line_text (ascii "number") n
-unfolding answer_text value_text
+    → plain_answer_text (plain_question_of (khz_line f)) a ≡ line_text (ascii "number") n
+unfolding plain_answer_text value_text
 khz_answered a n f l row = simp (khz_asks f l, on_raster_number n f row)
 
 pub khz_refused : (a : GroupApplied) (f : ℕ) → f ≤ 18446744073709551615 → ((n : ℕ) → OnRaster n f → ⊥)
-    → answer_text (question_of (khz_line f)) a ≡ ascii "refused 14\n"
-unfolding answer_text value_text line_text field decimal digit_count
+    → plain_answer_text (plain_question_of (khz_line f)) a ≡ ascii "refused 14\n"
+unfolding plain_answer_text value_text line_text field decimal digit_count
 khz_refused a f l off = simp (khz_asks f l, raster_frequency_refused f off)
 
 -- ---- E6
@@ -110,10 +110,10 @@ unfolding begins same_to
 not_cells rest =
     not_line (ascii "cells") (ascii "entry " ++ rest) (of-both (λ (t : Bool). t ≡ false) (ltb (length (ascii "entry " ++ rest)) 5) refl refl)
 
-pub entry_asks : (e : CellEntry) → EntryFits e → question_of (entry_line e) ≡ OfRegister (Enter e)
-unfolding question_of register_question field
+pub entry_asks : (e : CellEntry) → CellEntryFits e → plain_question_of (cell_entry_line e) ≡ OfRegister (Enter e)
+unfolding plain_question_of register_question field
 entry_asks e fits =
-    let rest = drop 6 (entry_line e) in
+    let rest = drop 6 (cell_entry_line e) in
     simp (not_number rest, not_khz rest, not_register rest, entry_no_register rest, not_report rest, not_cells rest, entry_read e fits)
 
 -- ---- E13, for every number of 64 bits
@@ -131,8 +131,8 @@ unfolding is_line
 register_longer rest =
     ap (λ (t : Bool). t && begins (ascii "register") (ascii "register " ++ rest)) (ne_eqb (length (ascii "register " ++ rest)) 8 (λ e. omega arith))
 
-pub register_asks : (slot : ℕ) → slot ≤ 18446744073709551615 → question_of (register_line slot) ≡ OfRegister (Begin slot)
-unfolding question_of register_question number_from field
+pub register_asks : (slot : ℕ) → slot ≤ 18446744073709551615 → plain_question_of (register_line slot) ≡ OfRegister (Begin slot)
+unfolding plain_question_of register_question number_from field
 register_asks slot small =
     let rest = decimal slot in
     simp (register_no_number rest, register_no_khz rest, register_longer rest, register_begins rest, number_read slot small)
@@ -148,14 +148,14 @@ unfolding value_text
 value_length word refusal value h =
     of-both (λ (l : List ℕ). length l ≤ 29) (eqb refusal 0) (line_length word value h) (line_length (ascii "refused") refusal (omega arith))
 
-answer_length : (q : Question) (a : GroupApplied) → length (answer_text q a) ≤ 34837
-unfolding answer_text bad_line_text
+answer_length : (q : PlainQuestion) (a : GroupApplied) → length (plain_answer_text q a) ≤ 34837
+unfolding plain_answer_text bad_line_text
 answer_length (FrequencyOf n) a = omega (arith, value_length (ascii "khz") (raster_refusal (frequency_of n)) (raster_value (frequency_of n)) (omega arith))
 answer_length (CarrierOf f) a = omega (arith, value_length (ascii "number") (raster_refusal (number_of f)) (raster_value (number_of f)) (omega arith))
 answer_length (OfRegister q) a = register_answer_length q a
 answer_length BadLine a = omega arith
 
-pub answer_whole : (q : Question) (a : GroupApplied) (o : Output) → o.at + 34837 ≤ length o.bytes.now
-    → put (answer_text q a) o
-    ≡ with_bytes o (take o.at o.bytes.now ++ answer_text q a ++ drop (o.at + length (answer_text q a)) o.bytes.now) (o.at + length (answer_text q a))
-answer_whole q a o room = put_fits (answer_text q a) o (omega (arith, answer_length q a))
+pub answer_whole : (q : PlainQuestion) (a : GroupApplied) (o : Output) → o.at + 34837 ≤ length o.bytes.now
+    → put (plain_answer_text q a) o
+    ≡ with_bytes o (take o.at o.bytes.now ++ plain_answer_text q a ++ drop (o.at + length (plain_answer_text q a)) o.bytes.now) (o.at + length (plain_answer_text q a))
+answer_whole q a o room = put_fits (plain_answer_text q a) o (omega (arith, answer_length q a))

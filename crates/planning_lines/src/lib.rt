@@ -3,10 +3,10 @@
 
 ghost use Rattle.std.specs.Prelude.{◌≡◌};
 ghost use Rattle.texts.specs.Text.{put};
-ghost use Rattle.planning_lines.specs.Questions.{begin_question, register_question, question_of};
+ghost use Rattle.planning_lines.specs.Questions.{begin_question, register_question, plain_question_of};
 ghost use Rattle.raster.specs.Raster.{raster_refusal, raster_value};
 ghost use Rattle.register_lines.specs.Answers.{after_question, register_answer};
-ghost use Rattle.planning_lines.specs.Answers.{value_text, bad_line_text, after_line, answer_text};
+ghost use Rattle.planning_lines.specs.Answers.{value_text, bad_line_text, after_line, plain_answer_text};
 
 use group_register::GroupRegister;
 use raster::NotOnRaster;
@@ -16,24 +16,24 @@ use texts::Output;
 
 // What a line asks. A bad line is one of the cases, and no None: it has an answer of its own, and no value is missing.
 #[derive(Clone, Copy)]
-pub enum Question {
+pub enum PlainQuestion {
     FrequencyOf(u64),
     CarrierOf(u64),
     OfRegister(RegisterQuestion),
     BadLine,
 }
 
-fn begin_question(slot: Option<u64>) -> Question
+fn begin_question(slot: Option<u64>) -> PlainQuestion
     ensures { result ≡ begin_question slot }
 {
     match slot {
-        Some(from) => Question::OfRegister(RegisterQuestion::Begin(from)),
-        None => Question::BadLine,
+        Some(from) => PlainQuestion::OfRegister(RegisterQuestion::Begin(from)),
+        None => PlainQuestion::BadLine,
     }
 }
 
 #[tactic(auto, unfolding(crate::specs::Questions::register_question))]
-fn register_question(line: &[u8]) -> Question
+fn register_question(line: &[u8]) -> PlainQuestion
     ensures { result ≡ register_question line.now }
 {
     if line_fields::is_line(line, b"register") {
@@ -43,27 +43,33 @@ fn register_question(line: &[u8]) -> Question
         return begin_question(line_fields::number_from(line, 9));
     }
     if line_fields::is_line(line, b"report") {
-        return Question::OfRegister(RegisterQuestion::ReportLine);
+        return PlainQuestion::OfRegister(RegisterQuestion::ReportLine);
     }
     if line_fields::is_line(line, b"cells") {
-        return Question::OfRegister(RegisterQuestion::CellList);
+        return PlainQuestion::OfRegister(RegisterQuestion::CellList);
     }
-    match register_lines::entry_of(line) {
-        Some(given) => Question::OfRegister(RegisterQuestion::Enter(given)),
-        None => Question::BadLine,
+    match register_lines::cell_entry_of(line) {
+        Some(given) => PlainQuestion::OfRegister(RegisterQuestion::Enter(given)),
+        None => PlainQuestion::BadLine,
     }
 }
 
 // What a line asks, without its LF.
-#[tactic(auto, unfolding(crate::specs::Questions::question_of))]
-pub fn question_of(line: &[u8]) -> Question
-    ensures { result ≡ question_of line.now }
+#[tactic(auto, unfolding(crate::specs::Questions::plain_question_of))]
+pub fn plain_question_of(line: &[u8]) -> PlainQuestion
+    ensures { result ≡ plain_question_of line.now }
 {
     if line_fields::begins(line, b"number ") {
-        return line_fields::number_from(line, 7).map_or(Question::BadLine, Question::FrequencyOf);
+        return line_fields::number_from(line, 7).map_or(
+            PlainQuestion::BadLine,
+            PlainQuestion::FrequencyOf,
+        );
     }
     if line_fields::begins(line, b"khz ") {
-        return line_fields::number_from(line, 4).map_or(Question::BadLine, Question::CarrierOf);
+        return line_fields::number_from(line, 4).map_or(
+            PlainQuestion::BadLine,
+            PlainQuestion::CarrierOf,
+        );
     }
     register_question(line)
 }
@@ -97,15 +103,15 @@ fn answer_register(group: &mut GroupRegister, question: RegisterQuestion, out: &
 }
 
 // The answer to a line; the register is the one that the line leaves. Only a question of a register copies it.
-#[tactic(auto, unfolding(crate::specs::Answers::after_line, crate::specs::Answers::answer_text))]
+#[tactic(auto, unfolding(crate::specs::Answers::after_line, crate::specs::Answers::plain_answer_text))]
 pub fn answer_line(group: &mut GroupRegister, line: &[u8], out: &mut Output<'_>)
-    ensures group { group.new ≡ (after_line group.old (question_of line.now)).group }
-    ensures put { out.new ≡ put (answer_text (question_of line.now) (after_line group.old (question_of line.now))) out.old }
+    ensures group { group.new ≡ (after_line group.old (plain_question_of line.now)).group }
+    ensures put { out.new ≡ put (plain_answer_text (plain_question_of line.now) (after_line group.old (plain_question_of line.now))) out.old }
 {
-    match question_of(line) {
-        Question::FrequencyOf(n) => put_value(out, b"khz", raster::frequency_of(n)),
-        Question::CarrierOf(f) => put_value(out, b"number", raster::number_of(f)),
-        Question::OfRegister(asked) => answer_register(group, asked, out),
-        Question::BadLine => put_bad_line(out),
+    match plain_question_of(line) {
+        PlainQuestion::FrequencyOf(n) => put_value(out, b"khz", raster::frequency_of(n)),
+        PlainQuestion::CarrierOf(f) => put_value(out, b"number", raster::number_of(f)),
+        PlainQuestion::OfRegister(asked) => answer_register(group, asked, out),
+        PlainQuestion::BadLine => put_bad_line(out),
     }
 }

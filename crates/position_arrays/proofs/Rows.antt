@@ -8,7 +8,7 @@ use lib.ListN.{length, get_or, set, take, drop, length-map}
 use Rattle.std.specs.Prelude.{Option, Some, None, map}
 use Rattle.std.proofs.lemmas.List.{map-set, take-map, drop-map}
 use lib.IntN.{pos}
-use Rattle.places.specs.Places.{at_front, without, with_at}
+use Rattle.basics.specs.elements.Places.{at_front, without, with_at}
 use Rattle.register.specs.Cells.{cell_of}
 use Rattle.register.specs.declared.Cell.{Cell}
 use Rattle.register_arrays.specs.Columns.{cells_in}

@@ -7,8 +7,8 @@ use Rattle.register_arrays.specs.declared.Columns.{Columns}
 use Rattle.group_register.specs.GroupRegister.{group_register}
 use Rattle.group_arrays.specs.GroupColumns.{settings_in, group_in}
 use Rattle.positions.specs.Placed.{placed, placed_applied}
-use Rattle.positions.specs.declared.Entry.{Entry}
-use Rattle.positions.specs.declared.Entry.TheVariants.{OfCell, OfPosition}
+use Rattle.positions.specs.declared.PlacedEntry.{PlacedEntry}
+use Rattle.positions.specs.declared.PlacedEntry.TheVariants.{OfCell, OfPosition}
 use Rattle.positions.specs.declared.PlacedApplied.{PlacedApplied}
 use Rattle.positions.specs.declared.PlacedRegister.{PlacedRegister}
 use Rattle.positions.specs.declared.Position.{Position}
@@ -46,6 +46,6 @@ abbrev pub placed_in : LentCells → PlacedRegister
 placed_in c = placed (group_in c.settings.now c.cells.now c.carriers.now c.widths.now c.figures.now) (positions_in c.positions.now)
 
 -- kind 3 is a position, kind 1 an assignment and kind 2 a release; any other kind stands for an assignment without a width, which gives 14
-unfoldable pub placed_entry_of : ℕ → ℕ → ℕ → ℕ → ℕ → Position → Entry
+unfoldable pub placed_entry_of : ℕ → ℕ → ℕ → ℕ → ℕ → Position → PlacedEntry
 placed_entry_of slot kind cell carrier width p =
     cond (eqb kind 3) (OfPosition (record { slot = slot; cell = cell; position = p })) (OfCell (entry_from_numbers slot kind cell carrier width))

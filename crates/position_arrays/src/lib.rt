@@ -9,10 +9,10 @@ ghost use Rattle.positions.specs.Placed.{apply_entry};
 ghost use Rattle.reach.specs.Cells.{cells_of};
 ghost use Rattle.position_arrays.specs.Row.{position_at, positions_in, in_numbers, Plain, placed_entry_of, placed_of, placed_applied_in, placed_in};
 
+use basics::elements::{insert_at, remove_at};
 use group_arrays::settings_in;
 use group_register::RegisterSettings;
-use places::{insert_at, remove_at};
-use positions::{Entry, Position, PositionEntry, PositionPlaces, PositionRefusal};
+use positions::{PlacedEntry, Position, PositionEntry, PositionPlaces, PositionRefusal};
 use reach::{PlacedCell, PlacedCells};
 use register::{Assignment, CellNumber, Entered, live_places};
 use register_arrays::{CellsArray, Columns, FiguresArray};
@@ -96,7 +96,7 @@ pub fn apply(
     settings: &[u64; 2],
     columns: &mut Columns<'_>,
     row: &mut PositionRow<'_>,
-    entry: Entry,
+    entry: PlacedEntry,
 ) -> Result<Entered, PositionRefusal>
     ensures same { SameArrays columns.old columns.new × (row.new.cells.ghost_name ≡ row.old.cells.ghost_name) }
     ensures plain { Plain row.old.cells.now → Plain row.new.cells.now }
@@ -115,17 +115,17 @@ pub fn entry_from_numbers(
     width: u64,
     x: i64,
     y: i64,
-) -> Entry
+) -> PlacedEntry
     ensures { result ≡ placed_entry_of slot kind cell carrier width (record { x = x; y = y }) }
 {
     if kind == 3 {
-        return Entry::OfPosition(PositionEntry {
+        return PlacedEntry::OfPosition(PositionEntry {
             slot,
             cell,
             position: Position { x, y },
         });
     }
-    Entry::OfCell(register_arrays::entry_from_numbers(slot, kind, cell, carrier, width))
+    PlacedEntry::OfCell(register_arrays::entry_from_numbers(slot, kind, cell, carrier, width))
 }
 
 // The arrays of a register and of its positions, lent to be read. Columns and no array of cells, as in register_arrays: the C interface has them so.

@@ -27,9 +27,9 @@ use Rattle.reach.specs.declared.PlacedCell.{PlacedCell}
 use Rattle.reach.specs.declared.ReachRefusal.{ReachRefusal}
 use Rattle.register.specs.declared.Cell.{Cell}
 use Rattle.entry_lines.specs.Signed.{sign_text, signed_text}
-use Rattle.position_lines.specs.Answers.{position_text, cell_text, cells_text, made_cells_text, outcome_text, list_text, carrier_text, asked_text}
-use Rattle.position_lines.specs.declared.Asked.{Asked}
-use Rattle.position_lines.specs.declared.Asked.TheVariants.{Enter, Conflicts, Free, CellList, Other}
+use Rattle.position_lines.specs.Answers.{position_text, cell_text, cells_text, made_cells_text, position_outcome_text, list_text, carrier_text, position_line_text}
+use Rattle.position_lines.specs.declared.PositionLine.{PositionLine}
+use Rattle.position_lines.specs.declared.PositionLine.TheVariants.{Enter, Conflicts, Free, CellList, Other}
 use mathlib.Core.List.{[], ◌∷◌}
 
 sign_length : (negative : Bool) (n : ℕ) → length (sign_text negative n) ≤ 22
@@ -72,8 +72,8 @@ made_cells_length p =
     of-both (λ (l : List ℕ). length l ≤ 55317) (is_made p.group.settings) (cells_length p)
     (simp length-append (omega (arith, number (settings_refusal p.group.settings))))
 
-outcome_length : (o : Result Entered PositionRefusal) → length (outcome_text o) ≤ 29
-unfolding outcome_text line_text
+outcome_length : (o : Result Entered PositionRefusal) → length (position_outcome_text o) ≤ 29
+unfolding position_outcome_text line_text
 outcome_length (Ok Done) = omega arith
 outcome_length (Ok Older) = omega arith
 outcome_length (Err why) = simp length-append (omega (arith, number (position_refusal_number why)))
@@ -92,14 +92,14 @@ carrier_length (Ok n) = simp length-append (omega (arith, number n))
 carrier_length (Err why) = simp length-append (omega (arith, number (reach.reach_refusal_number why)))
 
 -- ---- of each line about cells with positions
-abbrev pub IsOfPositions : Asked → Type 0
+abbrev pub IsOfPositions : PositionLine → Type 0
 IsOfPositions (Enter e) = Unit {0}
 IsOfPositions (Conflicts n q) = Unit {0}
 IsOfPositions (Free first last q) = Unit {0}
 IsOfPositions CellList = Unit {0}
 IsOfPositions Other = ⊥
 
-pub placed_answer_length : (p : PlacedRegister) (line : List ℕ) (a : Asked) → IsOfPositions a → length (asked_text p line a) ≤ 55317
+pub placed_answer_length : (p : PlacedRegister) (line : List ℕ) (a : PositionLine) → IsOfPositions a → length (position_line_text p line a) ≤ 55317
 placed_answer_length p line (Enter e) h = omega (arith, outcome_length (apply_entry p e).outcome)
 placed_answer_length p line (Conflicts n q) h = conflicts_length (reach.conflicts_of p.group.settings (cells_of p) n q _)
   where

@@ -7,9 +7,9 @@ use Rattle.register.specs.declared.Entered.{Entered}
 use Rattle.register.specs.declared.Entered.TheVariants.{Done, Older}
 use Rattle.group_register.specs.Settings.{settings_refusal, is_made}
 use Rattle.register_lines.specs.declared.RegisterQuestion.TheVariants.{Begin, Enter as EnterCell, ReportLine, CellList as Listed}
-use Rattle.planning_lines.specs.Questions.{question_of}
-use Rattle.planning_lines.specs.declared.Question.{Question}
-use Rattle.planning_lines.specs.declared.Question.TheVariants.{FrequencyOf, CarrierOf, OfRegister, BadLine}
+use Rattle.planning_lines.specs.Questions.{plain_question_of}
+use Rattle.planning_lines.specs.declared.PlainQuestion.{PlainQuestion}
+use Rattle.planning_lines.specs.declared.PlainQuestion.TheVariants.{FrequencyOf, CarrierOf, OfRegister, BadLine}
 use Rattle.stored_lines.specs.Answers.{register_after_line, line_answer}
 use Rattle.stored_lines.specs.Lines.{stored_line}
 use Rattle.positions.specs.Placed.{placed, without_positions, position_refusal_number, apply_entry}
@@ -21,9 +21,9 @@ use Rattle.reach.specs.Reach as reach
 use Rattle.reach.specs.declared.PlacedCell.{PlacedCell}
 use Rattle.reach.specs.declared.ReachRefusal.{ReachRefusal}
 use Rattle.entry_lines.specs.Signed.{signed_text}
-use Rattle.position_lines.specs.Asked.{asked_of}
-use Rattle.position_lines.specs.declared.Asked.{Asked}
-use Rattle.position_lines.specs.declared.Asked.TheVariants.{Enter, Conflicts, Free, CellList, Other}
+use Rattle.position_lines.specs.Asked.{position_line_of}
+use Rattle.position_lines.specs.declared.PositionLine.{PositionLine}
+use Rattle.position_lines.specs.declared.PositionLine.TheVariants.{Enter, Conflicts, Free, CellList, Other}
 
 unfoldable pub position_text : Option Position → List ℕ
 position_text None = ascii " - -"
@@ -40,10 +40,10 @@ cells_text p = decimal (length (cells_of p)) ++ each cell_text (cells_of p) ++ a
 unfoldable pub made_cells_text : PlacedRegister → List ℕ
 made_cells_text p = cond (is_made p.group.settings) (cells_text p) (line_text (ascii "refused") (settings_refusal p.group.settings))
 
-unfoldable pub outcome_text : Result Entered PositionRefusal → List ℕ
-outcome_text (Ok Done) = ascii "done\n"
-outcome_text (Ok Older) = ascii "old\n"
-outcome_text (Err why) = line_text (ascii "refused") (position_refusal_number why)
+unfoldable pub position_outcome_text : Result Entered PositionRefusal → List ℕ
+position_outcome_text (Ok Done) = ascii "done\n"
+position_outcome_text (Ok Older) = ascii "old\n"
+position_outcome_text (Err why) = line_text (ascii "refused") (position_refusal_number why)
 
 -- the count and the cells' numbers, joined by blanks
 unfoldable pub list_text : Result ℕ ReachRefusal × List ℕ → List ℕ
@@ -58,7 +58,7 @@ abbrev pub no_numbers : List ℕ
 no_numbers = replicate 512 0
 
 -- ---- which lines begin a register: its cells have no positions
-abbrev pub begins_anew : Question → Bool
+abbrev pub begins_anew : PlainQuestion → Bool
 begins_anew (FrequencyOf n) = false
 begins_anew (CarrierOf f) = false
 begins_anew (OfRegister (Begin slot)) = true
@@ -69,7 +69,7 @@ begins_anew BadLine = false
 
 unfoldable pub begins_register : List ℕ → Bool
 begins_register line =
-    cond (begins (ascii "stored ") line) (is_some (stored_line (drop 7 line))) (cond (begins (ascii "register") line) (begins_anew (question_of line)) false)
+    cond (begins (ascii "stored ") line) (is_some (stored_line (drop 7 line))) (cond (begins (ascii "register") line) (begins_anew (plain_question_of line)) false)
 
 -- a line of the requests before
 unfoldable pub after_other : PlacedRegister → List ℕ → PlacedRegister
@@ -77,7 +77,7 @@ after_other p line =
     cond (begins_register line) (without_positions (register_after_line p.group line)) (placed (register_after_line p.group line) p.positions)
 
 -- ---- the register after a line, and what is written for it
-abbrev pub after_asked : PlacedRegister → List ℕ → Asked → PlacedRegister
+abbrev pub after_asked : PlacedRegister → List ℕ → PositionLine → PlacedRegister
 after_asked p line (Enter e) = (apply_entry p e).placed
 after_asked p line (Conflicts n q) = p
 after_asked p line (Free first last q) = p
@@ -85,14 +85,14 @@ after_asked p line CellList = p
 after_asked p line Other = after_other p line
 
 unfoldable pub placed_after_line : PlacedRegister → List ℕ → PlacedRegister
-placed_after_line p line = after_asked p line (asked_of line)
+placed_after_line p line = after_asked p line (position_line_of line)
 
-abbrev pub asked_text : PlacedRegister → List ℕ → Asked → List ℕ
-asked_text p line (Enter e) = outcome_text (apply_entry p e).outcome
-asked_text p line (Conflicts n q) = list_text (reach.conflicts_of p.group.settings (cells_of p) n q no_numbers)
-asked_text p line (Free first last q) = carrier_text (reach.first_free p.group.settings (cells_of p) first last q)
-asked_text p line CellList = made_cells_text p
-asked_text p line Other = line_answer p.group line
+abbrev pub position_line_text : PlacedRegister → List ℕ → PositionLine → List ℕ
+position_line_text p line (Enter e) = position_outcome_text (apply_entry p e).outcome
+position_line_text p line (Conflicts n q) = list_text (reach.conflicts_of p.group.settings (cells_of p) n q no_numbers)
+position_line_text p line (Free first last q) = carrier_text (reach.first_free p.group.settings (cells_of p) first last q)
+position_line_text p line CellList = made_cells_text p
+position_line_text p line Other = line_answer p.group line
 
 unfoldable pub placed_line_answer : PlacedRegister → List ℕ → List ℕ
-placed_line_answer p line = asked_text p line (asked_of line)
+placed_line_answer p line = position_line_text p line (position_line_of line)

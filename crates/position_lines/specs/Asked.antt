@@ -3,19 +3,19 @@
 -- Assumes nothing.
 use Rattle.std.specs.Prelude.{cond, not, ◌&&◌, List, ℕ, ℤ, eqb, length, Option, Some, None, is_some, unwrap_or}
 use Rattle.texts.specs.Text.{ascii}
-use Rattle.line_fields.specs.Fields.{begins, is_line, value_of, is_number, next_field, number_field}
-use Rattle.positions.specs.declared.Entry.{Entry}
+use Rattle.line_fields.specs.Fields.{begins, is_line, value_or_zero, has_number_field, next_field, number_field}
+use Rattle.positions.specs.declared.PlacedEntry.{PlacedEntry}
 use Rattle.entry_lines.specs.Signed.{signed_field, signed_value}
-use Rattle.entry_lines.specs.Entries.{entry_of}
+use Rattle.entry_lines.specs.Entries.{entry_in_line}
 use Rattle.reach.specs.declared.Question.{Question}
-use Rattle.position_lines.specs.declared.Asked.{Asked}
-use Rattle.position_lines.specs.declared.Asked.TheVariants.{Enter, Conflicts, Free, CellList, Other}
+use Rattle.position_lines.specs.declared.PositionLine.{PositionLine}
+use Rattle.position_lines.specs.declared.PositionLine.TheVariants.{Enter, Conflicts, Free, CellList, Other}
 
 -- ---- questions
 unfoldable pub place_question : Option ℕ → Option ℤ → Option ℤ → Option ℕ → Option Question
 place_question width x y distance =
-    cond (is_number width && is_some x && is_some y && is_number distance)
-    (Some (record { width = value_of width; position = record { x = signed_value x; y = signed_value y }; distance = value_of distance })) None
+    cond (has_number_field width && is_some x && is_some y && has_number_field distance)
+    (Some (record { width = value_or_zero width; position = record { x = signed_value x; y = signed_value y }; distance = value_or_zero distance })) None
 
 -- the places of the fields behind a width
 abbrev pub behind_width : List ℕ → ℕ → ℕ
@@ -34,29 +34,29 @@ question_at line at =
     (place_question (number_field line at).number (signed_field line (behind_width line at)).number (signed_field line (behind_x line at)).number
     (number_field line (behind_y line at)).number)
 
-abbrev pub with_carrier : Option ℕ → Option Question → Option Asked
+abbrev pub with_carrier : Option ℕ → Option Question → Option PositionLine
 with_carrier (Some n) (Some q) = Some (Conflicts n q)
 with_carrier (Some n) None = None
 with_carrier None q = None
 
-unfoldable pub conflicts_of : List ℕ → Option Asked
-conflicts_of line = with_carrier (number_field line 10).number (question_at line (behind_width line 10))
+unfoldable pub conflicts_asked : List ℕ → Option PositionLine
+conflicts_asked line = with_carrier (number_field line 10).number (question_at line (behind_width line 10))
 
-abbrev pub with_range : Option ℕ → Option ℕ → Option Question → Option Asked
+abbrev pub with_range : Option ℕ → Option ℕ → Option Question → Option PositionLine
 with_range (Some first) (Some last) (Some q) = Some (Free first last q)
 with_range (Some first) (Some last) None = None
 with_range (Some first) None q = None
 with_range None last q = None
 
-unfoldable pub free_of : List ℕ → Option Asked
+unfoldable pub free_of : List ℕ → Option PositionLine
 free_of line = with_range (number_field line 5).number (number_field line (behind_width line 5)).number (question_at line (behind_width line (behind_width line 5)))
 
-abbrev pub entered : Option Entry → Asked
+abbrev pub entered : Option PlacedEntry → PositionLine
 entered (Some e) = Enter e
 entered None = Other
 
-unfoldable pub asked_of : List ℕ → Asked
-asked_of line =
+unfoldable pub position_line_of : List ℕ → PositionLine
+position_line_of line =
     cond (is_line (ascii "cells") line) CellList
-    (cond (begins (ascii "conflicts ") line) (unwrap_or (conflicts_of line) Other)
-    (cond (begins (ascii "free ") line) (unwrap_or (free_of line) Other) (entered (entry_of line))))
+    (cond (begins (ascii "conflicts ") line) (unwrap_or (conflicts_asked line) Other)
+    (cond (begins (ascii "free ") line) (unwrap_or (free_of line) Other) (entered (entry_in_line line))))

@@ -4,13 +4,13 @@
 
 ghost use Rattle.std.specs.Prelude.{◌≡◌, List, ℕ};
 ghost use Rattle.texts.specs.Text.{put, field, each};
-ghost use Rattle.position_lines.specs.Answers.{position_text, cell_text, cells_text, made_cells_text, outcome_text, list_text, carrier_text, begins_register, after_other, placed_after_line, placed_line_answer};
+ghost use Rattle.position_lines.specs.Answers.{position_text, cell_text, cells_text, made_cells_text, position_outcome_text, list_text, carrier_text, begins_register, after_other, placed_after_line, placed_line_answer};
 ghost use Rattle.stored_lines.specs.Answers.{line_answer};
 ghost use Rattle.positions.specs.Placed.{apply_entry};
 ghost use Rattle.entry_lines.specs.Signed.{signed_text};
-ghost use Rattle.position_lines.specs.Asked.{place_question, question_at, conflicts_of, free_of, asked_of};
+ghost use Rattle.position_lines.specs.Asked.{place_question, question_at, conflicts_asked, free_of, position_line_of};
 
-use positions::{Entry, PlacedRegister, Position, PositionRefusal};
+use positions::{PlacedEntry, PlacedRegister, Position, PositionRefusal};
 use reach::{PlacedCell, PlacedCells, Question, ReachRefusal};
 use refusals::Refused;
 use register::Entered;
@@ -20,8 +20,8 @@ use texts::Output;
 
 // What a line asks or tells.
 #[derive(Clone, Copy)]
-pub enum Asked {
-    Enter(Entry),
+pub enum PositionLine {
+    Enter(PlacedEntry),
     Conflicts(u64, Question),
     Free(u64, u64, Question),
     CellList,
@@ -62,43 +62,43 @@ fn question_at(line: &[u8], at: usize) -> Option<Question>
 }
 
 // `conflicts CARRIER` and a question
-#[tactic(auto, unfolding(crate::specs::Asked::conflicts_of))]
-fn conflicts_of(line: &[u8]) -> Option<Asked>
-    ensures { result ≡ conflicts_of line.now }
+#[tactic(auto, unfolding(crate::specs::Asked::conflicts_asked))]
+fn conflicts_asked(line: &[u8]) -> Option<PositionLine>
+    ensures { result ≡ conflicts_asked line.now }
 {
     let carrier = line_fields::number_field(line, 10);
     let question = question_at(line, line_fields::next_field(line, carrier.end))?;
-    Some(Asked::Conflicts(carrier.number?, question))
+    Some(PositionLine::Conflicts(carrier.number?, question))
 }
 
 // `free FIRST LAST` and a question
 #[tactic(auto, unfolding(crate::specs::Asked::free_of))]
-fn free_of(line: &[u8]) -> Option<Asked>
+fn free_of(line: &[u8]) -> Option<PositionLine>
     ensures { result ≡ free_of line.now }
 {
     let first = line_fields::number_field(line, 5);
     let last = line_fields::number_field(line, line_fields::next_field(line, first.end));
     let question = question_at(line, line_fields::next_field(line, last.end))?;
-    Some(Asked::Free(first.number?, last.number?, question))
+    Some(PositionLine::Free(first.number?, last.number?, question))
 }
 
 // What a line asks of cells with positions; any other line is one of the requests before, or a bad one.
-#[tactic(auto, unfolding(crate::specs::Asked::asked_of))]
-pub fn asked_of(line: &[u8]) -> Asked
-    ensures { result ≡ asked_of line.now }
+#[tactic(auto, unfolding(crate::specs::Asked::position_line_of))]
+pub fn position_line_of(line: &[u8]) -> PositionLine
+    ensures { result ≡ position_line_of line.now }
 {
     if line_fields::is_line(line, b"cells") {
-        return Asked::CellList;
+        return PositionLine::CellList;
     }
     if line_fields::begins(line, b"conflicts ") {
-        return conflicts_of(line).unwrap_or(Asked::Other);
+        return conflicts_asked(line).unwrap_or(PositionLine::Other);
     }
     if line_fields::begins(line, b"free ") {
-        return free_of(line).unwrap_or(Asked::Other);
+        return free_of(line).unwrap_or(PositionLine::Other);
     }
-    match entry_lines::entry_of(line) {
-        Some(entry) => Asked::Enter(entry),
-        None => Asked::Other,
+    match entry_lines::entry_in_line(line) {
+        Some(entry) => PositionLine::Enter(entry),
+        None => PositionLine::Other,
     }
 }
 
@@ -155,9 +155,9 @@ fn put_made_cells(out: &mut Output<'_>, placed: &PlacedRegister)
 }
 
 // What became of an entry, with LF.
-#[tactic(auto, unfolding(crate::specs::Answers::outcome_text))]
+#[tactic(auto, unfolding(crate::specs::Answers::position_outcome_text))]
 fn put_outcome(out: &mut Output<'_>, outcome: Result<Entered, PositionRefusal>)
-    ensures { out.new ≡ put (outcome_text outcome) out.old }
+    ensures { out.new ≡ put (position_outcome_text outcome) out.old }
 {
     match outcome {
         Ok(Entered::Done) => out.put_bytes(b"done\n"),
@@ -213,8 +213,8 @@ fn begins_register(line: &[u8]) -> bool
     }
     if line_fields::begins(line, b"register") {
         return matches!(
-            planning_lines::question_of(line),
-            planning_lines::Question::OfRegister(RegisterQuestion::Begin(_))
+            planning_lines::plain_question_of(line),
+            planning_lines::PlainQuestion::OfRegister(RegisterQuestion::Begin(_))
         );
     }
     false
@@ -233,9 +233,9 @@ fn answer_other(placed: &mut PlacedRegister, line: &[u8], out: &mut Output<'_>)
 }
 
 // An entry, and what became of it.
-fn answer_entry(placed: &mut PlacedRegister, entry: Entry, out: &mut Output<'_>)
+fn answer_entry(placed: &mut PlacedRegister, entry: PlacedEntry, out: &mut Output<'_>)
     ensures placed { placed.new ≡ (apply_entry placed.old entry).placed }
-    ensures put { out.new ≡ put (outcome_text (apply_entry placed.old entry).outcome) out.old }
+    ensures put { out.new ≡ put (position_outcome_text (apply_entry placed.old entry).outcome) out.old }
 {
     let outcome = positions::apply_in(
         placed.group.settings,
@@ -252,17 +252,17 @@ pub fn answer_line(placed: &mut PlacedRegister, line: &[u8], out: &mut Output<'_
     ensures placed { placed.new ≡ placed_after_line placed.old line.now }
     ensures put { out.new ≡ put (placed_line_answer placed.old line.now) out.old }
 {
-    match asked_of(line) {
-        Asked::Enter(entry) => answer_entry(placed, entry, out),
-        Asked::Conflicts(carrier, question) => {
+    match position_line_of(line) {
+        PositionLine::Enter(entry) => answer_entry(placed, entry, out),
+        PositionLine::Conflicts(carrier, question) => {
             let mut numbers = [0; 512];
             let answer = reach::conflicts_of(placed, carrier, question, &mut numbers);
             put_list(out, answer, &numbers);
         }
-        Asked::Free(first, last, question) => {
+        PositionLine::Free(first, last, question) => {
             put_carrier(out, reach::first_free(placed, first, last, question));
         }
-        Asked::CellList => put_made_cells(out, placed),
-        Asked::Other => answer_other(placed, line, out),
+        PositionLine::CellList => put_made_cells(out, placed),
+        PositionLine::Other => answer_other(placed, line, out),
     }
 }

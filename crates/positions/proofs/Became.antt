@@ -9,7 +9,7 @@ use borrow.Author.Tests.{leb-false}
 use Rattle.std.specs.Prelude.{Result, Ok, Err, MatchResult}
 use Rattle.basics.proofs.Tests.{not_both}
 use Rattle.register.specs.Cells.{is_live_cell, number_of_cell, found}
-use Rattle.register.specs.Register.{live_places, live_cells, assignable, with_new_cell, with_superseded, with_released, slot_seen, done, older, refused, assign, release, apply_change, apply}
+use Rattle.register.specs.Register.{live_places, live_cells, assignable, with_new_cell, with_superseded, with_released, slot_seen, done, older, entry_refused, assign, release, apply_change, apply}
 use Rattle.register.specs.declared.Applied.{Applied}
 use Rattle.register.specs.declared.Assignment.{Assignment}
 use Rattle.register.specs.declared.CellEntry.{CellEntry}
@@ -57,8 +57,8 @@ module _ (s : RegisterSettings) (r : Register) (e : CellEntry) where
     where
       go : (t u : Bool) → live ≡ u → (v : Bool) → leb 512 (live_places r) ≡ v
           → Becomes
-          (cond (not t) (refused NotAssignable seen)
-          (cond u (done (with_superseded e.cell a seen)) (cond v (refused NoRoomForCell seen) (done (with_new_cell e.cell a seen)))))
+          (cond (not t) (entry_refused NotAssignable seen)
+          (cond u (done (with_superseded e.cell a seen)) (cond v (entry_refused NoRoomForCell seen) (done (with_new_cell e.cell a seen)))))
       go false u k v h = stayed seen (Err _) refl tt
       go true true k v h = superseded a is k
       go true false k true h = stayed seen (Err _) refl tt
@@ -68,7 +68,7 @@ module _ (s : RegisterSettings) (r : Register) (e : CellEntry) where
   unfolding release
   release_became is = go live refl
     where
-      go : (u : Bool) → live ≡ u → Becomes (cond u (done (with_released e.cell seen)) (refused CellNotLive seen))
+      go : (u : Bool) → live ≡ u → Becomes (cond u (done (with_released e.cell seen)) (entry_refused CellNotLive seen))
       go true k = released is k
       go false k = stayed seen (Err _) refl tt
 
@@ -82,7 +82,7 @@ module _ (s : RegisterSettings) (r : Register) (e : CellEntry) where
   became = go (is_made s) (gives_odd_width s.whole_mhz_from r.next_slot e) (ltb 9223372036854775806 e.slot) (ltb e.slot r.next_slot) (changed e.change refl)
     where
       go : (m o t u : Bool) → Becomes (apply_change e.change e.cell seen)
-          → Became (cond m (cond o (group_applied s seen (Err OddWidth)) (as_register s (cond t (refused NumberTooLarge r) (cond u (older r) (apply_change e.change e.cell seen))))) (group_applied s r (Err (Unmade (unmade_by s)))))
+          → Became (cond m (cond o (group_applied s seen (Err OddWidth)) (as_register s (cond t (entry_refused NumberTooLarge r) (cond u (older r) (apply_change e.change e.cell seen))))) (group_applied s r (Err (Unmade (unmade_by s)))))
       go false o t u x = stayed r (Err (Unmade (unmade_by s))) refl tt
       go true true t u x = stayed seen (Err OddWidth) refl tt
       go true false true u x = stayed r (Err _) refl tt

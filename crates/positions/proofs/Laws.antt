@@ -14,7 +14,7 @@ use borrow.Author.Tests.{ltb-true, ltb-false, leb-false, le-leb, lt-leb, le-ltb,
 use Rattle.std.specs.Prelude.{Option, Some, None, Ok, Err, unsigned_abs}
 use Rattle.basics.proofs.Tests.{either, not_both, and_both}
 use Rattle.register.specs.Cells.{has_number, is_live_cell, cell_place}
-use Rattle.register.specs.Register.{new_register, live_cells, slot_seen, older, refused, apply_change, apply}
+use Rattle.register.specs.Register.{new_register, live_cells, slot_seen, older, entry_refused, apply_change, apply}
 use Rattle.register.specs.History.{register_after}
 use Rattle.register.specs.Taken.{Latest, never, is, is_assigned, slot_within_limit, above, latest}
 use Rattle.register.specs.declared.CellEntry.{CellEntry}
@@ -38,8 +38,8 @@ use Rattle.group_register.proofs.GroupLaws as E13
 use Rattle.positions.specs.Grid.{within_grid}
 use Rattle.positions.specs.Placed.{placed, without_positions, new_placed, position_of, placed_applied, positioned, with_seen, position_refused, give_position, apply_cell, apply_position, apply_entry}
 use Rattle.positions.specs.PlacedTaken.{cell_entry, cell_entries, is_beyond, is_outside, assigned_in, position_number, entry_number_for, entry_is_taken, cell_named, position_said, latest_position, is_later_entry, later_placed, placed_after}
-use Rattle.positions.specs.declared.Entry.{Entry}
-use Rattle.positions.specs.declared.Entry.TheVariants.{OfCell, OfPosition}
+use Rattle.positions.specs.declared.PlacedEntry.{PlacedEntry}
+use Rattle.positions.specs.declared.PlacedEntry.TheVariants.{OfCell, OfPosition}
 use Rattle.positions.specs.declared.PlacedApplied.{PlacedApplied}
 use Rattle.positions.specs.declared.PlacedRegister.{PlacedRegister}
 use Rattle.positions.specs.declared.Position.{Position}
@@ -79,14 +79,14 @@ outside_grid p =
     either_not false b = refl
 
 -- ---- the register below sees of a position its slot alone
-pub entry_below : (p : PlacedRegister) (e : Entry) → (apply_entry p e).placed.group ≡ (apply_in_group p.group (cell_entry e)).group
+pub entry_below : (p : PlacedRegister) (e : PlacedEntry) → (apply_entry p e).placed.group ≡ (apply_in_group p.group (cell_entry e)).group
 unfolding apply_entry apply_cell
 entry_below p (OfCell e) = refl
 entry_below p (OfPosition e) = position_group p.group.settings p.group.register e p.positions
 
 module _ (s : RegisterSettings) where
   -- so it is that of the entries of cells: E6 and E13 hold of it, and the report is as before
-  pub register_below : (es : List Entry) → (placed_after s es).group ≡ group_after s (cell_entries es)
+  pub register_below : (es : List PlacedEntry) → (placed_after s es).group ≡ group_after s (cell_entries es)
   unfolding placed_after group_after
   register_below [] = refl
   register_below (e ∷ before) =
@@ -97,13 +97,13 @@ module _ (s : RegisterSettings) where
     abbrev slot : ℕ
     slot = s.whole_mhz_from
 
-    abbrev below : List Entry → Register
+    abbrev below : List PlacedEntry → Register
     below es = register_after (bound_entries slot (cell_entries es))
 
-    pub group_is : (es : List Entry) → (placed_after s es).group ≡ group_register s (below es)
+    pub group_is : (es : List PlacedEntry) → (placed_after s es).group ≡ group_register s (below es)
     group_is es = register_below es ∙ E13.after_mapped s made (cell_entries es)
 
-    live_is : (es : List Entry) (n : ℕ) → is_live_cell n (live_cells (below es)) ≡ assigned_in s es n
+    live_is : (es : List PlacedEntry) (n : ℕ) → is_live_cell n (live_cells (below es)) ≡ assigned_in s es n
     live_is es n =
         live_look_up n (live_cells (below es)) ∙ ap is_assigned ((E6.agrees entries).held n) ∙ same (latest entries n)
         ∙ ap (λ (l : ℕ → Latest). is_assigned (l n)) (latest_bound slot (cell_entries es))
@@ -117,7 +117,7 @@ module _ (s : RegisterSettings) where
         same (is Release) = refl
 
     -- ---- the number of a position is the one that the entries say
-    position_outcome : (before : List Entry) (ps : List (Option Position)) (e : PositionEntry)
+    position_outcome : (before : List PlacedEntry) (ps : List (Option Position)) (e : PositionEntry)
         → placed_number (apply_position (placed (group_register s (below before)) ps) e).outcome ≡ position_number s before e
     unfolding apply_position give_position position_number
     position_outcome before ps e =
@@ -178,10 +178,10 @@ module _ (s : RegisterSettings) where
         swap true = refl
         swap false = refl
 
-    whole : (es : List Entry) → placed_after s es ≡ placed (group_register s (below es)) (placed_after s es).positions
+    whole : (es : List PlacedEntry) → placed_after s es ≡ placed (group_register s (below es)) (placed_after s es).positions
     whole es = ap (λ (g : GroupRegister). placed g (placed_after s es).positions) (group_is es)
 
-    number_made : (before : List Entry) (e : Entry) → placed_number (apply_entry (placed_after s before) e).outcome ≡ entry_number_for s before e
+    number_made : (before : List PlacedEntry) (e : PlacedEntry) → placed_number (apply_entry (placed_after s before) e).outcome ≡ entry_number_for s before e
     unfolding apply_entry apply_cell entry_number_for
     number_made before (OfCell e) =
         same_outcome_number (apply_in_group (placed_after s before).group e).outcome
@@ -193,11 +193,11 @@ module _ (s : RegisterSettings) where
         ∙ ap (λ (m : Bool). cond m (position_number s before e) (settings_refusal s)) (sym made)
 
     -- ---- the position of each cell is the one that the entries say
-    record Standing (es : List Entry) : Type 0 where
+    record Standing (es : List PlacedEntry) : Type 0 where
       long : length (placed_after s es).positions ≡ 512
       each : (n : ℕ) → position_of (placed_after s es) n ≡ latest_position s es n
 
-    module _ (before : List Entry) (standing_before : Standing before) where
+    module _ (before : List PlacedEntry) (standing_before : Standing before) where
       abbrev r : Register
       r = below before
 
@@ -207,16 +207,16 @@ module _ (s : RegisterSettings) where
       agreeing : RegisterAgrees (bound_entries slot (cell_entries before)) r
       agreeing = E6.agrees (bound_entries slot (cell_entries before))
 
-      abbrev Behind : Entry → PlacedApplied → Type 0
+      abbrev Behind : PlacedEntry → PlacedApplied → Type 0
       Behind e x =
           Beside s r ps agreeing.places agreeing.fits agreeing.rising standing_before.long x (cell_named e) (eqb (placed_number x.outcome) 0) (position_said e)
 
-      behind : (e : Entry) → Behind e (apply_entry (placed (group_register s r) ps) e)
+      behind : (e : PlacedEntry) → Behind e (apply_entry (placed (group_register s r) ps) e)
       unfolding apply_entry
       behind (OfCell e) = cell_beside s r ps agreeing.places agreeing.fits agreeing.rising standing_before.long e
       behind (OfPosition e) = position_beside s r ps agreeing.places agreeing.fits agreeing.rising standing_before.long e
 
-      one_more : (e : Entry) → Standing (e ∷ before)
+      one_more : (e : PlacedEntry) → Standing (e ∷ before)
       unfolding placed_after latest_position
       one_more e =
           record {
@@ -230,23 +230,23 @@ module _ (s : RegisterSettings) where
           taken : eqb (placed_number (apply_entry (placed (group_register s r) ps) e).outcome) 0 ≡ entry_is_taken s before e
           taken = ap (λ (k : ℕ). eqb k 0) (ap (λ (p : PlacedRegister). placed_number (apply_entry p e).outcome) (sym (whole before)) ∙ number_made before e)
 
-    all_standing : (es : List Entry) → Standing es
+    all_standing : (es : List PlacedEntry) → Standing es
     unfolding placed_after latest_position position_of has_number
     all_standing [] = record { long = refl; each = λ n. refl }
     all_standing (e ∷ before) = one_more before (all_standing before) e
 
-    pub positions_long : (es : List Entry) → length (placed_after s es).positions ≡ 512
+    pub positions_long : (es : List PlacedEntry) → length (placed_after s es).positions ≡ 512
     positions_long es = (all_standing es).long
 
     -- ---- an entry of a slot above the limit, or not after the last one seen, does nothing
     large_applied : (g : Register) (e : CellEntry) → ltb 9223372036854775806 e.slot ≡ true
-        → apply_in_group (group_register s g) e ≡ as_register s (refused NumberTooLarge g)
+        → apply_in_group (group_register s g) e ≡ as_register s (entry_refused NumberTooLarge g)
     unfolding apply_made gives_odd_width apply
     large_applied g e h =
         E13.applied_made s made g e
         ∙ ap (λ (t : Bool). cond t (group_applied s (slot_seen e.slot g) (Err OddWidth)) (as_register s (apply g e))) not_odd
         ∙ ap (λ (t : Bool). as_register s
-        (cond t (refused NumberTooLarge g) (cond (ltb e.slot g.next_slot) (older g) (apply_change e.change e.cell (slot_seen e.slot g))))) h
+        (cond t (entry_refused NumberTooLarge g) (cond (ltb e.slot g.next_slot) (older g) (apply_change e.change e.cell (slot_seen e.slot g))))) h
       where
         not_odd : gives_odd_width s.whole_mhz_from g.next_slot e ≡ false
         not_odd =
@@ -300,7 +300,7 @@ module _ (s : RegisterSettings) where
             yes true k = refl
             yes false k = k
 
-    left_made : (before : List Entry) (e : Entry) → is_later_entry before e ≡ false → (apply_entry (placed_after s before) e).placed ≡ placed_after s before
+    left_made : (before : List PlacedEntry) (e : PlacedEntry) → is_later_entry before e ≡ false → (apply_entry (placed_after s before) e).placed ≡ placed_after s before
     unfolding apply_entry
     left_made before e h = ap (λ (p : PlacedRegister). (apply_entry p e).placed) (whole before) ∙ go e slots ∙ sym (whole before)
       where
@@ -313,32 +313,32 @@ module _ (s : RegisterSettings) where
             (sym (sym (above_bound slot (cell_entry e).slot (cell_entries before)) ∙ (E6.agrees (bound_entries slot (cell_entries before))).slots
             (cell_entry e).slot)) ∙ h
 
-        go : (e : Entry) → (leb (cell_entry e).slot 9223372036854775806 && leb (below before).next_slot (cell_entry e).slot) ≡ false
+        go : (e : PlacedEntry) → (leb (cell_entry e).slot 9223372036854775806 && leb (below before).next_slot (cell_entry e).slot) ≡ false
             → (apply_entry (placed (group_register s (below before)) ps) e).placed ≡ placed (group_register s (below before)) ps
         go (OfCell e) k = left_cell (below before) ps e k
         go (OfPosition e) k = left_position (below before) ps e k
 
   -- ---- a register that is not made: every entry gives its number, and nothing changes
   module _ (unmade : is_made s ≡ false) where
-    unmade_entry : (r : Register) (ps : List (Option Position)) (e : Entry)
+    unmade_entry : (r : Register) (ps : List (Option Position)) (e : PlacedEntry)
         → apply_entry (placed (group_register s r) ps) e ≡ placed_applied (group_register s r) ps (Err (AsGroup (Unmade (unmade_by s))))
     unfolding apply_entry apply_cell apply_position
     unmade_entry r ps (OfCell e) = ap (λ (x : GroupApplied). positioned (placed (group_register s r) ps) e x) (E13.unmade_left s unmade r e)
     unmade_entry r ps (OfPosition e) = simp unmade
 
-    unmade_after : (es : List Entry) → placed_after s es ≡ new_placed s
+    unmade_after : (es : List PlacedEntry) → placed_after s es ≡ new_placed s
     unfolding placed_after
     unmade_after [] = refl
     unmade_after (e ∷ before) =
         ap (λ (p : PlacedRegister). (apply_entry p e).placed) (unmade_after before)
         ∙ ap (λ (x : PlacedApplied). x.placed) (unmade_entry new_register (replicate 512 None) e)
 
-    unmade_number : (before : List Entry) (e : Entry) → entry_number_for s before e ≡ settings_refusal s
+    unmade_number : (before : List PlacedEntry) (e : PlacedEntry) → entry_number_for s before e ≡ settings_refusal s
     unfolding entry_number_for
     unmade_number before (OfCell e) = simp unmade
     unmade_number before (OfPosition e) = simp unmade
 
-    no_position : (es : List Entry) (n : ℕ) → latest_position s es n ≡ None
+    no_position : (es : List PlacedEntry) (n : ℕ) → latest_position s es n ≡ None
     unfolding latest_position
     no_position [] n = refl
     no_position (e ∷ before) n =
@@ -349,7 +349,7 @@ module _ (s : RegisterSettings) where
 
   -- ==== of every register
   -- an entry's number is the one that the settings and the entries say: of a position 2, older, 21, then 16
-  pub number_given_lem : (before : List Entry) (e : Entry) → placed_number (apply_entry (placed_after s before) e).outcome ≡ entry_number_for s before e
+  pub number_given_lem : (before : List PlacedEntry) (e : PlacedEntry) → placed_number (apply_entry (placed_after s before) e).outcome ≡ entry_number_for s before e
   number_given_lem before e = go (either (is_made s))
     where
       go : (is_made s ≡ true) ⊎ (is_made s ≡ false) → placed_number (apply_entry (placed_after s before) e).outcome ≡ entry_number_for s before e
@@ -360,7 +360,7 @@ module _ (s : RegisterSettings) where
           ∙ sym (unmade_number u before e ∙ E13.unmade_number_lem s u)
 
   -- the position of a cell is the one that the entries say: a release drops it, an assignment keeps it, a position sets it
-  pub position_given : (es : List Entry) (n : ℕ) → position_of (placed_after s es) n ≡ latest_position s es n
+  pub position_given : (es : List PlacedEntry) (n : ℕ) → position_of (placed_after s es) n ≡ latest_position s es n
   unfolding position_of has_number
   position_given es n = go (either (is_made s))
     where
@@ -369,13 +369,13 @@ module _ (s : RegisterSettings) where
       go (inr u) = ap (λ (p : PlacedRegister). position_of p n) (unmade_after u es) ∙ sym (no_position u es n)
 
   -- reading a position back gives the one that was set
-  pub read_back : (before : List Entry) (e : PositionEntry) → entry_is_taken s before (OfPosition e) ≡ true
+  pub read_back : (before : List PlacedEntry) (e : PositionEntry) → entry_is_taken s before (OfPosition e) ≡ true
       → position_of (placed_after s (OfPosition e ∷ before)) e.cell ≡ Some e.position
   unfolding latest_position
   read_back before e taken = position_given (OfPosition e ∷ before) e.cell ∙ simp (taken, eq-eqb e.cell e.cell refl)
 
   -- "Two offices given equal entries in slot order, whatever repeats or older ones stand between, hold equal registers", positions and all
-  left_alone : (before : List Entry) (e : Entry) → is_later_entry before e ≡ false → (apply_entry (placed_after s before) e).placed ≡ placed_after s before
+  left_alone : (before : List PlacedEntry) (e : PlacedEntry) → is_later_entry before e ≡ false → (apply_entry (placed_after s before) e).placed ≡ placed_after s before
   left_alone before e h = go (either (is_made s))
     where
       go : (is_made s ≡ true) ⊎ (is_made s ≡ false) → (apply_entry (placed_after s before) e).placed ≡ placed_after s before
@@ -384,7 +384,7 @@ module _ (s : RegisterSettings) where
           ap (λ (p : PlacedRegister). (apply_entry p e).placed) (unmade_after u before)
           ∙ ap (λ (x : PlacedApplied). x.placed) (unmade_entry u new_register (replicate 512 None) e) ∙ sym (unmade_after u before)
 
-  by_later : (es : List Entry) → placed_after s es ≡ placed_after s (later_placed es)
+  by_later : (es : List PlacedEntry) → placed_after s es ≡ placed_after s (later_placed es)
   unfolding placed_after later_placed
   by_later [] = refl
   by_later (e ∷ before) = go (is_later_entry before e) refl (by_later before)
@@ -394,7 +394,7 @@ module _ (s : RegisterSettings) where
       go true h rest = ap (λ (p : PlacedRegister). (apply_entry p e).placed) rest
       go false h rest = left_alone before e h ∙ rest
 
-  pub equal_placed : (one other : List Entry) → later_placed one ≡ later_placed other → placed_after s one ≡ placed_after s other
+  pub equal_placed : (one other : List PlacedEntry) → later_placed one ≡ later_placed other → placed_after s one ≡ placed_after s other
   equal_placed one other h = by_later one ∙ ap (placed_after s) h ∙ sym (by_later other)
 
 -- "adds to no figure of the report", and leaves the cells: at most the slot is seen

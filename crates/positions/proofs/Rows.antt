@@ -13,7 +13,7 @@ use Rattle.std.proofs.lemmas.List.{get_or_append_left}
 use borrow.Author.Tests.{eqb-true, eqb-false, eq-eqb, ne_eqb, leb-true, leb-false, le-leb}
 use Rattle.std.specs.Prelude.{Option, None}
 use Rattle.basics.proofs.Tests.{either, not_both}
-use Rattle.places.specs.Places.{at_front, without, with_at}
+use Rattle.basics.specs.elements.Places.{at_front, without, with_at}
 use Rattle.register.specs.Cells.{has_number, number_place, is_live_cell, cell_place, cell_reassigned, cell_inserted, cell_removed}
 use Rattle.register.specs.History.{RisingCells}
 use Rattle.register.specs.declared.Assignment.{Assignment}

@@ -10,12 +10,12 @@ use lib.ListN.{length, set, take, length-take, length-set}
 use lib.Seq.{take_at}
 use borrow.Author.Tests.{eqb-true}
 use Rattle.std.specs.Prelude.{Option, Some, None, Result, Ok, Err}
-use Rattle.places.specs.Places.{at_front, without, with_at}
-use Rattle.places.proofs.Lists.{front_length, with_length, without_length}
+use Rattle.basics.specs.elements.Places.{at_front, without, with_at}
+use Rattle.basics.proofs.elements.Lists.{front_length, with_length, without_length}
 use Rattle.raster.specs.Raster.{frequency_of}
 use Rattle.register.specs.Cells.{is_live_cell, cell_place, cell_reassigned, cell_inserted, cell_removed}
 use Rattle.register.specs.Refusals.{outcome_number}
-use Rattle.register.specs.Register.{live_places, live_cells, assignable, holding, with_new_cell, with_superseded, with_released, slot_seen, older, refused, assign, apply_change, apply}
+use Rattle.register.specs.Register.{live_places, live_cells, assignable, holding, with_new_cell, with_superseded, with_released, slot_seen, older, entry_refused, assign, apply_change, apply}
 use Rattle.register.specs.History.{RisingCells}
 use Rattle.register.specs.declared.Cell.{Cell}
 use Rattle.register.specs.declared.CellEntry.{CellEntry}
@@ -96,7 +96,7 @@ module _ (s : RegisterSettings) (r : Register) (e : PositionEntry) where
       ap (λ (t : Bool). (cond t (group_applied s (slot_seen e.slot r) (Err OddWidth)) (as_register s (apply r (slot_alone e)))).group) not_odd
       ∙ go (ltb 9223372036854775806 e.slot) (ltb e.slot r.next_slot)
     where
-      go : (t u : Bool) → (as_register s (cond t (refused NumberTooLarge r) (cond u (older r) (refused NotAssignable (slot_seen e.slot r))))).group
+      go : (t u : Bool) → (as_register s (cond t (entry_refused NumberTooLarge r) (cond u (older r) (entry_refused NotAssignable (slot_seen e.slot r))))).group
           ≡ group_register s (cond t r (cond u r (slot_seen e.slot r)))
       go true u = refl
       go false true = refl

@@ -2,7 +2,7 @@
 -- not move. Place i of the positions is that of the cell in place i.
 -- Assumes nothing.
 use Rattle.std.specs.Prelude.{Bool, cond, not, ℕ, ◌<◌, ◌≤◌, List, ltb, Option, Some, None, get_or, set, take, replicate, Result, Ok, Err}
-use Rattle.places.specs.Places.{at_front, without, with_at}
+use Rattle.basics.specs.elements.Places.{at_front, without, with_at}
 use Rattle.register.specs.Cells.{is_live_cell, cell_place, number_of_cell, found}
 use Rattle.register.specs.Register.{live_places, live_cells, slot_seen}
 use Rattle.register.specs.declared.CellEntry.{CellEntry}
@@ -20,8 +20,8 @@ use Rattle.group_register.specs.declared.GroupRefusal.TheVariants.{Unmade, AsReg
 use Rattle.group_register.specs.declared.GroupRegister.{GroupRegister}
 use Rattle.group_register.specs.declared.RegisterSettings.{RegisterSettings}
 use Rattle.positions.specs.Grid.{within_grid}
-use Rattle.positions.specs.declared.Entry.{Entry}
-use Rattle.positions.specs.declared.Entry.TheVariants.{OfCell, OfPosition}
+use Rattle.positions.specs.declared.PlacedEntry.{PlacedEntry}
+use Rattle.positions.specs.declared.PlacedEntry.TheVariants.{OfCell, OfPosition}
 use Rattle.positions.specs.declared.PlacedApplied.{PlacedApplied}
 use Rattle.positions.specs.declared.PlacedRegister.{PlacedRegister}
 use Rattle.positions.specs.declared.Position.{Position}
@@ -118,6 +118,6 @@ apply_position p e =
     (cond (ltb e.slot p.group.register.next_slot) (placed_applied p.group p.positions (Ok Older))
     (give_position (with_seen e.slot p.group) p.positions e)))
 
-unfoldable pub apply_entry : PlacedRegister → Entry → PlacedApplied
+unfoldable pub apply_entry : PlacedRegister → PlacedEntry → PlacedApplied
 apply_entry p (OfCell e) = apply_cell p e
 apply_entry p (OfPosition e) = apply_position p e

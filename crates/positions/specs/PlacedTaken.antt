@@ -9,8 +9,8 @@ use Rattle.group_register.specs.Settings.{settings_refusal, is_made}
 use Rattle.group_register.specs.GroupTaken.{group_latest, number_in_group}
 use Rattle.group_register.specs.declared.RegisterSettings.{RegisterSettings}
 use Rattle.positions.specs.Placed.{new_placed, apply_entry}
-use Rattle.positions.specs.declared.Entry.{Entry}
-use Rattle.positions.specs.declared.Entry.TheVariants.{OfCell, OfPosition}
+use Rattle.positions.specs.declared.PlacedEntry.{PlacedEntry}
+use Rattle.positions.specs.declared.PlacedEntry.TheVariants.{OfCell, OfPosition}
 use Rattle.positions.specs.declared.PlacedRegister.{PlacedRegister}
 use Rattle.positions.specs.declared.Position.{Position}
 use Rattle.positions.specs.declared.PositionEntry.{PositionEntry}
@@ -19,16 +19,16 @@ use Rattle.positions.specs.declared.PositionEntry.{PositionEntry}
 abbrev pub slot_alone : PositionEntry → CellEntry
 slot_alone e = record { slot = e.slot; cell = e.cell; change = Assign (record { carrier = 0; width = 0 }) }
 
-abbrev pub cell_entry : Entry → CellEntry
+abbrev pub cell_entry : PlacedEntry → CellEntry
 cell_entry (OfCell e) = e
 cell_entry (OfPosition e) = slot_alone e
 
-abbrev pub cell_entries : List Entry → List CellEntry
+abbrev pub cell_entries : List PlacedEntry → List CellEntry
 cell_entries es = map cell_entry es
 
 -- ---- numbers
 -- the latest taken assignment or release of cell n is an assignment
-abbrev pub assigned_in : RegisterSettings → List Entry → ℕ → Bool
+abbrev pub assigned_in : RegisterSettings → List PlacedEntry → ℕ → Bool
 assigned_in s before n = is_assigned (group_latest s.whole_mhz_from (cell_entries before) n)
 
 -- "a position in whole metres .., signed, within 2,000,000 either way": one above that, or below it with the sign, is outside
@@ -39,7 +39,7 @@ abbrev pub is_outside : Position → Bool
 is_outside p = is_beyond p.x || is_beyond p.y
 
 -- of a position: 2, older (64 is ours), 21, then 16
-unfoldable pub position_number : RegisterSettings → List Entry → PositionEntry → ℕ
+unfoldable pub position_number : RegisterSettings → List PlacedEntry → PositionEntry → ℕ
 position_number s before e =
     cond (not (slot_within_limit e.slot)) 2
     (cond (not (above e.slot (cell_entries before))) 64
@@ -48,15 +48,15 @@ position_number s before e =
     0)))
 
 -- the number of an entry after those before it; a register that is not made gives its settings' number before anything else
-unfoldable pub entry_number_for : RegisterSettings → List Entry → Entry → ℕ
+unfoldable pub entry_number_for : RegisterSettings → List PlacedEntry → PlacedEntry → ℕ
 entry_number_for s before (OfCell e) = number_in_group s (cell_entries before) e
 entry_number_for s before (OfPosition e) = cond (is_made s) (position_number s before e) (settings_refusal s)
 
-abbrev pub entry_is_taken : RegisterSettings → List Entry → Entry → Bool
+abbrev pub entry_is_taken : RegisterSettings → List PlacedEntry → PlacedEntry → Bool
 entry_is_taken s before e = eqb (entry_number_for s before e) 0
 
 -- ---- positions
-abbrev pub cell_named : Entry → ℕ
+abbrev pub cell_named : PlacedEntry → ℕ
 cell_named (OfCell e) = e.cell
 cell_named (OfPosition e) = e.cell
 
@@ -66,25 +66,25 @@ position_behind (Assign a) held = held
 -- "a release drops it"
 position_behind Release held = None
 
-abbrev pub position_said : Entry → Option Position → Option Position
+abbrev pub position_said : PlacedEntry → Option Position → Option Position
 position_said (OfCell e) held = position_behind e.change held
 position_said (OfPosition e) held = Some e.position
 
 -- the position of cell n behind the entries
-unfoldable pub latest_position : RegisterSettings → List Entry → ℕ → Option Position
+unfoldable pub latest_position : RegisterSettings → List PlacedEntry → ℕ → Option Position
 latest_position s [] n = None
 latest_position s (e ∷ before) n =
     cond (entry_is_taken s before e && eqb (cell_named e) n) (position_said e (latest_position s before n)) (latest_position s before n)
 
 -- ---- the entries in slot order, without repeats, older ones and slots above the limit
-abbrev pub is_later_entry : List Entry → Entry → Bool
+abbrev pub is_later_entry : List PlacedEntry → PlacedEntry → Bool
 is_later_entry before e = slot_within_limit (cell_entry e).slot && above (cell_entry e).slot (cell_entries before)
 
-unfoldable pub later_placed : List Entry → List Entry
+unfoldable pub later_placed : List PlacedEntry → List PlacedEntry
 later_placed [] = []
 later_placed (e ∷ before) = cond (is_later_entry before e) (e ∷ later_placed before) (later_placed before)
 
 -- ---- the register after entries that stand latest first, from a new one of these settings
-unfoldable pub placed_after : RegisterSettings → List Entry → PlacedRegister
+unfoldable pub placed_after : RegisterSettings → List PlacedEntry → PlacedRegister
 placed_after s [] = new_placed s
 placed_after s (e ∷ before) = (apply_entry (placed_after s before) e).placed

@@ -4,7 +4,7 @@
 #![tactic(auto)]
 
 ghost use Rattle.std.specs.Prelude.{◌≡◌, ◌<◌, ◌≤◌, ℕ, List, [], Option, Some, None, MatchResult, length, set, take, map, get_or, replicate};
-ghost use Rattle.places.specs.Places.{at_front, without, with_at};
+ghost use Rattle.basics.specs.elements.Places.{at_front, without, with_at};
 ghost use Rattle.register.specs.Cells.{found, number_of_cell};
 ghost use Rattle.register.specs.Register.{live_cells, live_places};
 ghost use Rattle.group_register.specs.GroupRegister.{group_register, group_applied, apply_in_group};
@@ -12,8 +12,8 @@ ghost use Rattle.positions.specs.declared.Position.{Position};
 ghost use Rattle.positions.specs.Grid.{within_grid};
 ghost use Rattle.positions.specs.Placed.{IsPlaceOf, followed, placed, placed_applied, without_positions, new_placed, position_refusal_number, apply_cell, apply_position, apply_entry, position_of};
 
+use basics::elements::{insert_at, remove_at};
 use group_register::{GroupRefusal, GroupRegister, RegisterSettings};
-use places::{insert_at, remove_at};
 use refusals::Refused;
 use register::{
     Applied, CellEntry, CellNumber, Change, Entered, EntryRefusal, Register, RegisterPlaces,
@@ -36,7 +36,7 @@ pub struct PositionEntry {
 
 // What a slot's commit says: an entry of the register, as before, or a cell's position.
 #[derive(Clone, Copy)]
-pub enum Entry {
+pub enum PlacedEntry {
     OfCell(CellEntry),
     OfPosition(PositionEntry),
 }
@@ -245,7 +245,7 @@ pub fn apply_in<R: RegisterPlaces, P: PositionPlaces>(
     settings: RegisterSettings,
     register: &mut R,
     positions: &mut P,
-    entry: Entry,
+    entry: PlacedEntry,
 ) -> Result<Entered, PositionRefusal>
     ensures same { (R.lent register.new ≡ R.lent register.old) × (P.lent positions.new ≡ P.lent positions.old) }
     ensures plain { P.plain positions.old → P.plain positions.new }
@@ -253,13 +253,13 @@ pub fn apply_in<R: RegisterPlaces, P: PositionPlaces>(
         ≡ apply_entry (placed (group_register settings (R.register register.old)) (P.positions positions.old)) entry }
 {
     match entry {
-        Entry::OfCell(entry) => apply_cell(settings, register, positions, entry),
-        Entry::OfPosition(entry) => apply_position(settings, register, positions, entry),
+        PlacedEntry::OfCell(entry) => apply_cell(settings, register, positions, entry),
+        PlacedEntry::OfPosition(entry) => apply_position(settings, register, positions, entry),
     }
 }
 
 // The register after an entry.
-pub fn apply(mut placed: PlacedRegister, entry: Entry) -> PlacedApplied
+pub fn apply(mut placed: PlacedRegister, entry: PlacedEntry) -> PlacedApplied
     ensures { result ≡ apply_entry placed entry }
 {
     let outcome = apply_in(

@@ -1,1 +1,2 @@
 pub mod Propose
+pub mod proposal

@@ -13,8 +13,8 @@ use Rattle.round_state.specs.declared.PaxosState.{PaxosState}
 use Rattle.fast_state.specs.Fast.{answers_of, unchanged, epaxos_propose_v, swift_propose_v}
 use Rattle.fast_state.specs.declared.FastAnswers.{FastAnswers}
 use Rattle.fast_state.specs.declared.FastChange.{FastChange}
-pub use Rattle.proposal.specs.Proposal.{not_allowed, proposal_round}
-unfoldable pub use Rattle.proposal.specs.Proposal.{electing, may_propose}
+pub use Rattle.propose.specs.proposal.Proposal.{not_allowed, proposal_round}
+unfoldable pub use Rattle.propose.specs.proposal.Proposal.{electing, may_propose}
 use Rattle.steps.specs.Steps.{RoundsStep, CoreStep, one_message, sends, to_all, with_paxos, stays, map_step, with_change, change_rounds}
 use Rattle.steps.specs.declared.Asked.{Asked}
 use Rattle.steps.specs.declared.ChangeStep.{ChangeStep}
@@ -22,18 +22,18 @@ use Rattle.steps.specs.declared.Core.{Core}
 use Rattle.steps.specs.declared.Rounds.{Rounds}
 
 -- broadcast: where the own promise or the own accept is taken, the message of the proposal goes to all
-abbrev pub proposed : Asked → ConsensusMsg → Core → Result PaxosState Refusal → Result CoreStep Refusal
-proposed a msg core (Ok p) = Ok (stays (with_paxos p core) (one_message (sends a core to_all msg)))
-proposed a msg core (Err why) = Err not_allowed
+abbrev pub broadcast_own : Asked → ConsensusMsg → Core → Result PaxosState Refusal → Result CoreStep Refusal
+broadcast_own a msg core (Ok p) = Ok (stays (with_paxos p core) (one_message (sends a core to_all msg)))
+broadcast_own a msg core (Err why) = Err not_allowed
 
 -- goto_round, paxos_propose_v, and the Prepare of the value
 unfoldable pub propose_prepare : Asked → PaxosRound → RoundV → Core → Result CoreStep Refusal
 propose_prepare a round rv core =
-    proposed a (Prepare core.slot round rv) core (paxos_propose_v a.member rv (goto_round (Some round) core.paxos))
+    broadcast_own a (Prepare core.slot round rv) core (paxos_propose_v a.member rv (goto_round (Some round) core.paxos))
 
 -- paxos_propose_v was taken: self_accept, and the Accept of the value
 abbrev pub after_own_promise : Asked → PaxosRound → ℕ → Core → Result PaxosState Refusal → Result CoreStep Refusal
-after_own_promise a round v core (Ok p) = proposed a (Accept core.slot round v) core (self_accept a.member round p)
+after_own_promise a round v core (Ok p) = broadcast_own a (Accept core.slot round v) core (self_accept a.member round p)
 after_own_promise a round v core (Err why) = Err not_allowed
 
 -- goto_round, paxos_propose_v, self_accept, and the Accept of the value: a leader from the start needs no other promise than its own

@@ -1,24 +1,26 @@
 // What a proposal does: the first step of the mode, a Prepare, an Accept, or a fast proposal.
 #![tactic(auto)]
 
-ghost use Rattle.std.specs.Prelude.{◌≡◌};
-ghost use Rattle.propose.specs.Propose.{proposed, propose_prepare, propose_accept, propose_classic, own_answer, leads_from_start, propose_change, propose_fast};
+pub mod proposal;
 
+ghost use Rattle.std.specs.Prelude.{◌≡◌};
+ghost use Rattle.propose.specs.Propose.{broadcast_own, propose_prepare, propose_accept, propose_classic, own_answer, leads_from_start, propose_change, propose_fast};
+
+use crate::proposal::{electing, may_propose, not_allowed, proposal_round};
+use basics::tables::PerProcess;
 use fast_state::{FastAnswers, FastChange};
 use message::{ConsensusMsg, PaxosRound, Refusal, RoundV};
-use proposal::{electing, may_propose, not_allowed, proposal_round};
 use round_state::PaxosState;
 use steps::{Asked, ChangeStep, Core, CoreStep, Rounds, RoundsStep};
-use tables::PerProcess;
 
 // Where the own promise or the own accept is taken, the message of the proposal goes to all.
-fn proposed(
+fn broadcast_own(
     asked: Asked,
     msg: ConsensusMsg,
     core: Core,
     taken: Result<PaxosState, Refusal>,
 ) -> Result<CoreStep, Refusal>
-    ensures { result ≡ proposed asked msg core taken }
+    ensures { result ≡ broadcast_own asked msg core taken }
 {
     match taken {
         Ok(p) => {
@@ -46,7 +48,7 @@ fn propose_prepare(
         round,
         rv,
     };
-    proposed(asked, prepare, core, promised)
+    broadcast_own(asked, prepare, core, promised)
 }
 
 // A leader from the start needs no promises but its own: it accepts the value, and proposes it in an Accept.
@@ -67,7 +69,7 @@ fn propose_accept(asked: Asked, round: PaxosRound, v: u64, core: Core) -> Result
                 round,
                 v,
             };
-            proposed(asked, accept, core, accepted)
+            broadcast_own(asked, accept, core, accepted)
         }
         Err(_) => Err(not_allowed()),
     }
@@ -105,9 +107,16 @@ fn own_answer(
 {
     let me = asked.member;
     if asked.mode.is_swift_paxos() {
-        return swift_state::swift_propose_v(answers, swift_scores, me, v, asked.quorum, false);
+        return fast_state::swift::swift_propose_v(
+            answers,
+            swift_scores,
+            me,
+            v,
+            asked.quorum,
+            false,
+        );
     }
-    epaxos_state::epaxos_propose_v(answers, epaxos_scores, me, v)
+    fast_state::epaxos::epaxos_propose_v(answers, epaxos_scores, me, v)
 }
 
 // The leader of SwiftPaxos accepts at once.

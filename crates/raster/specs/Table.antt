@@ -3,7 +3,7 @@
 use Rattle.std.specs.Prelude.{◌≡◌, ◌⊎◌, ℕ, ◌+◌, ◌*◌, ◌-◌, ◌≤◌}
 
 -- a row: numbers `first` to `last` step `step` kHz from `start` kHz, and n has f kHz
-pub record Row (first last step start n f : ℕ) : Type 0 where
+pub record RasterRow (first last step start n f : ℕ) : Type 0 where
   pub from : first ≤ n
   pub to : n ≤ last
   pub khz : f ≡ start + step * (n - first)
@@ -12,6 +12,6 @@ pub record Row (first last step start n f : ℕ) : Type 0 where
 -- 60 kHz from 24,250,080 kHz."
 abbrev pub OnRaster : ℕ → ℕ → Type 0
 OnRaster n f =
-    Row 0 599999 5 0 n f
-    ⊎ (Row 600000 2016666 15 3000000 n f
-    ⊎ Row 2016667 3279165 60 24250080 n f)
+    RasterRow 0 599999 5 0 n f
+    ⊎ (RasterRow 600000 2016666 15 3000000 n f
+    ⊎ RasterRow 2016667 3279165 60 24250080 n f)

@@ -8,8 +8,8 @@ use native.Mathlib.Omega.{arith}
 use Rattle.std.specs.Prelude.{Result, Ok, Err}
 use Rattle.basics.proofs.Tests.{either, not_both, and_left, and_right, and_both}
 use Rattle.refusals.specs.Refusals.{refusal}
-use Rattle.reach.specs.Conflict.{WithinLimits, MayAssign}
-use Rattle.reach.specs.Reach.{reach_refusal_number, within_limits, khz_at, may_ask, asked}
+use Rattle.reach.specs.Conflict.{QuestionWithinLimits, MayAssign}
+use Rattle.reach.specs.Reach.{reach_refusal_number, question_within_limits, khz_at, may_ask, question_checked}
 use Rattle.reach.specs.Search.{Askable}
 use Rattle.reach.specs.declared.Question.{Question}
 use Rattle.reach.specs.declared.ReachRefusal.{ReachRefusal}
@@ -37,7 +37,7 @@ no_other NotInCalendar n a b e = b (sym e)
 
 module _ (s : RegisterSettings) (q : Question) (first last : ℕ) where
   abbrev before : Result (Unit {0}) ReachRefusal
-  before = asked s q first last
+  before = question_checked s q first last
 
   abbrev ends : Bool
   ends = may_ask first q.width && may_ask last q.width
@@ -45,15 +45,15 @@ module _ (s : RegisterSettings) (q : Question) (first last : ℕ) where
   -- what refuses, in document 02's words
   pub data Cause : Type 0 where
     unmade : is_made s ≡ false → before ≡ Err (Unmade (unmade_by s)) → Cause
-    outside : is_made s ≡ true → (WithinLimits q → ⊥) → before ≡ Err OutsideLimits → Cause
-    not_assignable : is_made s ≡ true → WithinLimits q → (MayAssign first q.width × MayAssign last q.width → ⊥) → before ≡ Err NotAssignable → Cause
-    none : is_made s ≡ true → WithinLimits q → MayAssign first q.width → MayAssign last q.width → before ≡ Ok tt → Cause
+    outside : is_made s ≡ true → (QuestionWithinLimits q → ⊥) → before ≡ Err OutsideLimits → Cause
+    not_assignable : is_made s ≡ true → QuestionWithinLimits q → (MayAssign first q.width × MayAssign last q.width → ⊥) → before ≡ Err NotAssignable → Cause
+    none : is_made s ≡ true → QuestionWithinLimits q → MayAssign first q.width → MayAssign last q.width → before ≡ Ok tt → Cause
 
   pub the_cause : Cause
-  unfolding asked
-  the_cause = go (either (is_made s)) (either (within_limits q)) (either ends)
+  unfolding question_checked
+  the_cause = go (either (is_made s)) (either (question_within_limits q)) (either ends)
     where
-      go : (is_made s ≡ true) ⊎ (is_made s ≡ false) → (within_limits q ≡ true) ⊎ (within_limits q ≡ false) → (ends ≡ true) ⊎ (ends ≡ false) → Cause
+      go : (is_made s ≡ true) ⊎ (is_made s ≡ false) → (question_within_limits q ≡ true) ⊎ (question_within_limits q ≡ false) → (ends ≡ true) ⊎ (ends ≡ false) → Cause
       go (inr m) l e = unmade m (simp m)
       go (inl m) (inr l) e = outside m (λ limits. not_both (test_of_limits q limits) l) (simp (m, l))
       go (inl m) (inl l) (inr e) =
@@ -73,7 +73,7 @@ module _ (s : RegisterSettings) (q : Question) (first last : ℕ) where
       go (not_assignable made limits may is) = absurd (not_both made m)
       go (none made limits low high is) = absurd (not_both made m)
 
-  pub outside_is_21 : is_made s ≡ true → (WithinLimits q → ⊥) → number_of before ≡ 21
+  pub outside_is_21 : is_made s ≡ true → (QuestionWithinLimits q → ⊥) → number_of before ≡ 21
   outside_is_21 m off = go the_cause
     where
       go : Cause → number_of before ≡ 21
@@ -82,7 +82,7 @@ module _ (s : RegisterSettings) (q : Question) (first last : ℕ) where
       go (not_assignable made limits may is) = absurd (off limits)
       go (none made limits low high is) = absurd (off limits)
 
-  pub not_assignable_is_14 : is_made s ≡ true → WithinLimits q → (MayAssign first q.width × MayAssign last q.width → ⊥) → number_of before ≡ 14
+  pub not_assignable_is_14 : is_made s ≡ true → QuestionWithinLimits q → (MayAssign first q.width × MayAssign last q.width → ⊥) → number_of before ≡ 14
   not_assignable_is_14 m limits off = go the_cause
     where
       go : Cause → number_of before ≡ 14
@@ -91,7 +91,7 @@ module _ (s : RegisterSettings) (q : Question) (first last : ℕ) where
       go (not_assignable made within may is) = ap number_of is
       go (none made within low high is) = absurd (off (low, high))
 
-  pub else_asked : is_made s ≡ true → WithinLimits q → MayAssign first q.width → MayAssign last q.width → before ≡ Ok tt
+  pub else_asked : is_made s ≡ true → QuestionWithinLimits q → MayAssign first q.width → MayAssign last q.width → before ≡ Ok tt
   else_asked m limits low high = go the_cause
     where
       go : Cause → before ≡ Ok tt
@@ -110,29 +110,29 @@ module _ (s : RegisterSettings) (q : Question) (first last : ℕ) where
       go (not_assignable made limits may is) = absurd (no_other why 14 (λ z. omega arith) (λ z. omega arith) (same_number (number_of before) e (ap number_of is)))
       go (none made limits low high is) = absurd (no_other why 0 (λ z. omega arith) (λ z. omega arith) (same_number (number_of before) e (ap number_of is)))
 
-  pub is_21_outside : number_of before ≡ 21 → (is_made s ≡ true) × (WithinLimits q → ⊥)
+  pub is_21_outside : number_of before ≡ 21 → (is_made s ≡ true) × (QuestionWithinLimits q → ⊥)
   is_21_outside e = go the_cause
     where
-      go : Cause → (is_made s ≡ true) × (WithinLimits q → ⊥)
+      go : Cause → (is_made s ≡ true) × (QuestionWithinLimits q → ⊥)
       go (unmade u is) = absurd (no_other (unmade_by s) 21 (λ z. omega arith) (λ z. omega arith) (same_number (number_of before) (ap number_of is) e))
       go (outside m off is) = (m, off)
       go (not_assignable made limits may is) = absurd (let z : ◌≡◌ {A = ℕ} 14 21 = same_number (number_of before) (ap number_of is) e in omega arith)
       go (none made limits low high is) = absurd (let z : ◌≡◌ {A = ℕ} 0 21 = same_number (number_of before) (ap number_of is) e in omega arith)
 
-  pub is_14_not_assignable : number_of before ≡ 14 → (is_made s ≡ true) × WithinLimits q × (MayAssign first q.width × MayAssign last q.width → ⊥)
+  pub is_14_not_assignable : number_of before ≡ 14 → (is_made s ≡ true) × QuestionWithinLimits q × (MayAssign first q.width × MayAssign last q.width → ⊥)
   is_14_not_assignable e = go the_cause
     where
-      go : Cause → (is_made s ≡ true) × WithinLimits q × (MayAssign first q.width × MayAssign last q.width → ⊥)
+      go : Cause → (is_made s ≡ true) × QuestionWithinLimits q × (MayAssign first q.width × MayAssign last q.width → ⊥)
       go (unmade u is) = absurd (no_other (unmade_by s) 14 (λ z. omega arith) (λ z. omega arith) (same_number (number_of before) (ap number_of is) e))
       go (outside made off is) = absurd (let z : ◌≡◌ {A = ℕ} 21 14 = same_number (number_of before) (ap number_of is) e in omega arith)
       go (not_assignable m limits may is) = (m, limits, may)
       go (none made limits low high is) = absurd (let z : ◌≡◌ {A = ℕ} 0 14 = same_number (number_of before) (ap number_of is) e in omega arith)
 
   -- what is not refused keeps to the limits
-  pub asked_limits : before ≡ Ok tt → (is_made s ≡ true) × WithinLimits q × MayAssign first q.width × MayAssign last q.width
+  pub asked_limits : before ≡ Ok tt → (is_made s ≡ true) × QuestionWithinLimits q × MayAssign first q.width × MayAssign last q.width
   asked_limits e = go the_cause
     where
-      go : Cause → (is_made s ≡ true) × WithinLimits q × MayAssign first q.width × MayAssign last q.width
+      go : Cause → (is_made s ≡ true) × QuestionWithinLimits q × MayAssign first q.width × MayAssign last q.width
       go (unmade u is) = absurd (no_other (unmade_by s) 0 (λ z. omega arith) (λ z. omega arith) (same_number (number_of before) (ap number_of is) (ap number_of e)))
       go (outside made off is) = absurd (let z : ◌≡◌ {A = ℕ} 21 0 = same_number (number_of before) (ap number_of is) (ap number_of e) in omega arith)
       go (not_assignable made limits may is) =

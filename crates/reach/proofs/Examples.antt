@@ -1,7 +1,6 @@
 -- Two live cells, computed: each hypothesis of the laws holds somewhere.
 -- Assumes nothing.
 use mathlib.Core.Path.{◌≡◌, refl}
-use mathlib.Core.Bool.{true}
 use mathlib.Core.Logic.{inl, inr}
 use mathlib.Core.List.{List, [], ◌∷◌}
 use Prim.Native.Nat.{ℕ}
@@ -10,11 +9,11 @@ use lib.IntN.{ℤ, pos, negsuc}
 use Rattle.std.specs.Prelude.{Option, Some, None, Ok, Err}
 use Rattle.raster.specs.Raster.{frequency_of}
 use Rattle.register.specs.Register.{assignable}
-use Rattle.places.specs.Places.{at_front}
+use Rattle.basics.specs.elements.Places.{at_front}
 use Rattle.positions.specs.Grid.{within_grid}
 use Rattle.positions.specs.declared.Position.{Position}
 use Rattle.reach.specs.Conflict.{Assigned, RisingPlaced}
-use Rattle.reach.specs.Reach.{within_limits, near, overlaps, clashes, blocked, lowest_free, asked, conflicts_of, first_free}
+use Rattle.reach.specs.Reach.{question_within_limits, near, overlaps, clashes, blocked, lowest_free, question_checked, conflicts_of, first_free}
 use Rattle.reach.specs.declared.PlacedCell.{PlacedCell}
 use Rattle.reach.specs.declared.Question.{Question}
 use Rattle.reach.specs.declared.ReachRefusal.TheVariants.{Unmade, NotAssignable, OutsideLimits, NoneFree}
@@ -61,7 +60,7 @@ rising = (omega arith, (omega arith, tt))
 pub lists : (conflicts_of (kept 0) office 631000 (ask 20000 (pos 0) 500) places ≡ (Ok 2, 3 ∷ 7 ∷ 9 ∷ 9 ∷ []))
     × (conflicts_of (kept 0) office 631000 (ask 20000 (pos 0) 499) places ≡ (Ok 1, 7 ∷ 9 ∷ 9 ∷ 9 ∷ []))
     × (conflicts_of (kept 0) office 631000 (ask 10000 (pos 0) 500) places ≡ (Ok 0, places))
-unfolding settings_refusal conflicts_of asked clashes overlaps near within_limits within_grid assignable frequency_of at_front
+unfolding settings_refusal conflicts_of question_checked clashes overlaps near question_within_limits within_grid assignable frequency_of at_front
 lists = (refl, refl, refl)
 
 pub refusals : (conflicts_of (kept 17) office 3279166 (ask 0 (negsuc 2000000) 500) places ≡ (Err (Unmade NotInCalendar), places))
@@ -70,7 +69,7 @@ pub refusals : (conflicts_of (kept 17) office 3279166 (ask 0 (negsuc 2000000) 50
     × (conflicts_of (kept 0) office 631000 (ask 10000 (pos 0) 6000001) places ≡ (Err OutsideLimits, places))
     × (conflicts_of (kept 0) office 3279166 (ask 10000 (negsuc 1999999) 6000000) places ≡ (Err NotAssignable, places))
     × (conflicts_of (kept 0) office 631000 (ask 400001 (pos 0) 500) places ≡ (Err NotAssignable, places))
-unfolding settings_refusal conflicts_of asked within_limits within_grid assignable frequency_of
+unfolding settings_refusal conflicts_of question_checked question_within_limits within_grid assignable frequency_of
 refusals = (refl, refl, refl, refl, refl, refl)
 
 pub ranges : (first_free (kept 0) office 630998 631001 (ask 10000 (pos 0) 500) ≡ Ok 631000)
@@ -79,5 +78,5 @@ pub ranges : (first_free (kept 0) office 630998 631001 (ask 10000 (pos 0) 500) �
     × (first_free (kept 0) office 631001 3279166 (ask 10000 (pos 0) 500) ≡ Err NotAssignable)
     × (first_free (kept 0) office 3279166 631000 (ask 0 (pos 2000001) 500) ≡ Err OutsideLimits)
     × (first_free (kept 17) office 3279166 631000 (ask 0 (pos 2000001) 500) ≡ Err (Unmade NotInCalendar))
-unfolding settings_refusal first_free asked lowest_free blocked clashes overlaps near within_limits within_grid assignable frequency_of
+unfolding settings_refusal first_free question_checked lowest_free blocked clashes overlaps near question_within_limits within_grid assignable frequency_of
 ranges = (refl, refl, refl, refl, refl, refl)

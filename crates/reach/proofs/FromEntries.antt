@@ -5,7 +5,7 @@ use mathlib.Core.Path.{◌≡◌, refl, sym, ap, ap₂, subst, ◌∙◌}
 use mathlib.Core.Bool.{Bool, true, false, cond, ◌&&◌, not}
 use mathlib.Core.List.{List, [], ◌∷◌}
 use mathlib.Core.Logic.{inl, inr}
-use Prim.Native.Nat.{ℕ, ◌+◌, ◌≤◌, ◌<◌}
+use Prim.Native.Nat.{ℕ, ◌+◌, ◌≤◌}
 use native.Mathlib.Omega.{arith}
 use lib.Dec.{leb, eqb}
 use lib.ListN.{length}
@@ -32,12 +32,12 @@ use Rattle.group_register.proofs.Mapped.{bound_entries}
 use Rattle.group_register.proofs.GroupLaws as E13
 use Rattle.positions.specs.Placed.{position_of}
 use Rattle.positions.specs.PlacedTaken.{cell_entries, latest_position, placed_after}
-use Rattle.positions.specs.declared.Entry.{Entry}
+use Rattle.positions.specs.declared.PlacedEntry.{PlacedEntry}
 use Rattle.positions.specs.declared.Position.{Position}
 use Rattle.positions.proofs.Laws.{register_below, group_is, positions_long, position_given}
 use Rattle.positions.proofs.Rows.{position_in}
 use Rattle.reach.specs.Cells.{placed_cell, placed_cells, cells_of}
-use Rattle.reach.specs.Conflict.{Conflict, Taken, Named, WithinLimits, MayAssign, Assigned, RisingPlaced}
+use Rattle.reach.specs.Conflict.{Conflict, CarrierTaken, Named, QuestionWithinLimits, MayAssign, Assigned, RisingPlaced}
 use Rattle.reach.specs.Entries.{LiveWith, said_cell, InConflict, SomeInConflict, LowestFree}
 use Rattle.reach.specs.Reach.{khz_at, numbers_listed, conflicts_of, first_free}
 use Rattle.reach.specs.declared.PlacedCell.{PlacedCell}
@@ -135,7 +135,7 @@ may_assign a t =
     }
 
 -- ---- after every list of entries, in a register that is made
-module _ (s : RegisterSettings) (made : is_made s ≡ true) (es : List Entry) where
+module _ (s : RegisterSettings) (made : is_made s ≡ true) (es : List PlacedEntry) where
   abbrev r : Register
   r = (placed_after s es).group.register
 
@@ -196,14 +196,14 @@ module _ (s : RegisterSettings) (made : is_made s ≡ true) (es : List Entry) wh
         conflict = subst (λ (c : PlacedCell). Conflict q n c) here k.conflict;
       }
 
-  taken_in_conflict : (q : Question) (n : ℕ) → Taken q n cells → SomeInConflict s es q n
+  taken_in_conflict : (q : Question) (n : ℕ) → CarrierTaken q n cells → SomeInConflict s es q n
   taken_in_conflict q n t =
       record {
         cell = t.cell.number;
         conflict = named_in_conflict q n t.cell.number (record { cell = t.cell; live = t.live; number = refl; conflict = t.conflict });
       }
 
-  in_conflict_taken : (q : Question) (n m : ℕ) → InConflict s es q n m → Taken q n cells
+  in_conflict_taken : (q : Question) (n m : ℕ) → InConflict s es q n m → CarrierTaken q n cells
   in_conflict_taken q n m k =
       record { cell = said_cell s es m k.assignment; live = said_is_live m k.assignment k.live; conflict = k.conflict }
 
@@ -212,7 +212,7 @@ module _ (s : RegisterSettings) (made : is_made s ≡ true) (es : List Entry) wh
     pub listed_in_conflict : In m (numbers_listed (conflicts_of s (cells_of (placed_after s es)) n q places)) → InConflict s es q n m
     listed_in_conflict i = named_in_conflict q n m (listed_conflicts s cells n q places cells_assigned m i)
 
-    pub in_conflict_listed : WithinLimits q → MayAssign n q.width → InConflict s es q n m
+    pub in_conflict_listed : QuestionWithinLimits q → MayAssign n q.width → InConflict s es q n m
         → In m (numbers_listed (conflicts_of s (cells_of (placed_after s es)) n q places))
     in_conflict_listed limits may k =
         conflicts_listed s cells n q places made limits may (said_cell s es m k.assignment) (said_is_live m k.assignment k.live) k.conflict
@@ -235,7 +235,7 @@ module _ (s : RegisterSettings) (made : is_made s ≡ true) (es : List Entry) wh
     none_free_in_entries e k least most = taken_in_conflict q k (free_22_all_taken s cells first last q cells_assigned e k least most)
 
     -- and back, of a question within its limits
-    module _ (limits : WithinLimits q) (low : MayAssign first q.width) (high : MayAssign last q.width) where
+    module _ (limits : QuestionWithinLimits q) (low : MayAssign first q.width) (high : MayAssign last q.width) where
       pub in_entries_lowest : (n : ℕ) → LowestFree s es q first last n → first_free s (cells_of (placed_after s es)) first last q ≡ Ok n
       in_entries_lowest n l =
           lowest_free_lem s cells first last q made limits low high cells_assigned n

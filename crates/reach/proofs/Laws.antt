@@ -3,7 +3,7 @@
 -- Assumes nothing.
 use mathlib.Core.Path.{◌≡◌, refl, sym, ap, ◌∙◌, subst⁻¹}
 use mathlib.Core.Logic.{◌⊎◌, inl, inr}
-use mathlib.Core.Bool.{Bool, true}
+use mathlib.Core.Bool.{true}
 use mathlib.Core.List.{List, []}
 use Prim.Native.Nat.{ℕ, ◌+◌, ◌-◌, ◌≤◌, ◌<◌}
 use native.Mathlib.Omega.{arith}
@@ -12,9 +12,9 @@ use lib.Seq.{take_at}
 use Rattle.std.specs.Prelude.{Result, Ok, Err}
 use Rattle.basics.specs.Lists.{In}
 use Rattle.basics.proofs.Tests.{not_both, fails}
-use Rattle.places.specs.Places.{at_front}
-use Rattle.reach.specs.Conflict.{Conflict, Taken, Named, Lowest, WithinLimits, MayAssign, Assigned, RisingPlaced, Rising}
-use Rattle.reach.specs.Reach.{reach_refusal_number, khz_at, clashing, blocked, lowest_free, asked, listed, numbers_listed, conflicts_of, unless_refused, first_free}
+use Rattle.basics.specs.elements.Places.{at_front}
+use Rattle.reach.specs.Conflict.{Conflict, CarrierTaken, Named, Lowest, QuestionWithinLimits, MayAssign, Assigned, RisingPlaced, Rising}
+use Rattle.reach.specs.Reach.{reach_refusal_number, khz_at, clashing, blocked, lowest_free, question_checked, listed_in_places, numbers_listed, conflicts_of, unless_refused, first_free}
 use Rattle.reach.specs.declared.PlacedCell.{PlacedCell}
 use Rattle.reach.specs.declared.Question.{Question}
 use Rattle.reach.specs.declared.ReachRefusal.{ReachRefusal}
@@ -31,7 +31,7 @@ module _ (s : RegisterSettings) (cs : List PlacedCell) (n : ℕ) (q : Question) 
   list = conflicts_of s cs n q places
 
   abbrev before : Result (Unit {0}) ReachRefusal
-  before = asked s q n n
+  before = question_checked s q n n
 
   in_front : (ns : List ℕ) → take (length ns) (at_front ns places) ≡ ns
   unfolding at_front
@@ -40,11 +40,11 @@ module _ (s : RegisterSettings) (cs : List PlacedCell) (n : ℕ) (q : Question) 
   numbers_are : before ≡ Ok tt → numbers_listed list ≡ clashing q (khz_at n) cs
   unfolding conflicts_of
   numbers_are e =
-      ap (λ (r : Result (Unit {0}) ReachRefusal). numbers_listed (listed r (clashing q (khz_at n) cs) places)) e ∙ in_front (clashing q (khz_at n) cs)
+      ap (λ (r : Result (Unit {0}) ReachRefusal). numbers_listed (listed_in_places r (clashing q (khz_at n) cs) places)) e ∙ in_front (clashing q (khz_at n) cs)
 
   numbers_none : (why : ReachRefusal) → before ≡ Err why → numbers_listed list ≡ []
   unfolding conflicts_of
-  numbers_none why e = ap (λ (r : Result (Unit {0}) ReachRefusal). numbers_listed (listed r (clashing q (khz_at n) cs) places)) e
+  numbers_none why e = ap (λ (r : Result (Unit {0}) ReachRefusal). numbers_listed (listed_in_places r (clashing q (khz_at n) cs) places)) e
 
   -- a question is answered, or nothing is listed
   by_answer : (P : List ℕ → Type 0) → (before ≡ Ok tt → P (clashing q (khz_at n) cs)) → P [] → P (numbers_listed list)
@@ -60,7 +60,7 @@ module _ (s : RegisterSettings) (cs : List PlacedCell) (n : ℕ) (q : Question) 
       by_answer (λ (l : List ℕ). In m l → Named q n cs m) (λ e. named_of_list q n (asked_limits s q n n e).2 cs assigned m) (λ i. absurd i)
 
   -- and every live cell in conflict is listed
-  pub conflicts_listed : is_made s ≡ true → WithinLimits q → MayAssign n q.width → (c : PlacedCell) → In c cs → Conflict q n c
+  pub conflicts_listed : is_made s ≡ true → QuestionWithinLimits q → MayAssign n q.width → (c : PlacedCell) → In c cs → Conflict q n c
       → In c.number (numbers_listed (conflicts_of s cs n q places))
   conflicts_listed m limits may c live k =
       subst⁻¹ (λ (l : List ℕ). In c.number l) (numbers_are (else_asked s q n n m limits may may)) (list_of_conflict q n cs c live k)
@@ -70,18 +70,18 @@ module _ (s : RegisterSettings) (cs : List PlacedCell) (n : ℕ) (q : Question) 
   listed_rises low r = by_answer (Rising low) (λ e. list_rises q (khz_at n) low cs r) tt
 
   -- the numbers with which a list is refused are those of Asking.antt
-  pub list_number : number_of (conflicts_of s cs n q places).0 ≡ number_of (asked s q n n)
+  pub list_number : number_of (conflicts_of s cs n q places).0 ≡ number_of (question_checked s q n n)
   unfolding conflicts_of
   list_number = go before
     where
-      go : (r : Result (Unit {0}) ReachRefusal) → number_of (listed r (clashing q (khz_at n) cs) places).0 ≡ number_of r
+      go : (r : Result (Unit {0}) ReachRefusal) → number_of (listed_in_places r (clashing q (khz_at n) cs) places).0 ≡ number_of r
       go (Ok u) = refl
       go (Err why) = refl
 
   -- a refused question leaves every place as it was
-  pub places_left : (why : ReachRefusal) → asked s q n n ≡ Err why → (conflicts_of s cs n q places).1 ≡ places
+  pub places_left : (why : ReachRefusal) → question_checked s q n n ≡ Err why → (conflicts_of s cs n q places).1 ≡ places
   unfolding conflicts_of
-  places_left why e = ap (λ (r : Result (Unit {0}) ReachRefusal). (listed r (clashing q (khz_at n) cs) places).1) e
+  places_left why e = ap (λ (r : Result (Unit {0}) ReachRefusal). (listed_in_places r (clashing q (khz_at n) cs) places).1) e
 
 -- ==== "Given a range of carrier numbers, give the lowest that conflicts with none."
 module _ (s : RegisterSettings) (cs : List PlacedCell) (first last : ℕ) (q : Question) where
@@ -91,11 +91,11 @@ module _ (s : RegisterSettings) (cs : List PlacedCell) (first last : ℕ) (q : Q
   abbrev search : Result ℕ ReachRefusal
   search = lowest_free (blocked q cs) first (last + 1 - first)
 
-  pub searched : asked s q first last ≡ Ok tt → answer ≡ search
+  pub searched : question_checked s q first last ≡ Ok tt → answer ≡ search
   unfolding first_free
   searched e = ap (λ (r : Result (Unit {0}) ReachRefusal). unless_refused r search) e
 
-  not_searched : (why : ReachRefusal) → asked s q first last ≡ Err why → answer ≡ Err why
+  not_searched : (why : ReachRefusal) → question_checked s q first last ≡ Err why → answer ≡ Err why
   unfolding first_free
   not_searched why e = ap (λ (r : Result (Unit {0}) ReachRefusal). unless_refused r search) e
 
@@ -107,9 +107,9 @@ module _ (s : RegisterSettings) (cs : List PlacedCell) (first last : ℕ) (q : Q
 
   -- ---- the carrier given is in the range, conflicts with none, and every lower one of the range conflicts with some
   pub free_lowest : Assigned cs → (n : ℕ) → first_free s cs first last q ≡ Ok n → Lowest q cs first last n
-  free_lowest assigned n e = go (asked s q first last) refl
+  free_lowest assigned n e = go (question_checked s q first last) refl
     where
-      go : (r : Result (Unit {0}) ReachRefusal) → asked s q first last ≡ r → Lowest q cs first last n
+      go : (r : Result (Unit {0}) ReachRefusal) → question_checked s q first last ≡ r → Lowest q cs first last n
       go (Err why) is = absurd (never (sym (not_searched why is) ∙ e))
         where
           never : Err why ≡ Ok n → ⊥
@@ -129,7 +129,7 @@ module _ (s : RegisterSettings) (cs : List PlacedCell) (first last : ℕ) (q : Q
           found = lowest_found (blocked q cs) first (last + 1 - first) n (sym (searched is) ∙ e)
 
   -- and there is no other such one
-  pub lowest_free_lem : is_made s ≡ true → WithinLimits q → MayAssign first q.width → MayAssign last q.width → Assigned cs → (n : ℕ) → Lowest q cs first last n
+  pub lowest_free_lem : is_made s ≡ true → QuestionWithinLimits q → MayAssign first q.width → MayAssign last q.width → Assigned cs → (n : ℕ) → Lowest q cs first last n
       → first_free s cs first last q ≡ Ok n
   lowest_free_lem m limits low high assigned n l =
       searched (else_asked s q first last m limits low high)
@@ -141,7 +141,7 @@ module _ (s : RegisterSettings) (cs : List PlacedCell) (first last : ℕ) (q : Q
         lower = λ k least less. (let t = l.lower k least less in test_of_taken q k cs t.cell t.live t.conflict);
       })
     where
-      clear : Taken q n cs → ⊥
+      clear : CarrierTaken q n cs → ⊥
       clear k = l.free k.cell k.live k.conflict
 
   -- ---- "22, no carrier in the range is free, given only if every one conflicts, an empty range (last below first) included"
@@ -150,53 +150,53 @@ module _ (s : RegisterSettings) (cs : List PlacedCell) (first last : ℕ) (q : Q
   searched_number (Err why) e =
       inr (ap number_of (sym e ∙ none_lowest (blocked q cs) first (last + 1 - first) (lowest_none (blocked q cs) first (last + 1 - first) why e)))
 
-  pub free_22_all_taken : Assigned cs → number_of (first_free s cs first last q) ≡ 22 → (m : ℕ) → first ≤ m → m ≤ last → Taken q m cs
+  pub free_22_all_taken : Assigned cs → number_of (first_free s cs first last q) ≡ 22 → (m : ℕ) → first ≤ m → m ≤ last → CarrierTaken q m cs
   free_22_all_taken assigned e m low high = go (the_cause s q first last)
     where
-      refused : (why : ReachRefusal) → asked s q first last ≡ Err why → number_of answer ≡ number_of {A = ℕ} (Err why)
+      refused : (why : ReachRefusal) → question_checked s q first last ≡ Err why → number_of answer ≡ number_of {A = ℕ} (Err why)
       refused why is = ap number_of (not_searched why is)
 
-      go : Cause s q first last → Taken q m cs
+      go : Cause s q first last → CarrierTaken q m cs
       go (unmade u is) = absurd (no_other (unmade_by s) 22 (λ z. omega arith) (λ z. omega arith) (same_number (number_of answer) (refused _ is) e))
       go (outside u off is) = absurd (let z : ◌≡◌ {A = ℕ} 21 22 = same_number (number_of answer) (refused _ is) e in omega arith)
       go (not_assignable u limits may is) = absurd (let z : ◌≡◌ {A = ℕ} 14 22 = same_number (number_of answer) (refused _ is) e in omega arith)
       go (none u limits least most is) = searching search refl (ap number_of (sym (searched is)) ∙ e)
         where
-          searching : (r : Result ℕ ReachRefusal) → search ≡ r → number_of r ≡ 22 → Taken q m cs
+          searching : (r : Result ℕ ReachRefusal) → search ≡ r → number_of r ≡ 22 → CarrierTaken q m cs
           searching (Ok n) found z = absurd (omega arith)
           searching (Err why) found z =
               taken_of_test q m (within_range most m high) cs assigned (lowest_none (blocked q cs) first (last + 1 - first) why found m low (omega arith))
 
   -- only where neither 21 nor 14 is due
-  pub free_22_asked : number_of (first_free s cs first last q) ≡ 22 → asked s q first last ≡ Ok tt
+  pub free_22_asked : number_of (first_free s cs first last q) ≡ 22 → question_checked s q first last ≡ Ok tt
   free_22_asked e = go (the_cause s q first last)
     where
-      refused : (why : ReachRefusal) → asked s q first last ≡ Err why → number_of answer ≡ number_of {A = ℕ} (Err why)
+      refused : (why : ReachRefusal) → question_checked s q first last ≡ Err why → number_of answer ≡ number_of {A = ℕ} (Err why)
       refused why is = ap number_of (not_searched why is)
 
-      go : Cause s q first last → asked s q first last ≡ Ok tt
+      go : Cause s q first last → question_checked s q first last ≡ Ok tt
       go (unmade u is) = absurd (no_other (unmade_by s) 22 (λ z. omega arith) (λ z. omega arith) (same_number (number_of answer) (refused _ is) e))
       go (outside u off is) = absurd (let z : ◌≡◌ {A = ℕ} 21 22 = same_number (number_of answer) (refused _ is) e in omega arith)
       go (not_assignable u limits may is) = absurd (let z : ◌≡◌ {A = ℕ} 14 22 = same_number (number_of answer) (refused _ is) e in omega arith)
       go (none u limits least most is) = is
 
-  pub all_taken_is_22 : is_made s ≡ true → WithinLimits q → MayAssign first q.width → MayAssign last q.width
-      → ((m : ℕ) → first ≤ m → m ≤ last → Taken q m cs) → number_of (first_free s cs first last q) ≡ 22
+  pub all_taken_is_22 : is_made s ≡ true → QuestionWithinLimits q → MayAssign first q.width → MayAssign last q.width
+      → ((m : ℕ) → first ≤ m → m ≤ last → CarrierTaken q m cs) → number_of (first_free s cs first last q) ≡ 22
   all_taken_is_22 m limits low high all =
       ap number_of
       (searched (else_asked s q first last m limits low high)
       ∙ none_lowest (blocked q cs) first (last + 1 - first)
       (λ k least less. (let t = all k least (omega arith) in test_of_taken q k cs t.cell t.live t.conflict)))
 
-  pub empty_is_22 : is_made s ≡ true → WithinLimits q → MayAssign first q.width → MayAssign last q.width → last < first
+  pub empty_is_22 : is_made s ≡ true → QuestionWithinLimits q → MayAssign first q.width → MayAssign last q.width → last < first
       → number_of (first_free s cs first last q) ≡ 22
   empty_is_22 m limits low high empty = all_taken_is_22 m limits low high (λ k least most. absurd (omega arith))
 
   -- ---- the other numbers are those of Asking.antt: a question that is refused there is refused here, and else the search gives 0 or 22
-  pub free_number_asked : (why : ReachRefusal) → asked s q first last ≡ Err why → number_of (first_free s cs first last q) ≡ reach_refusal_number why
+  pub free_number_asked : (why : ReachRefusal) → question_checked s q first last ≡ Err why → number_of (first_free s cs first last q) ≡ reach_refusal_number why
   free_number_asked why e = ap number_of (not_searched why e)
 
-  pub free_number_searched : asked s q first last ≡ Ok tt
+  pub free_number_searched : question_checked s q first last ≡ Ok tt
       → (number_of (first_free s cs first last q) ≡ 0) ⊎ (number_of (first_free s cs first last q) ≡ 22)
   free_number_searched e = go (searched_number search refl)
     where
@@ -205,7 +205,7 @@ module _ (s : RegisterSettings) (cs : List PlacedCell) (first last : ℕ) (q : Q
       go (inr z) = inr (ap number_of (searched e) ∙ z)
 
   -- and a question within its limits, with a free carrier in the range, has no number
-  pub some_free_is_0 : is_made s ≡ true → WithinLimits q → MayAssign first q.width → MayAssign last q.width → Assigned cs → (m : ℕ) → first ≤ m → m ≤ last
+  pub some_free_is_0 : is_made s ≡ true → QuestionWithinLimits q → MayAssign first q.width → MayAssign last q.width → Assigned cs → (m : ℕ) → first ≤ m → m ≤ last
       → ((c : PlacedCell) → In c cs → Conflict q m c → ⊥) → number_of (first_free s cs first last q) ≡ 0
   some_free_is_0 is limits low high assigned m least most free = go (free_number_searched (else_asked s q first last is limits low high))
     where

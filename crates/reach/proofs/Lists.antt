@@ -10,8 +10,8 @@ use lib.Seq.{take_at}
 use Rattle.std.specs.List.{filter}
 use Rattle.std.proofs.lemmas.List.{take_all}
 use Rattle.std.proofs.lemmas.List.Elements.{filter_more}
-use Rattle.places.specs.Places.{at_front}
-use Rattle.places.proofs.Lists.{front_push, front_none}
+use Rattle.basics.specs.elements.Places.{at_front}
+use Rattle.basics.proofs.elements.Lists.{front_push, front_none}
 
 module _ {A B : Type 0} (test : A → Bool) (f : A → B) (l : List A) (start : List B) where
   -- of the first i those that pass

@@ -19,8 +19,8 @@ use Rattle.register.specs.declared.Assignment.{Assignment}
 use Rattle.register.proofs.Agreement.{within_limits_lem}
 use Rattle.positions.specs.Grid.{within_grid}
 use Rattle.positions.specs.declared.Position.{Position}
-use Rattle.reach.specs.Conflict.{Overlap, squared, Near, Conflict, Taken, Named, WithinLimits, MayAssign, Assigned, RisingPlaced, Rising}
-use Rattle.reach.specs.Reach.{within_limits, near, khz_at, overlaps, clashes, clashing, blocked, may_ask}
+use Rattle.reach.specs.Conflict.{Overlap, squared, Near, Conflict, CarrierTaken, Named, QuestionWithinLimits, MayAssign, Assigned, RisingPlaced, Rising}
+use Rattle.reach.specs.Reach.{question_within_limits, near, khz_at, overlaps, clashes, clashing, blocked, may_ask}
 use Rattle.reach.specs.declared.PlacedCell.{PlacedCell}
 use Rattle.reach.specs.declared.Question.{Question}
 use Rattle.reach.proofs.Raster.{khz_is, on_raster}
@@ -70,8 +70,8 @@ module _ (q : Question) where
   abbrev in_distance : Bool
   in_distance = leb q.distance 6000000
 
-  pub limits_of_test : within_limits q ≡ true → WithinLimits q
-  unfolding within_limits within_grid
+  pub limits_of_test : question_within_limits q ≡ true → QuestionWithinLimits q
+  unfolding question_within_limits within_grid
   limits_of_test t =
       let both = and_left (in_x && in_y) in_distance t in
       record {
@@ -80,8 +80,8 @@ module _ (q : Question) where
         distance = leb-true q.distance 6000000 (and_right (in_x && in_y) in_distance t);
       }
 
-  pub test_of_limits : WithinLimits q → within_limits q ≡ true
-  unfolding within_limits within_grid
+  pub test_of_limits : QuestionWithinLimits q → question_within_limits q ≡ true
+  unfolding question_within_limits within_grid
   test_of_limits l =
       and_both (and_both (le-leb (unsigned_abs q.position.x) 2000000 l.x) (le-leb (unsigned_abs q.position.y) 2000000 l.y))
       (le-leb q.distance 6000000 l.distance)
@@ -148,12 +148,12 @@ test_of_conflict q n c k =
     (test_of_near q c.position k.near)
 
 -- ---- with some cell
-pub taken_of_test : (q : Question) (n : ℕ) → MayAssign n q.width → (cs : List PlacedCell) → Assigned cs → blocked q cs n ≡ true → Taken q n cs
+pub taken_of_test : (q : Question) (n : ℕ) → MayAssign n q.width → (cs : List PlacedCell) → Assigned cs → blocked q cs n ≡ true → CarrierTaken q n cs
 unfolding blocked
 taken_of_test q n asked [] assigned t = absurd (not_both t refl)
 taken_of_test q n asked (c ∷ cs) assigned t = go (or_cases (clashes q (khz_at n) c) (blocked q cs n) t) (taken_of_test q n asked cs (λ d i. assigned d (inr i)))
   where
-    go : (clashes q (khz_at n) c ≡ true) ⊎ (blocked q cs n ≡ true) → (blocked q cs n ≡ true → Taken q n cs) → Taken q n (c ∷ cs)
+    go : (clashes q (khz_at n) c ≡ true) ⊎ (blocked q cs n ≡ true) → (blocked q cs n ≡ true → CarrierTaken q n cs) → CarrierTaken q n (c ∷ cs)
     go (inl h) rest = record { cell = c; live = inl refl; conflict = conflict_of_test q n asked c (assigned c (inl refl)) h }
     go (inr h) rest = let later = rest h in record { cell = later.cell; live = inr later.live; conflict = later.conflict }
 

@@ -40,7 +40,7 @@ pub record Conflict (q : Question) (n : ℕ) (c : PlacedCell) : Type 0 where
   pub near : Near q c.position
 
 -- with some cell
-pub record Taken (q : Question) (n : ℕ) (cs : List PlacedCell) : Type 0 where
+pub record CarrierTaken (q : Question) (n : ℕ) (cs : List PlacedCell) : Type 0 where
   pub cell : PlacedCell
   pub live : In cell cs
   pub conflict : Conflict q n cell
@@ -57,10 +57,10 @@ pub record Lowest (q : Question) (cs : List PlacedCell) (first last n : ℕ) : T
   pub from : first ≤ n
   pub to : n ≤ last
   pub free : (c : PlacedCell) → In c cs → Conflict q n c → ⊥
-  pub lower : (m : ℕ) → first ≤ m → m < n → Taken q m cs
+  pub lower : (m : ℕ) → first ≤ m → m < n → CarrierTaken q m cs
 
 -- ---- limits: a position "within 2,000,000 either way", "a distance from 0 to 6,000,000 metres"
-pub record WithinLimits (q : Question) : Type 0 where
+pub record QuestionWithinLimits (q : Question) : Type 0 where
   pub x : unsigned_abs q.position.x ≤ 2000000
   pub y : unsigned_abs q.position.y ≤ 2000000
   pub distance : q.distance ≤ 6000000

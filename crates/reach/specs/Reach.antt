@@ -2,7 +2,7 @@
 -- Assumes nothing.
 use Rattle.std.specs.Prelude.{Bool, true, false, cond, ◌&&◌, ◌||◌, not, ℕ, zero, suc, ◌+◌, ◌*◌, ◌-◌, ltb, leb, ◌-ℤ◌, List, [], ◌∷◌, length, take, map, Option, Some, None, Result, Ok, Err}
 use Rattle.std.specs.List.{filter}
-use Rattle.places.specs.Places.{at_front}
+use Rattle.basics.specs.elements.Places.{at_front}
 use Rattle.raster.specs.Raster.{frequency_of, raster_value}
 use Rattle.register.specs.Register.{assignable}
 use Rattle.group_register.specs.Settings.{unmade_number, unmade_by, is_made}
@@ -27,8 +27,8 @@ reach_refusal_number NoneFree = 22
 
 -- ---- positions
 -- "position or distance outside the limits": "a distance from 0 to 6,000,000 metres"
-unfoldable pub within_limits : Question → Bool
-within_limits q = within_grid q.position && leb q.distance 6000000
+unfoldable pub question_within_limits : Question → Bool
+question_within_limits q = within_grid q.position && leb q.distance 6000000
 
 -- "within the distance of the position, equality included, squares compared"; "Cells without a position always count as near."
 unfoldable pub near : Question → Option Position → Bool
@@ -68,20 +68,20 @@ abbrev pub may_ask : ℕ → ℕ → Bool
 may_ask carrier width = assignable (record { carrier = carrier; width = width })
 
 -- "21 first, then 14 for a carrier, width or range end outside its limits", behind the number of a register that is not made
-unfoldable pub asked : RegisterSettings → Question → ℕ → ℕ → Result (Unit {0}) ReachRefusal
-asked s q first last =
+unfoldable pub question_checked : RegisterSettings → Question → ℕ → ℕ → Result (Unit {0}) ReachRefusal
+question_checked s q first last =
     cond (not (is_made s)) (Err (Unmade (unmade_by s)))
-    (cond (not (within_limits q)) (Err OutsideLimits)
+    (cond (not (question_within_limits q)) (Err OutsideLimits)
     (cond (not (may_ask first q.width && may_ask last q.width)) (Err NotAssignable)
     (Ok tt)))
 
 -- how many numbers are listed, and the lent places: the numbers stand in the first ones
-abbrev pub listed : Result (Unit {0}) ReachRefusal → List ℕ → List ℕ → Result ℕ ReachRefusal × List ℕ
-listed (Ok u) ns places = (Ok (length ns), at_front ns places)
-listed (Err why) ns places = (Err why, places)
+abbrev pub listed_in_places : Result (Unit {0}) ReachRefusal → List ℕ → List ℕ → Result ℕ ReachRefusal × List ℕ
+listed_in_places (Ok u) ns places = (Ok (length ns), at_front ns places)
+listed_in_places (Err why) ns places = (Err why, places)
 
 unfoldable pub conflicts_of : RegisterSettings → List PlacedCell → ℕ → Question → List ℕ → Result ℕ ReachRefusal × List ℕ
-conflicts_of s cs n q places = listed (asked s q n n) (clashing q (khz_at n) cs) places
+conflicts_of s cs n q places = listed_in_places (question_checked s q n n) (clashing q (khz_at n) cs) places
 
 abbrev pub unless_refused : Result (Unit {0}) ReachRefusal → Result ℕ ReachRefusal → Result ℕ ReachRefusal
 unless_refused (Ok u) answer = answer
@@ -89,7 +89,7 @@ unless_refused (Err why) answer = Err why
 
 -- both ends belong to the range
 unfoldable pub first_free : RegisterSettings → List PlacedCell → ℕ → ℕ → Question → Result ℕ ReachRefusal
-first_free s cs first last q = unless_refused (asked s q first last) (lowest_free (blocked q cs) first (last + 1 - first))
+first_free s cs first last q = unless_refused (question_checked s q first last) (lowest_free (blocked q cs) first (last + 1 - first))
 
 -- the numbers that an answer lists: none where it is refused
 abbrev pub numbers_listed : Result ℕ ReachRefusal × List ℕ → List ℕ

@@ -2,9 +2,9 @@
 #![tactic(auto)]
 
 ghost use Rattle.std.specs.Prelude.{◌≡◌, ◌+◌, ◌*◌, ◌-◌, ◌≤◌, ◌<◌, ℕ, List, length, take, get_or, min};
-ghost use Rattle.places.specs.Places.{at_front};
+ghost use Rattle.basics.specs.elements.Places.{at_front};
 ghost use Rattle.reach.specs.Cells.{cells_of};
-ghost use Rattle.reach.specs.Reach.{within_limits, near, khz_at, clashes, clashing, may_ask, asked, reach_refusal_number, conflicts_of, first_free, lowest_free};
+ghost use Rattle.reach.specs.Reach.{question_within_limits, near, khz_at, clashes, clashing, may_ask, question_checked, reach_refusal_number, conflicts_of, first_free, lowest_free};
 ghost use Rattle.group_register.specs.declared.RegisterSettings.{RegisterSettings};
 ghost use Rattle.reach.specs.declared.PlacedCell.{PlacedCell};
 ghost use Rattle.reach.specs.Search.{edges_of, contain, near_edges, in_the_way, is_in_the_way, FirstFrom, Askable};
@@ -125,9 +125,9 @@ struct NearEdges {
 
 impl Question {
     // "21, position or distance outside the limits"
-    #[tactic(auto, unfolding(crate::specs::Reach::within_limits))]
+    #[tactic(auto, unfolding(crate::specs::Reach::question_within_limits))]
     fn within_limits(self) -> bool
-        ensures { result ≡ within_limits self }
+        ensures { result ≡ question_within_limits self }
     {
         self.position.within_grid() && self.distance <= 6000000
     }
@@ -302,14 +302,14 @@ fn may_ask(carrier: u64, width: u64) -> bool
 }
 
 // "21 first, then 14 for a carrier, width or range end outside its limits", behind the number of a register that is not made.
-#[tactic(auto, unfolding(crate::specs::Reach::asked))]
-fn asked(
+#[tactic(auto, unfolding(crate::specs::Reach::question_checked))]
+fn question_checked(
     settings: RegisterSettings,
     question: Question,
     first: u64,
     last: u64,
 ) -> Result<(), ReachRefusal>
-    ensures { result ≡ asked settings question first last }
+    ensures { result ≡ question_checked settings question first last }
 {
     if !settings.is_made() {
         return Err(ReachRefusal::Unmade(settings.unmade_by()));
@@ -334,7 +334,7 @@ pub fn conflicts_of<C: PlacedCells>(
 ) -> Result<usize, ReachRefusal>
     ensures { (result, numbers.new) ≡ conflicts_of (C.settings cells.now) (C.cells cells.now) carrier question numbers.old }
 {
-    asked(cells.settings(), question, carrier, carrier)?;
+    question_checked(cells.settings(), question, carrier, carrier)?;
     Ok(list_cells(cells, khz_at(carrier), question, numbers))
 }
 
@@ -348,7 +348,7 @@ pub fn first_free<C: PlacedCells>(
 ) -> Result<u64, ReachRefusal>
     ensures { result ≡ first_free (C.settings cells.now) (C.cells cells.now) first last question }
 {
-    asked(cells.settings(), question, first, last)?;
+    question_checked(cells.settings(), question, first, last)?;
     let near = near_edges(cells, question);
     search(&near.edges[..near.count], first, last)
 }

@@ -73,8 +73,8 @@ insert_opened tracker table (Ok o) = Ok (inserted tracker table o)
 insert_opened tracker table (Err why) = Err why
 
 -- insert: where it is refused nothing changes
-unfoldable pub insert : ReadTracker → ReadTable → ℕ → ℕ → Bool → Result Inserted Refusal
-insert tracker table tag arrival local = insert_opened tracker table (open_next tracker tag arrival local)
+unfoldable pub insert_read : ReadTracker → ReadTable → ℕ → ℕ → Bool → Result Inserted Refusal
+insert_read tracker table tag arrival local = insert_opened tracker table (open_next tracker tag arrival local)
 
 -- the read with that count and that mark
 abbrev pub with_count : OpenRead → ℕ → Bool → OpenRead

@@ -2,8 +2,10 @@
 // The Rust's map is a table of 128 places, the open reads in front, in the order of their ids.
 #![tactic(auto)]
 
+pub mod serving;
+
 ghost use Rattle.std.specs.Prelude.{◌≡◌, ◌<◌, OnOk};
-ghost use Rattle.read_tracker.specs.Reads.{new_tracker, new_table, new_read, open_next, insert, open_places, after_response, after_commit, has_quorum, serve};
+ghost use Rattle.read_tracker.specs.Reads.{new_tracker, new_table, new_read, open_next, insert_read, open_places, after_response, after_commit, has_quorum, serve};
 
 use message::{ReadId, Refusal, increment};
 
@@ -182,15 +184,15 @@ impl OpenRead {
 }
 
 // A new read in the table, behind the open ones.
-#[tactic(auto, unfolding(crate::specs::Reads::insert))]
-pub fn insert(
+#[tactic(auto, unfolding(crate::specs::Reads::insert_read))]
+pub fn insert_read(
     tracker: ReadTracker,
     mut table: ReadTable,
     tag: u64,
     arrival_slot: u64,
     local_ready: bool,
 ) -> Result<Inserted, Refusal>
-    ensures { result ≡ insert tracker table tag arrival_slot local_ready }
+    ensures { result ≡ insert_read tracker table tag arrival_slot local_ready }
 {
     let Opening {
         read,

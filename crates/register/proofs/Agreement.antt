@@ -13,13 +13,13 @@ use borrow.Author.Tests.{ltb-true, ltb-false, leb-true, leb-false, lt-ltb, le-le
 use Rattle.basics.proofs.Tests.{either, not_both, same_test, and_left, and_right, and_both}
 use Rattle.message.specs.Rounds.{increment}
 use Rattle.raster.specs.Raster.{frequency_of, raster_refusal}
-use Rattle.places.specs.Places.{at_front}
-use Rattle.places.proofs.Lists.{front_length}
+use Rattle.basics.specs.elements.Places.{at_front}
+use Rattle.basics.proofs.elements.Lists.{front_length}
 use Rattle.register.specs.Cells.{is_live_cell, cell_reassigned, cell_inserted, cell_removed}
-use Rattle.register.specs.Register.{new_register, live_places, live_cells, assignable, holding, with_new_cell, with_superseded, with_released, slot_seen, done, older, refused, assign, release, apply_change, apply}
+use Rattle.register.specs.Register.{new_register, live_places, live_cells, assignable, holding, with_new_cell, with_superseded, with_released, slot_seen, done, older, entry_refused, assign, release, apply_change, apply}
 use Rattle.register.specs.Refusals.{entry_number, entry_refusal_number}
 use Rattle.register.specs.History.{RisingCells}
-use Rattle.register.specs.Taken.{Latest, never, is, is_assigned, above, is_later, assignment_within_limits, change_within_limits, is_assignment, is_release, number_given, number_for, is_taken_given, latest, is_taken, tally, makes, supersedes, releases, live_count, cells_named, count_in}
+use Rattle.register.specs.Taken.{Latest, never, is, is_assigned, above, is_later, assignment_within_limits, change_within_limits, is_assignment, is_release, entry_number_given, number_for, is_taken_given, latest, is_taken, tally, makes, supersedes, is_taken_release, live_count, named_cells, count_in}
 use Rattle.register.specs.declared.Assignment.{Assignment}
 use Rattle.register.specs.declared.Cell.{Cell}
 use Rattle.register.specs.declared.Change.{Change}
@@ -55,11 +55,11 @@ pub record RegisterAgrees (es : List CellEntry) (r : Register) : Type 0 where
   pub few : r.figures.made ≤ r.next_slot
   pub made_counted : r.figures.made ≡ tally makes es
   pub superseded_counted : r.figures.superseded ≡ tally supersedes es
-  pub released_counted : r.figures.released ≡ tally releases es
+  pub released_counted : r.figures.released ≡ tally is_taken_release es
   pub sum : r.figures.made ≡ r.figures.superseded + r.figures.released + r.live_count
 
 pub new_agrees : RegisterAgrees [] new_register
-unfolding above look_up_cell latest tally cells_named count_in
+unfolding above look_up_cell latest tally named_cells count_in
 new_agrees =
     record {
       places = refl;
@@ -96,7 +96,7 @@ module _ (before : List CellEntry) (r : Register) (e : CellEntry) (ok : Register
         few = omega (arith, ok.few);
         made_counted = ok.made_counted ∙ sym (not_counted makes (simp left));
         superseded_counted = ok.superseded_counted ∙ sym (not_counted supersedes (simp left));
-        released_counted = ok.released_counted ∙ sym (not_counted releases (simp left));
+        released_counted = ok.released_counted ∙ sym (not_counted is_taken_release (simp left));
         sum = ok.sum;
       }
 
@@ -138,7 +138,7 @@ module _ (before : List CellEntry) (r : Register) (slot n : ℕ) (ok : RegisterA
 
     pub changed_agrees : RisingCells 0 new → ((m : ℕ) → look_up_cell m new ≡ cond (eqb n m) (standing (is x)) (look_up_cell m cells)) → live_count (entry x ∷ before) ≡ length new
         → figures.made ≤ slot + 1 → figures.made ≡ tally makes (entry x ∷ before) → figures.superseded ≡ tally supersedes (entry x ∷ before)
-        → figures.released ≡ tally releases (entry x ∷ before) → figures.made ≡ figures.superseded + figures.released + length new
+        → figures.released ≡ tally is_taken_release (entry x ∷ before) → figures.made ≡ figures.superseded + figures.released + length new
         → RegisterAgrees (entry x ∷ before) after
     changed_agrees rising looked counted few m s d sum =
         record {
@@ -185,7 +185,7 @@ module _ (before : List CellEntry) (r : Register) (slot n : ℕ) (ok : RegisterA
       (omega (arith, ok.few))
       (m ∙ counted makes e true (simp took) r.figures.made ok.made_counted)
       (counted supersedes e false (simp (took, was)) r.figures.superseded ok.superseded_counted)
-      (counted releases e false (simp took) r.figures.released ok.released_counted)
+      (counted is_taken_release e false (simp took) r.figures.released ok.released_counted)
       (omega (arith, ok.sum, all_live))
 
   -- "An assignment supersedes the cell's earlier one"
@@ -203,7 +203,7 @@ module _ (before : List CellEntry) (r : Register) (slot n : ℕ) (ok : RegisterA
       (omega (arith, ok.few))
       (m ∙ counted makes e true (simp took) r.figures.made ok.made_counted)
       (s ∙ counted supersedes e true (simp (took, was)) r.figures.superseded ok.superseded_counted)
-      (counted releases e false (simp took) r.figures.released ok.released_counted)
+      (counted is_taken_release e false (simp took) r.figures.released ok.released_counted)
       (omega (arith, ok.sum, all_live))
 
   -- "a release removes it"
@@ -221,7 +221,7 @@ module _ (before : List CellEntry) (r : Register) (slot n : ℕ) (ok : RegisterA
       (omega (arith, ok.few))
       (counted makes e false (simp took) r.figures.made ok.made_counted)
       (counted supersedes e false (simp took) r.figures.superseded ok.superseded_counted)
-      (d ∙ counted releases e true (simp took) r.figures.released ok.released_counted)
+      (d ∙ counted is_taken_release e true (simp took) r.figures.released ok.released_counted)
       (omega (arith, ok.sum, all_live))
 
 -- ---- every entry: its number is the one that the entries say, and the register agrees with one entry more
@@ -262,11 +262,11 @@ module _ (before : List CellEntry) (r : Register) (slot n : ℕ) (ok : RegisterA
       0))
 
   number_told : (x : Change) (k : ℕ) → change_number x ≡ k → number_for before (told x) ≡ k
-  unfolding number_given
+  unfolding entry_number_given
   number_told x k h = simp (le-leb slot 9223372036854775806 within, ok.slots slot, le-leb r.next_slot slot later) h
 
   refused_stepped : (x : Change) (why : EntryRefusal) → eqb (entry_refusal_number why) 0 ≡ false → change_number x ≡ entry_refusal_number why
-      → Stepped before (told x) (refused why (slot_seen slot r))
+      → Stepped before (told x) (entry_refused why (slot_seen slot r))
   refused_stepped x why other h =
       let number = number_told x (entry_refusal_number why) h in
       let left = taken_by_number before (told x) (entry_refusal_number why) number ∙ other in
@@ -286,9 +286,9 @@ module _ (before : List CellEntry) (r : Register) (slot n : ℕ) (ok : RegisterA
   assign_stepped a = go (assignable a) refl (is_live_cell n (live_cells r)) refl (leb 512 (live_places r)) refl
     where
       go : (t : Bool) → assignable a ≡ t → (u : Bool) → is_live_cell n (live_cells r) ≡ u → (v : Bool) → leb 512 (live_places r) ≡ v
-          → Stepped before (told (Assign a)) (cond (not t) (refused NotAssignable (slot_seen slot r))
+          → Stepped before (told (Assign a)) (cond (not t) (entry_refused NotAssignable (slot_seen slot r))
           (cond u (done (with_superseded n a (slot_seen slot r)))
-          (cond v (refused NoRoomForCell (slot_seen slot r)) (done (with_new_cell n a (slot_seen slot r))))))
+          (cond v (entry_refused NoRoomForCell (slot_seen slot r)) (done (with_new_cell n a (slot_seen slot r))))))
       go false p u q v s = refused_stepped (Assign a) NotAssignable refl (simp (within_limits_lem a ∙ p))
       go true p true q v s =
           done_stepped (Assign a) (with_superseded n a (slot_seen slot r)) (simp (within_limits_lem a ∙ p, assigned true q))
@@ -306,7 +306,7 @@ module _ (before : List CellEntry) (r : Register) (slot n : ℕ) (ok : RegisterA
   unfolding release
   release_stepped = go (is_live_cell n (live_cells r)) refl
     where
-      go : (u : Bool) → is_live_cell n (live_cells r) ≡ u → Stepped before (told Release) (cond u (done (with_released n (slot_seen slot r))) (refused CellNotLive (slot_seen slot r)))
+      go : (u : Bool) → is_live_cell n (live_cells r) ≡ u → Stepped before (told Release) (cond u (done (with_released n (slot_seen slot r))) (entry_refused CellNotLive (slot_seen slot r)))
       go true q =
           done_stepped Release (with_released n (slot_seen slot r)) (simp (assigned true q))
           (λ took. released_agrees before r slot n ok within later took q)
@@ -324,7 +324,7 @@ module _ (before : List CellEntry) (r : Register) (e : CellEntry) (ok : Register
   too_large_slots h slot = simp (lt-leb e.slot 9223372036854775806 h) (ok.slots slot)
 
   too_large_number : 9223372036854775806 < e.slot → number_for before e ≡ 2
-  unfolding number_given
+  unfolding entry_number_given
   too_large_number h = simp (lt-leb e.slot 9223372036854775806 h)
 
   not_later_slots : e.slot ≤ 9223372036854775806 → e.slot < r.next_slot → (slot : ℕ) → above slot (e ∷ before) ≡ leb r.next_slot slot
@@ -338,7 +338,7 @@ module _ (before : List CellEntry) (r : Register) (e : CellEntry) (ok : Register
       back t = let p = leb-true r.next_slot slot t in and_both (lt-ltb e.slot slot (omega arith)) t
 
   not_later_number : e.slot ≤ 9223372036854775806 → e.slot < r.next_slot → number_for before e ≡ 64
-  unfolding number_given
+  unfolding entry_number_given
   not_later_number g h = simp (le-leb e.slot 9223372036854775806 g, ok.slots e.slot, lt-leb r.next_slot e.slot h)
 
   pub stepped : Stepped before e (apply r e)
@@ -346,7 +346,7 @@ module _ (before : List CellEntry) (r : Register) (e : CellEntry) (ok : Register
   stepped = go (ltb 9223372036854775806 e.slot) refl (ltb e.slot r.next_slot) refl
     where
       go : (t : Bool) → ltb 9223372036854775806 e.slot ≡ t → (u : Bool) → ltb e.slot r.next_slot ≡ u
-          → Stepped before e (cond t (refused NumberTooLarge r) (cond u (older r) (apply_change e.change e.cell (slot_seen e.slot r))))
+          → Stepped before e (cond t (entry_refused NumberTooLarge r) (cond u (older r) (apply_change e.change e.cell (slot_seen e.slot r))))
       go true p u q =
           let large = ltb-true 9223372036854775806 e.slot p in
           let left : is_taken before e ≡ false = taken_by_number before e 2 (too_large_number large) in
@@ -365,7 +365,7 @@ module _ (before : List CellEntry) (r : Register) (e : CellEntry) (ok : Register
   left_alone h = go (ltb 9223372036854775806 e.slot) refl (ltb e.slot r.next_slot) refl
     where
       go : (t : Bool) → ltb 9223372036854775806 e.slot ≡ t → (u : Bool) → ltb e.slot r.next_slot ≡ u
-          → (cond t (refused NumberTooLarge r) (cond u (older r) (apply_change e.change e.cell (slot_seen e.slot r)))).register ≡ r
+          → (cond t (entry_refused NumberTooLarge r) (cond u (older r) (apply_change e.change e.cell (slot_seen e.slot r)))).register ≡ r
       go true p u q = refl
       go false p true q = refl
       go false p false q =

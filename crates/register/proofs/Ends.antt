@@ -9,10 +9,10 @@ use borrow.Author.Tests.{lt-leb, le-leb}
 use lib.ListN.{length, set, take, length-take, length-set, length-append, length-drop}
 use Rattle.std.specs.Prelude.{Ok, Err}
 use Rattle.message.specs.Rounds.{increment}
-use Rattle.places.specs.Places.{at_front, without, with_at}
-use Rattle.places.proofs.Lists.{front_own, front_set, without_length}
+use Rattle.basics.specs.elements.Places.{at_front, without, with_at}
+use Rattle.basics.proofs.elements.Lists.{front_own, front_set, without_length}
 use Rattle.register.specs.Cells.{cell_of, is_live_cell, cell_place, number_of_cell, found, cell_reassigned, cell_inserted, cell_removed}
-use Rattle.register.specs.Register.{live_places, live_cells, assignable, done, refused, assign, release}
+use Rattle.register.specs.Register.{live_places, live_cells, assignable, done, entry_refused, assign, release}
 use Rattle.register.specs.declared.Assignment.{Assignment}
 use Rattle.register.specs.declared.Cell.{Cell}
 use Rattle.register.specs.declared.Figures.{Figures}
@@ -74,7 +74,7 @@ module _ (r : Register) (n m at : ℕ) (long : length r.cells ≡ 512) (places :
     unfolding with_at
     longer a = simp (length-append, length-take, length-drop) (omega (arith, at_most))
 
-    pub assign_full : (a : Assignment) → assignable a ≡ true → 512 ≤ m → refused NoRoomForCell r ≡ assign r n a
+    pub assign_full : (a : Assignment) → assignable a ≡ true → 512 ≤ m → entry_refused NoRoomForCell r ≡ assign r n a
     unfolding assign
     assign_full a fits full = simp (fits, not_here.0, le-leb 512 (live_places r) (omega arith))
 
@@ -92,6 +92,6 @@ module _ (r : Register) (n m at : ℕ) (long : length r.cells ≡ 512) (places :
         let new : cell_inserted n a l ≡ with_at at (cell_of n a) (take m r.cells) = inserted_at n a l ∙ simp (not_here.1, places) in
         simp (fits, not_here.0, lt-leb 512 (live_places r) (omega arith), new, longer a, e, p, own)
 
-    pub release_unknown : refused CellNotLive r ≡ release r n
+    pub release_unknown : entry_refused CellNotLive r ≡ release r n
     unfolding release
     release_unknown = simp not_here.0

@@ -8,29 +8,29 @@ use Prim.Native.Nat.{ℕ, suc}
 use lib.Dec.{eqb}
 use borrow.Author.Tests.{eqb-true, eq-eqb}
 use Rattle.basics.proofs.Tests.{either, not_both, fails}
-use Rattle.register.specs.Taken.{is, is_assigned, among, cells_named, count_in, is_taken_given, latest, is_taken, live_count}
+use Rattle.register.specs.Taken.{is, is_assigned, among, named_cells, count_in, is_taken_given, latest, is_taken, live_count}
 use Rattle.register.specs.declared.CellEntry.{CellEntry}
 use Rattle.register.proofs.Counting.{Distinct, named, named_distinct, named_among, named_keeps, count_same, count_named, count_more}
 
 -- the cells named stand there once
-distinct : (es : List CellEntry) → Distinct (cells_named es)
-unfolding cells_named
+distinct : (es : List CellEntry) → Distinct (named_cells es)
+unfolding named_cells
 distinct [] = tt
-distinct (e ∷ before) = named_distinct e.cell (cells_named before) (distinct before)
+distinct (e ∷ before) = named_distinct e.cell (named_cells before) (distinct before)
 
 -- a cell that no entry names is not assigned
-unnamed : (es : List CellEntry) (n : ℕ) → among n (cells_named es) ≡ false → is_assigned (latest es n) ≡ false
-unfolding cells_named latest
+unnamed : (es : List CellEntry) (n : ℕ) → among n (named_cells es) ≡ false → is_assigned (latest es n) ≡ false
+unfolding named_cells latest
 unnamed [] n h = refl
 unnamed (e ∷ before) n h = go (either (eqb e.cell n)) (λ k. unnamed before n k)
   where
-    go : (eqb e.cell n ≡ true) ⊎ (eqb e.cell n ≡ false) → (among n (cells_named before) ≡ false → is_assigned (latest before n) ≡ false)
+    go : (eqb e.cell n ≡ true) ⊎ (eqb e.cell n ≡ false) → (among n (named_cells before) ≡ false → is_assigned (latest before n) ≡ false)
         → is_assigned (latest (e ∷ before) n) ≡ false
     go (inl t) rest =
         let same : e.cell ≡ n = eqb-true e.cell n t in
-        absurd (not_both (ap (λ (x : ℕ). among x (named e.cell (cells_named before))) (sym same) ∙ named_among e.cell (cells_named before)) h)
+        absurd (not_both (ap (λ (x : ℕ). among x (named e.cell (named_cells before))) (sym same) ∙ named_among e.cell (named_cells before)) h)
     go (inr t) rest =
-        let off : among n (cells_named before) ≡ false = fails (λ k. not_both (named_keeps e.cell n (cells_named before) k) h) in
+        let off : among n (named_cells before) ≡ false = fails (λ k. not_both (named_keeps e.cell n (named_cells before) k) h) in
         simp t (neither (is_taken_given (latest before) before e) (rest off))
       where
         neither : (u : Bool) → is_assigned (latest before n) ≡ false → is_assigned (cond (u && false) (is e.change) (latest before n)) ≡ false
@@ -45,9 +45,9 @@ module _ (before : List CellEntry) (e : CellEntry) where
   g n = is_assigned (latest (e ∷ before) n)
 
   -- the cells named with the entry's
-  count_before : count_in f (cells_named (e ∷ before)) ≡ live_count before
-  unfolding cells_named
-  count_before = count_named f e.cell (cells_named before) (unnamed before e.cell)
+  count_before : count_in f (named_cells (e ∷ before)) ≡ live_count before
+  unfolding named_cells
+  count_before = count_named f e.cell (named_cells before) (unnamed before e.cell)
 
   -- an entry that is not taken
   module _ (left : is_taken before e ≡ false) where
@@ -56,7 +56,7 @@ module _ (before : List CellEntry) (e : CellEntry) where
     latest_kept n = ap (λ (t : Bool). cond (t && eqb e.cell n) (is e.change) (latest before n)) left
 
     pub live_kept : live_count (e ∷ before) ≡ live_count before
-    live_kept = count_same g f (λ n. ap is_assigned (latest_kept n)) (cells_named (e ∷ before)) ∙ count_before
+    live_kept = count_same g f (λ n. ap is_assigned (latest_kept n)) (named_cells (e ∷ before)) ∙ count_before
 
   -- an entry that is taken
   module _ (took : is_taken before e ≡ true) where
@@ -77,18 +77,18 @@ module _ (before : List CellEntry) (e : CellEntry) where
     own : (t : Bool) → is_assigned (is e.change) ≡ t → g e.cell ≡ t
     own t h = ap is_assigned (latest_own e.cell (eq-eqb e.cell e.cell refl)) ∙ h
 
-    among_named : among e.cell (cells_named (e ∷ before)) ≡ true
-    unfolding cells_named
-    among_named = named_among e.cell (cells_named before)
+    among_named : among e.cell (named_cells (e ∷ before)) ≡ true
+    unfolding named_cells
+    among_named = named_among e.cell (named_cells before)
 
     -- a new cell is assigned
     pub live_more : is_assigned (is e.change) ≡ true → is_assigned (latest before e.cell) ≡ false → live_count (e ∷ before) ≡ suc (live_count before)
     live_more assigns new =
-        count_more f g e.cell others new (own true assigns) (cells_named (e ∷ before)) (distinct (e ∷ before)) among_named ∙ ap suc count_before
+        count_more f g e.cell others new (own true assigns) (named_cells (e ∷ before)) (distinct (e ∷ before)) among_named ∙ ap suc count_before
 
     -- an assigned cell is assigned again
     pub live_same : is_assigned (is e.change) ≡ true → is_assigned (latest before e.cell) ≡ true → live_count (e ∷ before) ≡ live_count before
-    live_same assigns old = count_same g f (λ n. go n (either (eqb e.cell n))) (cells_named (e ∷ before)) ∙ count_before
+    live_same assigns old = count_same g f (λ n. go n (either (eqb e.cell n))) (named_cells (e ∷ before)) ∙ count_before
       where
         go : (n : ℕ) → (eqb e.cell n ≡ true) ⊎ (eqb e.cell n ≡ false) → g n ≡ f n
         go n (inl t) = let same : e.cell ≡ n = eqb-true e.cell n t in ap g (sym same) ∙ own true assigns ∙ sym old ∙ ap f same
@@ -98,4 +98,4 @@ module _ (before : List CellEntry) (e : CellEntry) where
     pub live_less : is_assigned (is e.change) ≡ false → is_assigned (latest before e.cell) ≡ true → live_count before ≡ suc (live_count (e ∷ before))
     live_less releases old =
         sym count_before
-        ∙ count_more g f e.cell (λ m t. sym (others m t)) (own false releases) old (cells_named (e ∷ before)) (distinct (e ∷ before)) among_named
+        ∙ count_more g f e.cell (λ m t. sym (others m t)) (own false releases) old (named_cells (e ∷ before)) (distinct (e ∷ before)) among_named

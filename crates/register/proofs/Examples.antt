@@ -4,7 +4,7 @@ use mathlib.Core.Path.{◌≡◌, refl}
 use mathlib.Core.Bool.{true}
 use mathlib.Core.List.{List, [], ◌∷◌}
 use Prim.Native.Nat.{ℕ}
-use Rattle.register.specs.Taken.{above, later_entries, is, among, cells_named, count_in, number_given, is_taken_given, latest, is_taken, number_for, tally, makes, supersedes, releases, live_count}
+use Rattle.register.specs.Taken.{above, later_entries, is, among, named_cells, count_in, entry_number_given, is_taken_given, latest, is_taken, number_for, tally, makes, supersedes, is_taken_release, live_count}
 use Rattle.register.specs.declared.Assignment.{Assignment}
 use Rattle.register.specs.declared.Change.{Change}
 use Rattle.register.specs.declared.Change.TheVariants.{Assign, Release}
@@ -34,11 +34,11 @@ unfolding later_entries above
 equal_in_slot_order = refl
 
 pub latest_of_both : (latest office 7 ≡ is (Assign wide)) × (latest office 9 ≡ is Release)
-unfolding latest is_taken_given number_given above count_in cells_named among
+unfolding latest is_taken_given entry_number_given above count_in named_cells among
 latest_of_both = (refl, refl)
 
-pub figures : (tally makes office ≡ 3) × (tally supersedes office ≡ 1) × (tally releases office ≡ 1) × (live_count office ≡ 1)
-unfolding tally latest is_taken_given number_given above count_in cells_named among
+pub figures : (tally makes office ≡ 3) × (tally supersedes office ≡ 1) × (tally is_taken_release office ≡ 1) × (live_count office ≡ 1)
+unfolding tally latest is_taken_given entry_number_given above count_in named_cells among
 figures = (refl, refl, refl, refl)
 
 -- an entry that is taken, and one for each number but 15, which Full.antt has; the slot last seen is older
@@ -46,5 +46,5 @@ pub numbers : (is_taken office (entry 6 9 (Assign wide)) ≡ true) × (number_fo
     × (number_for office (entry 6 8 (Assign (record { carrier = 3279166; width = 1 }))) ≡ 14)
     × (number_for office (entry 6 8 (Assign (record { carrier = 0; width = 400001 }))) ≡ 14) × (number_for office (entry 6 9 Release) ≡ 16)
     × (number_for office (entry 5 7 Release) ≡ 64)
-unfolding latest is_taken_given number_given above count_in cells_named among
+unfolding latest is_taken_given entry_number_given above count_in named_cells among
 numbers = (refl, refl, refl, refl, refl, refl)

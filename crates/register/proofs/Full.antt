@@ -9,7 +9,7 @@ use native.Mathlib.Omega.{arith}
 use lib.Dec.{eqb}
 use borrow.Author.Tests.{lt-ltb, le-leb, lt-leb, eqb-false, ne_eqb}
 use Rattle.basics.proofs.Tests.{either}
-use Rattle.register.specs.Taken.{is_assigned, above, number_given, number_for, is_taken, latest, live_count, cells_named, count_in}
+use Rattle.register.specs.Taken.{is_assigned, above, entry_number_given, number_for, is_taken, latest, live_count, named_cells, count_in}
 use Rattle.register.specs.declared.Change.TheVariants.{Assign}
 use Rattle.register.specs.declared.CellEntry.{CellEntry}
 use Rattle.register.proofs.Agreement.{taken_by_number}
@@ -29,7 +29,7 @@ record Filled (k : ℕ) : Type 0 where
 
 module _ (k : ℕ) (room : k < 512) (before : Filled k) where
   next : number_for (filled k) (entry k k (Assign narrow)) ≡ 0
-  unfolding number_given
+  unfolding entry_number_given
   next =
       simp (
         le-leb k 9223372036854775806 (omega arith),
@@ -63,7 +63,7 @@ module _ (k : ℕ) (room : k < 512) (before : Filled k) where
           below other = omega arith
 
 all_filled : (k : ℕ) → k ≤ 512 → Filled k
-unfolding filled above latest cells_named count_in
+unfolding filled above latest named_cells count_in
 all_filled zero h = record { slots = λ slot g. refl; free = λ n g. refl; held = λ n g. absurd (omega arith); live = refl }
 all_filled (suc k) h = one_more k (omega arith) (all_filled k (omega arith))
 
@@ -71,9 +71,9 @@ full : Filled 512
 full = all_filled 512 (omega arith)
 
 pub new_cell_gives_15 : number_for (filled 512) (entry 512 512 (Assign narrow)) ≡ 15
-unfolding number_given
+unfolding entry_number_given
 new_cell_gives_15 = simp (full.slots 512 (omega arith), full.free 512 (omega arith), full.live)
 
 pub live_cell_is_taken : number_for (filled 512) (entry 512 0 (Assign narrow)) ≡ 0
-unfolding number_given
+unfolding entry_number_given
 live_cell_is_taken = simp (full.slots 512 (omega arith), full.held 0 (omega arith))

@@ -13,7 +13,7 @@ use Rattle.register.specs.Cells.{cell_of}
 use Rattle.register.specs.Register.{live_places, live_cells, apply}
 use Rattle.register.specs.Refusals.{entry_number}
 use Rattle.register.specs.History.{register_after, apply_all, RisingCells}
-use Rattle.register.specs.Taken.{Latest, never, is, latest, is_taken, is_taken_given, number_for, is_later, later_entries, tally, makes, supersedes, releases, figures_of, live_count}
+use Rattle.register.specs.Taken.{Latest, never, is, latest, is_taken, is_taken_given, number_for, is_later, later_entries, tally, makes, supersedes, is_taken_release, figures_of, live_count}
 use Rattle.register.specs.declared.Assignment.{Assignment}
 use Rattle.register.specs.declared.Change.TheVariants.{Assign, Release}
 use Rattle.register.specs.declared.CellEntry.{CellEntry}
@@ -68,7 +68,7 @@ module _ (before : List CellEntry) (e : CellEntry) where
 pub figures_counted : (es : List CellEntry) → (register_after es).figures ≡ figures_of es
 figures_counted es = all (register_after es).figures (agrees es).made_counted (agrees es).superseded_counted (agrees es).released_counted
   where
-    all : (f : Figures) → f.made ≡ tally makes es → f.superseded ≡ tally supersedes es → f.released ≡ tally releases es → f ≡ figures_of es
+    all : (f : Figures) → f.made ≡ tally makes es → f.superseded ≡ tally supersedes es → f.released ≡ tally is_taken_release es → f ≡ figures_of es
     all f m s d =
         ap (λ (x : ℕ). record { made = x; superseded = f.superseded; released = f.released }) m
         ∙ ap (λ (x : ℕ). record { made = tally makes es; superseded = x; released = f.released }) s

@@ -13,7 +13,7 @@ use lib.ListN.{length, get_or, set, drop, drop_of_length-le}
 use lib.Seq.{drop-cons}
 use Rattle.std.specs.Prelude.{Result, Ok, Err}
 use Rattle.basics.proofs.Tests.{either}
-use Rattle.places.specs.Places.{without, with_at}
+use Rattle.basics.specs.elements.Places.{without, with_at}
 use Rattle.register.specs.Cells.{cell_of, has_number, number_place, is_live_cell, cell_reassigned, cell_inserted, cell_removed, cell_place, found}
 use Rattle.register.specs.declared.Assignment.{Assignment}
 use Rattle.register.specs.declared.Cell.{Cell}

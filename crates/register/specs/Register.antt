@@ -3,7 +3,7 @@
 use Rattle.std.specs.Prelude.{Bool, cond, ◌&&◌, not, List, ℕ, ◌+◌, min, ltb, leb, eqb, length, take, replicate, Result, Ok, Err}
 use Rattle.message.specs.Rounds.{increment}
 use Rattle.raster.specs.Raster.{frequency_of, raster_refusal}
-use Rattle.places.specs.Places.{at_front}
+use Rattle.basics.specs.elements.Places.{at_front}
 use Rattle.register.specs.Cells.{cell_of, is_live_cell, cell_reassigned, cell_inserted, cell_removed}
 use Rattle.register.specs.declared.Assignment.{Assignment}
 use Rattle.register.specs.declared.Change.{Change}
@@ -67,8 +67,8 @@ with_released n r =
 abbrev pub with_cells : List Cell → Register → Register
 with_cells cells r = record { next_slot = r.next_slot; figures = r.figures; live_count = r.live_count; cells = cells }
 
-abbrev pub with_counts : Figures → ℕ → Register → Register
-with_counts figures live r = record { next_slot = r.next_slot; figures = figures; live_count = live; cells = r.cells }
+abbrev pub with_figures : Figures → ℕ → Register → Register
+with_figures figures live r = record { next_slot = r.next_slot; figures = figures; live_count = live; cells = r.cells }
 
 -- the slot is the last one seen
 abbrev pub slot_seen : ℕ → Register → Register
@@ -84,19 +84,19 @@ done r = record { register = r; outcome = Ok Done }
 abbrev pub older : Register → Applied
 older r = record { register = r; outcome = Ok Older }
 
-abbrev pub refused : EntryRefusal → Register → Applied
-refused why r = record { register = r; outcome = Err why }
+abbrev pub entry_refused : EntryRefusal → Register → Applied
+entry_refused why r = record { register = r; outcome = Err why }
 
 -- "15, a new cell with 512 live .. 14 comes before both, and a width outside its limits gives 14 too"
 unfoldable pub assign : Register → ℕ → Assignment → Applied
 assign r n a =
-    cond (not (assignable a)) (refused NotAssignable r)
+    cond (not (assignable a)) (entry_refused NotAssignable r)
     (cond (is_live_cell n (live_cells r)) (done (with_superseded n a r))
-    (cond (leb 512 (live_places r)) (refused NoRoomForCell r) (done (with_new_cell n a r))))
+    (cond (leb 512 (live_places r)) (entry_refused NoRoomForCell r) (done (with_new_cell n a r))))
 
 -- "16, release of a cell that is not live"
 unfoldable pub release : Register → ℕ → Applied
-release r n = cond (is_live_cell n (live_cells r)) (done (with_released n r)) (refused CellNotLive r)
+release r n = cond (is_live_cell n (live_cells r)) (done (with_released n r)) (entry_refused CellNotLive r)
 
 unfoldable pub apply_change : Change → ℕ → Register → Applied
 apply_change (Assign a) n r = assign r n a
@@ -106,5 +106,5 @@ apply_change Release n r = release r n
 -- counts nowhere, but its slot is seen"
 unfoldable pub apply : Register → CellEntry → Applied
 apply r e =
-    cond (ltb 9223372036854775806 e.slot) (refused NumberTooLarge r)
+    cond (ltb 9223372036854775806 e.slot) (entry_refused NumberTooLarge r)
     (cond (ltb e.slot r.next_slot) (older r) (apply_change e.change e.cell (slot_seen e.slot r)))

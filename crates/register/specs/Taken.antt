@@ -49,9 +49,9 @@ among n [] = false
 among n (m ∷ ms) = cond (eqb m n) true (among n ms)
 
 -- the cells that the entries name, each once
-unfoldable pub cells_named : List CellEntry → List ℕ
-cells_named [] = []
-cells_named (e ∷ before) = cond (among e.cell (cells_named before)) (cells_named before) (e.cell ∷ cells_named before)
+unfoldable pub named_cells : List CellEntry → List ℕ
+named_cells [] = []
+named_cells (e ∷ before) = cond (among e.cell (named_cells before)) (named_cells before) (e.cell ∷ named_cells before)
 
 -- how many of the numbers pass the test
 unfoldable pub count_in : (ℕ → Bool) → List ℕ → ℕ
@@ -60,7 +60,7 @@ count_in test (n ∷ ns) = cond (test n) (suc (count_in test ns)) (count_in test
 
 -- how many cells have an assignment as their latest taken assignment or release, given the latest of each cell: these are live
 abbrev pub assigned_cells : (ℕ → Latest) → List CellEntry → ℕ
-assigned_cells latest before = count_in (λ n. is_assigned (latest n)) (cells_named before)
+assigned_cells latest before = count_in (λ n. is_assigned (latest n)) (named_cells before)
 
 abbrev pub is_assignment : Change → Bool
 is_assignment (Assign a) = true
@@ -72,8 +72,8 @@ is_release Release = true
 
 -- ---- the number of an entry, given the latest of each cell: the first cause that holds, in document 02's order. 64 is ours, for an entry that
 -- "gives no number", and 0 for one that is taken.
-unfoldable pub number_given : (ℕ → Latest) → List CellEntry → CellEntry → ℕ
-number_given latest before e =
+unfoldable pub entry_number_given : (ℕ → Latest) → List CellEntry → CellEntry → ℕ
+entry_number_given latest before e =
     cond (not (slot_within_limit e.slot)) 2
     (cond (not (above e.slot before)) 64
     (cond (not (change_within_limits e.change)) 14
@@ -82,7 +82,7 @@ number_given latest before e =
     0))))
 
 unfoldable pub is_taken_given : (ℕ → Latest) → List CellEntry → CellEntry → Bool
-is_taken_given latest before e = eqb (number_given latest before e) 0
+is_taken_given latest before e = eqb (entry_number_given latest before e) 0
 
 -- the latest taken assignment or release of cell n
 unfoldable pub latest : List CellEntry → ℕ → Latest
@@ -91,7 +91,7 @@ latest (e ∷ before) n = cond (is_taken_given (latest before) before e && eqb e
 
 -- the number of an entry after those before it
 abbrev pub number_for : List CellEntry → CellEntry → ℕ
-number_for before e = number_given (latest before) before e
+number_for before e = entry_number_given (latest before) before e
 
 -- the entry is taken after those before it
 abbrev pub is_taken : List CellEntry → CellEntry → Bool
@@ -112,11 +112,11 @@ abbrev pub supersedes : List CellEntry → CellEntry → Bool
 supersedes before e = makes before e && is_assigned (latest before e.cell)
 
 -- "released": the taken releases
-abbrev pub releases : List CellEntry → CellEntry → Bool
-releases before e = is_taken before e && is_release e.change
+abbrev pub is_taken_release : List CellEntry → CellEntry → Bool
+is_taken_release before e = is_taken before e && is_release e.change
 
 abbrev pub figures_of : List CellEntry → Figures
-figures_of es = record { made = tally makes es; superseded = tally supersedes es; released = tally releases es }
+figures_of es = record { made = tally makes es; superseded = tally supersedes es; released = tally is_taken_release es }
 
 -- "live": the cells whose latest taken assignment or release is an assignment
 abbrev pub live_count : List CellEntry → ℕ

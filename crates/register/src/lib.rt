@@ -2,14 +2,14 @@
 #![tactic(auto)]
 
 ghost use Rattle.std.specs.Prelude.{◌≡◌, ◌<◌, ◌≤◌, ℕ, List, [], min, length, set, take, MatchResult};
-ghost use Rattle.places.specs.Places.{at_front, without, with_at};
+ghost use Rattle.basics.specs.elements.Places.{at_front, without, with_at};
 ghost use Rattle.register.specs.Cells.{found, number_of_cell};
 ghost use Rattle.register.specs.Refusals.{entry_refusal_number, outcome_number};
-ghost use Rattle.register.specs.Register.{live_places, live_cells, assignable, new_register, with_cells, with_counts, slot_seen, applied, done, assign, release, apply};
+ghost use Rattle.register.specs.Register.{live_places, live_cells, assignable, new_register, with_cells, with_figures, slot_seen, applied, done, assign, release, apply};
 ghost use Rattle.register.specs.declared.Register.{Register};
 
+use basics::elements::{insert_at, remove_at};
 use message::increment;
-use places::{insert_at, remove_at};
 use raster::frequency_of;
 use refusals::Refused;
 
@@ -218,7 +218,7 @@ pub trait RegisterPlaces {
 
     // The figures, and the count of live cells, which stands beside the cells and is no field of Figures (report).
     fn count(&mut self, figures: Figures, live: u64)
-        ensures counted { register self.new ≡ with_counts figures live (register self.old) }
+        ensures counted { register self.new ≡ with_figures figures live (register self.old) }
         ensures same_references { lent self.new ≡ lent self.old };
 
     // The cell goes to place `at`.

@@ -12,7 +12,7 @@ use lib.ListN.{length, get_or}
 use Rattle.basics.proofs.Tests.{not_both}
 use Rattle.register.specs.Cells.{cell_of, is_live_cell}
 use Rattle.register.specs.Refusals.{entry_number}
-use Rattle.register.specs.Register.{live_places, live_cells, assignable, with_new_cell, with_superseded, with_released, slot_seen, done, older, refused, assign, release, apply_change, apply}
+use Rattle.register.specs.Register.{live_places, live_cells, assignable, with_new_cell, with_superseded, with_released, slot_seen, done, older, entry_refused, assign, release, apply_change, apply}
 use Rattle.register.specs.declared.Applied.{Applied}
 use Rattle.register.specs.declared.Assignment.{Assignment}
 use Rattle.register.specs.declared.Cell.{Cell}
@@ -39,7 +39,7 @@ module _ (r : Register) where
     unfolding assign
     kept_assign a = go (not (assignable a)) (is_live_cell n (live_cells s)) (leb 512 (live_places s))
       where
-        go : (t u v : Bool) → Kept (cond t (refused NotAssignable s) (cond u (done (with_superseded n a s)) (cond v (refused NoRoomForCell s) (done (with_new_cell n a s)))))
+        go : (t u v : Bool) → Kept (cond t (entry_refused NotAssignable s) (cond u (done (with_superseded n a s)) (cond v (entry_refused NoRoomForCell s) (done (with_new_cell n a s)))))
         go true u v h = absurd (not_both h refl)
         go false true v h = absurd (not_both h refl)
         go false false true h = absurd (not_both h refl)
@@ -49,7 +49,7 @@ module _ (r : Register) where
     unfolding release
     kept_release = go (is_live_cell n (live_cells s))
       where
-        go : (t : Bool) → Kept (cond t (done (with_released n s)) (refused CellNotLive s))
+        go : (t : Bool) → Kept (cond t (done (with_released n s)) (entry_refused CellNotLive s))
         go true h = absurd (not_both h refl)
         go false h = absurd (not_both h refl)
 
@@ -62,7 +62,7 @@ module _ (r : Register) where
   unfolding apply
   register_left e = go (ltb 9223372036854775806 e.slot) (ltb e.slot r.next_slot)
     where
-      go : (t u : Bool) → Kept (cond t (refused NumberTooLarge r) (cond u (older r) (apply_change e.change e.cell (slot_seen e.slot r))))
+      go : (t u : Bool) → Kept (cond t (entry_refused NumberTooLarge r) (cond u (older r) (apply_change e.change e.cell (slot_seen e.slot r))))
       go true u h = refl
       go false true h = refl
       go false false h = kept_change (slot_seen e.slot r) e.cell e.change h

@@ -5,7 +5,7 @@ use mathlib.Core.Path.{◌≡◌, refl, ap, ◌∙◌}
 use mathlib.Core.List.{List, [], ◌∷◌, ◌++◌}
 use native.Mathlib.Omega.{arith}
 use lib.ListN.{length, set, take, drop, replicate, length-take, length-drop, length-append}
-use Rattle.places.specs.Places.{at_front, without, with_at}
+use Rattle.basics.specs.elements.Places.{at_front, without, with_at}
 use Rattle.register.specs.Cells.{cell_of}
 use Rattle.register.specs.declared.Assignment.{Assignment}
 use Rattle.register.specs.declared.Cell.{Cell}

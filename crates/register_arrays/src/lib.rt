@@ -7,7 +7,7 @@ ghost use Rattle.std.specs.Prelude.{◌≡◌};
 ghost use Rattle.register.specs.Register.{new_register, apply};
 ghost use Rattle.register_arrays.specs.Columns.{HavePlaces, figures_in, register_in, lent_arrays, SameArrays, applied_in, entry_from_numbers, report_in};
 
-use places::{insert_at, remove_at};
+use basics::elements::{insert_at, remove_at};
 use register::{
     Assignment, Cell, CellEntry, CellNumber, Change, Entered, EntryRefusal, Figures,
     RegisterPlaces, apply_in, find, live_places,

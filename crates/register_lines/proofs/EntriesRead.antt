@@ -18,9 +18,9 @@ use Rattle.line_fields.proofs.FieldsRead.{FieldEnds, field_read, behind_field, l
 use Rattle.register.specs.declared.Change.{Change}
 use Rattle.register.specs.declared.Change.TheVariants.{Assign, Release}
 use Rattle.register.specs.declared.CellEntry.{CellEntry}
-use Rattle.register_lines.specs.Entries.{assignment_of, assignment_at, release_of, release_at, change_at, entry_with, entry_at, entry_of}
+use Rattle.register_lines.specs.Entries.{assignment_of, assignment_at, release_of, release_at, change_at, cell_entry_with, cell_entry_at, cell_entry_of}
 use Rattle.register_lines.specs.Entries.{second, third}
-use Rattle.register_lines.specs.Written.{change_line, entry_line, ChangeFits, EntryFits}
+use Rattle.register_lines.specs.Written.{change_line, cell_entry_line, ChangeFits, CellEntryFits}
 
 -- ---- words
 
@@ -93,10 +93,10 @@ change_read line at n Release ln fits e =
 
 -- ---- the line
 
-pub entry_read : (e : CellEntry) → EntryFits e → entry_of (entry_line e) ≡ Some e
-unfolding entry_of entry_at entry_with field
+pub entry_read : (e : CellEntry) → CellEntryFits e → cell_entry_of (cell_entry_line e) ≡ Some e
+unfolding cell_entry_of cell_entry_at cell_entry_with field
 entry_read e fits =
-    let line = entry_line e in
+    let line = cell_entry_line e in
     let rest = change_line e.cell e.change in
     let slot = field_read line 6 e.slot rest fits.0 refl in
     let behind = behind_field line 6 e.slot rest refl in
@@ -130,10 +130,10 @@ module _ (line : List ℕ) (n : ℕ) (large : 4294967295 < n) (fits : n ≤ 1844
       let letter : begins (ascii "r ") (drop at line) ≡ true = ap (begins (ascii "r ")) e ∙ r_begins (decimal n ++ tail) in
       simp (other, letter) (release_none _ tail t (behind_letter line at 114 32 _ e))
 
-pub large_cell_no_entry : (e : CellEntry) → e.slot ≤ 18446744073709551615 → 4294967295 < e.cell → e.cell ≤ 18446744073709551615 → entry_of (entry_line e) ≡ None
-unfolding entry_of entry_at entry_with field
+pub large_cell_no_entry : (e : CellEntry) → e.slot ≤ 18446744073709551615 → 4294967295 < e.cell → e.cell ≤ 18446744073709551615 → cell_entry_of (cell_entry_line e) ≡ None
+unfolding cell_entry_of cell_entry_at cell_entry_with field
 large_cell_no_entry e slot large fits =
-    let line = entry_line e in
+    let line = cell_entry_line e in
     let rest = change_line e.cell e.change in
     let none = large_cell line e.cell large fits (second line 6) e.change [] (inl refl) (behind_field line 6 e.slot rest refl ∙ sym (append-nil rest)) in
     simp (entry_begins (decimal e.slot ++ (32 ∷ rest)), field_read line 6 e.slot rest slot refl, none)

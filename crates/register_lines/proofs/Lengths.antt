@@ -22,7 +22,7 @@ use Rattle.group_register.specs.declared.GroupApplied.{GroupApplied}
 use Rattle.group_register.specs.declared.GroupRefusal.{GroupRefusal}
 use Rattle.group_register.specs.declared.GroupRegister.{GroupRegister}
 use Rattle.group_register.specs.declared.RegisterSettings.{RegisterSettings}
-use Rattle.register_lines.specs.Answers.{begun_text, outcome_text, figures_answer, no_figures, cell_text, cells_text, group_figures_answer, group_cells_text, register_answer}
+use Rattle.register_lines.specs.Answers.{begun_text, group_outcome_text, figures_answer, no_figures, bare_cell_text, bare_cells_text, group_figures_answer, group_cells_text, register_answer}
 use Rattle.register_lines.specs.declared.RegisterQuestion.{RegisterQuestion}
 use Rattle.register_lines.specs.declared.RegisterQuestion.TheVariants.{Begin, Enter, ReportLine, CellList}
 
@@ -34,8 +34,8 @@ begun_length : (s : RegisterSettings) → length (begun_text s) ≤ 29
 unfolding begun_text
 begun_length s = of-both (λ (l : List ℕ). length l ≤ 29) (is_made s) (omega arith) (refused_length (settings_refusal s))
 
-outcome_length : (o : Result Entered GroupRefusal) → length (outcome_text o) ≤ 29
-unfolding outcome_text
+outcome_length : (o : Result Entered GroupRefusal) → length (group_outcome_text o) ≤ 29
+unfolding group_outcome_text
 outcome_length (Ok Done) = omega arith
 outcome_length (Ok Older) = omega arith
 outcome_length (Err why) = refused_length (group_refusal_number why)
@@ -44,16 +44,16 @@ figures_answer_length : (r : Register) → length (figures_answer r) ≤ 84
 unfolding figures_answer
 figures_answer_length r = simp length-append (omega (arith, figures_length r.figures (live_places r)))
 
-cell_length : (c : Cell) → length (cell_text c) ≤ 68
-unfolding cell_text
+cell_length : (c : Cell) → length (bare_cell_text c) ≤ 68
+unfolding bare_cell_text
 cell_length c =
     simp length-append (omega (arith, decimal_length c.number, number c.assignment.carrier, number c.assignment.width))
 
-cells_length : (r : Register) → length (cells_text r) ≤ 34837
-unfolding cells_text
+cells_length : (r : Register) → length (bare_cells_text r) ≤ 34837
+unfolding bare_cells_text
 cells_length r =
     let few : length (live_cells r) ≤ 512 = rw length-take (omega arith) in
-    let all : length (each cell_text (live_cells r)) ≤ 68 * 512 = le_trans (each_length cell_text 68 cell_length (live_cells r)) (mul-le-mul_left 68 few) in
+    let all : length (each bare_cell_text (live_cells r)) ≤ 68 * 512 = le_trans (each_length bare_cell_text 68 cell_length (live_cells r)) (mul-le-mul_left 68 few) in
     simp length-append (omega (arith, decimal_length (live_places r)))
 
 group_figures_length : (g : GroupRegister) → length (group_figures_answer g) ≤ 84

@@ -26,10 +26,10 @@ first_register = new_group_register (settings_from 9223372036854775806)
 unfoldable pub begun_text : RegisterSettings → List ℕ
 begun_text s = cond (is_made s) (ascii "made\n") (line_text (ascii "refused") (settings_refusal s))
 
-unfoldable pub outcome_text : Result Entered GroupRefusal → List ℕ
-outcome_text (Ok Done) = ascii "done\n"
-outcome_text (Ok Older) = ascii "old\n"
-outcome_text (Err why) = line_text (ascii "refused") (group_refusal_number why)
+unfoldable pub group_outcome_text : Result Entered GroupRefusal → List ℕ
+group_outcome_text (Ok Done) = ascii "done\n"
+group_outcome_text (Ok Older) = ascii "old\n"
+group_outcome_text (Err why) = line_text (ascii "refused") (group_refusal_number why)
 
 -- the report's second line
 unfoldable pub figures_answer : Register → List ℕ
@@ -40,19 +40,19 @@ unfoldable pub no_figures : ℕ → List ℕ
 no_figures number = ascii "refused," ++ decimal number ++ ascii "\n"
 
 -- number, carrier, width; it has no position
-unfoldable pub cell_text : Cell → List ℕ
-cell_text c = ascii "; " ++ decimal c.number ++ field c.assignment.carrier ++ field c.assignment.width ++ ascii " - -"
+unfoldable pub bare_cell_text : Cell → List ℕ
+bare_cell_text c = ascii "; " ++ decimal c.number ++ field c.assignment.carrier ++ field c.assignment.width ++ ascii " - -"
 
 -- the number of live cells, and each of them, by number
-unfoldable pub cells_text : Register → List ℕ
-cells_text r = decimal (live_places r) ++ each cell_text (live_cells r) ++ ascii "\n"
+unfoldable pub bare_cells_text : Register → List ℕ
+bare_cells_text r = decimal (live_places r) ++ each bare_cell_text (live_cells r) ++ ascii "\n"
 
 -- of a register that is not made "`refused,1` or `refused,17`" stands in place of the figures, and "`refused N`" in place of the cells
 unfoldable pub group_figures_answer : GroupRegister → List ℕ
 group_figures_answer g = cond (is_made g.settings) (figures_answer g.register) (no_figures (settings_refusal g.settings))
 
 unfoldable pub group_cells_text : GroupRegister → List ℕ
-group_cells_text g = cond (is_made g.settings) (cells_text g.register) (line_text (ascii "refused") (settings_refusal g.settings))
+group_cells_text g = cond (is_made g.settings) (bare_cells_text g.register) (line_text (ascii "refused") (settings_refusal g.settings))
 
 -- ---- the register after a question, and the answer
 
@@ -64,6 +64,6 @@ after_question g CellList = group_done g
 
 unfoldable pub register_answer : RegisterQuestion → GroupApplied → List ℕ
 register_answer (Begin slot) a = begun_text a.group.settings
-register_answer (Enter e) a = outcome_text a.outcome
+register_answer (Enter e) a = group_outcome_text a.outcome
 register_answer ReportLine a = group_figures_answer a.group
 register_answer CellList a = group_cells_text a.group

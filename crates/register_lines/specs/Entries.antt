@@ -2,7 +2,7 @@
 -- Assumes nothing.
 use Rattle.std.specs.Prelude.{cond, ◌&&◌, List, ℕ, eqb, ltb, length, drop, Option, Some, None}
 use Rattle.texts.specs.Text.{ascii}
-use Rattle.line_fields.specs.Fields.{begins, is_number, value_of, next_field, number_field}
+use Rattle.line_fields.specs.Fields.{begins, has_number_field, value_or_zero, next_field, number_field}
 use Rattle.register.specs.declared.CellEntry.{CellEntry}
 use Rattle.register.specs.declared.Change.TheVariants.{Assign, Release}
 use Rattle.register_lines.specs.declared.LineChange.{LineChange}
@@ -11,9 +11,9 @@ use Rattle.register_lines.specs.declared.LineChange.{LineChange}
 
 unfoldable pub assignment_of : Option ℕ → Option ℕ → Option ℕ → ℕ → Option LineChange
 assignment_of cell carrier width end =
-    cond (ltb 4294967295 (value_of cell)) None
-    (cond (is_number cell && is_number carrier && is_number width)
-    (Some (record { cell = value_of cell; change = Assign (record { carrier = value_of carrier; width = value_of width }); end = end })) None)
+    cond (ltb 4294967295 (value_or_zero cell)) None
+    (cond (has_number_field cell && has_number_field carrier && has_number_field width)
+    (Some (record { cell = value_or_zero cell; change = Assign (record { carrier = value_or_zero carrier; width = value_or_zero width }); end = end })) None)
 
 -- the place of the field behind the one from a place on
 abbrev pub second : List ℕ → ℕ → ℕ
@@ -30,8 +30,8 @@ assignment_at line at =
 
 unfoldable pub release_of : Option ℕ → ℕ → Option LineChange
 release_of cell end =
-    cond (ltb 4294967295 (value_of cell)) None
-    (cond (is_number cell) (Some (record { cell = value_of cell; change = Release; end = end })) None)
+    cond (ltb 4294967295 (value_or_zero cell)) None
+    (cond (has_number_field cell) (Some (record { cell = value_or_zero cell; change = Release; end = end })) None)
 
 -- `CELL`
 unfoldable pub release_at : List ℕ → ℕ → Option LineChange
@@ -45,15 +45,15 @@ change_at line at =
 
 -- ---- an entry line: its last field ends the line
 
-unfoldable pub entry_with : ℕ → Option LineChange → ℕ → Option CellEntry
-entry_with slot (Some c) length = cond (eqb c.end length) (Some (record { slot = slot; cell = c.cell; change = c.change })) None
-entry_with slot None length = None
+unfoldable pub cell_entry_with : ℕ → Option LineChange → ℕ → Option CellEntry
+cell_entry_with slot (Some c) length = cond (eqb c.end length) (Some (record { slot = slot; cell = c.cell; change = c.change })) None
+cell_entry_with slot None length = None
 
 -- `SLOT` and what follows it
-unfoldable pub entry_at : List ℕ → ℕ → Option CellEntry
-entry_at line at =
-    cond (is_number (number_field line at).number)
-    (entry_with (value_of (number_field line at).number) (change_at line (second line at)) (length line)) None
+unfoldable pub cell_entry_at : List ℕ → ℕ → Option CellEntry
+cell_entry_at line at =
+    cond (has_number_field (number_field line at).number)
+    (cell_entry_with (value_or_zero (number_field line at).number) (change_at line (second line at)) (length line)) None
 
-unfoldable pub entry_of : List ℕ → Option CellEntry
-entry_of line = cond (begins (ascii "entry ") line) (entry_at line 6) None
+unfoldable pub cell_entry_of : List ℕ → Option CellEntry
+cell_entry_of line = cond (begins (ascii "entry ") line) (cell_entry_at line 6) None

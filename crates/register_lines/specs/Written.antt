@@ -12,8 +12,8 @@ change_line n (Assign a) = ascii "a" ++ (field n ++ (field a.carrier ++ field a.
 change_line n Release = ascii "r" ++ field n
 
 -- `entry SLOT` and the change
-abbrev pub entry_line : CellEntry → List ℕ
-entry_line e = ascii "entry" ++ (field e.slot ++ (ascii " " ++ change_line e.cell e.change))
+abbrev pub cell_entry_line : CellEntry → List ℕ
+cell_entry_line e = ascii "entry" ++ (field e.slot ++ (ascii " " ++ change_line e.cell e.change))
 
 -- `register SLOT`
 abbrev pub register_line : ℕ → List ℕ
@@ -24,5 +24,5 @@ abbrev pub ChangeFits : Change → Type 0
 ChangeFits (Assign a) = (a.carrier ≤ 18446744073709551615) × (a.width ≤ 18446744073709551615)
 ChangeFits Release = Unit {0}
 
-abbrev pub EntryFits : CellEntry → Type 0
-EntryFits e = (e.slot ≤ 18446744073709551615) × (e.cell ≤ 4294967295) × ChangeFits e.change
+abbrev pub CellEntryFits : CellEntry → Type 0
+CellEntryFits e = (e.slot ≤ 18446744073709551615) × (e.cell ≤ 4294967295) × ChangeFits e.change

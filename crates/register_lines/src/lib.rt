@@ -4,8 +4,8 @@
 
 ghost use Rattle.std.specs.Prelude.{◌≡◌};
 ghost use Rattle.texts.specs.Text.{put};
-ghost use Rattle.register_lines.specs.Entries.{assignment_of, assignment_at, release_of, release_at, change_at, entry_at, entry_with, entry_of};
-ghost use Rattle.register_lines.specs.Answers.{first_register, begun_text, outcome_text, figures_answer, no_figures, cell_text, cells_text, group_figures_answer, group_cells_text, after_question, register_answer};
+ghost use Rattle.register_lines.specs.Entries.{assignment_of, assignment_at, release_of, release_at, change_at, cell_entry_at, cell_entry_with, cell_entry_of};
+ghost use Rattle.register_lines.specs.Answers.{first_register, begun_text, group_outcome_text, figures_answer, no_figures, bare_cell_text, bare_cells_text, group_figures_answer, group_cells_text, after_question, register_answer};
 
 use group_register::{GroupApplied, GroupRefusal, GroupRegister, RegisterSettings};
 use refusals::Refused;
@@ -113,9 +113,9 @@ pub fn change_at(line: &[u8], at: usize) -> Option<LineChange>
 // ---- an entry line
 
 // The entry, where its last field ends the line.
-#[tactic(auto, unfolding(crate::specs::Entries::entry_with))]
-fn entry_with(slot: u64, change: Option<LineChange>, length: usize) -> Option<CellEntry>
-    ensures { result ≡ entry_with slot change length }
+#[tactic(auto, unfolding(crate::specs::Entries::cell_entry_with))]
+fn cell_entry_with(slot: u64, change: Option<LineChange>, length: usize) -> Option<CellEntry>
+    ensures { result ≡ cell_entry_with slot change length }
 {
     let said = change?;
     if said.end == length {
@@ -129,23 +129,23 @@ fn entry_with(slot: u64, change: Option<LineChange>, length: usize) -> Option<Ce
 }
 
 // `SLOT` and what follows it, from a place of a line to its end.
-#[tactic(auto, unfolding(crate::specs::Entries::entry_at))]
-fn entry_at(line: &[u8], at: usize) -> Option<CellEntry>
-    ensures { result ≡ entry_at line.now at }
+#[tactic(auto, unfolding(crate::specs::Entries::cell_entry_at))]
+fn cell_entry_at(line: &[u8], at: usize) -> Option<CellEntry>
+    ensures { result ≡ cell_entry_at line.now at }
 {
     let slot = line_fields::number_field(line, at);
     let number = slot.number?;
     let change = change_at(line, line_fields::next_field(line, slot.end));
-    entry_with(number, change, line.len())
+    cell_entry_with(number, change, line.len())
 }
 
 // The entry that a line gives, without its LF.
-#[tactic(auto, unfolding(crate::specs::Entries::entry_of))]
-pub fn entry_of(line: &[u8]) -> Option<CellEntry>
-    ensures { result ≡ entry_of line.now }
+#[tactic(auto, unfolding(crate::specs::Entries::cell_entry_of))]
+pub fn cell_entry_of(line: &[u8]) -> Option<CellEntry>
+    ensures { result ≡ cell_entry_of line.now }
 {
     if line_fields::begins(line, b"entry ") {
-        return entry_at(line, 6);
+        return cell_entry_at(line, 6);
     }
     None
 }
@@ -172,9 +172,9 @@ pub fn put_begun(out: &mut Output<'_>, settings: RegisterSettings)
 }
 
 // What became of an entry, with LF.
-#[tactic(auto, unfolding(crate::specs::Answers::outcome_text))]
+#[tactic(auto, unfolding(crate::specs::Answers::group_outcome_text))]
 fn put_outcome(out: &mut Output<'_>, outcome: Result<Entered, GroupRefusal>)
-    ensures { out.new ≡ put (outcome_text outcome) out.old }
+    ensures { out.new ≡ put (group_outcome_text outcome) out.old }
 {
     match outcome {
         Ok(Entered::Done) => out.put_bytes(b"done\n"),
@@ -204,9 +204,9 @@ fn put_no_figures(out: &mut Output<'_>, number: u64)
 }
 
 // A live cell, behind what stands before it.
-#[tactic(auto, using(texts::proofs::Putting::put_append), unfolding(crate::specs::Answers::cell_text, texts::specs::Text::put))]
+#[tactic(auto, using(texts::proofs::Putting::put_append), unfolding(crate::specs::Answers::bare_cell_text, texts::specs::Text::put))]
 fn put_cell(out: &mut Output<'_>, cell: Cell)
-    ensures { out.new ≡ put (cell_text cell) out.old }
+    ensures { out.new ≡ put (bare_cell_text cell) out.old }
 {
     out.put_bytes(b"; ");
     out.put_number(cell.number as u64);
@@ -216,9 +216,9 @@ fn put_cell(out: &mut Output<'_>, cell: Cell)
 }
 
 // The number of live cells and each of them, with LF.
-#[tactic(auto, using(texts::proofs::Putting::put_then, texts::proofs::Putting::reached_next, texts::proofs::Putting::reached_all), unfolding(crate::specs::Answers::cells_text))]
+#[tactic(auto, using(texts::proofs::Putting::put_then, texts::proofs::Putting::reached_next, texts::proofs::Putting::reached_all), unfolding(crate::specs::Answers::bare_cells_text))]
 fn put_cells(out: &mut Output<'_>, register: &Register)
-    ensures { out.new ≡ put (cells_text register.now) out.old }
+    ensures { out.new ≡ put (bare_cells_text register.now) out.old }
 {
     let places = live_places(register.live_count);
     out.put_number(places as u64);

@@ -13,7 +13,7 @@ use Rattle.message.specs.declared.ConsensusMsg.TheVariants.{Prepare, Accept, Com
 use Rattle.message.specs.declared.PFMode.TheVariants.{Paxos}
 use Rattle.message.specs.declared.RoundV.TheVariants.{PaxosV}
 use Rattle.agreement.proofs.Tests.{neqb→ne}
-use Rattle.register.specs.Taken.{is, above, among, cells_named, count_in, number_given as entry_number_given, is_taken_given, latest, live_count}
+use Rattle.register.specs.Taken.{is, above, among, named_cells, count_in, entry_number_given, is_taken_given, latest, live_count}
 use Rattle.register.specs.declared.Change.TheVariants.{Assign}
 use Rattle.group_register.specs.Settings.{settings_from}
 use Rattle.group.specs.Claim.{MemberCall, Entry, ours, entries, Legal, slot_at}
@@ -62,7 +62,7 @@ unfolding entries_for computed
 all_assign_cell_7 = (refl, refl, refl)
 
 pub cell_7_is_assigned : (latest (entry_for_commit says 0 10 ∷ []) 7 ≡ is (says 10).change) × (live_count (entry_for_commit says 0 10 ∷ []) ≡ 1)
-unfolding latest is_taken_given entry_number_given above count_in cells_named among
+unfolding latest is_taken_given entry_number_given above count_in named_cells among
 cell_7_is_assigned = (refl, refl)
 
 pub members_0_and_2 : register_of_member (settings_from 5) says 0 run ≡ register_of_member (settings_from 5) says 2 run

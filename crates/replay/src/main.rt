@@ -3,7 +3,7 @@
 #![tactic(auto)]
 
 ghost use Rattle.std.specs.Prelude.{◌≡◌, true};
-ghost use Rattle.replay.specs.Answer.{answered, new_answer, state_answer, answer_of, is_skipped, Leaves};
+ghost use Rattle.replay.specs.Answer.{shard_answered, new_answer, state_answer, line_answer_of, is_skipped, Leaves};
 
 use call_lines::Fault;
 use calls::Reply;
@@ -27,7 +27,7 @@ fn is_skipped(line: &[u8]) -> bool
 }
 
 fn answer_with(shard: Shard, outcome: Outcome) -> Answer
-    ensures { result ≡ answered shard outcome }
+    ensures { result ≡ shard_answered shard outcome }
 {
     let reply = Reply {
         outcome,
@@ -58,15 +58,15 @@ fn state_answer(mut shard: Shard, state: State) -> Answer
     answer_with(shard, made)
 }
 
-// What a line without a fault makes of the shard. Its kind is a number, as in line_calls.
-#[tactic(auto, unfolding(crate::specs::Answer::answer_of))]
-fn answer_of(shard: Shard, numbers: &[u64]) -> Answer
-    ensures { result ≡ answer_of shard numbers.now }
+// What a line without a fault makes of the shard. Its kind is a number, as in lines_read::line_calls.
+#[tactic(auto, unfolding(crate::specs::Answer::line_answer_of))]
+fn line_answer_of(shard: Shard, numbers: &[u64]) -> Answer
+    ensures { result ≡ line_answer_of shard numbers.now }
 {
-    match line_calls::number_at(numbers, 0) {
-        1 => new_shard(line_states::group_settings_of(numbers)),
-        2 => state_answer(shard, line_states::state_of(numbers)),
-        _ => shard.call(line_calls::call_of(numbers)),
+    match lines_read::line_calls::number_at(numbers, 0) {
+        1 => new_shard(lines_read::line_states::group_settings_of(numbers)),
+        2 => state_answer(shard, lines_read::line_states::state_of(numbers)),
+        _ => shard.call(lines_read::line_calls::call_of(numbers)),
     }
 }
 
@@ -76,7 +76,7 @@ fn numbers_of<'a>(line: &[u8], places: &'a mut [u64]) -> Result<&'a [u64], Fault
     scan.fault()?;
     let count = scan.before.saturating_add(1).min(places.len());
     let numbers = &places[..count];
-    line_states::numbers_fault(numbers)?;
+    lines_read::line_states::numbers_fault(numbers)?;
     Ok(numbers)
 }
 
@@ -89,11 +89,11 @@ fn answer_line(shard: &mut Shard, line: &[u8], places: &mut [u64], out: &mut Out
     }
     match numbers_of(line, places) {
         Ok(numbers) => {
-            let answer = answer_of(*shard, numbers);
-            answer_lines::put_answer(out, &answer);
+            let answer = line_answer_of(*shard, numbers);
+            lines_written::answers::put_answer(out, &answer);
             *shard = answer.shard;
         }
-        Err(fault) => fault_lines::put_fault(out, fault),
+        Err(fault) => lines_written::faults::put_fault(out, fault),
     }
 }
 
@@ -110,7 +110,7 @@ impl LineTaker for Replay {
 
     fn take_too_long(&mut self, start: &[u8], out: &mut Output) {
         if !is_skipped(start) {
-            fault_lines::put_fault(out, Fault::TooLong);
+            lines_written::faults::put_fault(out, Fault::TooLong);
         }
     }
 
@@ -121,7 +121,7 @@ impl LineTaker for Replay {
 
 // The shard before the first settings, which is not made.
 fn unmade() -> Shard {
-    group_shard::begin_shard(line_states::group_settings_of(&[0]))
+    group_shard::begin_shard(lines_read::line_states::group_settings_of(&[0]))
 }
 
 fn main(rt: HostRuntime) {

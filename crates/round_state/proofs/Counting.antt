@@ -7,8 +7,8 @@ use Prim.Native.Nat.{ℕ, ◌+◌, ◌^◌, ◌<◌}
 use lib.Dec.{eqb}
 use borrow.Author.Tests.{eq-eqb}
 use Rattle.basics.proofs.Tests.{either}
-use Rattle.sets.specs.Sets.{contains, insert, size, one, Within}
-use Rattle.sets.proofs.Laws.{contains_insert_same, contains_insert_other, size_insert, insert_old, within_insert, within_trans, insert_within}
+use Rattle.basics.specs.sets.Sets.{contains, insert, size, one, Within}
+use Rattle.basics.proofs.sets.Laws.{contains_insert_same, contains_insert_other, size_insert, insert_old, within_insert, within_trans, insert_within}
 use Rattle.round_state.specs.Paxos.{with_sender, with_own, counted}
 use Rattle.round_state.specs.declared.Member.{Member}
 

@@ -1,5 +1,4 @@
--- What Paxos rests on: the processes whose promises let a delegate propose and the processes whose accepts let a value be committed have one
--- in common, and so have those of two commits.
+-- What Paxos rests on: the processes whose promises let a delegate propose and the processes whose accepts let a value be committed have one in common.
 -- Assumes nothing.
 use mathlib.Core.Path.{◌≡◌}
 use mathlib.Core.Bool.{true}
@@ -7,8 +6,8 @@ use Prim.Native.Nat.{ℕ, ◌≤◌, ◌<◌}
 use native.Mathlib.Omega.{arith}
 use lib.Dec.{leb}
 use borrow.Author.Tests.{leb-true}
-use Rattle.sets.specs.Sets.{contains, size, Within}
-use Rattle.sets.proofs.Laws.{majorities_meet}
+use Rattle.basics.specs.sets.Sets.{contains, size, Within}
+use Rattle.basics.proofs.sets.Laws.{majorities_meet}
 use Rattle.quorum.specs.Quorum.{majority_of}
 use Rattle.round_state.specs.Paxos.{is_prepared, paxos_can_commit}
 use Rattle.round_state.specs.declared.Member.{Member}
@@ -26,7 +25,3 @@ module _ (r live : ℕ) (few : size live ≤ r) (me other : Member) (mine : me.q
   pub prepared_meets_accepted : Within s.prepared_set live → Within t.accepted_set live → is_prepared me s ≡ true → paxos_can_commit other t ≡ true
       → (p : ℕ) × (p < 64) × (contains s.prepared_set p ≡ true) × (contains t.accepted_set p ≡ true)
   prepared_meets_accepted = majorities s.prepared_set t.accepted_set
-
-  pub accepted_meets_accepted : Within s.accepted_set live → Within t.accepted_set live → paxos_can_commit me s ≡ true → paxos_can_commit other t ≡ true
-      → (p : ℕ) × (p < 64) × (contains s.accepted_set p ≡ true) × (contains t.accepted_set p ≡ true)
-  accepted_meets_accepted = majorities s.accepted_set t.accepted_set

@@ -2,7 +2,7 @@
 -- document 01, "Round state").
 -- Assumes nothing.
 use Rattle.std.specs.Prelude.{Bool, false, cond, ◌&&◌, ◌||◌, ℕ, leb, eqb, Option, None, Some, is_some, Result, Ok, Err}
-use Rattle.sets.specs.Sets.{insert, size, is_empty}
+use Rattle.basics.specs.sets.Sets.{insert, size, is_empty}
 use Rattle.message.specs.Promises.{value_of, accept_round_of}
 use Rattle.message.specs.Rounds.{before, equal}
 use Rattle.message.specs.declared.PaxosRound.{PaxosRound}

@@ -1,5 +1,5 @@
-// The round state of the paxos family, first half: rounds, the held promise, and who is counted. With the crates fast_state, epaxos_state and
-// swift_state it is the Rust's round_state.rs. Each operation takes the state and hands back the next one, or why it is refused.
+// The round state of the paxos family, first half: rounds, the held promise, and who is counted. With the crates fast_state, fast_state::epaxos and
+// fast_state::swift it is the Rust's round_state.rs. Each operation takes the state and hands back the next one, or why it is refused.
 #![tactic(auto)]
 
 ghost use Rattle.std.specs.Prelude.{◌≡◌, Some};
@@ -76,7 +76,7 @@ impl Member {
         if src == self.my_pid {
             return set;
         }
-        sets::insert(set, src)
+        basics::sets::insert(set, src)
     }
 
     #[tactic(auto, unfolding(crate::specs::Paxos::with_own))]
@@ -84,7 +84,7 @@ impl Member {
         ensures { result ≡ with_own self set }
     {
         if self.replica {
-            return sets::insert(set, self.my_pid);
+            return basics::sets::insert(set, self.my_pid);
         }
         set
     }
@@ -102,13 +102,13 @@ impl PaxosState {
     pub fn is_prepared(self, me: Member) -> bool
         ensures { result ≡ is_prepared me self }
     {
-        sets::size(self.prepared_set) >= me.quorums.majority
+        basics::sets::size(self.prepared_set) >= me.quorums.majority
     }
 
     pub fn paxos_can_commit(self, me: Member) -> bool
         ensures { result ≡ paxos_can_commit me self }
     {
-        sets::size(self.accepted_set) >= me.quorums.majority
+        basics::sets::size(self.accepted_set) >= me.quorums.majority
     }
 
     // A new round clears both sets, not the held promise.
@@ -150,7 +150,7 @@ impl PaxosState {
     pub fn paxos_propose_v(self, me: Member, rv: RoundV) -> Result<PaxosState, Refusal>
         ensures { result ≡ paxos_propose_v me rv self }
     {
-        if self.max_rv.is_some() || !sets::is_empty(self.prepared_set) {
+        if self.max_rv.is_some() || !basics::sets::is_empty(self.prepared_set) {
             return Err(Refusal::Panic);
         }
         Ok(self.receive_promise(me, me.my_pid, rv))
@@ -194,7 +194,7 @@ impl PaxosState {
     pub fn self_accept(self, me: Member, round: PaxosRound) -> Result<PaxosState, Refusal>
         ensures { result ≡ self_accept me round self }
     {
-        if sets::is_empty(self.accepted_set) {
+        if basics::sets::is_empty(self.accepted_set) {
             return self.accept_own(me, round, get_v(self.max_rv));
         }
         Err(Refusal::AcceptUnlikeHeld)

@@ -8,8 +8,8 @@ use native.Mathlib.Omega.{arith}
 use lib.Dec.{ltb, leb}
 use borrow.Author.Tests.{ltb-true, leb-true}
 use Rattle.basics.proofs.Tests.{and_left, and_right}
-use Rattle.sets.specs.Sets.{contains, size, fits, Within}
-use Rattle.sets.proofs.Laws.{majorities_meet}
+use Rattle.basics.specs.sets.Sets.{contains, size, fits, Within}
+use Rattle.basics.proofs.sets.Laws.{majorities_meet}
 use Rattle.quorum.specs.Quorum.{majority_of}
 use Rattle.settings.specs.Questions.{quorums_of}
 use Rattle.settings.specs.declared.Settings.{Settings}

@@ -3,8 +3,8 @@
 -- Assumes nothing.
 use Rattle.std.specs.Prelude.{Bool, cond, List, ℕ, Option, None, Some}
 use Rattle.message.specs.declared.PaxosRound.{PaxosRound}
-use Rattle.sets.specs.Sets.{contains}
-use Rattle.tables.specs.Tables.{look_up}
+use Rattle.basics.specs.sets.Sets.{contains}
+use Rattle.basics.specs.tables.Tables.{look_up}
 use Rattle.message.specs.Modes.{is_swift_paxos}
 use Rattle.message.specs.Rounds.{starting_round}
 use Rattle.message.specs.declared.PFMode.{PFMode}

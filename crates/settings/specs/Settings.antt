@@ -1,8 +1,8 @@
 -- The limits of the settings (document 01, "Group settings" and row 1 of its table of refusals).
 -- Assumes nothing.
 use Rattle.std.specs.Prelude.{Bool, true, ◌&&◌, List, ℕ, ltb, leb, Option, None, Some}
-use Rattle.sets.specs.Sets.{size, fits}
-use Rattle.tables.specs.Tables.{all_below}
+use Rattle.basics.specs.sets.Sets.{size, fits}
+use Rattle.basics.specs.tables.Tables.{all_below}
 use Rattle.message.specs.declared.PFMode.{PFMode}
 use Rattle.message.specs.declared.PFMode.TheVariants.{Paxos, MultiPaxos, MultiPaxos3P, EPaxos, Pando, SwiftPaxos}
 use Rattle.settings.specs.declared.Settings.{Settings}

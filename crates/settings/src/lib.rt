@@ -5,9 +5,9 @@ ghost use Rattle.std.specs.Prelude.{◌≡◌, option_copied};
 ghost use Rattle.settings.specs.Settings.{counts_fit, members_fit, committers_fit, quorum_fits, mode_fits, within_limits};
 ghost use Rattle.settings.specs.Questions.{quorums_of, is_replica, is_live_replica, delegate_in, committer_for, committer_in, starting_round_of};
 
+use basics::tables::PerProcess;
 use message::{PFMode, PaxosRound};
 use quorum::QuorumRow;
-use tables::PerProcess;
 
 // The tables have a place for each process. Committers are given for all processes or for none, as in the Rust;
 // delegates count in Pando alone, and the fixed quorum in SwiftPaxos alone.
@@ -31,7 +31,7 @@ pub fn delegate_in(delegates: &PerProcess, mode: PFMode, leader: u64) -> u64
     ensures { result ≡ delegate_in delegates.now mode leader }
 {
     match mode {
-        PFMode::Pando => tables::look_up(delegates, leader),
+        PFMode::Pando => basics::tables::look_up(delegates, leader),
         _ => leader,
     }
 }
@@ -40,7 +40,7 @@ pub fn delegate_in(delegates: &PerProcess, mode: PFMode, leader: u64) -> u64
 fn committer_for(committers: &PerProcess, requester: Option<u64>) -> Option<u64>
     ensures { result ≡ committer_for committers.now requester }
 {
-    requester.map(|p| tables::look_up(committers, p))
+    requester.map(|p| basics::tables::look_up(committers, p))
 }
 
 // The process that commits a value by the settings, from the value's requester.
@@ -63,14 +63,14 @@ pub fn committer_in(
 fn committers_fit(committers: Option<&PerProcess>, count: u64) -> bool
     ensures { result ≡ committers_fit (option_copied committers.entry) count }
 {
-    committers.is_none_or(|table| tables::all_below(table, count))
+    committers.is_none_or(|table| basics::tables::all_below(table, count))
 }
 
 #[tactic(auto, unfolding(crate::specs::Settings::quorum_fits))]
 fn quorum_fits(quorum: Option<u64>, count: u64) -> bool
     ensures { result ≡ quorum_fits quorum count }
 {
-    quorum.is_none_or(|s| sets::fits(s, count))
+    quorum.is_none_or(|s| basics::sets::fits(s, count))
 }
 
 impl Settings {
@@ -92,8 +92,8 @@ impl Settings {
     {
         self.my_pid < self.process_count
             && self.first_leader < self.process_count
-            && sets::fits(self.alive_replicas, self.process_count)
-            && sets::size(self.alive_replicas) <= self.replica_count
+            && basics::sets::fits(self.alive_replicas, self.process_count)
+            && basics::sets::size(self.alive_replicas) <= self.replica_count
     }
 
     #[tactic(auto, unfolding(crate::specs::Settings::mode_fits))]
@@ -101,7 +101,7 @@ impl Settings {
         ensures { result ≡ mode_fits self self.mode }
     {
         match self.mode {
-            PFMode::Pando => tables::all_below(&self.delegates, self.process_count),
+            PFMode::Pando => basics::tables::all_below(&self.delegates, self.process_count),
             PFMode::SwiftPaxos => quorum_fits(self.quorum, self.process_count),
             _ => true,
         }
@@ -122,7 +122,7 @@ impl Settings {
     pub fn is_live_replica(&self, p: u64) -> bool
         ensures { result ≡ is_live_replica self.now p }
     {
-        sets::contains(self.alive_replicas, p)
+        basics::sets::contains(self.alive_replicas, p)
     }
 
     pub fn is_replica(&self) -> bool

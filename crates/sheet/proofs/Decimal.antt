@@ -8,8 +8,8 @@ use native.Mathlib.Nat.{le_of_suc-le-suc, lt_of_not-le}
 use native.Mathlib.Omega.{arith}
 use borrow.Author.Tests.{lt-ltb, le-ltb, le-leb}
 use Rattle.sheet.specs.Text.{text}
-use Rattle.sheet_count.specs.Count.{first_line, two_digits, count_of_line, count_asked}
-use Rattle.sheet_count.proofs.Counting.{count_range}
+use Rattle.sheet.specs.count.Count.{first_line, two_digits, count_of_line, count_asked}
+use Rattle.sheet.proofs.count.Counting.{count_range}
 use Rattle.std.proofs.Common.{Some}
 
 line_taken : (n : ℕ) → 1 ≤ n → n ≤ 64 → count_of_line (text n) ≡ Some n

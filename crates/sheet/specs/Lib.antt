@@ -1,3 +1,4 @@
 pub mod Text
 pub mod Sheet
 pub mod Answer
+pub mod count

@@ -7,5 +7,5 @@ unfoldable pub text : ℕ → List ℕ
 text v = cond (ltb v 10) ((48 + v) ∷ []) ((48 + v / 10) ∷ (48 + v % 10) ∷ [])
 
 -- the number v, and then the byte b
-unfoldable pub field : ℕ → ℕ → List ℕ
-field v b = text v ++ (b ∷ [])
+unfoldable pub number_and_byte : ℕ → ℕ → List ℕ
+number_and_byte v b = text v ++ (b ∷ [])

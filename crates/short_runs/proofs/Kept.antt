@@ -11,8 +11,8 @@ use lib.Dec.{eqb, ltb}
 use lib.ListN.{length, get_or, set, length-set, length-append}
 use borrow.Author.Tests.{lt-ltb}
 use Rattle.basics.proofs.Places.{get_set}
-use Rattle.sets.specs.Sets.{contains}
-use Rattle.sets.proofs.Laws.{contains_insert}
+use Rattle.basics.specs.sets.Sets.{contains}
+use Rattle.basics.proofs.sets.Laws.{contains_insert}
 use Rattle.steps.specs.declared.Messages.{Messages}
 use Rattle.steps.specs.declared.Outgoing.{Outgoing}
 use Rattle.consensus.specs.declared.Answer.{Answer}

@@ -6,26 +6,26 @@ use Prim.Native.Nat.{ℕ, ◌+◌, ◌≤◌}
 use native.Mathlib.Omega.{arith}
 use lib.ListN.{length, take, drop, length-append}
 use lib.Seq.{take-append_seam}
-use Rattle.sets.specs.Sets.{contains, count, size, insert}
-use Rattle.tables.specs.Tables.{look_up, store, every}
+use Rattle.basics.specs.sets.Sets.{contains, count, size, insert}
+use Rattle.basics.specs.tables.Tables.{look_up, store, every}
 use Rattle.message.specs.Rounds.{increment, next_leader_round, round_before, round_equal}
-use Rattle.limits.specs.Limits.{round_numbers, rv_numbers, msg_numbers, number_given, rv_processes, msg_processes, requester_below}
+use Rattle.message.specs.limits.Limits.{round_numbers, rv_numbers, msg_numbers, number_given, rv_processes, msg_processes, requester_below}
 use Rattle.settings.specs.Settings.{counts_fit, members_fit, committers_fit, quorum_fits, mode_fits, within_limits}
 use Rattle.settings.specs.Questions.{delegate_in, committer_for, committer_in}
 use Rattle.round_state.specs.Paxos.{with_sender, with_own, held_after_promise, receive_promise, paxos_propose_v, accept_fits, receive_accept, accept_own, self_accept}
 use Rattle.enter.specs.Enter.{in_round, is_older, from_live, enter}
-use Rattle.prepare.specs.Prepare.{hold_first, answer_prepare, answers_nothing, preparing, prepared, broadcast_accept, accept_phase, becomes_prepared, gather}
-use Rattle.accept.specs.Accept.{is_committer, committer_hears, answer_accept, tells_commit, commit_messages, try_commit, answered as heard, follower, accepted, accept_answer, counts_accepts, accepting}
-use Rattle.proposal.specs.Proposal.{electing, may_propose}
+use Rattle.classic.specs.prepare.Prepare.{hold_first, answer_prepare, answers_nothing, preparing, prepared, broadcast_accept, accept_phase, becomes_prepared, gather}
+use Rattle.classic.specs.accept.Accept.{is_committer, committer_hears, answer_accept, tells_commit, with_commit_message, try_commit, answered as heard, follower, accepted, accept_answer, counts_accepts, accepting}
+use Rattle.propose.specs.proposal.Proposal.{electing, may_propose}
 use Rattle.propose.specs.Propose.{propose_prepare, propose_accept, propose_classic}
 use Rattle.paxos_family.specs.Commit.{commit_slot}
-use Rattle.paxos_family.specs.Process.{in_prepare, on_prepare, on_accept, process_classic}
+use Rattle.paxos_family.specs.Process.{entered_prepare, on_prepare, on_accept, process_classic}
 use Rattle.delivery.specs.Admit.{other_last_value, value_awaited, ready, admit}
 use Rattle.delivery.specs.Limits.{numbers_fit, processes_fit}
 use Rattle.calls.specs.Asked.{gatherer_in}
 use Rattle.calls.specs.Decision.{admission_of, unless_spent, decision_of}
 use Rattle.read_tracker.specs.Reads.{after_commit}
-use Rattle.serving.specs.Serving.{kept_by_commit, served_by_commit, commit_slot as reads_at_commit}
+use Rattle.read_tracker.specs.serving.Serving.{kept_by_commit, served_by_commit, serve_at_commit}
 use Rattle.consensus.specs.Answers.{committed}
 use Rattle.consensus.specs.Handle.{on_commit, proposing, processed, process_message, handle, handle_call}
 use Rattle.consensus.specs.Call.{new_shard, state_call, call_with}
@@ -44,7 +44,7 @@ use Rattle.short_runs.proofs.SheetIsListing.{sheet_is_listing}
 
 -- how many bytes the lines have, and the first of them
 lines_computed : ◌≡◌ {A = ℕ × List ℕ} (length (lines_after 5 new_run), take 5 (lines_after 5 new_run)) (45786, ascii "p0,\r\n")
-unfolding contains count size insert look_up store every increment next_leader_round round_before round_equal round_numbers rv_numbers msg_numbers number_given rv_processes msg_processes requester_below counts_fit members_fit committers_fit quorum_fits mode_fits within_limits delegate_in committer_for committer_in with_sender with_own held_after_promise receive_promise paxos_propose_v accept_fits receive_accept accept_own self_accept in_round is_older from_live enter hold_first answer_prepare answers_nothing preparing prepared broadcast_accept accept_phase becomes_prepared gather is_committer committer_hears answer_accept tells_commit commit_messages try_commit heard follower accepted accept_answer counts_accepts accepting electing may_propose propose_prepare propose_accept propose_classic commit_slot in_prepare on_prepare on_accept process_classic other_last_value value_awaited ready admit numbers_fit processes_fit gatherer_in after_commit kept_by_commit served_by_commit reads_at_commit committed on_commit proposing processed process_message handle handle_call admission_of unless_spent decision_of new_shard state_call call_with digit_count decimal each each_below is_commit_message is_sent_to message_requester held_requester value_proposed sending_at with_last with_message with_messages with_commit_by office_shard with_answer if_taken after_proposal after_message after_delivery trial_of pair event_text commit_by_text joined_by_blanks kept_line event_lines lines_after
+unfolding contains count size insert look_up store every increment next_leader_round round_before round_equal round_numbers rv_numbers msg_numbers number_given rv_processes msg_processes requester_below counts_fit members_fit committers_fit quorum_fits mode_fits within_limits delegate_in committer_for committer_in with_sender with_own held_after_promise receive_promise paxos_propose_v accept_fits receive_accept accept_own self_accept in_round is_older from_live enter hold_first answer_prepare answers_nothing preparing prepared broadcast_accept accept_phase becomes_prepared gather is_committer committer_hears answer_accept tells_commit with_commit_message try_commit heard follower accepted accept_answer counts_accepts accepting electing may_propose propose_prepare propose_accept propose_classic commit_slot entered_prepare on_prepare on_accept process_classic other_last_value value_awaited ready admit numbers_fit processes_fit gatherer_in after_commit kept_by_commit served_by_commit serve_at_commit committed on_commit proposing processed process_message handle handle_call admission_of unless_spent decision_of new_shard state_call call_with digit_count decimal each each_below is_commit_message is_sent_to message_requester held_requester value_proposed sending_at with_last with_message with_messages with_commit_by office_shard with_answer if_taken after_proposal after_message after_delivery trial_of pair event_text commit_by_text joined_by_blanks kept_line event_lines lines_after
 lines_computed = refl
 
 -- "So the line after the header is `p0,`."

@@ -2,7 +2,7 @@
 -- Assumes nothing.
 use Rattle.std.specs.Prelude as std
 use Rattle.std.specs.Prelude.{None, Some}
-use mathlib.Core.Path.{◌≡◌, refl, sym, ap, subst, ◌∙◌}
+use mathlib.Core.Path.{◌≡◌, refl, sym, ap, ◌∙◌}
 use mathlib.Core.List.{List, [], ◌∷◌, ◌++◌, append_assoc}
 use mathlib.Core.Option.{Option, none, some, get_or}
 use Prim.Native.Nat.{ℕ, zero, suc, ◌+◌, ◌≤◌, ◌<◌, min}
@@ -17,7 +17,7 @@ use Rattle.enabled_runs.specs.declared.RunEvent.TheVariants.{Proposes, Delivers}
 use Rattle.enabled_runs.specs.declared.CommitBy.{CommitBy}
 use Rattle.enabled_runs.specs.Enabled.{RunSoFar}
 use Rattle.enabled_runs.specs.Listing.{each_below, in_front, block, listing, all_sent, extended_by, after_run, runs_from}
-use Rattle.enabled_runs.specs.Offices.{engine_call, heard_by, before_events, commits_in}
+use Rattle.enabled_runs.specs.Offices.{engine_call, heard_by, before_events, commits_in_order}
 use Rattle.office_runs.specs.Runs.{new_run, trial_of}
 use Rattle.office_runs.specs.declared.OfficeRun.{OfficeRun}
 use Rattle.run_lines.specs.Lines.{event_text, commit_by_text, joined_by_blanks, first_five}
@@ -64,7 +64,7 @@ first_five_lem {xs = xs} {count} {room} {kept} few p =
     ap (λ (n : ℕ). take n xs) all ∙ p.first
 
 -- the line of a kept run is that of the run so far: its events and its commits
-line_kept : {run : OfficeRun} {w : RunSoFar Shard} {es : List RunEvent} → length es ≤ 5 → KeepsRun run w es → kept_line run ≡ run_line_with es (commits_in w.past)
+line_kept : {run : OfficeRun} {w : RunSoFar Shard} {es : List RunEvent} → length es ≤ 5 → KeepsRun run w es → kept_line run ≡ run_line_with es (commits_in_order w.past)
 unfolding kept_line run_line_with
 line_kept {run} {w} {es} short s =
     ap
@@ -81,7 +81,7 @@ after w more = after_run (all_sent engine_call heard_by) (extended_by engine_cal
 
 -- the line of the run with more events
 abbrev line_after : RunSoFar Shard → List RunEvent → List RunEvent → List ℕ
-line_after w es more = run_line_with (es ++ more) (commits_in (after w more).past)
+line_after w es more = run_line_with (es ++ more) (commits_in_order (after w more).past)
 
 -- so many events left are written as they are listed
 abbrev Written : ℕ → Type 0
@@ -109,7 +109,7 @@ lines_of_event left written w es e (Some run) none short found a = absurd a
 lines_of_event left written w es e (Some run) (some v) short found s =
     let one_more : length (es ++ (e ∷ [])) ≡ length es + 1 = length-append es (e ∷ []) in
     ap (λ (l : List ℕ). l ++ lines_after left run)
-    (line_kept (omega (arith, one_more, short)) s ∙ sym (ap (λ (x : RunSoFar Shard). run_line_with (es ++ (e ∷ [])) (commits_in x.past)) (next [])))
+    (line_kept (omega (arith, one_more, short)) s ∙ sym (ap (λ (x : RunSoFar Shard). run_line_with (es ++ (e ∷ [])) (commits_in_order x.past)) (next [])))
     ∙ ap (λ (l : List ℕ). line_after w es (e ∷ []) ++ l)
     (written run v (es ++ (e ∷ [])) (omega (arith, one_more, short)) s
     ∙ each_same (line_after v (es ++ (e ∷ []))) (λ x. line_after w es (e ∷ x)) same (runs_from engine_call heard_by left v)
@@ -120,8 +120,8 @@ lines_of_event left written w es e (Some run) (some v) short found s =
 
     same : (x : List RunEvent) → line_after v (es ++ (e ∷ [])) x ≡ line_after w es (e ∷ x)
     same x =
-        ap (λ (l : List RunEvent). run_line_with l (commits_in (after v x).past)) (append_assoc es (e ∷ []) x)
-        ∙ ap (λ (y : RunSoFar Shard). run_line_with (es ++ (e ∷ x)) (commits_in y.past)) (sym (next x))
+        ap (λ (l : List RunEvent). run_line_with l (commits_in_order (after v x).past)) (append_assoc es (e ∷ []) x)
+        ∙ ap (λ (y : RunSoFar Shard). run_line_with (es ++ (e ∷ x)) (commits_in_order y.past)) (sym (next x))
 
 -- the runs that go on with a proposal of the member, and those that go on with a delivery to it
 abbrev proposal_runs : ℕ → RunSoFar Shard → ℕ → List (List RunEvent)

@@ -13,7 +13,7 @@ use native.Mathlib.Omega.{arith}
 use lib.Dec.{eqb}
 use lib.ListN.{length, get_or, length-append}
 use borrow.Author.Tests.{lt-ltb}
-use Rattle.sets.proofs.Laws.{contains_empty}
+use Rattle.basics.proofs.sets.Laws.{contains_empty}
 use Rattle.calls.specs.declared.Call.{Call}
 use Rattle.calls.specs.declared.Call.TheVariants.{Propose, Receive}
 use Rattle.consensus.specs.Call.{call_of}
@@ -25,8 +25,8 @@ use Rattle.enabled_runs.specs.declared.RunEvent.{RunEvent}
 use Rattle.enabled_runs.specs.declared.RunEvent.TheVariants.{Proposes, Delivers}
 use Rattle.enabled_runs.specs.declared.Sending.{Sending}
 use Rattle.enabled_runs.specs.Enabled.{RunSoFar, sendings, sent_in, value_of_member, with_call, office_delivery}
-use Rattle.enabled_runs.specs.Listing.{at_place, is_sent_to, has_proposed, if_done, extended_by, with_delivery}
-use Rattle.enabled_runs.specs.Offices.{engine_call, heard_by, before_events, member_commits, commits_in}
+use Rattle.enabled_runs.specs.Listing.{at_place, is_sent_to, has_proposed, some_if_done, extended_by, with_delivery}
+use Rattle.enabled_runs.specs.Offices.{engine_call, heard_by, before_events, member_commits, commits_in_order}
 use Rattle.office_runs.specs.Runs.{office, no_sending, new_run, value_proposed, office_shard, sending_at, with_answer, with_proposer, if_taken, after_proposal, after_message, after_delivery, trial_of}
 use Rattle.office_runs.specs.declared.OfficeRun.{OfficeRun}
 use Rattle.short_runs.proofs.Piles.{at_place_lem}
@@ -34,9 +34,9 @@ use Rattle.short_runs.proofs.Kept.{KeptAs, asked_as, with_proposer_lem, with_ans
 
 -- the run that holds the events is the run so far: its shards, who has proposed, what was sent and the commits, in time order
 pub record KeepsRun (run : OfficeRun) (w : RunSoFar Shard) (es : List RunEvent) : Type 0 where
-  pub kept : KeptAs run w.shards (has_proposed w.past) (sent_in w.past) es (commits_in w.past)
+  pub kept : KeptAs run w.shards (has_proposed w.past) (sent_in w.past) es (commits_in_order w.past)
   pub few_sent : length (sent_in w.past) ≤ 3 * length es
-  pub few_commits : length (commits_in w.past) ≤ length es
+  pub few_commits : length (commits_in_order w.past) ≤ length es
 
 -- ---- the run without events
 
@@ -72,13 +72,13 @@ module _ {run : OfficeRun} {w : RunSoFar Shard} {es : List RunEvent} (member : �
   -- what the run holds after a call on a member, but for who has proposed
   answer_kept : member < 3
       → KeptAs (with_answer run member e (call_of (w.shards member) c)) next.shards (has_proposed w.past) (sent_in next.past) (es ++ (e ∷ []))
-      (commits_in next.past)
+      (commits_in_order next.past)
   answer_kept below =
       let a : Answer = call_of (w.shards member) c in
       with_answer_lem member e a below (omega (arith, s.few_sent)) short (omega (arith, s.few_commits)) s.kept
 
   -- with who has proposed then, it keeps the run with the call
-  keeps_next : (after : OfficeRun) → KeptAs after next.shards (has_proposed next.past) (sent_in next.past) (es ++ (e ∷ [])) (commits_in next.past)
+  keeps_next : (after : OfficeRun) → KeptAs after next.shards (has_proposed next.past) (sent_in next.past) (es ++ (e ∷ [])) (commits_in_order next.past)
       → KeepsRun after next (es ++ (e ∷ []))
   keeps_next after kept =
       let a : Answer = call_of (w.shards member) c in
@@ -86,7 +86,7 @@ module _ {run : OfficeRun} {w : RunSoFar Shard} {es : List RunEvent} (member : �
       record {
         kept = kept;
         few_sent = omega (arith, one_more, s.few_sent, length-append (sent_in w.past) (sendings member (messages_of a.reply.messages)), three_at_most member a.reply.messages);
-        few_commits = omega (arith, one_more, s.few_commits, length-append (commits_in w.past) (member_commits member a.reply.commit), commit_at_most member a.reply.commit);
+        few_commits = omega (arith, one_more, s.few_commits, length-append (commits_in_order w.past) (member_commits member a.reply.commit), commit_at_most member a.reply.commit);
       }
 
 -- ---- the event tried
@@ -137,7 +137,7 @@ asked_delivery w member s i = delivery_counts_not (eqb member i) (has_proposed w
 
 -- the trial of a proposal, by whether the member has proposed and by the outcome
 by_outcome : (after : OfficeRun) (w : RunSoFar Shard) (es : List RunEvent) (asked : Bool) (o : Outcome) → KeepsRun after w es
-    → TrialAgrees (cond asked None (cond (is_done o) (Some after) None)) (cond asked none (if_done o w)) es
+    → TrialAgrees (cond asked None (cond (is_done o) (Some after) None)) (cond asked none (some_if_done o w)) es
 by_outcome after w es true o s = tt
 by_outcome after w es false (Ok tt) s = s
 by_outcome after w es false (Err why) s = tt

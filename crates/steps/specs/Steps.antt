@@ -1,4 +1,6 @@
 -- Steps of a call, and the messages that they send (document 01, "Message and answer").
+-- Everywhere below, and in the handlers above: a is what they ask of the settings (`Asked`), h what they ask of a message (`Heard`), s the rounds (`Rounds`),
+-- me the member (`Member`), rv a promise (`RoundV`), v a value, src a source.
 -- Assumes nothing.
 use Rattle.std.specs.Prelude.{Bool, true, false, cond, ℕ, eqb, Option, None, Some, Result, Ok, Err}
 use Rattle.message.specs.Promises.{value_of}
@@ -65,8 +67,8 @@ abbrev pub held_rv : Option RoundV → RoundV
 held_rv None = PaxosV None 0
 held_rv (Some rv) = rv
 
-abbrev pub held_v : Option RoundV → ℕ
-held_v held = value_of (held_rv held)
+abbrev pub held_value : Option RoundV → ℕ
+held_value held = value_of (held_rv held)
 
 -- ---- parts of the state set anew
 

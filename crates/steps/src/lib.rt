@@ -5,15 +5,15 @@
 
 ghost use Rattle.std.specs.Prelude.{◌≡◌};
 ghost use Rattle.fast_state.specs.Fast.{unchanged};
-ghost use Rattle.steps.specs.Steps.{no_messages, one_message, two_messages, also, sends, to_all, first_served, held_rv, held_v, with_paxos, left_fast_path, stays, continues, commits, with_change, change_rounds, goes_on};
+ghost use Rattle.steps.specs.Steps.{no_messages, one_message, two_messages, also, sends, to_all, first_served, held_rv, held_value, with_paxos, left_fast_path, stays, continues, commits, with_change, change_rounds, goes_on};
 
 use fast_state::{FastAnswers, FastChange, FastState};
 use message::{ConsensusMessage, ConsensusMsg, PFMode, PaxosRound, RoundV};
 use read_tracker::ReadTracker;
 use round_state::{Member, PaxosState};
 
-// What every call may change: slot, last committed value, whether the slot has left the fast path, the first half of the round
-// state, and the next read id with the number of open reads.
+// What a call may change in every mode: slot, last committed value, whether the slot has left the fast path, the Paxos half of the round state, and the next
+// read id with the number of open reads. Paxos, MultiPaxos, MultiPaxos3P and Pando change nothing else, so their handlers take the core alone.
 #[derive(Clone, Copy)]
 pub struct Core {
     pub slot: u64,
@@ -23,14 +23,15 @@ pub struct Core {
     pub tracker: ReadTracker,
 }
 
-// With the half of the round state that EPaxos and SwiftPaxos change besides.
+// The core with the fast half of the round state, which EPaxos and SwiftPaxos alone change: what the handlers of all modes change. The table of the reads
+// stands above it, in consensus' `State`.
 #[derive(Clone, Copy)]
 pub struct Rounds {
     pub core: Core,
     pub fast: FastState,
 }
 
-// What the handlers ask of the settings.
+// What the handlers ask of the settings, in definitions the parameter a. `asked_of` (crates/calls) answers it once a call, so that no handler reads the settings.
 #[derive(Clone, Copy, PartialEq, Eq, Debug)]
 pub struct Asked {
     pub member: Member,
@@ -40,9 +41,9 @@ pub struct Asked {
     pub quorum: Option<u64>,
 }
 
-// What the handlers ask of a Prepare or an Accept besides its fields: its source, whether that is a live replica, who gathers the
-// promises of its round, and the requesters that the host names for its value and for the value in the held promise, with the
-// committer of the first.
+// What the handlers ask of a Prepare or an Accept besides its fields, in definitions the parameter h: its source, whether that is a live replica, who gathers
+// the promises of its round, and the requesters that the host names for its value and for the value in the held promise, with the committer of the first. A
+// proposal and a new read come from no message: theirs is `nothing_heard` (crates/calls).
 #[derive(Clone, Copy, PartialEq, Eq, Debug)]
 pub struct Heard {
     pub src: u64,
@@ -74,7 +75,7 @@ pub struct Messages {
     pub third: Option<Outgoing>,
 }
 
-// How a call goes on after a step: not at all, with the next step, or with the commit of a value.
+// How a call goes on after a step: it stays at that (`Stays`), the next step of the handler follows (`Continues`), or a value is committed (`Commits`).
 #[derive(Clone, Copy, PartialEq, Eq, Debug)]
 pub enum Next {
     Stays,
@@ -176,8 +177,8 @@ pub fn held_rv(held: Option<RoundV>) -> RoundV
     })
 }
 
-pub fn held_v(held: Option<RoundV>) -> u64
-    ensures { result ≡ held_v held }
+pub fn held_value(held: Option<RoundV>) -> u64
+    ensures { result ≡ held_value held }
 {
     held_rv(held).get_v()
 }

@@ -14,7 +14,7 @@ use borrow.Author.Tests.{ltb-true, ltb-false, leb-true}
 use Rattle.basics.specs.Lists.{In}
 use Rattle.basics.proofs.Tests.{either, and_left, and_right}
 use Rattle.call_lines.specs.Reading.{scan_of}
-use Rattle.places.specs.Places.{at_front}
+use Rattle.basics.specs.elements.Places.{at_front}
 use Rattle.register.specs.Cells.{cell_of}
 use Rattle.register.specs.Register.{live_cells}
 use Rattle.stored_register.specs.Stored.{stored_cell, stored_live_cells, widened}

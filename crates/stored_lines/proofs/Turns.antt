@@ -13,8 +13,8 @@ use borrow.Author.Tests.{ltb-true, ltb-false, leb-true}
 use Rattle.basics.proofs.Tests.{either, and_left, and_right}
 use Rattle.call_lines.specs.Reading.{scan_of}
 use Rattle.call_lines.specs.declared.Scan.{Scan}
-use Rattle.places.specs.Places.{at_front}
-use Rattle.places.proofs.Lists.{front_push}
+use Rattle.basics.specs.elements.Places.{at_front}
+use Rattle.basics.proofs.elements.Lists.{front_push}
 use Rattle.std.specs.Prelude.{Some, None}
 use Rattle.register.specs.declared.Register.{Register}
 use Rattle.stored_register.specs.Stored.{widened}

@@ -3,8 +3,8 @@
 use Rattle.std.specs.Prelude.{cond, List, ℕ, drop, Option, Some, None}
 use Rattle.texts.specs.Text.{ascii}
 use Rattle.line_fields.specs.Fields.{begins}
-use Rattle.planning_lines.specs.Questions.{question_of}
-use Rattle.planning_lines.specs.Answers.{bad_line_text, after_line, answer_text}
+use Rattle.planning_lines.specs.Questions.{plain_question_of}
+use Rattle.planning_lines.specs.Answers.{bad_line_text, after_line, plain_answer_text}
 use Rattle.register.specs.declared.Register.{Register}
 use Rattle.register_lines.specs.Answers.{begun_text}
 use Rattle.group_register.specs.GroupRegister.{group_register}
@@ -24,10 +24,10 @@ stored_text s None = bad_line_text
 
 -- the register after a line
 unfoldable pub register_after_line : GroupRegister → List ℕ → GroupRegister
-register_after_line g line = cond (begins (ascii "stored ") line) (after_stored g (stored_line (drop 7 line))) (after_line g (question_of line)).group
+register_after_line g line = cond (begins (ascii "stored ") line) (after_stored g (stored_line (drop 7 line))) (after_line g (plain_question_of line)).group
 
 -- what is written for it
 unfoldable pub line_answer : GroupRegister → List ℕ → List ℕ
 line_answer g line =
     cond (begins (ascii "stored ") line) (stored_text g.settings (stored_line (drop 7 line)))
-    (answer_text (question_of line) (after_line g (question_of line)))
+    (plain_answer_text (plain_question_of line) (after_line g (plain_question_of line)))

@@ -1,9 +1,9 @@
 -- The numbers behind the word of a line `stored`, and the register that they begin (docs/PLANNING.md; document 02, E7).
 -- Assumes nothing.
 use Rattle.std.specs.Prelude.{Bool, true, cond, ◌&&◌, not, List, [], ◌∷◌, ◌++◌, ℕ, zero, suc, ◌+◌, ◌*◌, eqb, ltb, leb, get_or, replicate, Option, Some, None}
-use Rattle.call_lines.specs.Reading.{scan_of, numbers_of}
+use Rattle.call_lines.specs.Reading.{scan_of, numbers_in_line}
 use Rattle.call_lines.specs.declared.Scan.{Scan}
-use Rattle.places.specs.Places.{at_front}
+use Rattle.basics.specs.elements.Places.{at_front}
 use Rattle.register.specs.Cells.{cell_of}
 use Rattle.register.specs.Register.{assignable}
 use Rattle.register.specs.declared.Assignment.{Assignment}
@@ -64,7 +64,7 @@ is_stored s ns = leb (get_or ns 4 0) 512 && eqb s.before (3 * get_or ns 4 0 + 4)
 
 -- the numbers stand in 1,541 places: five, and three for each of 512 cells
 abbrev pub stored_numbers : List ℕ → List ℕ
-stored_numbers bytes = numbers_of bytes (replicate 1541 0)
+stored_numbers bytes = numbers_in_line bytes (replicate 1541 0)
 
 -- the register that the line begins, where it is one
 unfoldable pub stored_line : List ℕ → Option Register

@@ -3,7 +3,7 @@
 #![tactic(auto)]
 
 ghost use Rattle.std.specs.Prelude.{◌≡◌, ◌<◌, ◌≤◌, get_or};
-ghost use Rattle.places.specs.Places.{at_front};
+ghost use Rattle.basics.specs.elements.Places.{at_front};
 ghost use Rattle.texts.specs.Text.{put};
 ghost use Rattle.stored_lines.specs.Answers.{after_stored, stored_text, register_after_line, line_answer};
 ghost use Rattle.stored_lines.specs.Lines.{is_read, is_cell_at, are_cells, stored_cell_at, stored_cells, empty_cells, stored_of_numbers, is_stored, stored_line};
@@ -60,7 +60,7 @@ fn stored_cell_at(numbers: &[u64; 1541], i: usize) -> StoredCell
 
 // The first cells of the line. A `for` over places: the index says a place of the table and one of the line, where `iter_mut().enumerate()` would need
 // `take(count)` besides, and the index all the same.
-#[tactic(auto, using(crate::proofs::Turns::stored_more), unfolding(places::specs::Places::at_front, crate::specs::Lines::stored_cells))]
+#[tactic(auto, using(crate::proofs::Turns::stored_more), unfolding(basics::specs::elements::Places::at_front, crate::specs::Lines::stored_cells))]
 fn stored_cells(numbers: &[u64; 1541], count: usize) -> [StoredCell; 512]
     requires { count ≤ 512 }
     ensures { result ≡ at_front (stored_cells numbers.now count) empty_cells }

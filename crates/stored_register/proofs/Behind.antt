@@ -11,7 +11,7 @@ use lib.ListN.{length, take, drop}
 use lib.Seq.{take-append-le}
 use Rattle.basics.proofs.Tests.{not_both}
 use Rattle.message.specs.Rounds.{increment}
-use Rattle.places.specs.Places.{at_front}
+use Rattle.basics.specs.elements.Places.{at_front}
 use Rattle.register.specs.Cells.{is_live_cell, cell_reassigned, cell_inserted, cell_removed}
 use Rattle.register.specs.Register.{live_places, live_cells, assignable, holding, slot_seen, assign, release, apply_change, apply}
 use Rattle.register.specs.History.{register_after, apply_all}

@@ -8,7 +8,7 @@ use native.Mathlib.Omega.{arith}
 use lib.Dec.{ltb, leb}
 use lib.ListN.{length, set, take, drop, replicate}
 use Rattle.basics.proofs.Tests.{of-both}
-use Rattle.places.specs.Places.{at_front, without, with_at}
+use Rattle.basics.specs.elements.Places.{at_front, without, with_at}
 use Rattle.register.specs.Cells.{cell_of, is_live_cell, cell_reassigned, cell_inserted, cell_removed, cell_place}
 use Rattle.register.specs.Register.{new_register, live_places, live_cells, slot_seen, assignable, assign, release, apply_change, apply}
 use Rattle.register.specs.History.{register_after}

@@ -16,8 +16,8 @@ use Rattle.fast_state.specs.Adopt.{lowest_best}
 use Rattle.fast_state.specs.Fast.{answers_of}
 use Rattle.fast_state.specs.RoundState.{new_round_state}
 use Rattle.read_tracker.specs.Reads.{new_tracker, new_table}
-use Rattle.serving.specs.Serving.{commit_slot as serve_reads}
-use Rattle.serving.specs.declared.Tracked.{Tracked}
+use Rattle.read_tracker.specs.serving.Serving.{serve_at_commit}
+use Rattle.read_tracker.specs.declared.serving.Tracked.{Tracked}
 use Rattle.steps.specs.Steps.{RoundsStep, no_messages, one_message}
 use Rattle.steps.specs.declared.Asked.{Asked}
 use Rattle.steps.specs.declared.Destination.TheVariants.{One}
@@ -46,7 +46,7 @@ use Rattle.consensus.specs.declared.StateAnswer.{StateAnswer}
 use Rattle.sums.specs.Sums.{Sums}
 use Rattle.sums.specs.Parts.{asked_of_by, heard_in_by, commit_slot_by}
 use Rattle.sums.specs.Calls.{new_shard_by, committed_by, finish_at_by, finish_by, proposing_by, start_read_by, on_commit_by, on_read_request_by, on_read_response_by, process_message_by, handle_by, handle_call_by, state_call_by, decision_for_by, decision_of_by, call_by}
-use Rattle.sums.proofs.Parts.{EachNamed, MessageNamed, Rises, Falls, Meets, MeetsFast, MeetsCommit, insert_same, ready_same, serve_same, slot_same, start_same, asked_same, heard_same}
+use Rattle.sums.proofs.Parts.{EachNamed, MessageNamed, Rises, Falls, Meets, MeetsFast, MeetsCommit, insert_read_same, ready_same, serve_same, slot_same, start_same, asked_same, heard_same}
 use Rattle.sums.proofs.Handlers.{processed_same, proposing_same}
 
 module _ (m : Sums) (Named : ℕ → Type 0) (ok : Meets m Named) where
@@ -100,7 +100,7 @@ module _ (m : Sums) (Named : ℕ → Type 0) (ok : Meets m Named) where
         ap₂ (λ (x : Rounds) (t : Tracked). served (record { core = on_fast_path x.core; fast = x.fast }) t ms (committed_slot s.core.slot v (is_fast a s.core)))
         (slot_same m a v s e.slot_rises)
         (serve_same m s.core.tracker state.table e.counts_rise a.member.quorums.majority (commit_slot_by m a v s).core.slot
-        ∙ ap (λ (x : Rounds). serve_reads s.core.tracker state.table a.member.quorums.majority x.core.slot) (slot_same m a v s e.slot_rises))
+        ∙ ap (λ (x : Rounds). serve_at_commit s.core.tracker state.table a.member.quorums.majority x.core.slot) (slot_same m a v s e.slot_rises))
 
     finish_same : (a : Asked) (held : Bool) (r : Result RoundsStep Refusal) → IfOk r (λ step. MeetsCommit m state.table step.state.core) → finish_by m state a held r ≡ finish state a held r
     finish_same a held (Err why) e = refl
@@ -116,7 +116,7 @@ module _ (m : Sums) (Named : ℕ → Type 0) (ok : Meets m Named) where
     start_read_same : (a : Asked) (tag arrival : ℕ) → start_read_by m state a tag arrival ≡ start_read state a tag arrival
     unfolding start_read_by start_read
     start_read_same a tag arrival =
-        ap (after_insert state a) (insert_same m Named ok rounds.core.tracker state.table tag arrival (not (is_some rounds.core.paxos.max_rv)))
+        ap (after_insert state a) (insert_read_same m Named ok rounds.core.tracker state.table tag arrival (not (is_some rounds.core.paxos.max_rv)))
 
     module _ (e : MeetsCall shard) where
       asked_lem : asked_of_by m shard.settings ≡ asked

@@ -29,16 +29,16 @@ use Rattle.steps.specs.declared.Heard.{Heard}
 use Rattle.steps.specs.declared.Messages.{Messages}
 use Rattle.steps.specs.declared.Rounds.{Rounds}
 use Rattle.enter.specs.Enter.{enter}
-use Rattle.accept.specs.Accept.{accepting}
-use Rattle.epaxos_path.specs.EPaxos.{epaxos_commit, epaxos_adopt, epaxos_decide, after_epaxos_answer, epaxos_answer}
-use Rattle.swift_path.specs.Swift.{after_step, after_swift_answer, swift_answer, swift_client_prepare, leader_answered, from_leader, accept_answered, after_accept_answer, swift_accept, swift_client_accept, after_replica_answer, swift_answered_accept}
-use Rattle.proposal.specs.Proposal.{not_allowed, proposal_round}
+use Rattle.classic.specs.accept.Accept.{accepting}
+use Rattle.fast.specs.epaxos.EPaxos.{epaxos_commit, epaxos_adopt, epaxos_decide, after_epaxos_answer, epaxos_answer}
+use Rattle.fast.specs.swift.Swift.{after_step, after_swift_answer, swift_answer, swift_client_prepare, leader_answered, from_leader, accept_answered, after_accept_answer, swift_accept, swift_client_accept, after_replica_answer, swift_answered_accept}
+use Rattle.propose.specs.proposal.Proposal.{not_allowed, proposal_round}
 use Rattle.propose.specs.Propose.{propose_prepare, propose_accept, propose_classic, after_own_answer, own_answer, leads_from_start, propose_change, propose_fast}
-use Rattle.paxos_family.specs.Process.{process_classic, fast_prepared, fast_promised, starts_accept, waits, fast_answered, fast_gather, in_fast_prepare, on_fast_prepare, after_replica_accept, replica_accept, in_fast_accept, on_fast_accept, process_change, process_fast}
+use Rattle.paxos_family.specs.Process.{process_classic, fast_prepared, fast_promised, starts_accept, waits, fast_answered, fast_gather, entered_fast_prepare, on_fast_prepare, after_replica_accept, replica_accept, entered_fast_accept, on_fast_accept, process_change, process_fast}
 use Rattle.consensus.specs.Handle.{proposing, processed}
 use Rattle.sums.specs.Sums.{Sums}
 use Rattle.sums.specs.Parts.{change_rounds_by}
-use Rattle.sums.specs.Handlers.{epaxos_decide_by, after_epaxos_answer_by, epaxos_answer_by, swift_answer_by, swift_client_prepare_by, leader_answered_by, accept_answered_by, swift_accept_by, swift_client_accept_by, swift_answered_accept_by, fast_answered_by, fast_gather_by, in_fast_prepare_by, on_fast_prepare_by, after_replica_accept_by, replica_accept_by, in_fast_accept_by, on_fast_accept_by, process_change_by, process_fast_by, propose_classic_by, own_answer_by, propose_change_by, propose_fast_by}
+use Rattle.sums.specs.Handlers.{epaxos_decide_by, after_epaxos_answer_by, epaxos_answer_by, swift_answer_by, swift_client_prepare_by, leader_answered_by, accept_answered_by, swift_accept_by, swift_client_accept_by, swift_answered_accept_by, fast_answered_by, fast_gather_by, entered_fast_prepare_by, on_fast_prepare_by, after_replica_accept_by, replica_accept_by, entered_fast_accept_by, on_fast_accept_by, process_change_by, process_fast_by, propose_classic_by, own_answer_by, propose_change_by, propose_fast_by}
 use Rattle.sums.specs.Calls.{proposing_by, processed_by}
 use Rattle.sums.proofs.Parts.{Same, same_cond, same_test, ProposerNamed, MessageNamed, ChangeNamed, Rises, Meets, MeetsFast, proposal_same, may_same, change_same, try_adopt_same, epaxos_answered_same, epaxos_propose_same, swift_answered_same, swift_propose_same}
 
@@ -142,7 +142,7 @@ module _ (m : Sums) (Named : ℕ → Type 0) (ok : Meets m Named) (a : Asked) (o
 
       prepare_same : (slot : ℕ) (rv : RoundV) → ProposerNamed Named rv → (core : Core)
           → SameStep (on_fast_prepare_by m a h slot round rv core answers values epaxos_scores swift_scores) (on_fast_prepare lowest_best a h slot round rv core answers values epaxos_scores swift_scores)
-      unfolding on_fast_prepare_by on_fast_prepare in_fast_prepare_by in_fast_prepare
+      unfolding on_fast_prepare_by on_fast_prepare entered_fast_prepare_by entered_fast_prepare
       prepare_same slot rv n core =
           then_same answers (enter a h slot round core) (λ c. then_same answers (fast_prepared a h round rv c) (gather_same rv n))
 
@@ -154,7 +154,7 @@ module _ (m : Sums) (Named : ℕ → Type 0) (ok : Meets m Named) (a : Asked) (o
       replica_accept_same v (Err why) = (refl, tt)
 
       accept_same : (slot v : ℕ) (core : Core) → SameStep (on_fast_accept_by m a h slot round v core answers swift_scores) (on_fast_accept a h slot round v core answers swift_scores)
-      unfolding on_fast_accept_by on_fast_accept in_fast_accept_by in_fast_accept replica_accept_by replica_accept
+      unfolding on_fast_accept_by on_fast_accept entered_fast_accept_by entered_fast_accept replica_accept_by replica_accept
       accept_same slot v core =
           then_same answers (enter a h slot round core) (λ c. same_cond StepNamed a.member.replica (replica_accept_same v (accepting a h round v c)) (swift_client_accept_same v c))
 

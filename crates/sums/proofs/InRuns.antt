@@ -13,7 +13,7 @@ use lib.Dec.{eqb, ltb}
 use borrow.Author.Tests.{lt-ltb, ltb-true}
 use Rattle.basics.specs.Lists.{In}
 use Rattle.basics.proofs.Tests.{either, of-both}
-use Rattle.tables.specs.Tables.{look_up, store}
+use Rattle.basics.specs.tables.Tables.{look_up, store}
 use Rattle.message.specs.Rounds.{increment}
 use Rattle.message.proofs.NextLeader.{increment_next}
 use Rattle.message.specs.declared.ConsensusMsg.{ConsensusMsg}

@@ -9,8 +9,8 @@ use Prim.Native.Nat.{ℕ, zero, suc, ◌+◌, ◌-◌, ◌*◌, ◌/◌, ◌<◌
 use native.Mathlib.Omega.{arith}
 use lib.Dec.{T, eqb, ltb, leb, nleb→lt, nltb→le}
 use Rattle.basics.specs.Lists.{In}
-use Rattle.sets.specs.Sets.{contains, insert, size}
-use Rattle.tables.specs.Tables.{look_up, store}
+use Rattle.basics.specs.sets.Sets.{contains, insert, size}
+use Rattle.basics.specs.tables.Tables.{look_up, store}
 use Rattle.message.specs.Modes.{has_fast_path, is_multi_paxos}
 use Rattle.message.specs.Rounds.{increment, round_of, default_round, next_leader_round, starting_round, equal, unwrap_or_default}
 use Rattle.message.specs.declared.ConsensusMsg.{ConsensusMsg}
@@ -32,18 +32,18 @@ use Rattle.fast_state.specs.Adopt.{best_below, lowest_best, adopted, value_in, s
 use Rattle.fast_state.proofs.Adopting.{best_below_lem}
 use Rattle.fast_state.specs.Fast.{no_answers, to_v_after, epaxos_scores_after, swift_scores_after, preaccepted_after, second_answer, is_unanswered, score_after, epaxos_counted, epaxos_answered, epaxos_propose_v, leader_answer_after, in_quorum, swift_counted, swift_uncounted, swift_first, swift_answered, swift_own, swift_unanswered, swift_propose_v}
 use Rattle.fast_state.specs.declared.Best.{Best}
-use Rattle.fast_state.specs.declared.Entry.{Entry}
-use Rattle.fast_state.specs.declared.Entry.TheVariants.{SameEntries, Recorded, EPaxosScored, SwiftScored}
+use Rattle.fast_state.specs.declared.TableChange.{TableChange}
+use Rattle.fast_state.specs.declared.TableChange.TheVariants.{SameEntries, Recorded, EPaxosScored, SwiftScored}
 use Rattle.fast_state.specs.declared.FastAnswers.{FastAnswers}
 use Rattle.fast_state.specs.declared.FastChange.{FastChange}
 use Rattle.fast_state.specs.declared.FastState.{FastState}
-use Rattle.read_tracker.specs.Reads.{read_id, new_read, open_reads, opening, open_next, insert_opened, insert as insert_read, with_count, has_quorum, serve, after_response, after_commit}
+use Rattle.read_tracker.specs.Reads.{read_id, new_read, open_reads, opening, open_next, insert_opened, insert_read, with_count, has_quorum, serve, after_response, after_commit}
 use Rattle.read_tracker.specs.declared.Inserted.{Inserted}
 use Rattle.read_tracker.specs.declared.OpenRead.{OpenRead}
 use Rattle.read_tracker.specs.declared.ServedRead.{ServedRead}
 use Rattle.read_tracker.specs.declared.ReadTracker.{ReadTracker}
 use Rattle.read_tracker.specs.declared.ReadTable.{ReadTable}
-use Rattle.serving.specs.Serving.{has_id, kept_by_ready, served_by_ready, kept_by_commit, served_by_commit, tracked, receive_ready, commit_slot as serve_reads}
+use Rattle.read_tracker.specs.serving.Serving.{has_id, kept_by_ready, served_by_ready, kept_by_commit, served_by_commit, tracked, receive_ready, serve_at_commit}
 use Rattle.steps.specs.Steps.{RoundsStep, change_rounds}
 use Rattle.steps.specs.declared.Asked.{Asked}
 use Rattle.steps.specs.declared.ChangeStep.{ChangeStep}
@@ -51,12 +51,12 @@ use Rattle.steps.specs.declared.Core.{Core}
 use Rattle.steps.specs.declared.Heard.{Heard}
 use Rattle.steps.specs.declared.Rounds.{Rounds}
 use Rattle.enter.specs.Enter.{can_propose}
-use Rattle.proposal.specs.Proposal.{electing, proposal_round, may_propose}
+use Rattle.propose.specs.proposal.Proposal.{electing, proposal_round, may_propose}
 use Rattle.paxos_family.specs.Commit.{commit_slot}
 use Rattle.delivery.specs.declared.Delivery.{Delivery}
 use Rattle.calls.specs.Asked.{asked_of, proposer_gathers, gatherer_in, heard_of}
 use Rattle.sums.specs.Sums.{Sums}
-use Rattle.sums.specs.Parts.{next_leader_round_by, starting_round_by, proposal_round_by, may_propose_by, delegate_in_by, committer_for_by, committer_in_by, asked_of_by, gatherer_in_by, heard_of_by, to_v_after_by, epaxos_scores_after_by, swift_scores_after_by, change_rounds_by, preaccepted_after_by, score_after_by, epaxos_counted_by, epaxos_answered_by, epaxos_propose_v_by, value_in_by, score_in_by, epaxos_try_adopt_after_by, swift_counted_by, swift_first_by, swift_answered_by, swift_own_by, swift_unanswered_by, swift_propose_v_by, opening_by, open_next_by, insert_opened_by, insert_by, after_response_by, after_commit_by, kept_by_ready_by, served_by_ready_by, kept_by_commit_by, served_by_commit_by, receive_ready_by, serve_reads_by, commit_slot_by}
+use Rattle.sums.specs.Parts.{next_leader_round_by, starting_round_by, proposal_round_by, may_propose_by, delegate_in_by, committer_for_by, committer_in_by, asked_of_by, gatherer_in_by, heard_of_by, to_v_after_by, epaxos_scores_after_by, swift_scores_after_by, change_rounds_by, preaccepted_after_by, score_after_by, epaxos_counted_by, epaxos_answered_by, epaxos_propose_v_by, value_in_by, score_in_by, epaxos_try_adopt_after_by, swift_counted_by, swift_first_by, swift_answered_by, swift_own_by, swift_unanswered_by, swift_propose_v_by, opening_by, open_next_by, insert_opened_by, insert_read_by, after_response_by, after_commit_by, kept_by_ready_by, served_by_ready_by, kept_by_commit_by, served_by_commit_by, receive_ready_by, serve_reads_by, commit_slot_by}
 
 -- ---- two results that are the same, of which what is not refused has a property
 
@@ -89,7 +89,7 @@ module _ (Named : ℕ → Type 0) where
   MessageNamed (ReadRequest id) = Unit {0}
   MessageNamed (ReadResponse id next) = Unit {0}
 
-  abbrev pub EntryNamed : Entry → Type 0
+  abbrev pub EntryNamed : TableChange → Type 0
   EntryNamed SameEntries = Unit {0}
   EntryNamed (Recorded p v) = Named p
   EntryNamed (EPaxosScored p v score) = Named p
@@ -186,8 +186,8 @@ module _ (m : Sums) where
     ready_same id quorum slot fast =
         ap₂ (tracked tracker table) (ready_kept_same id quorum (open_reads tracker table) e) (ready_served_same id quorum slot fast (open_reads tracker table) e)
 
-    pub serve_same : (quorum slot : ℕ) → serve_reads_by m tracker table quorum slot ≡ serve_reads tracker table quorum slot
-    unfolding serve_reads_by serve_reads
+    pub serve_same : (quorum slot : ℕ) → serve_reads_by m tracker table quorum slot ≡ serve_at_commit tracker table quorum slot
+    unfolding serve_reads_by serve_at_commit
     serve_same quorum slot =
         ap₂ (tracked tracker table) (commit_kept_same quorum (open_reads tracker table) e) (commit_served_same quorum slot (open_reads tracker table) e)
 
@@ -217,9 +217,9 @@ module _ (m : Sums) where
   module _ (Named : ℕ → Type 0) (ok : Meets Named) where
     -- ---- a new read: where it is not refused, fewer than 128 are open, and the next id is 2^63-1 at most
 
-    pub insert_same : (tracker : ReadTracker) (table : ReadTable) (tag arrival : ℕ) (local : Bool) → insert_by m tracker table tag arrival local ≡ insert_read tracker table tag arrival local
-    unfolding insert_by insert_read open_next_by open_next
-    insert_same tracker table tag arrival local =
+    pub insert_read_same : (tracker : ReadTracker) (table : ReadTable) (tag arrival : ℕ) (local : Bool) → insert_read_by m tracker table tag arrival local ≡ insert_read tracker table tag arrival local
+    unfolding insert_read_by insert_read open_next_by open_next
+    insert_read_same tracker table tag arrival local =
         go (leb 128 tracker.open_count) (nleb→lt 128 tracker.open_count) (ltb 9223372036854775807 tracker.next_id) (nltb→le 9223372036854775807 tracker.next_id)
       where
         made : ℕ → ℕ → List OpenRead → Result Inserted Refusal
@@ -305,21 +305,21 @@ module _ (m : Sums) where
 
     -- ---- the tables after a change
 
-    values_same : (e : Entry) (table : List ℕ) → EntryNamed Named e → to_v_after_by m e table ≡ to_v_after e table
+    values_same : (e : TableChange) (table : List ℕ) → EntryNamed Named e → to_v_after_by m e table ≡ to_v_after e table
     unfolding to_v_after_by to_v_after
     values_same SameEntries table n = refl
     values_same (Recorded p v) table n = ok.stores table p v n
     values_same (EPaxosScored p v score) table n = ok.stores table p v n
     values_same (SwiftScored p v score) table n = ok.stores table p v n
 
-    epaxos_scores_same : (e : Entry) (table : List ℕ) → EntryNamed Named e → epaxos_scores_after_by m e table ≡ epaxos_scores_after e table
+    epaxos_scores_same : (e : TableChange) (table : List ℕ) → EntryNamed Named e → epaxos_scores_after_by m e table ≡ epaxos_scores_after e table
     unfolding epaxos_scores_after_by epaxos_scores_after
     epaxos_scores_same SameEntries table n = refl
     epaxos_scores_same (Recorded p v) table n = refl
     epaxos_scores_same (EPaxosScored p v score) table n = ok.stores table p score n
     epaxos_scores_same (SwiftScored p v score) table n = refl
 
-    swift_scores_same : (e : Entry) (table : List ℕ) → EntryNamed Named e → swift_scores_after_by m e table ≡ swift_scores_after e table
+    swift_scores_same : (e : TableChange) (table : List ℕ) → EntryNamed Named e → swift_scores_after_by m e table ≡ swift_scores_after e table
     unfolding swift_scores_after_by swift_scores_after
     swift_scores_same SameEntries table n = refl
     swift_scores_same (Recorded p v) table n = refl
@@ -352,14 +352,14 @@ module _ (m : Sums) where
 
     -- ---- the value that is adopted
 
-    value_same : (e : Entry) (table : List ℕ) (p : ℕ) → Named p → value_in_by m e table p ≡ value_in e table p
+    value_same : (e : TableChange) (table : List ℕ) (p : ℕ) → Named p → value_in_by m e table p ≡ value_in e table p
     unfolding value_in_by value_in
     value_same SameEntries table p n = ok.looks_up table p n
     value_same (Recorded q v) table p n = ap (λ (x : ℕ). cond (eqb p q) v x) (ok.looks_up table p n)
     value_same (EPaxosScored q v score) table p n = ap (λ (x : ℕ). cond (eqb p q) v x) (ok.looks_up table p n)
     value_same (SwiftScored q v score) table p n = ap (λ (x : ℕ). cond (eqb p q) v x) (ok.looks_up table p n)
 
-    score_at_same : (e : Entry) (table : List ℕ) (p : ℕ) → Named p → score_in_by m e table p ≡ score_in e table p
+    score_at_same : (e : TableChange) (table : List ℕ) (p : ℕ) → Named p → score_in_by m e table p ≡ score_in e table p
     unfolding score_in_by score_in
     score_at_same SameEntries table p n = ok.looks_up table p n
     score_at_same (Recorded q v) table p n = ok.looks_up table p n

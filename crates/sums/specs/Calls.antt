@@ -30,7 +30,7 @@ use Rattle.calls.specs.Replies.{is_fast}
 use Rattle.calls.specs.declared.Call.{Call}
 use Rattle.calls.specs.declared.Call.TheVariants.{Propose, StartRead, Receive}
 use Rattle.calls.specs.declared.Taken.{Taken}
-use Rattle.consensus.specs.Answers.{with_rounds, refused, sent, nothing, served}
+use Rattle.consensus.specs.Answers.{state_with_rounds, refused, sent, nothing, served}
 use Rattle.consensus.specs.Call.{in_shard}
 use Rattle.consensus.specs.Handle.{after_insert}
 use Rattle.consensus.specs.declared.Answer.{Answer}
@@ -38,7 +38,7 @@ use Rattle.consensus.specs.declared.Shard.{Shard}
 use Rattle.consensus.specs.declared.State.{State}
 use Rattle.consensus.specs.declared.StateAnswer.{StateAnswer}
 use Rattle.sums.specs.Sums.{Sums}
-use Rattle.sums.specs.Parts.{starting_round_by, asked_of_by, heard_in_by, insert_by, receive_ready_by, serve_reads_by, read_answer_by, next_slot_by}
+use Rattle.sums.specs.Parts.{starting_round_by, asked_of_by, heard_in_by, insert_read_by, receive_ready_by, serve_reads_by, read_answer_by, next_slot_by}
 use Rattle.sums.specs.Handlers.{process_fast_by, propose_classic_by, propose_fast_by}
 
 module _ (m : Sums) where
@@ -74,8 +74,8 @@ module _ (m : Sums) where
       (committed_slot s.core.slot v (is_fast a s.core))
 
   abbrev pub finish_at_by : State → Asked → Bool → Rounds → Messages → Next → StateAnswer
-  finish_at_by state a held s messages Stays = sent (with_rounds state s) messages
-  finish_at_by state a held s messages Continues = sent (with_rounds state s) messages
+  finish_at_by state a held s messages Stays = sent (state_with_rounds state s) messages
+  finish_at_by state a held s messages Continues = sent (state_with_rounds state s) messages
   finish_at_by state a held s messages (Commits v) = cond held (committed_by state a v s messages) (refused ValueNotHeld state)
 
   abbrev pub finish_by : State → Asked → Bool → Result RoundsStep Refusal → StateAnswer
@@ -101,7 +101,7 @@ module _ (m : Sums) where
       None
 
   abbrev pub read_inserted_by : State → ℕ → ℕ → Result Inserted Refusal
-  read_inserted_by state tag arrival = insert_by m state.rounds.core.tracker state.table tag arrival (not (is_some state.rounds.core.paxos.max_rv))
+  read_inserted_by state tag arrival = insert_read_by m state.rounds.core.tracker state.table tag arrival (not (is_some state.rounds.core.paxos.max_rv))
 
   unfoldable pub start_read_by : State → Asked → ℕ → ℕ → StateAnswer
   start_read_by state a tag arrival = after_insert state a (read_inserted_by state tag arrival)

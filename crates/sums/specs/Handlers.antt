@@ -1,5 +1,5 @@
 -- The handlers that come to a sum, a difference or a look-up, with these as parameters. Each `name_by` is the definition `name` of the engine: the crates
--- epaxos_path, swift_path, propose and paxos_family have it.
+-- fast::epaxos, fast::swift, propose and paxos_family have it.
 -- Assumes nothing.
 use Rattle.std.specs.Prelude.{true, false, cond, List, ℕ, eqb, None, Result, Ok, Err}
 use Rattle.message.specs.Modes.{is_multi_paxos, is_swift_paxos}
@@ -22,11 +22,11 @@ use Rattle.steps.specs.declared.Heard.{Heard}
 use Rattle.steps.specs.declared.Messages.{Messages}
 use Rattle.steps.specs.declared.Rounds.{Rounds}
 use Rattle.enter.specs.Enter.{enter}
-use Rattle.prepare.specs.Prepare.{accept_phase}
-use Rattle.accept.specs.Accept.{accepting}
-use Rattle.epaxos_path.specs.EPaxos.{epaxos_commit, epaxos_adopt}
-use Rattle.swift_path.specs.Swift.{after_step, after_swift_answer, from_leader, after_accept_answer, after_replica_answer}
-use Rattle.proposal.specs.Proposal.{not_allowed}
+use Rattle.classic.specs.prepare.Prepare.{accept_phase}
+use Rattle.classic.specs.accept.Accept.{accepting}
+use Rattle.fast.specs.epaxos.EPaxos.{epaxos_commit, epaxos_adopt}
+use Rattle.fast.specs.swift.Swift.{after_step, after_swift_answer, from_leader, after_accept_answer, after_replica_answer}
+use Rattle.propose.specs.proposal.Proposal.{not_allowed}
 use Rattle.propose.specs.Propose.{propose_prepare, propose_accept, after_own_answer, leads_from_start}
 use Rattle.paxos_family.specs.Process.{fast_prepared, fast_promised, starts_accept, waits}
 use Rattle.sums.specs.Sums.{Sums}
@@ -93,13 +93,13 @@ module _ (m : Sums) where
       (cond (waits a round (fast_promised a h rv core)) (Ok (with_change (unchanged answers) (stays (fast_promised a h rv core) no_messages)))
       (fast_answered_by a h round rv (fast_promised a h rv core) answers values epaxos_scores swift_scores))
 
-  unfoldable pub in_fast_prepare_by : Asked → Heard → PaxosRound → RoundV → Core → FastAnswers → List ℕ → List ℕ → List ℕ → Result ChangeStep Refusal
-  in_fast_prepare_by a h round rv core answers values epaxos_scores swift_scores =
+  unfoldable pub entered_fast_prepare_by : Asked → Heard → PaxosRound → RoundV → Core → FastAnswers → List ℕ → List ℕ → List ℕ → Result ChangeStep Refusal
+  entered_fast_prepare_by a h round rv core answers values epaxos_scores swift_scores =
       and_then_change answers (fast_prepared a h round rv core) (λ c. fast_gather_by a h round rv c answers values epaxos_scores swift_scores)
 
   unfoldable pub on_fast_prepare_by : Asked → Heard → ℕ → PaxosRound → RoundV → Core → FastAnswers → List ℕ → List ℕ → List ℕ → Result ChangeStep Refusal
   on_fast_prepare_by a h slot round rv core answers values epaxos_scores swift_scores =
-      and_then_change answers (enter a h slot round core) (λ c. in_fast_prepare_by a h round rv c answers values epaxos_scores swift_scores)
+      and_then_change answers (enter a h slot round core) (λ c. entered_fast_prepare_by a h round rv c answers values epaxos_scores swift_scores)
 
   abbrev pub after_replica_accept_by : Asked → Heard → PaxosRound → ℕ → FastAnswers → List ℕ → Result CoreStep Refusal → Result ChangeStep Refusal
   after_replica_accept_by a h round v answers swift_scores (Ok step) =
@@ -109,13 +109,13 @@ module _ (m : Sums) where
   unfoldable pub replica_accept_by : Asked → Heard → PaxosRound → ℕ → Core → FastAnswers → List ℕ → Result ChangeStep Refusal
   replica_accept_by a h round v core answers swift_scores = after_replica_accept_by a h round v answers swift_scores (accepting a h round v core)
 
-  unfoldable pub in_fast_accept_by : Asked → Heard → PaxosRound → ℕ → Core → FastAnswers → List ℕ → Result ChangeStep Refusal
-  in_fast_accept_by a h round v core answers swift_scores =
+  unfoldable pub entered_fast_accept_by : Asked → Heard → PaxosRound → ℕ → Core → FastAnswers → List ℕ → Result ChangeStep Refusal
+  entered_fast_accept_by a h round v core answers swift_scores =
       cond a.member.replica (replica_accept_by a h round v core answers swift_scores) (swift_client_accept_by a h round v core answers swift_scores)
 
   unfoldable pub on_fast_accept_by : Asked → Heard → ℕ → PaxosRound → ℕ → Core → FastAnswers → List ℕ → Result ChangeStep Refusal
   on_fast_accept_by a h slot round v core answers swift_scores =
-      and_then_change answers (enter a h slot round core) (λ c. in_fast_accept_by a h round v c answers swift_scores)
+      and_then_change answers (enter a h slot round core) (λ c. entered_fast_accept_by a h round v c answers swift_scores)
 
   unfoldable pub process_change_by : Asked → Heard → ConsensusMsg → Core → FastAnswers → List ℕ → List ℕ → List ℕ → Result ChangeStep Refusal
   process_change_by a h (Prepare slot round rv) core answers values epaxos_scores swift_scores =

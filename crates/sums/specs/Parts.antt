@@ -1,8 +1,8 @@
 -- The definitions below the handlers that have a sum, a difference, a look-up or a store, with these as parameters. Each `name_by` is the definition `name`
--- of the engine: the crates message, quorum, settings, calls, fast_state, epaxos_path, read_tracker, serving, proposal, paxos_family and steps have it.
+-- of the engine: the crates message, quorum, settings, calls, fast_state, fast::epaxos, read_tracker, serving, proposal, paxos_family and steps have it.
 -- Assumes nothing.
 use Rattle.std.specs.Prelude.{Bool, true, false, cond, not, ◌&&◌, ◌||◌, List, [], ◌∷◌, ℕ, ◌+◌, ◌*◌, ◌/◌, min, max, eqb, ltb, leb, Option, None, Some, is_some, Result, Ok, Err}
-use Rattle.sets.specs.Sets.{contains, insert}
+use Rattle.basics.specs.sets.Sets.{contains, insert}
 use Rattle.message.specs.Modes.{has_fast_path, is_multi_paxos, is_swift_paxos}
 use Rattle.message.specs.Rounds.{round_of, default_round, equal, unwrap_or_default}
 use Rattle.message.specs.declared.ConsensusMsg.{ConsensusMsg}
@@ -22,8 +22,8 @@ use Rattle.round_state.specs.Paxos.{goto_round, full_clear}
 use Rattle.round_state.specs.declared.Member.{Member}
 use Rattle.fast_state.specs.Adopt.{lowest_best, epaxos_try_adopt}
 use Rattle.fast_state.specs.Fast.{no_answers, unchanged, second_answer, is_unanswered, leader_answer_after, in_quorum, swift_uncounted}
-use Rattle.fast_state.specs.declared.Entry.{Entry}
-use Rattle.fast_state.specs.declared.Entry.TheVariants.{SameEntries, Recorded, EPaxosScored, SwiftScored}
+use Rattle.fast_state.specs.declared.TableChange.{TableChange}
+use Rattle.fast_state.specs.declared.TableChange.TheVariants.{SameEntries, Recorded, EPaxosScored, SwiftScored}
 use Rattle.fast_state.specs.declared.FastAnswers.{FastAnswers}
 use Rattle.fast_state.specs.declared.FastChange.{FastChange}
 use Rattle.fast_state.specs.declared.FastState.{FastState}
@@ -34,8 +34,8 @@ use Rattle.read_tracker.specs.declared.Opening.{Opening}
 use Rattle.read_tracker.specs.declared.ServedRead.{ServedRead}
 use Rattle.read_tracker.specs.declared.ReadTracker.{ReadTracker}
 use Rattle.read_tracker.specs.declared.ReadTable.{ReadTable}
-use Rattle.serving.specs.Serving.{has_id, tracked}
-use Rattle.serving.specs.declared.Tracked.{Tracked}
+use Rattle.read_tracker.specs.serving.Serving.{has_id, tracked}
+use Rattle.read_tracker.specs.declared.serving.Tracked.{Tracked}
 use Rattle.steps.specs.Steps.{RoundsStep}
 use Rattle.steps.specs.declared.Asked.{Asked}
 use Rattle.steps.specs.declared.ChangeStep.{ChangeStep}
@@ -46,7 +46,7 @@ use Rattle.steps.specs.declared.Outgoing.{Outgoing}
 use Rattle.steps.specs.declared.Rounds.{Rounds}
 use Rattle.enter.specs.Enter.{can_propose}
 use Rattle.paxos_family.specs.Commit.{on_fast_path}
-use Rattle.proposal.specs.Proposal.{electing}
+use Rattle.propose.specs.proposal.Proposal.{electing}
 use Rattle.delivery.specs.declared.Delivery.{Delivery}
 use Rattle.calls.specs.Asked.{proposer_gathers, nothing_heard}
 use Rattle.calls.specs.declared.Call.{Call}
@@ -143,19 +143,19 @@ module _ (m : Sums) where
 
   -- ---- the fast half
 
-  unfoldable pub to_v_after_by : Entry → List ℕ → List ℕ
+  unfoldable pub to_v_after_by : TableChange → List ℕ → List ℕ
   to_v_after_by SameEntries table = table
   to_v_after_by (Recorded proposer v) table = m.stored table proposer v
   to_v_after_by (EPaxosScored proposer v score) table = m.stored table proposer v
   to_v_after_by (SwiftScored proposer v score) table = m.stored table proposer v
 
-  unfoldable pub epaxos_scores_after_by : Entry → List ℕ → List ℕ
+  unfoldable pub epaxos_scores_after_by : TableChange → List ℕ → List ℕ
   epaxos_scores_after_by SameEntries table = table
   epaxos_scores_after_by (Recorded proposer v) table = table
   epaxos_scores_after_by (EPaxosScored proposer v score) table = m.stored table proposer score
   epaxos_scores_after_by (SwiftScored proposer v score) table = table
 
-  unfoldable pub swift_scores_after_by : Entry → List ℕ → List ℕ
+  unfoldable pub swift_scores_after_by : TableChange → List ℕ → List ℕ
   swift_scores_after_by SameEntries table = table
   swift_scores_after_by (Recorded proposer v) table = table
   swift_scores_after_by (EPaxosScored proposer v score) table = table
@@ -204,13 +204,13 @@ module _ (m : Sums) where
   epaxos_propose_v_by me v f scores =
       cond (is_unanswered f && eqb (m.looked_up scores me.my_pid) 2) (epaxos_answered_by me me.my_pid me.my_pid v f scores) (Err Panic)
 
-  unfoldable pub value_in_by : Entry → List ℕ → ℕ → ℕ
+  unfoldable pub value_in_by : TableChange → List ℕ → ℕ → ℕ
   value_in_by SameEntries table p = m.looked_up table p
   value_in_by (Recorded proposer v) table p = cond (eqb p proposer) v (m.looked_up table p)
   value_in_by (EPaxosScored proposer v score) table p = cond (eqb p proposer) v (m.looked_up table p)
   value_in_by (SwiftScored proposer v score) table p = cond (eqb p proposer) v (m.looked_up table p)
 
-  unfoldable pub score_in_by : Entry → List ℕ → ℕ → ℕ
+  unfoldable pub score_in_by : TableChange → List ℕ → ℕ → ℕ
   score_in_by SameEntries table p = m.looked_up table p
   score_in_by (Recorded proposer v) table p = m.looked_up table p
   score_in_by (EPaxosScored proposer v score) table p = cond (eqb p proposer) score (m.looked_up table p)
@@ -279,9 +279,9 @@ module _ (m : Sums) where
   insert_opened_by tracker table (Ok o) = Ok (inserted_by tracker table o)
   insert_opened_by tracker table (Err why) = Err why
 
-  -- `insert` of read_tracker
-  unfoldable pub insert_by : ReadTracker → ReadTable → ℕ → ℕ → Bool → Result Inserted Refusal
-  insert_by tracker table tag arrival local = insert_opened_by tracker table (open_next_by tracker tag arrival local)
+  -- `insert_read` of read_tracker
+  unfoldable pub insert_read_by : ReadTracker → ReadTable → ℕ → ℕ → Bool → Result Inserted Refusal
+  insert_read_by tracker table tag arrival local = insert_opened_by tracker table (open_next_by tracker tag arrival local)
 
   unfoldable pub after_response_by : OpenRead → OpenRead
   after_response_by r = with_count r (m.one_more r.ready_count) r.local_ready
@@ -313,7 +313,7 @@ module _ (m : Sums) where
   receive_ready_by tracker table id quorum slot fast =
       tracked tracker table (kept_by_ready_by id quorum (open_reads tracker table)) (served_by_ready_by id quorum slot fast (open_reads tracker table))
 
-  -- `commit_slot` of serving
+  -- `serve_at_commit` of serving
   unfoldable pub serve_reads_by : ReadTracker → ReadTable → ℕ → ℕ → Tracked
   serve_reads_by tracker table quorum slot =
       tracked tracker table (kept_by_commit_by quorum (open_reads tracker table)) (served_by_commit_by quorum slot (open_reads tracker table))

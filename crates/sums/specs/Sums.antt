@@ -1,7 +1,7 @@
 -- How a call adds one, takes one off, looks up in a table, and stores in it or in the table of reads: the engine's way, and what is asked of another.
 -- Assumes nothing.
 use Rattle.std.specs.Prelude.{◌≡◌, List, ℕ, ◌+◌, ◌-◌, ◌<◌, get_or, set}
-use Rattle.tables.specs.Tables.{look_up, store}
+use Rattle.basics.specs.tables.Tables.{look_up, store}
 use Rattle.message.specs.Rounds.{increment}
 use Rattle.read_tracker.specs.declared.OpenRead.{OpenRead}
 

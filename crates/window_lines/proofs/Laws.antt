@@ -28,7 +28,7 @@ use Rattle.windows.specs.declared.WindowRefusal.{WindowRefusal}
 use Rattle.windows.specs.declared.WindowRefusal.TheVariants.{TooManyWindows, NotInCalendar}
 use Rattle.windows.proofs.Kept.{kept_answers}
 use Rattle.window_lines.specs.Lines.{window_question_of, windows_line}
-use Rattle.window_lines.specs.Answers.{minute_answer, date_text, date_answer, window_text, asked, question_text, made_text, after_windows, windows_text, after_window_line, window_answer}
+use Rattle.window_lines.specs.Answers.{minute_answer, date_text, date_answer, window_text, window_asked, question_text, windows_made_text, after_windows, windows_text, after_window_line, window_answer}
 use Rattle.window_lines.specs.declared.WindowQuestion.{WindowQuestion}
 use Rattle.window_lines.specs.declared.WindowQuestion.TheVariants.{MinuteOf, DateOf, AskAt, BadLine}
 
@@ -69,14 +69,14 @@ unfolding window_question_of number_from field
 ask_asks minute l = rw (ask_no_minute (decimal minute), ask_no_date (decimal minute), number_read minute l) refl
 
 -- ---- the windows of the latest line
-asked_kept : (k : Result KeptWindows WindowRefusal) (minute : ℕ) → asked k minute ≡ ask_kept (kept_arrays k) minute
-unfolding asked ask_kept check_kept ask_checked
+asked_kept : (k : Result KeptWindows WindowRefusal) (minute : ℕ) → window_asked k minute ≡ ask_kept (kept_arrays k) minute
+unfolding window_asked ask_kept check_kept ask_checked
 asked_kept (Ok kept) minute = refl
 asked_kept (Err TooManyWindows) minute = refl
 asked_kept (Err NotInCalendar) minute = refl
 
 -- are asked as document 02 says, also where they are refused
-pub asks_windows : (ws : Windows) (minute : ℕ) → asked (kept_windows ws) minute ≡ ask_windows ws minute
+pub asks_windows : (ws : Windows) (minute : ℕ) → window_asked (kept_windows ws) minute ≡ ask_windows ws minute
 unfolding kept_of
 asks_windows ws minute = asked_kept (kept_windows ws) minute ∙ kept_answers ws minute
 
@@ -125,11 +125,11 @@ question_length : (k : Result KeptWindows WindowRefusal) (q : WindowQuestion) �
 unfolding question_text bad_line_text
 question_length k (MinuteOf d) = minute_length (to_minute d)
 question_length k (DateOf n) = date_answer_length (to_date n)
-question_length k (AskAt n) = window_length (asked k n)
+question_length k (AskAt n) = window_length (window_asked k n)
 question_length k BadLine = omega arith
 
-made_length : (k : Result KeptWindows WindowRefusal) → length (made_text k) ≤ 110
-unfolding made_text
+made_length : (k : Result KeptWindows WindowRefusal) → length (windows_made_text k) ≤ 110
+unfolding windows_made_text
 made_length (Ok kept) = omega arith
 made_length (Err why) = line_length (ascii "refused") (window_refusal_number why) (omega arith)
 

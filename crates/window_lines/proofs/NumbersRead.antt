@@ -14,12 +14,12 @@ use Rattle.std.specs.List.{filter}
 use Rattle.std.proofs.lemmas.List.Elements.{filter-append}
 use Rattle.io.specs.Digits.{last_digits, hex_digit_ascii}
 use Rattle.basics.proofs.Tests.{either}
-use Rattle.call_lines.specs.Reading.{start, next_place, is_full, with_digit, after_digit, after_space, after_byte, stored, scan_to, scan_of, numbers_to, numbers_of}
+use Rattle.call_lines.specs.Reading.{start, next_place, is_full, with_digit, after_digit, after_space, after_byte, stored, scan_to, scan_of, numbers_to, numbers_in_line}
 use Rattle.call_lines.specs.declared.Scan.{Scan}
 use Rattle.texts.specs.Text.{digit_count, decimal, field, each}
 use Rattle.line_fields.proofs.ReadBack.{digit_glyph, some_digit, enough_digits}
-use Rattle.places.specs.Places.{at_front}
-use Rattle.places.proofs.Lists.{front_push, front_length, front_first}
+use Rattle.basics.specs.elements.Places.{at_front}
+use Rattle.basics.proofs.elements.Lists.{front_push, front_length, front_first}
 use Rattle.stored_lines.specs.Lines.{is_read}
 use Rattle.window_lines.specs.Lines.{blanks_in}
 use Rattle.window_lines.specs.Written.{AllFit}
@@ -57,7 +57,7 @@ read_to line buffer (suc i) h =
     ∙ ap (λ (r : Read). byte r (get_or line i 0)) (read_to line buffer i (omega arith))
 
 -- the whole line
-read_whole : (line buffer : List ℕ) → read (read_so start buffer) line ≡ read_so (scan_of line) (numbers_of line buffer)
+read_whole : (line buffer : List ℕ) → read (read_so start buffer) line ≡ read_so (scan_of line) (numbers_in_line line buffer)
 read_whole line buffer = ap (read (read_so start buffer)) (sym (take_all (length line) line (omega arith))) ∙ read_to line buffer (length line) (omega arith)
 
 -- ---- one number
@@ -178,7 +178,7 @@ numbers_read places n ms room few small fit =
     first = simp (lt-ltb 0 (length places) (omega arith), front_first places n (omega arith))
 
 module _ (places : List ℕ) (n : ℕ) (ms : List ℕ) (room : 1 + length ms ≤ length places) (few : length ms < 2048) (small : n ≤ 18446744073709551615) (fit : AllFit ms) where
-  whole : read_so (scan_of (numbers_text n ms)) (numbers_of (numbers_text n ms) places) ≡ in_number (length ms) (last_of n ms) (at_front (n ∷ ms) places)
+  whole : read_so (scan_of (numbers_text n ms)) (numbers_in_line (numbers_text n ms) places) ≡ in_number (length ms) (last_of n ms) (at_front (n ∷ ms) places)
   whole = sym (read_whole (numbers_text n ms) places) ∙ numbers_read places n ms room few small fit
 
   -- nothing is wrong with them, and there are as many as there are
@@ -187,7 +187,7 @@ module _ (places : List ℕ) (n : ℕ) (ms : List ℕ) (room : 1 + length ms ≤
   numbers_scanned = let s = ap (λ (r : Read). r.scan) whole in (rw s refl, ap (λ (x : Scan). x.before) s)
 
   -- each stands in its place
-  pub numbers_placed : numbers_of (numbers_text n ms) places ≡ at_front (n ∷ ms) places
+  pub numbers_placed : numbers_in_line (numbers_text n ms) places ≡ at_front (n ∷ ms) places
   numbers_placed = ap (λ (r : Read). r.numbers) whole
 
 -- ---- how many blanks stand among them

@@ -11,8 +11,8 @@ use lib.Dec.{eqb}
 use lib.ListN.{length, get_or, set, drop, length-append, drop_of_length-le}
 use borrow.Author.Tests.{eqb-true, eqb-false, eq-eqb}
 use Rattle.basics.proofs.Tests.{either, and_both}
-use Rattle.places.specs.Places.{at_front}
-use Rattle.places.proofs.Lists.{front_push, front_none}
+use Rattle.basics.specs.elements.Places.{at_front}
+use Rattle.basics.proofs.elements.Lists.{front_push, front_none}
 use Rattle.windows.specs.declared.Window.{Window}
 use Rattle.windows.specs.declared.Windows.{Windows}
 use Rattle.window_lines.specs.Lines.{window_at, windows_to, windows_of_numbers}

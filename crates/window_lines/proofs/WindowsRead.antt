@@ -15,13 +15,13 @@ use Rattle.basics.proofs.Tests.{either}
 use Rattle.call_lines.specs.Reading.{scan_of}
 use Rattle.texts.specs.Text.{ascii, fields, each, field}
 use Rattle.line_fields.specs.Fields.{same_to, begins}
-use Rattle.places.specs.Places.{at_front}
+use Rattle.basics.specs.elements.Places.{at_front}
 use Rattle.calendar.specs.declared.Date.{Date}
 use Rattle.windows.specs.Windows.{agreed}
 use Rattle.windows.specs.declared.Window.{Window}
 use Rattle.windows.specs.declared.Windows.{Windows}
-use Rattle.window_lines.specs.Lines.{is_date_line, date_question, window_question_of, window_at, windows_to, windows_of_numbers, blanks_in, is_windows_line, window_numbers, windows_line}
-use Rattle.window_lines.specs.Written.{date_numbers, window_numbers_of, all_numbers, minute_line, windows_line_of, AllFit}
+use Rattle.window_lines.specs.Lines.{is_date_line, date_question, window_question_of, window_at, windows_to, windows_of_numbers, blanks_in, is_windows_count_line, window_numbers, windows_line}
+use Rattle.window_lines.specs.Written.{date_numbers, window_numbers_of, numbers_of_windows, minute_line, windows_line_of, AllFit}
 use Rattle.window_lines.specs.declared.WindowQuestion.TheVariants.{MinuteOf}
 use Rattle.window_lines.proofs.NumbersRead.{numbers_text, numbers_scanned, numbers_placed, numbers_blanks}
 use Rattle.window_lines.proofs.Turns.{windows_count}
@@ -40,44 +40,44 @@ minute_asks d fit =
     rw (minute_begins (numbers_text d.year ms), scanned.0, scanned.1, placed) refl
 
 -- ---- windows
-ten_numbers : (ws : List Window) → length (all_numbers ws) ≡ 10 * length ws
-unfolding all_numbers
+ten_numbers : (ws : List Window) → length (numbers_of_windows ws) ≡ 10 * length ws
+unfolding numbers_of_windows
 ten_numbers [] = refl
-ten_numbers (w ∷ ws) = length-append (window_numbers_of w) (all_numbers ws) ∙ omega (arith, ten_numbers ws)
+ten_numbers (w ∷ ws) = length-append (window_numbers_of w) (numbers_of_windows ws) ∙ omega (arith, ten_numbers ws)
 
 -- a number of window i
-number_at : (ws : List Window) (i c : ℕ) (d : Window) → i < length ws → c < 10 → get_or (all_numbers ws) (10 * i + c) 0 ≡ get_or (window_numbers_of (get_or ws i d)) c 0
-unfolding all_numbers
+number_at : (ws : List Window) (i c : ℕ) (d : Window) → i < length ws → c < 10 → get_or (numbers_of_windows ws) (10 * i + c) 0 ≡ get_or (window_numbers_of (get_or ws i d)) c 0
+unfolding numbers_of_windows
 number_at [] i c d h k = absurd (omega arith)
 number_at (w ∷ ws) zero c d h k =
     let at : 10 * 0 + c ≡ c = omega arith in
-    rw at (get_or-append (window_numbers_of w) (all_numbers ws) 0 c k)
+    rw at (get_or-append (window_numbers_of w) (numbers_of_windows ws) 0 c k)
 number_at (w ∷ ws) (suc i) c d h k =
     let at : 10 * suc i + c ≡ 10 + (10 * i + c) = omega arith in
-    rw at (get_or-append-add (window_numbers_of w) (all_numbers ws) (10 * i + c) 0 ∙ number_at ws i c d (omega arith) k)
+    rw at (get_or-append-add (window_numbers_of w) (numbers_of_windows ws) (10 * i + c) 0 ∙ number_at ws i c d (omega arith) k)
 
-module _ (ws : List Window) (few : length ws ≤ 128) (fit : AllFit (all_numbers ws)) where
+module _ (ws : List Window) (few : length ws ≤ 128) (fit : AllFit (numbers_of_windows ws)) where
   abbrev line : List ℕ
-  line = numbers_text (length ws) (all_numbers ws)
+  line = numbers_text (length ws) (numbers_of_windows ws)
 
   abbrev ns : List ℕ
-  ns = at_front (length ws ∷ all_numbers ws) (replicate 1281 0)
+  ns = at_front (length ws ∷ numbers_of_windows ws) (replicate 1281 0)
 
-  room : 1 + length (all_numbers ws) ≤ length {A = ℕ} (replicate 1281 0)
+  room : 1 + length (numbers_of_windows ws) ≤ length {A = ℕ} (replicate 1281 0)
   room = rw length-replicate (omega (arith, ten_numbers ws))
 
-  short : length (all_numbers ws) < 2048
+  short : length (numbers_of_windows ws) < 2048
   short = omega (arith, ten_numbers ws)
 
   placed : window_numbers line ≡ ns
-  placed = numbers_placed (replicate 1281 0) (length ws) (all_numbers ws) room short (omega arith) fit
+  placed = numbers_placed (replicate 1281 0) (length ws) (numbers_of_windows ws) room short (omega arith) fit
 
   -- number c of window i stands in its place
   stands : (i c : ℕ) (d : Window) → i < length ws → c < 10 → (at : ℕ) → at ≡ 10 * i + 1 + c → get_or ns at 0 ≡ get_or (window_numbers_of (get_or ws i d)) c 0
   unfolding at_front
   stands i c d h k at e =
       let place : at ≡ suc (10 * i + c) = omega (arith, e) in
-      rw place (get_or-append (all_numbers ws) (drop (suc (length (all_numbers ws))) (replicate 1281 0)) 0 (10 * i + c) (omega (arith, ten_numbers ws)) ∙ number_at ws i c d h k)
+      rw place (get_or-append (numbers_of_windows ws) (drop (suc (length (numbers_of_windows ws))) (replicate 1281 0)) 0 (10 * i + c) (omega (arith, ten_numbers ws)) ∙ number_at ws i c d h k)
 
   window_is : (i : ℕ) (d : Window) → i < length ws → window_at ns i ≡ get_or ws i d
   window_is i d h =
@@ -115,11 +115,11 @@ module _ (ws : List Window) (few : length ws ≤ 128) (fit : AllFit (all_numbers
           let all : n ≡ suc m = omega (arith, ltb-false n (suc m) t) in
           rw all (take_all (suc m) (windows_to ns (suc m)) (omega (arith, windows_count ns [] (suc m))))
 
-  is_one : is_windows_line (scan_of line) (blanks_in line) (get_or (window_numbers line) 0 0) ≡ true
-  unfolding is_windows_line at_front
+  is_one : is_windows_count_line (scan_of line) (blanks_in line) (get_or (window_numbers line) 0 0) ≡ true
+  unfolding is_windows_count_line at_front
   is_one =
-      let scanned = numbers_scanned (replicate 1281 0) (length ws) (all_numbers ws) room short (omega arith) fit in
-      rw (scanned.0, placed) (eq-eqb (blanks_in line) (10 * length ws) (numbers_blanks (length ws) (all_numbers ws) ∙ ten_numbers ws))
+      let scanned = numbers_scanned (replicate 1281 0) (length ws) (numbers_of_windows ws) room short (omega arith) fit in
+      rw (scanned.0, placed) (eq-eqb (blanks_in line) (10 * length ws) (numbers_blanks (length ws) (numbers_of_windows ws) ∙ ten_numbers ws))
 
   -- the line begins these windows
   pub windows_read : windows_line (drop 8 (windows_line_of ws)) ≡ Some (windows_of_numbers ns)

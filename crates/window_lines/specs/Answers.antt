@@ -43,21 +43,21 @@ window_text (Ok NoneFollows) = ascii "none\n"
 window_text (Err why) = line_text (ascii "refused") (window_refusal_number why)
 
 -- windows that are refused give their number before anything else
-unfoldable pub asked : Result KeptWindows WindowRefusal → ℕ → Result WindowAnswer WindowRefusal
-asked (Ok kept) minute = ask_kept (kept_arrays (Ok kept)) minute
-asked (Err why) minute = Err why
+unfoldable pub window_asked : Result KeptWindows WindowRefusal → ℕ → Result WindowAnswer WindowRefusal
+window_asked (Ok kept) minute = ask_kept (kept_arrays (Ok kept)) minute
+window_asked (Err why) minute = Err why
 
 unfoldable pub question_text : Result KeptWindows WindowRefusal → WindowQuestion → List ℕ
 question_text k (MinuteOf d) = minute_answer (to_minute d)
 question_text k (DateOf minute) = date_answer (to_date minute)
-question_text k (AskAt minute) = window_text (asked k minute)
+question_text k (AskAt minute) = window_text (window_asked k minute)
 question_text k BadLine = bad_line_text
 
 -- ---- the line `windows`: "`made`, `refused 1` or `refused 17`"
 
-unfoldable pub made_text : Result KeptWindows WindowRefusal → List ℕ
-made_text (Ok kept) = ascii "made\n"
-made_text (Err why) = line_text (ascii "refused") (window_refusal_number why)
+unfoldable pub windows_made_text : Result KeptWindows WindowRefusal → List ℕ
+windows_made_text (Ok kept) = ascii "made\n"
+windows_made_text (Err why) = line_text (ascii "refused") (window_refusal_number why)
 
 -- "the list of windows [is the one] that the latest .. `windows` line began", also where it is refused; a bad line "changes nothing"
 unfoldable pub after_windows : Result KeptWindows WindowRefusal → Option Windows → Result KeptWindows WindowRefusal
@@ -65,7 +65,7 @@ after_windows k (Some given) = kept_windows given
 after_windows k None = k
 
 unfoldable pub windows_text : Option Windows → List ℕ
-windows_text (Some given) = made_text (kept_windows given)
+windows_text (Some given) = windows_made_text (kept_windows given)
 windows_text None = bad_line_text
 
 -- ---- every line about dates and windows

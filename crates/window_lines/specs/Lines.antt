@@ -2,7 +2,7 @@
 -- Assumes nothing.
 use Rattle.std.specs.Prelude.{Bool, cond, ◌&&◌, ◌||◌, List, [], ◌∷◌, ◌++◌, ℕ, zero, suc, ◌+◌, ◌*◌, eqb, length, get_or, drop, replicate, Option, Some, None}
 use Rattle.std.specs.List.{filter}
-use Rattle.call_lines.specs.Reading.{scan_of, numbers_of}
+use Rattle.call_lines.specs.Reading.{scan_of, numbers_in_line}
 use Rattle.call_lines.specs.declared.Scan.{Scan}
 use Rattle.texts.specs.Text.{ascii}
 use Rattle.line_fields.specs.Fields.{begins, number_from}
@@ -25,7 +25,7 @@ unfoldable pub is_date_line : Scan → Bool
 is_date_line s = is_read s && eqb s.before 4
 
 unfoldable pub date_question : List ℕ → WindowQuestion
-date_question bytes = cond (is_date_line (scan_of bytes)) (MinuteOf (date_at (numbers_of bytes (replicate 5 0)) 0)) BadLine
+date_question bytes = cond (is_date_line (scan_of bytes)) (MinuteOf (date_at (numbers_in_line bytes (replicate 5 0)) 0)) BadLine
 
 abbrev pub minute_question : Option ℕ → WindowQuestion
 minute_question (Some minute) = DateOf minute
@@ -62,17 +62,17 @@ abbrev pub blanks_in : List ℕ → ℕ
 blanks_in bytes = length (filter (λ b. eqb b 32) bytes)
 
 -- numbers of 64 bits with single blanks between them: a count, and ten for each window, so that as many blanks stand before those
-unfoldable pub is_windows_line : Scan → ℕ → ℕ → Bool
-is_windows_line s blanks count = is_read s && eqb blanks (10 * count)
+unfoldable pub is_windows_count_line : Scan → ℕ → ℕ → Bool
+is_windows_count_line s blanks count = is_read s && eqb blanks (10 * count)
 
 -- the numbers stand in 1,281 places: the count, and ten for each of 128 windows
 abbrev pub window_numbers : List ℕ → List ℕ
-window_numbers bytes = numbers_of bytes (replicate 1281 0)
+window_numbers bytes = numbers_in_line bytes (replicate 1281 0)
 
 -- the windows that the line begins, where it is one
 unfoldable pub windows_line : List ℕ → Option Windows
 windows_line bytes =
-    cond (is_windows_line (scan_of bytes) (blanks_in bytes) (get_or (window_numbers bytes) 0 0)) (Some (windows_of_numbers (window_numbers bytes))) None
+    cond (is_windows_count_line (scan_of bytes) (blanks_in bytes) (get_or (window_numbers bytes) 0 0)) (Some (windows_of_numbers (window_numbers bytes))) None
 
 -- ---- the line begins with a word of these lines
 unfoldable pub is_window_line : List ℕ → Bool

@@ -13,9 +13,9 @@ date_numbers d = d.year ∷ d.month ∷ d.day ∷ d.hour ∷ d.minute ∷ []
 abbrev pub window_numbers_of : Window → List ℕ
 window_numbers_of w = date_numbers w.start ++ date_numbers w.end
 
-unfoldable pub all_numbers : List Window → List ℕ
-all_numbers [] = []
-all_numbers (w ∷ ws) = window_numbers_of w ++ all_numbers ws
+unfoldable pub numbers_of_windows : List Window → List ℕ
+numbers_of_windows [] = []
+numbers_of_windows (w ∷ ws) = window_numbers_of w ++ numbers_of_windows ws
 
 -- `minute Y M D H MIN`
 abbrev pub minute_line : Date → List ℕ
@@ -23,7 +23,7 @@ minute_line d = fields (ascii "minute") (date_numbers d)
 
 -- `windows COUNT` and the numbers of each
 abbrev pub windows_line_of : List Window → List ℕ
-windows_line_of ws = fields (ascii "windows") (length ws ∷ all_numbers ws)
+windows_line_of ws = fields (ascii "windows") (length ws ∷ numbers_of_windows ws)
 
 -- the numbers have 64 bits
 abbrev pub AllFit : List ℕ → Type 0

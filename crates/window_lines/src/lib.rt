@@ -4,8 +4,8 @@
 
 ghost use Rattle.std.specs.Prelude.{◌≡◌, ◌+◌, ◌≤◌, ◌<◌, length};
 ghost use Rattle.texts.specs.Text.{put};
-ghost use Rattle.window_lines.specs.Lines.{date_at, is_date_line, date_question, minute_question, ask_question, is_question, window_question_of, window_at, windows_to, windows_of_numbers, blanks_in, is_windows_line, windows_line, is_window_line};
-ghost use Rattle.window_lines.specs.Answers.{first_windows, date_text, date_answer, minute_answer, window_text, asked, question_text, made_text, after_windows, windows_text, after_window_line, window_answer};
+ghost use Rattle.window_lines.specs.Lines.{date_at, is_date_line, date_question, minute_question, ask_question, is_question, window_question_of, window_at, windows_to, windows_of_numbers, blanks_in, is_windows_count_line, windows_line, is_window_line};
+ghost use Rattle.window_lines.specs.Answers.{first_windows, date_text, date_answer, minute_answer, window_text, window_asked, question_text, windows_made_text, after_windows, windows_text, after_window_line, window_answer};
 
 use calendar::{Date, NotInCalendar};
 use call_lines::Scan;
@@ -158,12 +158,12 @@ fn put_window_answer(out: &mut Output<'_>, answer: Result<WindowAnswer, WindowRe
 }
 
 // A minute asked of the windows, where they are made.
-#[tactic(auto, unfolding(crate::specs::Answers::asked))]
+#[tactic(auto, unfolding(crate::specs::Answers::window_asked))]
 fn ask(
     windows: &Result<KeptWindows, WindowRefusal>,
     minute: u64,
 ) -> Result<WindowAnswer, WindowRefusal>
-    ensures { result ≡ asked windows.now minute }
+    ensures { result ≡ window_asked windows.now minute }
 {
     match windows {
         Ok(kept) => kept.ask(minute),
@@ -197,9 +197,9 @@ fn blanks_in(bytes: &[u8]) -> usize
 }
 
 // Whether the bytes are a count and ten numbers for each window, however many those are: numbers with single blanks between them have one blank fewer.
-#[tactic(auto, using(crate::proofs::Turns::ten_each), unfolding(crate::specs::Lines::is_windows_line))]
-fn is_windows_line(scan: Scan, blanks: usize, count: u64) -> bool
-    ensures { result ≡ is_windows_line scan blanks count }
+#[tactic(auto, using(crate::proofs::Turns::ten_each), unfolding(crate::specs::Lines::is_windows_count_line))]
+fn is_windows_count_line(scan: Scan, blanks: usize, count: u64) -> bool
+    ensures { result ≡ is_windows_count_line scan blanks count }
 {
     stored_lines::is_read(scan) && blanks % 10 == 0 && (blanks / 10) as u64 == count
 }
@@ -211,16 +211,16 @@ fn windows_line(bytes: &[u8]) -> Option<Windows>
 {
     let mut numbers = [0u64; 1281];
     let scan = call_lines::read_numbers(bytes, &mut numbers);
-    if is_windows_line(scan, blanks_in(bytes), numbers[0]) {
+    if is_windows_count_line(scan, blanks_in(bytes), numbers[0]) {
         return Some(windows_of_numbers(&numbers));
     }
     None
 }
 
 // `made`, or the number that refuses the windows.
-#[tactic(auto, unfolding(crate::specs::Answers::made_text))]
+#[tactic(auto, unfolding(crate::specs::Answers::windows_made_text))]
 fn put_made(out: &mut Output<'_>, kept: &Result<KeptWindows, WindowRefusal>)
-    ensures { out.new ≡ put (made_text kept.now) out.old }
+    ensures { out.new ≡ put (windows_made_text kept.now) out.old }
 {
     match kept {
         Ok(_) => out.put_bytes(b"made\n"),

@@ -6,7 +6,7 @@ use mathlib.Core.List.{[], ◌∷◌}
 use Prim.Native.Nat.{ℕ}
 use Rattle.calendar.specs.Calendar.{is_leap, year_days, days_of_years, month_days, days_of_months, is_month, is_day, is_time, is_date, days_before, minute_of}
 use Rattle.calendar.specs.declared.Date.{Date}
-use Rattle.windows.specs.Windows.{is_window, all_fit, check_windows, holds_minute, some_holds, nearer, nearest_start, next_after, ask_minutes, ask_checked, ask_windows, refusal_number}
+use Rattle.windows.specs.Windows.{is_window, all_fit, check_windows, holds_minute, some_holds, nearer, nearest_start, next_after, ask_minutes, ask_checked, ask_windows, window_check_number}
 use Rattle.windows.specs.declared.Window.{Window}
 use Rattle.windows.specs.declared.Windows.{Windows}
 use Rattle.windows.specs.declared.WindowAnswer.TheVariants.{Inside, Next, NoneFollows}
@@ -30,12 +30,12 @@ unfolding check_windows all_fit is_window is_date is_month is_day is_time minute
 three_made = refl
 
 -- the fourth window is none
-four_refused : refusal_number (check_windows (record { places = three.places; count = 4 })) ≡ 17
+four_refused : window_check_number (check_windows (record { places = three.places; count = 4 })) ≡ 17
 unfolding check_windows all_fit is_window is_date is_month is_day is_time minute_of days_before month_days year_days is_leap days_of_years days_of_months
 four_refused = refl
 
 -- more than 128 give 1, whatever they are
-many_refused : refusal_number (check_windows (record { places = three.places; count = 129 })) ≡ 1
+many_refused : window_check_number (check_windows (record { places = three.places; count = 129 })) ≡ 1
 unfolding check_windows
 many_refused = refl
 
@@ -58,6 +58,6 @@ after_all : ask_windows three 4320 ≡ Ok NoneFollows
 unfolding ask_windows ask_checked ask_minutes next_after nearest_start nearer check_windows all_fit is_window some_holds holds_minute is_date is_month is_day is_time minute_of days_before month_days year_days is_leap days_of_years days_of_months
 after_all = refl
 
-past_all_years : refusal_number (ask_windows three 4223371680) ≡ 17
+past_all_years : window_check_number (ask_windows three 4223371680) ≡ 17
 unfolding ask_windows ask_checked ask_minutes check_windows all_fit is_window is_date is_month is_day is_time minute_of days_before month_days year_days is_leap days_of_years days_of_months
 past_all_years = refl

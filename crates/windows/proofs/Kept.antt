@@ -10,9 +10,9 @@ use lib.ListN.{length, get_or, set, take, replicate, length-take, length-map, le
 use lib.Seq.{take_at, take-suc}
 use borrow.Author.Tests.{le-leb}
 use Rattle.std.proofs.lemmas.List.{take_all}
-use Rattle.places.specs.Places.{at_front}
-use Rattle.places.proofs.Lists.{front_push}
-use Rattle.windows.specs.Windows.{start_of, end_of, agreed, check_windows, ask_checked, ask_windows, refusal_number, minute_places, KeptArrays, made_of, kept_checked, kept_windows, kept_arrays, kept_of, check_kept, ask_kept}
+use Rattle.basics.specs.elements.Places.{at_front}
+use Rattle.basics.proofs.elements.Lists.{front_push}
+use Rattle.windows.specs.Windows.{start_of, end_of, agreed, check_windows, ask_checked, ask_windows, window_check_number, minute_places, KeptArrays, made_of, kept_checked, kept_windows, kept_arrays, kept_of, check_kept, ask_kept}
 use Rattle.windows.specs.declared.Window.{Window}
 use Rattle.windows.specs.declared.Windows.{Windows}
 use Rattle.windows.specs.declared.WindowRefusal.{WindowRefusal}
@@ -85,13 +85,13 @@ pub kept_check : (ws : Windows) → check_kept (kept_of ws) ≡ check_windows ws
 unfolding kept_of kept_windows
 kept_check ws = check_told ws (check_windows ws) refl
 
-checked_number : (c : Result (Unit {0}) WindowRefusal) (ws : List Window) → (kept_arrays (kept_checked c ws)).number ≡ refusal_number c
+checked_number : (c : Result (Unit {0}) WindowRefusal) (ws : List Window) → (kept_arrays (kept_checked c ws)).number ≡ window_check_number c
 unfolding kept_checked
 checked_number (Ok u) ws = refl
 checked_number (Err why) ws = refl
 
 -- the number that is kept is that of the check
-pub kept_number : (ws : Windows) → (kept_of ws).number ≡ refusal_number (check_windows ws)
+pub kept_number : (ws : Windows) → (kept_of ws).number ≡ window_check_number (check_windows ws)
 unfolding kept_of kept_windows
 kept_number ws = checked_number (check_windows ws) (agreed ws)
 

@@ -15,7 +15,7 @@ use Rattle.basics.specs.Lists.{In}
 use Rattle.basics.proofs.Tests.{either, fails, not_both, and_left, and_right, and_both, or_cases, or_left, or_right}
 use Rattle.calendar.specs.Calendar.{is_date}
 use Rattle.calendar.proofs.Dates.{numbers, minute_bound}
-use Rattle.windows.specs.Windows.{start_of, end_of, is_window, all_fit, agreed, check_windows, holds_minute, some_holds, nearer, nearest_start, next_after, ask_minutes, ask_checked, ask_windows, refusal_number, Fitting, AllFitting, SomeUnfitting, CheckedWindows, InWindow, NextStart}
+use Rattle.windows.specs.Windows.{start_of, end_of, is_window, all_fit, agreed, check_windows, holds_minute, some_holds, nearer, nearest_start, next_after, ask_minutes, ask_checked, ask_windows, window_check_number, Fitting, AllFitting, SomeUnfitting, CheckedWindows, InWindow, NextStart}
 use Rattle.windows.specs.declared.Window.{Window}
 use Rattle.windows.specs.declared.Windows.{Windows}
 use Rattle.windows.specs.declared.WindowRefusal.{WindowRefusal}
@@ -70,7 +70,7 @@ checked_windows_lem ws = go (ltb 128 ws.count) (all_fit (agreed ws)) refl refl
     go false false e f = (ltb-false 128 ws.count e, one_unfitting (agreed ws) f)
 
 -- "More than 128 windows give 1", whatever they are
-pub too_many : (ws : Windows) → 128 < ws.count → refusal_number (check_windows ws) ≡ 1
+pub too_many : (ws : Windows) → 128 < ws.count → window_check_number (check_windows ws) ≡ 1
 unfolding check_windows
 too_many ws h = simp (lt-ltb 128 ws.count h)
 
@@ -83,7 +83,7 @@ unfolding check_windows
 made_always ws few h = simp (le-ltb 128 ws.count few, all_fit_so (agreed ws) (λ w i. fits_so w (h w i)))
 
 -- and give 17 where one is none
-pub not_a_window : (ws : Windows) → ws.count ≤ 128 → (w : Window) → In w (agreed ws) → (Fitting w → ⊥) → refusal_number (check_windows ws) ≡ 17
+pub not_a_window : (ws : Windows) → ws.count ≤ 128 → (w : Window) → In w (agreed ws) → (Fitting w → ⊥) → window_check_number (check_windows ws) ≡ 17
 unfolding check_windows
 not_a_window ws few w i h =
     simp (le-ltb 128 ws.count few, fails {t = all_fit (agreed ws)} (λ t. h (fitting w (each_fits (agreed ws) t w i))))
@@ -213,7 +213,7 @@ unfolding ask_windows ask_checked
 unmade ws why e minute = simp e
 
 -- "a minute past the year 9999, however large, .. gives 17, also when asked of windows"
-pub late : (ws : Windows) → check_windows ws ≡ Ok tt → (minute : ℕ) → 4223371680 ≤ minute → refusal_number (ask_windows ws minute) ≡ 17
+pub late : (ws : Windows) → check_windows ws ≡ Ok tt → (minute : ℕ) → 4223371680 ≤ minute → window_check_number (ask_windows ws minute) ≡ 17
 unfolding ask_windows ask_checked ask_minutes
 late ws e minute h = simp (e, le-leb 4223371680 minute h)
 

@@ -3,7 +3,7 @@
 use Rattle.std.specs.Prelude.{◌≡◌, Result, Ok, Err, Bool, true, cond, ◌&&◌, List, map, ℕ, ◌≤◌, ◌<◌, eqb, ltb, leb, length, get_or, take, replicate}
 use Rattle.std.specs.List.{list_all, list_any, zip, fold}
 use Rattle.basics.specs.Lists.{In}
-use Rattle.places.specs.Places.{at_front}
+use Rattle.basics.specs.elements.Places.{at_front}
 use Rattle.refusals.specs.Refusals.{refusal}
 use Rattle.calendar.specs.Calendar.{is_date, minute_of}
 use Rattle.windows.specs.declared.Window.{Window}
@@ -82,8 +82,8 @@ window_refusal_number TooManyWindows = 1
 window_refusal_number NotInCalendar = 17
 
 -- the number of what the check or a question gives, and 0 where it gives none
-abbrev pub refusal_number : {T : Type 0} → Result T WindowRefusal → ℕ
-refusal_number given = refusal window_refusal_number given
+abbrev pub window_check_number : {T : Type 0} → Result T WindowRefusal → ℕ
+window_check_number given = refusal window_refusal_number given
 
 -- ---- what is kept for questions
 

@@ -107,7 +107,7 @@ impl Windows {
 
     // The minutes in which each window starts and ends. Both arrays are written by the index, of which `iter_mut` of two and a third would be zipped: no
     // plainer.
-    #[tactic(auto, using(crate::proofs::Turns::made, crate::proofs::Turns::fits_at, crate::proofs::Turns::start_fits, crate::proofs::Turns::end_fits, crate::proofs::Kept::count_few, crate::proofs::Kept::agreed_length, crate::proofs::Kept::starts_next, crate::proofs::Kept::ends_next, crate::proofs::Kept::starts_all, crate::proofs::Kept::ends_all), unfolding(places::specs::Places::at_front))]
+    #[tactic(auto, using(crate::proofs::Turns::made, crate::proofs::Turns::fits_at, crate::proofs::Turns::start_fits, crate::proofs::Turns::end_fits, crate::proofs::Kept::count_few, crate::proofs::Kept::agreed_length, crate::proofs::Kept::starts_next, crate::proofs::Kept::ends_next, crate::proofs::Kept::starts_all, crate::proofs::Kept::ends_all), unfolding(basics::specs::elements::Places::at_front))]
     fn minutes(&self) -> KeptWindows
         requires { check_windows self.now ≡ Ok tt }
         ensures { result ≡ made_of (agreed self.now) }
@@ -211,7 +211,7 @@ pub fn ask_arrays(
 
 impl KeptWindows {
     // No window at all.
-    #[tactic(auto, unfolding(places::specs::Places::at_front))]
+    #[tactic(auto, unfolding(basics::specs::elements::Places::at_front))]
     pub fn none() -> KeptWindows
         ensures { result ≡ made_of [] }
     {

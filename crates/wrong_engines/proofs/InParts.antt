@@ -14,8 +14,8 @@ use Rattle.message.specs.declared.Refusal.{Refusal}
 use Rattle.message.specs.declared.Refusal.TheVariants.{ValueNotHeld}
 use Rattle.fast_state.specs.Adopt.{lowest_best}
 use Rattle.fast_state.specs.Fast.{no_answers}
-use Rattle.serving.proofs.NoReads.{commit_untouched, response_untouched}
-use Rattle.serving.specs.declared.Tracked.{Tracked}
+use Rattle.read_tracker.proofs.serving.NoReads.{commit_untouched, response_untouched}
+use Rattle.read_tracker.specs.declared.serving.Tracked.{Tracked}
 use Rattle.steps.specs.Steps.{RoundsStep, CoreStep, no_messages, map_step, on_rounds}
 use Rattle.steps.specs.declared.Asked.{Asked}
 use Rattle.steps.specs.declared.Core.{Core}
@@ -32,7 +32,7 @@ use Rattle.calls.specs.Replies.{is_fast, committed_reply}
 use Rattle.calls.specs.declared.Call.{Call}
 use Rattle.calls.specs.declared.Call.TheVariants.{Propose, StartRead, Receive}
 use Rattle.calls.specs.declared.Taken.{Taken}
-use Rattle.consensus.specs.Answers.{with_rounds, refused, nothing, served, committed, finish_at, finish}
+use Rattle.consensus.specs.Answers.{state_with_rounds, refused, nothing, served, committed, finish_at, finish}
 use Rattle.consensus.specs.Call.{state_call, in_shard, decision, call_with, call_of}
 use Rattle.consensus.specs.Handle.{on_commit, on_read_response, proposing, processed, process_message, handle, handle_call}
 use Rattle.consensus.specs.declared.Shard.{Shard}
@@ -52,13 +52,13 @@ module _ (state : State) (a : Asked) (classic : has_fast_path a.mode ≡ false) 
     where
       go : (t : Bool) → ltb 0 c.tracker.open_count ≡ t
           → cond t (committed state a v (around state c) messages)
-          (record { state = with_rounds state (around state (next_core a v c)); reply = committed_reply a v c messages })
+          (record { state = state_with_rounds state (around state (next_core a v c)); reply = committed_reply a v c messages })
           ≡ committed state a v (around state c) messages
       go true e = refl
       go false e =
           ap
           (λ (t : Bool). record {
-            state = with_rounds state (record { core = next_core a v c; fast = cond t no_answers state.rounds.fast });
+            state = state_with_rounds state (record { core = next_core a v c; fast = cond t no_answers state.rounds.fast });
             reply = committed_reply a v c messages;
           })
           (sym classic)

@@ -47,7 +47,7 @@ use Rattle.group.proofs.Handlers.{Any, any_holds, EndsUncommitted, Keeps, propos
 use Rattle.wrong_engines.specs.Laws.{AnyEngine, ReachedBy, entry_by, after_call_by, entries_by, RefusesByFirstCause, IsAsPaper, InAgreement}
 use Rattle.wrong_engines.specs.Laws.ReachedBy.{new, called}
 use Rattle.wrong_engines.specs.declared.FixedContents.{FixedContents}
-use Rattle.wrong_engines.specs.Engines.{is_message, is_proposal, multi_paxos_never_proposes, with_messages, on_messages, where_taken, if_taken, sends_only, idles, does_nothing, sends_fixed, with_fixed_content, sends_fixed_contents, hears_nothing, answers_no_message, idles_after_slot_zero, refuses_each, sends_thrice, from_zero, sends_as_zero, own, sent_to, sends_to_itself, with_shard_at, if_commits, marked_unmade, unmakes}
+use Rattle.wrong_engines.specs.Engines.{is_message, is_proposal, multi_paxos_never_proposes, answer_with_messages, change_messages, where_taken, other_if_taken, sends_only, idles, does_nothing, sends_fixed, with_fixed_content, sends_fixed_contents, hears_nothing, answers_no_message, idles_after_slot_zero, refuses_each, sends_thrice, from_zero, sends_as_zero, own, sent_to, sends_to_itself, with_shard_at, if_commits, marked_unmade, unmakes}
 use Rattle.wrong_engines.proofs.Answers.{refused_not_done}
 use Rattle.wrong_engines.proofs.Less.{DoesLess, SaysNothing, less_in_agreement}
 use Rattle.wrong_engines.proofs.Right.{right_has_all}
@@ -56,7 +56,7 @@ use Rattle.wrong_engines.proofs.Right.{right_has_all}
 
 -- another answer, taken, where the right engine takes the call
 pub other_by_first_cause : (shard : Shard) (c : Call) (other : Answer) → ((call_of shard c).reply.outcome ≡ Ok tt → other.reply.outcome ≡ Ok tt)
-    → ByFirstCause lowest_best shard c (if_taken other (call_of shard c))
+    → ByFirstCause lowest_best shard c (other_if_taken other (call_of shard c))
 other_by_first_cause shard c other done = go (call_of shard c).reply.outcome refl (right_has_all.first_cause shard c)
   where
     go : (o : Outcome) → (call_of shard c).reply.outcome ≡ o → ByFirstCause lowest_best shard c (call_of shard c)
@@ -87,18 +87,18 @@ unproposed_by_first_cause shard c =
 
 -- other messages, none where there were none
 messages_by_first_cause : (f : Messages → Messages) → f no_messages ≡ no_messages → (shard : Shard) (c : Call)
-    → ByFirstCause lowest_best shard c (with_messages (f (call_of shard c).reply.messages) (call_of shard c))
+    → ByFirstCause lowest_best shard c (answer_with_messages (f (call_of shard c).reply.messages) (call_of shard c))
 messages_by_first_cause f e shard c = go (right_has_all.first_cause shard c)
   where
     go : ByFirstCause lowest_best shard c (call_of shard c)
-        → ByFirstCause lowest_best shard c (with_messages (f (call_of shard c).reply.messages) (call_of shard c))
+        → ByFirstCause lowest_best shard c (answer_with_messages (f (call_of shard c).reply.messages) (call_of shard c))
     go (inl h) = inl h
     go (inr (why, r, first)) =
-        inr (why, ap (λ (a : Answer). with_messages (f a.reply.messages) a) r ∙ ap (λ (ms : Messages). with_messages ms (number_alone why shard)) e, first)
+        inr (why, ap (λ (a : Answer). answer_with_messages (f a.reply.messages) a) r ∙ ap (λ (ms : Messages). answer_with_messages ms (number_alone why shard)) e, first)
 
 pub contents_by_first_cause : (fixed : FixedContents) → RefusesByFirstCause (sends_fixed_contents fixed)
 unfolding sends_fixed_contents
-contents_by_first_cause fixed = messages_by_first_cause (on_messages (with_fixed_content fixed)) refl
+contents_by_first_cause fixed = messages_by_first_cause (change_messages (with_fixed_content fixed)) refl
 
 pub thrice_by_first_cause : RefusesByFirstCause sends_thrice
 unfolding sends_thrice
@@ -106,11 +106,11 @@ thrice_by_first_cause = messages_by_first_cause (λ ms. record { first = ms.firs
 
 pub as_zero_by_first_cause : RefusesByFirstCause sends_as_zero
 unfolding sends_as_zero
-as_zero_by_first_cause = messages_by_first_cause (on_messages from_zero) refl
+as_zero_by_first_cause = messages_by_first_cause (change_messages from_zero) refl
 
 pub to_itself_by_first_cause : RefusesByFirstCause sends_to_itself
 unfolding sends_to_itself
-to_itself_by_first_cause shard = messages_by_first_cause (on_messages (sent_to (own shard))) refl shard
+to_itself_by_first_cause shard = messages_by_first_cause (change_messages (sent_to (own shard))) refl shard
 
 pub unanswered_by_first_cause : RefusesByFirstCause answers_no_message
 unfolding answers_no_message
@@ -133,7 +133,7 @@ commits_none run n slot v c = go run n c.stands
     go (e ∷ es) n (inr h) = go es n.1 h
 
 -- another answer without a commit where the right engine takes the call
-other_commits_nothing : (shard : Shard) (c : Call) (other : Answer) → other.reply.commit ≡ None → (if_taken other (call_of shard c)).reply.commit ≡ None
+other_commits_nothing : (shard : Shard) (c : Call) (other : Answer) → other.reply.commit ≡ None → (other_if_taken other (call_of shard c)).reply.commit ≡ None
 other_commits_nothing shard c other n = go (call_of shard c).reply.outcome refl (right_has_all.first_cause shard c)
   where
     go : (o : Outcome) → (call_of shard c).reply.outcome ≡ o → ByFirstCause lowest_best shard c (call_of shard c)
@@ -222,7 +222,7 @@ unfolding hears_nothing
 nothing_heard_in_agreement = silent_in_agreement hears_nothing (λ shard c. go shard c (is_message c) refl)
   where
     go : (shard : Shard) (c : Call) (t : Bool) → is_message c ≡ t
-        → (cond t (if_taken (idles shard) (call_of shard c)) (call_of shard c)).reply.commit ≡ None
+        → (cond t (other_if_taken (idles shard) (call_of shard c)) (call_of shard c)).reply.commit ≡ None
     go shard c true e = other_commits_nothing shard c (idles shard) refl
     go shard c false e = unheard_commits_nothing shard c e
 
@@ -234,7 +234,7 @@ unfolding answers_no_message
 unanswered_in_agreement = less_in_agreement answers_no_message (λ shard. ⊥) (λ shard c. inl (less shard c)) (λ shard s c. absurd s)
   where
     less : (shard : Shard) (c : Call)
-        → DoesLess answers_no_message (λ shard. ⊥) (cond (is_message c) (with_messages no_messages (call_of shard c)) (call_of shard c)) (call_of shard c)
+        → DoesLess answers_no_message (λ shard. ⊥) (cond (is_message c) (answer_with_messages no_messages (call_of shard c)) (call_of shard c)) (call_of shard c)
     less shard c =
         of-both (λ (r : Answer). DoesLess answers_no_message (λ shard. ⊥) r (call_of shard c)) (is_message c)
         (record { outcome = refl; commit = refl; messages = λ o h. absurd h; left = inl refl })
@@ -247,7 +247,7 @@ thrice_in_agreement = less_in_agreement sends_thrice (λ shard. ⊥) (λ shard c
   where
     less : (r : Answer)
         → DoesLess sends_thrice (λ shard. ⊥)
-        (with_messages (record { first = r.reply.messages.first; second = r.reply.messages.first; third = r.reply.messages.first }) r) r
+        (answer_with_messages (record { first = r.reply.messages.first; second = r.reply.messages.first; third = r.reply.messages.first }) r) r
     less r = record { outcome = refl; commit = refl; messages = λ o. sent r.reply.messages.first o; left = inl refl }
       where
         sent : (x : Option Outgoing) (o : Outgoing) → In o (listed x (listed x (listed x [])))
@@ -268,7 +268,7 @@ idle_in_agreement =
     less_in_agreement idles_after_slot_zero Idle (λ shard c. less shard c (leb 1 shard.state.rounds.core.slot) refl) nothing_said
   where
     less : (shard : Shard) (c : Call) (t : Bool) → leb 1 shard.state.rounds.core.slot ≡ t
-        → DoesLess idles_after_slot_zero Idle (cond t (if_taken (idles shard) (call_of shard c)) (call_of shard c)) (call_of shard c) ⊎ Idle shard
+        → DoesLess idles_after_slot_zero Idle (cond t (other_if_taken (idles shard) (call_of shard c)) (call_of shard c)) (call_of shard c) ⊎ Idle shard
     less shard c true e = inr e
     less shard c false e = inl (record { outcome = refl; commit = refl; messages = λ o h. h; left = inl refl })
 
@@ -280,9 +280,9 @@ idle_in_agreement =
         subst (SaysNothing idles_after_slot_zero Idle) (sym r) (record { no_messages = refl; no_commit = refl; still_silent = i })
 
     nothing_said : (shard : Shard) → Idle shard → (c : Call)
-        → SaysNothing idles_after_slot_zero Idle (cond (leb 1 shard.state.rounds.core.slot) (if_taken (idles shard) (call_of shard c)) (call_of shard c))
+        → SaysNothing idles_after_slot_zero Idle (cond (leb 1 shard.state.rounds.core.slot) (other_if_taken (idles shard) (call_of shard c)) (call_of shard c))
     nothing_said shard i c =
-        subst (λ (t : Bool). SaysNothing idles_after_slot_zero Idle (cond t (if_taken (idles shard) (call_of shard c)) (call_of shard c))) (sym i)
+        subst (λ (t : Bool). SaysNothing idles_after_slot_zero Idle (cond t (other_if_taken (idles shard) (call_of shard c)) (call_of shard c))) (sym i)
         (taken shard i c (call_of shard c).reply.outcome refl (right_has_all.first_cause shard c))
 
 -- ---- who marks itself unmade with its first commit

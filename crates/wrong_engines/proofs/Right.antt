@@ -9,11 +9,11 @@ use mathlib.Core.Bool.{Bool, true, false}
 use mathlib.Core.List.{List, [], ◌∷◌}
 use Prim.Native.Nat.{ℕ, ◌<◌}
 use Rattle.basics.specs.Lists.{In}
-use Rattle.sets.specs.Sets.{contains, Within}
+use Rattle.basics.specs.sets.Sets.{contains, Within}
 use Rattle.basics.proofs.Tests.{not_both}
 use Rattle.round_state.specs.Paxos.{get_last_accepted_round}
 use Rattle.fast_state.specs.Fast.{no_answers}
-use Rattle.serving.proofs.IdOrder.{InOrder, Rising, served_ids}
+use Rattle.read_tracker.proofs.serving.IdOrder.{InOrder, Rising, served_ids}
 use Rattle.delivery.specs.Admit.{admit}
 use Rattle.delivery.specs.declared.Delivery.{Delivery}
 use Rattle.calls.specs.declared.Call.TheVariants.{Receive}

@@ -34,7 +34,7 @@ use Rattle.paper.proofs.Calls.{call_as_paper, new_within, no_fast_path}
 use Rattle.group.specs.Claim.{begun, MemberCall, Entry, Claim, NotSwift}
 use Rattle.wrong_engines.specs.Laws.{AnyEngine, ReachedBy, entries_by, LegalBy, RefusesByFirstCause, IsAsPaper, InAgreement}
 use Rattle.wrong_engines.specs.Laws.ReachedBy.{new, called}
-use Rattle.wrong_engines.specs.Engines.{is_new_read, brings, is_forward, holding, paxos_of, with_settings, with_replicas, where_taken, leaving, stays_in_slot, keeps_held_after_commit, loses_replicas, noting, answers_noted, notes_proposals, with_table, first_two_turned, turned, keeps_reads_turned, with_served_turned, serves_turned, with_full_read, fills_first_read, with_paxos_half, with_prepared, with_accepted, swift_forward, counts_forwards_as_promises, counts_forwards_as_accepts, with_commit, told_as_next, commits_next_slot}
+use Rattle.wrong_engines.specs.Engines.{is_new_read, brings_message, is_forward, shard_holding, paxos_half, with_settings, with_replicas, where_taken, leaving, stays_in_slot, keeps_held_after_commit, loses_replicas, counting_answers, answers_noted, notes_proposals, shard_with_table, first_two_turned, turned, keeps_reads_turned, with_served_turned, serves_turned, with_full_read, fills_first_read, with_paxos_half, with_prepared, with_accepted, swift_forward, counts_forwards_as_promises, counts_forwards_as_accepts, answer_with_commit, told_as_next, commits_next_slot}
 use Rattle.wrong_engines.proofs.Answers.{refused_not_done}
 use Rattle.wrong_engines.proofs.Passing.{other_by_first_cause, commits_by_first_cause}
 use Rattle.wrong_engines.proofs.Right.{right_has_all}
@@ -47,7 +47,7 @@ stays_by_first_cause shard = commits_by_first_cause shard shard
 
 pub keeps_held_by_first_cause : RefusesByFirstCause keeps_held_after_commit
 unfolding keeps_held_after_commit
-keeps_held_by_first_cause shard c = commits_by_first_cause shard (holding (paxos_of shard).max_rv (call_of shard c).shard) c
+keeps_held_by_first_cause shard c = commits_by_first_cause shard (shard_holding (paxos_half shard).max_rv (call_of shard c).shard) c
 
 pub replicas_lost_by_first_cause : RefusesByFirstCause loses_replicas
 unfolding loses_replicas
@@ -64,7 +64,7 @@ pub noted_by_first_cause : RefusesByFirstCause notes_proposals
 unfolding notes_proposals
 noted_by_first_cause shard c =
     of-both (ByFirstCause lowest_best shard c) (has_fast_path shard.settings.mode) (right_has_all.first_cause shard c)
-    (leaving_by_first_cause shard (noting (answers_noted c) (call_of shard c).shard) c true)
+    (leaving_by_first_cause shard (counting_answers (answers_noted c) (call_of shard c).shard) c true)
 
 pub filled_by_first_cause : RefusesByFirstCause fills_first_read
 unfolding fills_first_read
@@ -73,12 +73,12 @@ filled_by_first_cause shard c = leaving_by_first_cause shard (with_full_read (ca
 pub promises_by_first_cause : RefusesByFirstCause counts_forwards_as_promises
 unfolding counts_forwards_as_promises
 promises_by_first_cause shard c =
-    leaving_by_first_cause shard (with_paxos_half (with_prepared shard.settings.alive_replicas (paxos_of shard)) shard) c (swift_forward shard c)
+    leaving_by_first_cause shard (with_paxos_half (with_prepared shard.settings.alive_replicas (paxos_half shard)) shard) c (swift_forward shard c)
 
 pub accepts_by_first_cause : RefusesByFirstCause counts_forwards_as_accepts
 unfolding counts_forwards_as_accepts
 accepts_by_first_cause shard c =
-    leaving_by_first_cause shard (with_paxos_half (with_accepted shard.settings.alive_replicas (paxos_of shard)) shard) c (swift_forward shard c)
+    leaving_by_first_cause shard (with_paxos_half (with_accepted shard.settings.alive_replicas (paxos_half shard)) shard) c (swift_forward shard c)
 
 -- an answer with something changed that a refusal has not
 changed_by_first_cause : (shard : Shard) (c : Call) (f : Answer → Answer) → ((r : Answer) → (f r).reply.outcome ≡ r.reply.outcome)
@@ -99,10 +99,10 @@ pub next_slot_by_first_cause : RefusesByFirstCause commits_next_slot
 unfolding commits_next_slot
 next_slot_by_first_cause shard c =
     of-both (ByFirstCause lowest_best shard c) (is_swift_paxos shard.settings.mode)
-    (changed_by_first_cause shard c (λ r. with_commit (told_as_next r.reply.commit) r) (λ r. refl) (λ why. refl)) (right_has_all.first_cause shard c)
+    (changed_by_first_cause shard c (λ r. answer_with_commit (told_as_next r.reply.commit) r) (λ r. refl) (λ why. refl)) (right_has_all.first_cause shard c)
 
 -- the causes are the same, whatever reads stand in the table
-same_causes : (shard : Shard) (table : ReadTable) (c : Call) → all_causes lowest_best (with_table table shard) c ≡ all_causes lowest_best shard c
+same_causes : (shard : Shard) (table : ReadTable) (c : Call) → all_causes lowest_best (shard_with_table table shard) c ≡ all_causes lowest_best shard c
 same_causes shard table (Propose v) = refl
 same_causes shard table (StartRead tag arrival) = refl
 same_causes shard table (Receive d) = refl
@@ -160,10 +160,10 @@ noted_as_paper =
     seen_as_paper notes_proposals
     (λ shard c.
     of-both (SettingsOf shard) (has_fast_path shard.settings.mode) (settings_kept lowest_best shard c)
-    (left_settings shard (noting (answers_noted c) (call_of shard c).shard) c (settings_kept lowest_best shard c) true))
+    (left_settings shard (counting_answers (answers_noted c) (call_of shard c).shard) c (settings_kept lowest_best shard c) true))
     (λ shard c classic.
     of-both (λ (r : Answer). seen r ≡ seen (call_of shard c)) (has_fast_path shard.settings.mode) refl
-    (left_seen shard (noting (answers_noted c) (call_of shard c).shard) c refl true))
+    (left_seen shard (counting_answers (answers_noted c) (call_of shard c).shard) c refl true))
 
 pub filled_as_paper : IsAsPaper fills_first_read
 unfolding fills_first_read
@@ -258,14 +258,14 @@ module _ (left : Shard → Shard) (kept : (shard : Shard) → (left shard).setti
       record {
         settings = λ shard c. left_settings shard (left shard) c (kept shard) (swift_forward shard c);
         right = λ shard c e.
-            ap (λ (t : Bool). cond (t && brings is_forward c) (leaving (left shard) (call_of shard c)) (call_of shard c)) e;
+            ap (λ (t : Bool). cond (t && brings_message is_forward c) (leaving (left shard) (call_of shard c)) (call_of shard c)) e;
       }
 
 abbrev promised_by_all : Shard → Shard
-promised_by_all shard = with_paxos_half (with_prepared shard.settings.alive_replicas (paxos_of shard)) shard
+promised_by_all shard = with_paxos_half (with_prepared shard.settings.alive_replicas (paxos_half shard)) shard
 
 abbrev accepted_by_all : Shard → Shard
-accepted_by_all shard = with_paxos_half (with_accepted shard.settings.alive_replicas (paxos_of shard)) shard
+accepted_by_all shard = with_paxos_half (with_accepted shard.settings.alive_replicas (paxos_half shard)) shard
 
 pub promises_as_paper : IsAsPaper counts_forwards_as_promises
 unfolding counts_forwards_as_promises
@@ -289,7 +289,7 @@ next_slot_in_swift =
     record {
       settings = λ shard c. of-both (SettingsOf shard) (is_swift_paxos shard.settings.mode) (settings_kept lowest_best shard c) (settings_kept lowest_best shard c);
       right = λ shard c e.
-          ap (λ (t : Bool). cond t (with_commit (told_as_next (call_of shard c).reply.commit) (call_of shard c)) (call_of shard c)) e;
+          ap (λ (t : Bool). cond t (answer_with_commit (told_as_next (call_of shard c).reply.commit) (call_of shard c)) (call_of shard c)) e;
     }
 
 pub next_slot_as_paper : IsAsPaper commits_next_slot

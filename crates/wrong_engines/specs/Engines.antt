@@ -29,7 +29,7 @@ use Rattle.calls.specs.declared.Call.{Call}
 use Rattle.calls.specs.declared.Call.TheVariants.{Propose, StartRead, Receive}
 use Rattle.calls.specs.declared.CommittedSlot.{CommittedSlot}
 use Rattle.calls.specs.Replies.{sent_reply}
-use Rattle.consensus.specs.Answers.{with_rounds}
+use Rattle.consensus.specs.Answers.{state_with_rounds}
 use Rattle.consensus.specs.Call.{with_state, call_of}
 use Rattle.consensus.specs.FirstCause.{number_alone}
 use Rattle.consensus.specs.declared.Answer.{Answer}
@@ -79,10 +79,10 @@ is_forward (Commit slot v) = false
 is_forward (ReadRequest id) = false
 is_forward (ReadResponse id next) = false
 
-abbrev pub brings : (ConsensusMsg → Bool) → Call → Bool
-brings test (Propose v) = false
-brings test (StartRead tag arrival) = false
-brings test (Receive d) = test d.message.msg
+abbrev pub brings_message : (ConsensusMsg → Bool) → Call → Bool
+brings_message test (Propose v) = false
+brings_message test (StartRead tag arrival) = false
+brings_message test (Receive d) = test d.message.msg
 
 -- ---- what is changed of a call, of a shard, of an answer
 
@@ -101,19 +101,19 @@ from_another source (Receive d) =
 abbrev pub own : Shard → ℕ
 own shard = shard.settings.my_pid
 
-abbrev pub slot_of : Shard → ℕ
-slot_of shard = shard.state.rounds.core.slot
+abbrev pub shard_slot : Shard → ℕ
+shard_slot shard = shard.state.rounds.core.slot
 
-abbrev pub paxos_of : Shard → PaxosState
-paxos_of shard = shard.state.rounds.core.paxos
+abbrev pub paxos_half : Shard → PaxosState
+paxos_half shard = shard.state.rounds.core.paxos
 
 -- another Paxos half; something else is held, or nothing
 abbrev pub with_paxos_half : PaxosState → Shard → Shard
 with_paxos_half paxos shard =
-    with_state shard (with_rounds shard.state (record { core = with_paxos paxos shard.state.rounds.core; fast = shard.state.rounds.fast }))
+    with_state shard (state_with_rounds shard.state (record { core = with_paxos paxos shard.state.rounds.core; fast = shard.state.rounds.fast }))
 
-abbrev pub holding : Option RoundV → Shard → Shard
-holding held shard = with_paxos_half (with_held held (paxos_of shard)) shard
+abbrev pub shard_holding : Option RoundV → Shard → Shard
+shard_holding held shard = with_paxos_half (with_held held (paxos_half shard)) shard
 
 abbrev pub with_settings : Settings → Shard → Shard
 with_settings s shard = record { made = shard.made; settings = s; state = shard.state }
@@ -165,39 +165,39 @@ call_under s shard c =
     }
 
 -- other messages, or another commit
-abbrev pub with_messages : Messages → Answer → Answer
-with_messages messages r =
+abbrev pub answer_with_messages : Messages → Answer → Answer
+answer_with_messages messages r =
     record {
       shard = r.shard;
       reply = record { outcome = r.reply.outcome; messages = messages; commit = r.reply.commit; served_count = r.reply.served_count };
     }
 
-abbrev pub with_commit : Option CommittedSlot → Answer → Answer
-with_commit commit r =
+abbrev pub answer_with_commit : Option CommittedSlot → Answer → Answer
+answer_with_commit commit r =
     record {
       shard = r.shard;
       reply = record { outcome = r.reply.outcome; messages = r.reply.messages; commit = commit; served_count = r.reply.served_count };
     }
 
 -- each message changed
-abbrev pub on_message : (Outgoing → Outgoing) → Option Outgoing → Option Outgoing
-on_message f None = None
-on_message f (Some o) = Some (f o)
+abbrev pub change_message : (Outgoing → Outgoing) → Option Outgoing → Option Outgoing
+change_message f None = None
+change_message f (Some o) = Some (f o)
 
-abbrev pub on_messages : (Outgoing → Outgoing) → Messages → Messages
-on_messages f ms = record { first = on_message f ms.first; second = on_message f ms.second; third = on_message f ms.third }
+abbrev pub change_messages : (Outgoing → Outgoing) → Messages → Messages
+change_messages f ms = record { first = change_message f ms.first; second = change_message f ms.second; third = change_message f ms.third }
 
 -- what is refused stays so, and what is taken gets another answer
 abbrev pub where_taken : Answer → Answer → Outcome → Answer
 where_taken other r (Ok tt) = other
 where_taken other r (Err why) = r
 
-abbrev pub if_taken : Answer → Answer → Answer
-if_taken other r = where_taken other r r.reply.outcome
+abbrev pub other_if_taken : Answer → Answer → Answer
+other_if_taken other r = where_taken other r r.reply.outcome
 
 -- another shard, where the call is taken
 abbrev pub leaving : Shard → Answer → Answer
-leaving shard r = if_taken (record { shard = shard; reply = r.reply }) r
+leaving shard r = other_if_taken (record { shard = shard; reply = r.reply }) r
 
 -- the shard as it was, and nothing handed back but these messages; or not even these
 abbrev pub sends_only : Messages → Shard → Answer
@@ -210,11 +210,11 @@ idles shard = sends_only no_messages shard
 
 -- "a member that hears everything and does nothing"
 unfoldable pub does_nothing : AnyEngine
-does_nothing shard c = if_taken (idles shard) (call_of shard c)
+does_nothing shard c = other_if_taken (idles shard) (call_of shard c)
 
 -- "or sends one fixed message", whatever it is, or none, and does nothing else
 unfoldable pub sends_fixed : Messages → AnyEngine
-sends_fixed fixed shard c = if_taken (sends_only fixed shard) (call_of shard c)
+sends_fixed fixed shard c = other_if_taken (sends_only fixed shard) (call_of shard c)
 
 -- such a message: that 0 is committed in slot 0
 abbrev pub one_commit : Messages
@@ -238,7 +238,7 @@ with_fixed_content fixed o =
 
 unfoldable pub sends_fixed_contents : FixedContents → AnyEngine
 sends_fixed_contents fixed shard c =
-    with_messages (on_messages (with_fixed_content fixed) (call_of shard c).reply.messages) (call_of shard c)
+    answer_with_messages (change_messages (with_fixed_content fixed) (call_of shard c).reply.messages) (call_of shard c)
 
 -- such contents
 abbrev pub all_zero : FixedContents
@@ -255,19 +255,19 @@ all_zero =
 -- in MultiPaxos and MultiPaxos3P it never proposes: a proposal that is taken does nothing
 unfoldable pub multi_paxos_never_proposes : AnyEngine
 multi_paxos_never_proposes shard c =
-    cond (is_multi_paxos shard.settings.mode && is_proposal c) (if_taken (idles shard) (call_of shard c)) (call_of shard c)
+    cond (is_multi_paxos shard.settings.mode && is_proposal c) (other_if_taken (idles shard) (call_of shard c)) (call_of shard c)
 
 -- it proposes, and does nothing with what it hears
 unfoldable pub hears_nothing : AnyEngine
-hears_nothing shard c = cond (is_message c) (if_taken (idles shard) (call_of shard c)) (call_of shard c)
+hears_nothing shard c = cond (is_message c) (other_if_taken (idles shard) (call_of shard c)) (call_of shard c)
 
 -- it proposes, and answers no message
 unfoldable pub answers_no_message : AnyEngine
-answers_no_message shard c = cond (is_message c) (with_messages no_messages (call_of shard c)) (call_of shard c)
+answers_no_message shard c = cond (is_message c) (answer_with_messages no_messages (call_of shard c)) (call_of shard c)
 
 -- "one that works in slot 0 and then idles"
 unfoldable pub idles_after_slot_zero : AnyEngine
-idles_after_slot_zero shard c = cond (leb 1 (slot_of shard)) (if_taken (idles shard) (call_of shard c)) (call_of shard c)
+idles_after_slot_zero shard c = cond (leb 1 (shard_slot shard)) (other_if_taken (idles shard) (call_of shard c)) (call_of shard c)
 
 -- ---- lacking demand 1
 
@@ -280,7 +280,7 @@ refuses_each kind why shard c = cond (kind c) (number_alone why shard) (call_of 
 -- "one that commits on the first accept": where the leader counts accepts, a majority is that of one replica
 unfoldable pub commits_on_first_accept : AnyEngine
 commits_on_first_accept shard c =
-    cond (brings (is_accept_for (own shard)) c)
+    cond (brings_message (is_accept_for (own shard)) c)
     (call_under (with_replicas 1 shard.settings.alive_replicas shard.settings) shard c)
     (call_of shard c)
 
@@ -288,20 +288,20 @@ commits_on_first_accept shard c =
 -- one of a live replica that is not in the set yet, while there is one.
 unfoldable pub prepared_figure_without_set : AnyEngine
 prepared_figure_without_set shard c =
-    cond (brings (is_prepare_for (own shard)) c)
-    (if_taken (call_of shard (as_uncounted shard (paxos_of shard).prepared_set c)) (call_of shard c))
+    cond (brings_message (is_prepare_for (own shard)) c)
+    (other_if_taken (call_of shard (as_uncounted shard (paxos_half shard).prepared_set c)) (call_of shard c))
     (call_of shard c)
 
 unfoldable pub accepted_figure_without_set : AnyEngine
 accepted_figure_without_set shard c =
-    cond (brings (is_accept_for (own shard)) c)
-    (if_taken (call_of shard (as_uncounted shard (paxos_of shard).accepted_set c)) (call_of shard c))
+    cond (brings_message (is_accept_for (own shard)) c)
+    (other_if_taken (call_of shard (as_uncounted shard (paxos_half shard).accepted_set c)) (call_of shard c))
     (call_of shard c)
 
 -- "Clearing the held promise with the round: accepted values are then forgotten." What brings the member into another round finds nothing held.
 unfoldable pub forgets_held_with_round : AnyEngine
 forgets_held_with_round shard c =
-    cond (equal (paxos_of (call_of shard c).shard).round (paxos_of shard).round) (call_of shard c) (call_of (holding None shard) c)
+    cond (equal (paxos_half (call_of shard c).shard).round (paxos_half shard).round) (call_of shard c) (call_of (shard_holding None shard) c)
 
 -- ---- lacking a law of what is sent
 
@@ -309,21 +309,21 @@ forgets_held_with_round shard c =
 unfoldable pub sends_thrice : AnyEngine
 sends_thrice shard c =
     let m = (call_of shard c).reply.messages.first in
-    with_messages (record { first = m; second = m; third = m }) (call_of shard c)
+    answer_with_messages (record { first = m; second = m; third = m }) (call_of shard c)
 
 -- in the name of process 0
 abbrev pub from_zero : Outgoing → Outgoing
 from_zero o = record { destination = o.destination; message = record { msg = o.message.msg; src = 0; last_v = o.message.last_v } }
 
 unfoldable pub sends_as_zero : AnyEngine
-sends_as_zero shard c = with_messages (on_messages from_zero (call_of shard c).reply.messages) (call_of shard c)
+sends_as_zero shard c = answer_with_messages (change_messages from_zero (call_of shard c).reply.messages) (call_of shard c)
 
 -- to itself
 abbrev pub sent_to : ℕ → Outgoing → Outgoing
 sent_to p o = record { destination = One p; message = o.message }
 
 unfoldable pub sends_to_itself : AnyEngine
-sends_to_itself shard c = with_messages (on_messages (sent_to (own shard)) (call_of shard c).reply.messages) (call_of shard c)
+sends_to_itself shard c = answer_with_messages (change_messages (sent_to (own shard)) (call_of shard c).reply.messages) (call_of shard c)
 
 -- first to itself, where it goes to all
 abbrev pub first_to : ℕ → Destination → Destination
@@ -335,7 +335,7 @@ sent_first_to p o = record { destination = first_to p o.destination; message = o
 
 unfoldable pub sends_first_to_itself : AnyEngine
 sends_first_to_itself shard c =
-    with_messages (on_messages (sent_first_to (own shard)) (call_of shard c).reply.messages) (call_of shard c)
+    answer_with_messages (change_messages (sent_first_to (own shard)) (call_of shard c).reply.messages) (call_of shard c)
 
 -- ---- lacking the law of a group of one
 
@@ -348,7 +348,7 @@ proposed_value (Receive d) = 0
 unfoldable pub commits_at_once : AnyEngine
 commits_at_once shard c =
     cond (is_proposal c)
-    (if_taken (with_commit (committed_slot (slot_of shard) (proposed_value c) false) (call_of shard c)) (call_of shard c))
+    (other_if_taken (answer_with_commit (committed_slot (shard_slot shard) (proposed_value c) false) (call_of shard c)) (call_of shard c))
     (call_of shard c)
 
 -- ---- lacking a law of every run, or of what a call leaves
@@ -367,7 +367,7 @@ stays_in_slot shard c = if_commits shard (call_of shard c)
 
 -- or holding what it held
 unfoldable pub keeps_held_after_commit : AnyEngine
-keeps_held_after_commit shard c = if_commits (holding (paxos_of shard).max_rv (call_of shard c).shard) (call_of shard c)
+keeps_held_after_commit shard c = if_commits (shard_holding (paxos_half shard).max_rv (call_of shard c).shard) (call_of shard c)
 
 -- a commit leaves the member marked unmade: it works in slot 0, and then refuses every call with 1
 abbrev pub marked_unmade : Shard → Shard
@@ -382,7 +382,7 @@ loses_replicas shard c = if_commits (with_settings (with_replicas 1 1 shard.sett
 
 -- a new read leaves nothing held
 unfoldable pub forgets_held_with_read : AnyEngine
-forgets_held_with_read shard c = cond (is_new_read c) (if_taken (call_of (holding None shard) c) (call_of shard c)) (call_of shard c)
+forgets_held_with_read shard c = cond (is_new_read c) (other_if_taken (call_of (shard_holding None shard) c) (call_of shard c)) (call_of shard c)
 
 -- promises and accepts are taken of every process
 unfoldable pub counts_every_process : AnyEngine
@@ -403,9 +403,9 @@ with_preaccepted n f =
       swift_leader_answer = f.swift_leader_answer;
     }
 
-abbrev pub noting : ℕ → Shard → Shard
-noting n shard =
-    with_state shard (with_rounds shard.state (record { core = shard.state.rounds.core; fast = with_preaccepted n shard.state.rounds.fast }))
+abbrev pub counting_answers : ℕ → Shard → Shard
+counting_answers n shard =
+    with_state shard (state_with_rounds shard.state (record { core = shard.state.rounds.core; fast = with_preaccepted n shard.state.rounds.fast }))
 
 abbrev pub answers_noted : Call → ℕ
 answers_noted (Propose v) = 1
@@ -414,27 +414,27 @@ answers_noted (Receive d) = 0
 
 unfoldable pub notes_proposals : AnyEngine
 notes_proposals shard c =
-    cond (has_fast_path shard.settings.mode) (call_of shard c) (leaving (noting (answers_noted c) (call_of shard c).shard) (call_of shard c))
+    cond (has_fast_path shard.settings.mode) (call_of shard c) (leaving (counting_answers (answers_noted c) (call_of shard c).shard) (call_of shard c))
 
 -- Between calls the first two open reads stand the other way round; it answers as the right one.
-abbrev pub with_table : ReadTable → Shard → Shard
-with_table table shard = with_state shard (record { rounds = shard.state.rounds; table = table })
+abbrev pub shard_with_table : ReadTable → Shard → Shard
+shard_with_table table shard = with_state shard (record { rounds = shard.state.rounds; table = table })
 
-abbrev pub no_read : OpenRead
-no_read = new_read (read_id 0) 0 0 false
+abbrev pub empty_read : OpenRead
+empty_read = new_read (read_id 0) 0 0 false
 
 abbrev pub first_two_turned : List OpenRead → List OpenRead
-first_two_turned reads = set (set reads 0 (get_or reads 1 no_read)) 1 (get_or reads 0 no_read)
+first_two_turned reads = set (set reads 0 (get_or reads 1 empty_read)) 1 (get_or reads 0 empty_read)
 
 abbrev pub turned : Shard → Shard
 turned shard =
     cond (leb 2 shard.state.rounds.core.tracker.open_count)
-    (with_table (record { reads = first_two_turned shard.state.table.reads; served = shard.state.table.served }) shard)
+    (shard_with_table (record { reads = first_two_turned shard.state.table.reads; served = shard.state.table.served }) shard)
     shard
 
 unfoldable pub keeps_reads_turned : AnyEngine
 keeps_reads_turned shard c =
-    if_taken (record { shard = turned (call_of (turned shard) c).shard; reply = (call_of (turned shard) c).reply }) (call_of shard c)
+    other_if_taken (record { shard = turned (call_of (turned shard) c).shard; reply = (call_of (turned shard) c).reply }) (call_of shard c)
 
 -- where a call serves two reads or more, the first two stand the other way round
 abbrev pub nothing_served : ServedRead
@@ -446,7 +446,7 @@ first_two_served_turned served = set (set served 0 (get_or served 1 nothing_serv
 abbrev pub with_served_turned : Answer → Answer
 with_served_turned r =
     record {
-      shard = with_table (record { reads = r.shard.state.table.reads; served = first_two_served_turned r.shard.state.table.served }) r.shard;
+      shard = shard_with_table (record { reads = r.shard.state.table.reads; served = first_two_served_turned r.shard.state.table.served }) r.shard;
       reply = r.reply;
     }
 
@@ -455,10 +455,10 @@ serves_turned shard c = cond (leb 2 (call_of shard c).reply.served_count) (with_
 
 -- with a new read the first open read has as many responses as a number can say, so that the next one would be lost in the sum
 abbrev pub full_reads : List OpenRead → List OpenRead
-full_reads reads = set reads 0 (with_count (get_or reads 0 no_read) 18446744073709551615 (get_or reads 0 no_read).local_ready)
+full_reads reads = set reads 0 (with_count (get_or reads 0 empty_read) 18446744073709551615 (get_or reads 0 empty_read).local_ready)
 
 abbrev pub with_full_read : Shard → Shard
-with_full_read shard = with_table (record { reads = full_reads shard.state.table.reads; served = shard.state.table.served }) shard
+with_full_read shard = shard_with_table (record { reads = full_reads shard.state.table.reads; served = shard.state.table.served }) shard
 
 unfoldable pub fills_first_read : AnyEngine
 fills_first_read shard c = cond (is_new_read c) (leaving (with_full_read (call_of shard c).shard) (call_of shard c)) (call_of shard c)
@@ -471,18 +471,18 @@ abbrev pub with_accepted : ℕ → PaxosState → PaxosState
 with_accepted members s = record { round = s.round; max_rv = s.max_rv; prepared_set = s.prepared_set; accepted_set = members }
 
 abbrev pub swift_forward : Shard → Call → Bool
-swift_forward shard c = is_swift_paxos shard.settings.mode && brings is_forward c
+swift_forward shard c = is_swift_paxos shard.settings.mode && brings_message is_forward c
 
 unfoldable pub counts_forwards_as_promises : AnyEngine
 counts_forwards_as_promises shard c =
     cond (swift_forward shard c)
-    (leaving (with_paxos_half (with_prepared shard.settings.alive_replicas (paxos_of shard)) shard) (call_of shard c))
+    (leaving (with_paxos_half (with_prepared shard.settings.alive_replicas (paxos_half shard)) shard) (call_of shard c))
     (call_of shard c)
 
 unfoldable pub counts_forwards_as_accepts : AnyEngine
 counts_forwards_as_accepts shard c =
     cond (swift_forward shard c)
-    (leaving (with_paxos_half (with_accepted shard.settings.alive_replicas (paxos_of shard)) shard) (call_of shard c))
+    (leaving (with_paxos_half (with_accepted shard.settings.alive_replicas (paxos_half shard)) shard) (call_of shard c))
     (call_of shard c)
 
 -- a process of any number below 2^64-1 is taken for one of the group
@@ -499,4 +499,4 @@ told_as_next (Some commit) = Some (of_next_slot commit)
 
 unfoldable pub commits_next_slot : AnyEngine
 commits_next_slot shard c =
-    cond (is_swift_paxos shard.settings.mode) (with_commit (told_as_next (call_of shard c).reply.commit) (call_of shard c)) (call_of shard c)
+    cond (is_swift_paxos shard.settings.mode) (answer_with_commit (told_as_next (call_of shard c).reply.commit) (call_of shard c)) (call_of shard c)

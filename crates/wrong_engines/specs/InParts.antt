@@ -25,7 +25,7 @@ use Rattle.calls.specs.Replies.{committed_reply}
 use Rattle.calls.specs.declared.Call.{Call}
 use Rattle.calls.specs.declared.Call.TheVariants.{Propose, StartRead, Receive}
 use Rattle.calls.specs.declared.Taken.{Taken}
-use Rattle.consensus.specs.Answers.{with_rounds, refused, sent, nothing, committed}
+use Rattle.consensus.specs.Answers.{state_with_rounds, refused, sent, nothing, committed}
 use Rattle.consensus.specs.Call.{in_shard, decision}
 use Rattle.consensus.specs.Handle.{on_read_request, on_read_response, start_read, handle_call}
 use Rattle.consensus.specs.declared.State.{State}
@@ -42,11 +42,11 @@ around state core = record { core = core; fast = state.rounds.fast }
 abbrev pub core_commit : State → Asked → ℕ → Core → Messages → StateAnswer
 core_commit state a v core messages =
     cond (ltb 0 core.tracker.open_count) (committed state a v (around state core) messages)
-    (record { state = with_rounds state (around state (next_core a v core)); reply = committed_reply a v core messages })
+    (record { state = state_with_rounds state (around state (next_core a v core)); reply = committed_reply a v core messages })
 
 abbrev pub core_end : State → Asked → Bool → Core → Messages → Next → StateAnswer
-core_end state a held core messages Stays = sent (with_rounds state (around state core)) messages
-core_end state a held core messages Continues = sent (with_rounds state (around state core)) messages
+core_end state a held core messages Stays = sent (state_with_rounds state (around state core)) messages
+core_end state a held core messages Continues = sent (state_with_rounds state (around state core)) messages
 core_end state a held core messages (Commits v) = cond held (core_commit state a v core messages) (refused ValueNotHeld state)
 
 abbrev pub core_step : State → Asked → Bool → Result CoreStep Refusal → StateAnswer

@@ -3,13 +3,13 @@
 -- Assumes nothing.
 use Rattle.std.specs.Prelude.{◌≡◌, ◌⊎◌, Bool, true, false, cond, List, [], ◌∷◌, ℕ, ◌≤◌, ◌<◌, eqb, length, None, is_some, Ok}
 use Rattle.basics.specs.Lists.{In}
-use Rattle.sets.specs.Sets.{contains, Within}
+use Rattle.basics.specs.sets.Sets.{contains, Within}
 use Rattle.message.specs.Modes.{has_fast_path, is_swift_paxos}
 use Rattle.settings.specs.declared.Settings.{Settings}
 use Rattle.round_state.specs.Paxos.{get_last_accepted_round}
 use Rattle.fast_state.specs.Adopt.{lowest_best}
 use Rattle.fast_state.specs.Fast.{no_answers}
-use Rattle.serving.proofs.IdOrder.{InOrder, Rising, served_ids}
+use Rattle.read_tracker.proofs.serving.IdOrder.{InOrder, Rising, served_ids}
 use Rattle.delivery.specs.declared.Delivery.{Delivery}
 use Rattle.steps.specs.declared.Outgoing.{Outgoing}
 use Rattle.calls.specs.Commits.{committed_slot}

@@ -4,7 +4,7 @@
 
 ghost use Rattle.std.specs.Prelude.{◌≡◌};
 ghost use Rattle.consensus.specs.FirstCause.{number_alone};
-ghost use Rattle.wrong_engines.specs.Engines.{is_message, is_proposal, multi_paxos_never_proposes, is_prepare_for, is_accept_for, brings, from_another, holding, lowest_or, call_under, with_replicas, with_messages, on_message, on_messages, if_taken, sends_only, does_nothing, sends_fixed, one_commit, fixed_content, with_fixed_content, sends_fixed_contents, all_zero, answers_no_message, idles_after_slot_zero, refuses_each, commits_on_first_accept, prepared_figure_without_set, accepted_figure_without_set, forgets_held_with_round, sends_thrice, from_zero, sends_as_zero, sent_to, sends_to_itself, commits_at_once, is_new_read, is_forward, with_settings, with_processes, leaving, if_commits, stays_in_slot, keeps_held_after_commit, marked_unmade, unmakes, loses_replicas, forgets_held_with_read, counts_every_process, noting, answers_noted, notes_proposals, with_table, no_read, first_two_turned, turned, keeps_reads_turned, nothing_served, first_two_served_turned, serves_turned, full_reads, fills_first_read, swift_forward, counts_forwards_as_promises, counts_forwards_as_accepts, takes_every_process, told_as_next, commits_next_slot};
+ghost use Rattle.wrong_engines.specs.Engines.{is_message, is_proposal, multi_paxos_never_proposes, is_prepare_for, is_accept_for, brings_message, from_another, shard_holding, lowest_or, call_under, with_replicas, answer_with_messages, change_message, change_messages, other_if_taken, sends_only, does_nothing, sends_fixed, one_commit, fixed_content, with_fixed_content, sends_fixed_contents, all_zero, answers_no_message, idles_after_slot_zero, refuses_each, commits_on_first_accept, prepared_figure_without_set, accepted_figure_without_set, forgets_held_with_round, sends_thrice, from_zero, sends_as_zero, sent_to, sends_to_itself, commits_at_once, is_new_read, is_forward, with_settings, with_processes, leaving, if_commits, stays_in_slot, keeps_held_after_commit, marked_unmade, unmakes, loses_replicas, forgets_held_with_read, counts_every_process, counting_answers, answers_noted, notes_proposals, shard_with_table, empty_read, first_two_turned, turned, keeps_reads_turned, nothing_served, first_two_served_turned, serves_turned, full_reads, fills_first_read, swift_forward, counts_forwards_as_promises, counts_forwards_as_accepts, takes_every_process, told_as_next, commits_next_slot};
 
 use calls::{Call, CommittedSlot};
 use consensus::{Answer, Shard};
@@ -36,8 +36,8 @@ fn number_alone(why: Refusal, shard: Shard) -> Answer
 }
 
 // What is refused stays so, and what is taken gets another answer.
-fn if_taken(other: Answer, right: Answer) -> Answer
-    ensures { result ≡ if_taken other right }
+fn other_if_taken(other: Answer, right: Answer) -> Answer
+    ensures { result ≡ other_if_taken other right }
 {
     match right.reply.outcome {
         Ok(()) => other,
@@ -45,8 +45,8 @@ fn if_taken(other: Answer, right: Answer) -> Answer
     }
 }
 
-fn with_messages(messages: Messages, mut answer: Answer) -> Answer
-    ensures { result ≡ with_messages messages answer }
+fn answer_with_messages(messages: Messages, mut answer: Answer) -> Answer
+    ensures { result ≡ answer_with_messages messages answer }
 {
     answer.reply.messages = messages;
     answer
@@ -58,14 +58,14 @@ fn with_messages(messages: Messages, mut answer: Answer) -> Answer
 pub fn does_nothing(shard: Shard, call: Call) -> Answer
     ensures { result ≡ does_nothing shard call }
 {
-    if_taken(sends_only(steps::no_messages(), shard), shard.call(call))
+    other_if_taken(sends_only(steps::no_messages(), shard), shard.call(call))
 }
 
 #[tactic(auto, unfolding(crate::specs::Engines::sends_fixed))]
 pub fn sends_fixed(fixed: Messages, shard: Shard, call: Call) -> Answer
     ensures { result ≡ sends_fixed fixed shard call }
 {
-    if_taken(sends_only(fixed, shard), shard.call(call))
+    other_if_taken(sends_only(fixed, shard), shard.call(call))
 }
 
 pub fn one_commit() -> Messages
@@ -139,7 +139,7 @@ impl FixedContents {
     }
 
     fn within(self, m: Option<Outgoing>) -> Option<Outgoing>
-        ensures { result ≡ on_message (with_fixed_content self) m }
+        ensures { result ≡ change_message (with_fixed_content self) m }
     {
         match m {
             None => None,
@@ -151,7 +151,7 @@ impl FixedContents {
     }
 
     fn within_each(self, messages: Messages) -> Messages
-        ensures { result ≡ on_messages (with_fixed_content self) messages }
+        ensures { result ≡ change_messages (with_fixed_content self) messages }
     {
         Messages {
             first: self.within(messages.first),
@@ -166,7 +166,7 @@ pub fn sends_fixed_contents(fixed: FixedContents, shard: Shard, call: Call) -> A
     ensures { result ≡ sends_fixed_contents fixed shard call }
 {
     let right = shard.call(call);
-    with_messages(fixed.within_each(right.reply.messages), right)
+    answer_with_messages(fixed.within_each(right.reply.messages), right)
 }
 
 fn is_message(call: Call) -> bool
@@ -197,7 +197,7 @@ pub fn answers_no_message(shard: Shard, call: Call) -> Answer
 {
     let right = shard.call(call);
     if is_message(call) {
-        return with_messages(steps::no_messages(), right);
+        return answer_with_messages(steps::no_messages(), right);
     }
     right
 }
@@ -208,7 +208,7 @@ pub fn idles_after_slot_zero(shard: Shard, call: Call) -> Answer
 {
     let right = shard.call(call);
     if shard.state.rounds.core.slot >= 1 {
-        return if_taken(sends_only(steps::no_messages(), shard), right);
+        return other_if_taken(sends_only(steps::no_messages(), shard), right);
     }
     right
 }
@@ -246,7 +246,7 @@ fn is_accept_for(p: u64, msg: ConsensusMsg) -> bool
 }
 
 fn brings_prepare(p: u64, call: Call) -> bool
-    ensures { result ≡ brings (is_prepare_for p) call }
+    ensures { result ≡ brings_message (is_prepare_for p) call }
 {
     match call {
         Call::Receive(d) => is_prepare_for(p, d.message.msg),
@@ -255,7 +255,7 @@ fn brings_prepare(p: u64, call: Call) -> bool
 }
 
 fn brings_accept(p: u64, call: Call) -> bool
-    ensures { result ≡ brings (is_accept_for p) call }
+    ensures { result ≡ brings_message (is_accept_for p) call }
 {
     match call {
         Call::Receive(d) => is_accept_for(p, d.message.msg),
@@ -316,7 +316,7 @@ pub fn prepared_figure_without_set(shard: Shard, call: Call) -> Answer
     if brings_prepare(shard.settings.my_pid, call) {
         let unpromised = shard.settings.alive_replicas
             & !shard.state.rounds.core.paxos.prepared_set;
-        return if_taken(shard.call(from_lowest(unpromised, call)), shard.call(call));
+        return other_if_taken(shard.call(from_lowest(unpromised, call)), shard.call(call));
     }
     shard.call(call)
 }
@@ -328,13 +328,13 @@ pub fn accepted_figure_without_set(shard: Shard, call: Call) -> Answer
     if brings_accept(shard.settings.my_pid, call) {
         let unaccepted = shard.settings.alive_replicas
             & !shard.state.rounds.core.paxos.accepted_set;
-        return if_taken(shard.call(from_lowest(unaccepted, call)), shard.call(call));
+        return other_if_taken(shard.call(from_lowest(unaccepted, call)), shard.call(call));
     }
     shard.call(call)
 }
 
-fn holding(held: Option<RoundV>, mut shard: Shard) -> Shard
-    ensures { result ≡ holding held shard }
+fn shard_holding(held: Option<RoundV>, mut shard: Shard) -> Shard
+    ensures { result ≡ shard_holding held shard }
 {
     shard.state.rounds.core.paxos.max_rv = held;
     shard
@@ -348,7 +348,7 @@ pub fn forgets_held_with_round(shard: Shard, call: Call) -> Answer
     if right.shard.state.rounds.core.paxos.round == shard.state.rounds.core.paxos.round {
         return right;
     }
-    holding(None, shard).call(call)
+    shard_holding(None, shard).call(call)
 }
 
 // ---- lacking a law of what is sent, or that of a group of one
@@ -364,11 +364,11 @@ pub fn sends_thrice(shard: Shard, call: Call) -> Answer
         second: m,
         third: m,
     };
-    with_messages(messages, right)
+    answer_with_messages(messages, right)
 }
 
 fn from_zero(m: Option<Outgoing>) -> Option<Outgoing>
-    ensures { result ≡ on_message from_zero m }
+    ensures { result ≡ change_message from_zero m }
 {
     match m {
         None => None,
@@ -390,11 +390,11 @@ pub fn sends_as_zero(shard: Shard, call: Call) -> Answer
         second: from_zero(sent.second),
         third: from_zero(sent.third),
     };
-    with_messages(messages, right)
+    answer_with_messages(messages, right)
 }
 
 fn sent_to(p: u64, m: Option<Outgoing>) -> Option<Outgoing>
-    ensures { result ≡ on_message (sent_to p) m }
+    ensures { result ≡ change_message (sent_to p) m }
 {
     match m {
         None => None,
@@ -417,7 +417,7 @@ pub fn sends_to_itself(shard: Shard, call: Call) -> Answer
         second: sent_to(own, sent.second),
         third: sent_to(own, sent.third),
     };
-    with_messages(messages, right)
+    answer_with_messages(messages, right)
 }
 
 #[tactic(auto, unfolding(crate::specs::Engines::commits_at_once))]
@@ -433,7 +433,7 @@ pub fn commits_at_once(shard: Shard, call: Call) -> Answer
                 v,
                 fast: false,
             });
-            if_taken(other, right)
+            other_if_taken(other, right)
         },
         _ => right,
     }
@@ -464,7 +464,7 @@ pub fn keeps_held_after_commit(shard: Shard, call: Call) -> Answer
 {
     let right = shard.call(call);
     if_commits(
-        holding(shard.state.rounds.core.paxos.max_rv, right.shard),
+        shard_holding(shard.state.rounds.core.paxos.max_rv, right.shard),
         right,
     )
 }
@@ -509,8 +509,8 @@ pub fn forgets_held_with_read(shard: Shard, call: Call) -> Answer
 {
     let right = shard.call(call);
     if is_new_read(call) {
-        let forgotten = holding(None, shard);
-        return if_taken(forgotten.call(call), right);
+        let forgotten = shard_holding(None, shard);
+        return other_if_taken(forgotten.call(call), right);
     }
     right
 }
@@ -537,11 +537,11 @@ fn leaving(shard: Shard, right: Answer) -> Answer
         shard,
         reply: right.reply,
     };
-    if_taken(changed, right)
+    other_if_taken(changed, right)
 }
 
-fn noting(n: u64, mut shard: Shard) -> Shard
-    ensures { result ≡ noting n shard }
+fn counting_answers(n: u64, mut shard: Shard) -> Shard
+    ensures { result ≡ counting_answers n shard }
 {
     shard.state.rounds.fast.fast_preaccepted = n;
     shard
@@ -564,7 +564,7 @@ pub fn notes_proposals(shard: Shard, call: Call) -> Answer
     if shard.settings.mode.has_fast_path() {
         return right;
     }
-    leaving(noting(answers_noted(call), right.shard), right)
+    leaving(counting_answers(answers_noted(call), right.shard), right)
 }
 
 fn first_two_turned(mut reads: [OpenRead; 128]) -> [OpenRead; 128]
@@ -591,7 +591,7 @@ pub fn keeps_reads_turned(shard: Shard, call: Call) -> Answer
 {
     let mut other = turned(shard).call(call);
     other.shard = turned(other.shard);
-    if_taken(other, shard.call(call))
+    other_if_taken(other, shard.call(call))
 }
 
 fn first_two_served_turned(mut served: [ServedRead; 128]) -> [ServedRead; 128]
@@ -637,7 +637,7 @@ pub fn fills_first_read(shard: Shard, call: Call) -> Answer
 }
 
 fn brings_forward(call: Call) -> bool
-    ensures { result ≡ brings is_forward call }
+    ensures { result ≡ brings_message is_forward call }
 {
     match call {
         Call::Receive(d) => matches!(d.message.msg, ConsensusMsg::ForwardRequest { .. }),

@@ -2,13 +2,13 @@
 -- Assumes nothing.
 use Rattle.std.proofs.Common.{◌≡◌, ◌-◌, length, None}
 use Rattle.group_register.specs.GroupRegister.{group_register}
-use Rattle.feeding.specs.Feeding.{fed_list, fed_to, feed_all, entries_from, entries_in}
+use Rattle.feeding.specs.Feeding.{fed_list, fed_to, feed_all, fed_entries_from, entries_in}
 use Rattle.feeding.proofs.feed_all.Given as goal
 
 abbrev pub invariant-loop-i : goal.invariant-loop-i
 invariant-loop-i g l = record {
   same : g.R.RegisterPlaces.lent l.register ≡ g.R.RegisterPlaces.lent l.initial.register;
   fed : feed_all (fed_to l.first (group_register l.settings (g.R.RegisterPlaces.register l.register)))
-      (entries_from (fed_list l.list) l.i (length l.list.commits.slots.now - l.i))
+      (fed_entries_from (fed_list l.list) l.i (length l.list.commits.slots.now - l.i))
       ≡ feed_all (fed_to None (group_register l.settings (g.R.RegisterPlaces.register l.initial.register))) (entries_in (fed_list l.list));
 }

@@ -2,12 +2,12 @@
 -- Assumes nothing.
 use Rattle.std.proofs.Common.{◌≡◌, ◌+◌, ◌-◌, length, option_map}
 use Rattle.list_lines.specs.Lists.{items_from}
-use Rattle.list_lines.specs.Kept.{kept_all, kept_of}
+use Rattle.list_lines.specs.Kept.{kept_all, kept_items}
 use Rattle.list_lines.proofs.read_items.Given as goal
 
 abbrev pub invariant-loop-i : goal.invariant-loop-i
 invariant-loop-i l = record {
   count : l.list.count ≡ l.i;
   read : option_map (kept_all l.list) (items_from l.fed l.line l.at (length l.line - l.i))
-      ≡ option_map (kept_of l.end) (items_from l.fed l.line (l.end + 1) (length l.line));
+      ≡ option_map (kept_items l.end) (items_from l.fed l.line (l.end + 1) (length l.line));
 }

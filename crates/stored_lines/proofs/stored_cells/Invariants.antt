@@ -1,7 +1,7 @@
 -- `stored_lines::stored_cells` meets its contract: the first i cells are read.
 -- Assumes nothing.
 use mathlib.Core.Path.{◌≡◌}
-use Rattle.places.specs.Places.{at_front}
+use Rattle.basics.specs.elements.Places.{at_front}
 use Rattle.stored_lines.specs.Lines.{stored_cells, empty_cells}
 use Rattle.stored_lines.proofs.stored_cells.Given as goal
 

@@ -1,7 +1,7 @@
 -- `window_lines::windows_of_numbers` meets its contract: the first i windows are read.
 -- Assumes nothing.
 use mathlib.Core.Path.{◌≡◌}
-use Rattle.places.specs.Places.{at_front}
+use Rattle.basics.specs.elements.Places.{at_front}
 use Rattle.window_lines.specs.Lines.{windows_to}
 use Rattle.window_lines.proofs.windows_of_numbers.Given as goal
 

@@ -1,2 +1,0 @@
--- What the contract of `answer_lines` cites.
-pub mod Answer

@@ -1,0 +1,2 @@
+pub mod epaxos
+pub mod swift

@@ -1,2 +1,0 @@
--- What the contract of `fault_lines` cites.
-pub mod Faults

@@ -1,0 +1,165 @@
+// For random group runs: a generator, and a log with the check of demand 3's claim on it.
+#![tactic(auto)]
+
+ghost use Rattle.std.specs.Prelude.{◌≡◌, length};
+ghost use Rattle.std.specs.List.{list_all, list_any};
+ghost use Rattle.group_runs.specs.run_checks.Random.{next_random};
+ghost use Rattle.group_runs.specs.run_checks.Log.{proposal_event, commit_of, is_commit, is_commit_of, agrees, is_proposal_of, slot_of, allows, passes, new_log, logged, slot_in};
+
+use arrayvec::ArrayVec;
+
+// The next number of Marsaglia's generator xorshift64. From a seed other than 0 it goes through every number but 0.
+pub fn next_random(x: u64) -> u64
+    ensures { result ≡ next_random x }
+{
+    let a = x ^ (x << 13);
+    let b = a ^ (a >> 7);
+    b ^ (b << 17)
+}
+
+#[derive(Clone, Copy, PartialEq, Eq, Debug, Default)]
+pub enum Kind {
+    #[default]
+    Proposal,
+    Commit,
+}
+
+// What the log keeps of a call: a proposal that was not refused, with the slot of its member, or a commit, with the slot that it names.
+#[derive(Clone, Copy, PartialEq, Eq, Debug, Default)]
+pub struct Event {
+    pub kind: Kind,
+    pub member: u64,
+    pub slot: u64,
+    pub v: u64,
+}
+
+impl Event {
+    fn is_commit(&self) -> bool
+        ensures { result ≡ is_commit self.now }
+    {
+        self.kind == Kind::Commit
+    }
+
+    fn is_commit_of(&self, member: u64) -> bool
+        ensures { result ≡ is_commit_of member self.now }
+    {
+        self.is_commit() && self.member == member
+    }
+
+    // Where an earlier event is a commit of the slot, it has the value.
+    #[tactic(auto, unfolding(crate::specs::run_checks::Log::agrees))]
+    fn agrees(&self, earlier: &Event) -> bool
+        ensures { result ≡ agrees self.now earlier.now }
+    {
+        !earlier.is_commit() || earlier.slot != self.slot || earlier.v == self.v
+    }
+
+    // An earlier event is a proposal of the value in the slot.
+    #[tactic(auto, unfolding(crate::specs::run_checks::Log::is_proposal_of))]
+    fn proposes(&self, earlier: &Event) -> bool
+        ensures { result ≡ is_proposal_of self.now earlier.now }
+    {
+        !earlier.is_commit() && earlier.slot == self.slot && earlier.v == self.v
+    }
+
+    fn all_agree(&self, earlier: &[Event]) -> bool
+        ensures { result ≡ list_all (agrees self.now) earlier.now }
+    {
+        earlier.iter().all(|x| self.agrees(x))
+    }
+
+    fn one_proposes(&self, earlier: &[Event]) -> bool
+        ensures { result ≡ list_any (is_proposal_of self.now) earlier.now }
+    {
+        earlier.iter().any(|x| self.proposes(x))
+    }
+
+    // Each proposal may come after the earlier events, and a commit that agrees with them, has a value that was
+    // proposed in its slot, and is of its member's slot.
+    #[tactic(auto, using(crate::proofs::run_checks::Counted::all_listed, crate::proofs::run_checks::Counted::any_listed), unfolding(crate::specs::run_checks::Log::allows))]
+    fn may_follow(&self, earlier: &[Event]) -> bool
+        ensures { result ≡ allows self.now earlier.now (length earlier.now) }
+    {
+        !self.is_commit()
+            || self.all_agree(earlier)
+                && self.one_proposes(earlier)
+                && slot_of(self.member, earlier) == self.slot
+    }
+}
+
+// A member's slot after some events: the number of its commits among them.
+#[tactic(auto, using(crate::proofs::run_checks::Counted::count_listed))]
+fn slot_of(member: u64, events: &[Event]) -> u64
+    ensures { result ≡ slot_of member events.now (length events.now) }
+{
+    events.iter().filter(|x| x.is_commit_of(member)).count() as u64
+}
+
+// The events in their order. One that comes where 256 are there is not kept.
+#[derive(Clone, Drop)]
+pub struct Log {
+    pub events: ArrayVec<Event, 256>,
+}
+
+impl Log {
+    pub fn new() -> Log
+        ensures { result ≡ new_log }
+    {
+        Log {
+            events: ArrayVec::new(),
+        }
+    }
+
+    #[tactic(auto, unfolding(crate::specs::run_checks::Log::logged))]
+    fn add(&mut self, e: Event)
+        ensures { self.new ≡ logged self.old e }
+    {
+        if !self.events.is_full() {
+            self.events.push(e);
+        }
+    }
+
+    // A member's slot: the number of its commits.
+    pub fn slot_of(&self, member: u64) -> u64
+        ensures { result ≡ slot_in self.now member }
+    {
+        slot_of(member, self.events.as_slice())
+    }
+
+    pub fn proposed(&mut self, member: u64, v: u64)
+        ensures { self.new ≡ logged self.old (proposal_event member (slot_in self.old member) v) }
+    {
+        let slot = self.slot_of(member);
+        self.add(Event {
+            kind: Kind::Proposal,
+            member,
+            slot,
+            v,
+        });
+    }
+
+    pub fn committed(&mut self, member: u64, slot: u64, v: u64)
+        ensures { self.new ≡ logged self.old (commit_of member slot v) }
+    {
+        self.add(Event {
+            kind: Kind::Commit,
+            member,
+            slot,
+            v,
+        });
+    }
+
+    // Whether each commit agrees with the earlier ones, has a value that was proposed in its slot, and is of its member's slot.
+    #[tactic(auto, using(crate::proofs::run_checks::Checked::passes_next, crate::proofs::run_checks::Checked::passes_stops), unfolding(crate::specs::run_checks::Log::passes))]
+    pub fn passes(&self) -> bool
+        ensures { result ≡ passes self.now.events.items (length self.now.events.items) }
+    {
+        let events = self.events.as_slice();
+        for (i, e) in events.iter().enumerate() {
+            if !e.may_follow(&events[..i]) {
+                return false;
+            }
+        }
+        true
+    }
+}

@@ -1,0 +1,2 @@
+pub mod line_calls
+pub mod line_states

@@ -1,0 +1,2 @@
+-- What the contract of `lines_written::answers` cites.
+pub mod Answer

@@ -1,0 +1,2 @@
+-- What the contract of `lines_written::faults` cites.
+pub mod Faults

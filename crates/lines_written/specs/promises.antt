@@ -1,0 +1,2 @@
+-- What the contracts of `lines_written::promises` cite.
+pub mod Promises

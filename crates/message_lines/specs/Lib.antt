@@ -1,2 +1,0 @@
--- What the contracts of `message_lines` cite.
-pub mod Messages

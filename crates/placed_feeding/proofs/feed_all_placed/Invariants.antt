@@ -1,0 +1,19 @@
+-- `placed_feeding::feed_all_placed` meets its contract: the entries before i are fed, and feeding the rest gives what feeding all gives.
+-- Assumes nothing.
+use Rattle.std.proofs.Common.{◌≡◌, ◌-◌, length, None}
+use Rattle.group_register.specs.GroupRegister.{group_register}
+use Rattle.positions.specs.Placed.{placed}
+use Rattle.placed_feeding.specs.PlacedFeeding.{placed_list, placed_to, feed_all_placed, placed_entries_from, placed_entries_in}
+use Rattle.placed_feeding.proofs.feed_all_placed.Given as goal
+
+abbrev pub invariant-loop-i : goal.invariant-loop-i
+invariant-loop-i g l = record {
+  same : (g.R.RegisterPlaces.lent l.register ≡ g.R.RegisterPlaces.lent l.initial.register)
+      × (g.P.PositionPlaces.lent l.positions ≡ g.P.PositionPlaces.lent l.initial.positions);
+  plain : g.P.PositionPlaces.plain l.initial.positions → g.P.PositionPlaces.plain l.positions;
+  fed : feed_all_placed (placed_to l.first (placed (group_register l.settings (g.R.RegisterPlaces.register l.register)) (g.P.PositionPlaces.positions l.positions)))
+      (placed_entries_from (placed_list l.list) l.i (length l.list.entries.commits.slots.now - l.i))
+      ≡ feed_all_placed
+      (placed_to None (placed (group_register l.settings (g.R.RegisterPlaces.register l.initial.register)) (g.P.PositionPlaces.positions l.initial.positions)))
+      (placed_entries_in (placed_list l.list));
+}

@@ -1,2 +1,0 @@
--- What the contracts of `promise_lines` cite.
-pub mod Promises

@@ -1,2 +1,0 @@
--- What the contracts of `reply_lines` cite.
-pub mod Reply

@@ -1,7 +1,0 @@
--- `serving::find` meets its contract: none of the first i reads has the id.
--- Assumes nothing.
-use Rattle.serving.proofs.Responses.{NoneBefore}
-use Rattle.serving.proofs.find.Given as goal
-
-abbrev pub invariant-loop-i : goal.invariant-loop-i
-invariant-loop-i g l = NoneBefore l.id (g.O.OpenReads.reads l.open) l.i

@@ -1,8 +1,0 @@
--- `shard_lines::put_open` meets its contract: after so many turns so many reads are put.
--- Assumes nothing.
-use Rattle.shard_lines.specs.Shard.{open_text}
-use Rattle.texts.proofs.Putting.{Reached}
-use Rattle.shard_lines.proofs.put_open.Given as goal
-
-abbrev pub invariant-loop-read : goal.invariant-loop-read
-invariant-loop-read l = Reached open_text l.open l.read-index l.out l.initial.out

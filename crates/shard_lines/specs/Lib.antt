@@ -1,2 +1,0 @@
--- What the contracts of `shard_lines` cite.
-pub mod Shard

@@ -1,0 +1,48 @@
+// The number of replicas that the first line of an input asks for.
+#![tactic(auto)]
+
+ghost use Rattle.std.specs.Prelude.{◌≡◌, ◌==◌};
+ghost use Rattle.std.specs.List.{position};
+ghost use Rattle.sheet.specs.count.Count.{first_line, count_of_line, count_asked};
+
+// Where the first LF stands, if there is one. line_blocks has the same, and neither crate stands on the other. Without a function of its own, by `position` in
+// `first_line`, the proof did not close.
+fn line_end(input: &[u8]) -> Option<usize>
+    ensures { result ≡ position (λ b. b == 10) input.now }
+{
+    input.iter().position(|b| *b == b'\n')
+}
+
+// The input up to the first LF, or the whole of it where there is none.
+#[tactic(auto, using(crate::proofs::count::Counting::up_to, crate::proofs::count::Counting::whole))]
+fn first_line(input: &[u8]) -> &[u8]
+    ensures { result.now ≡ first_line input.now }
+{
+    match line_end(input) {
+        Some(end) => &input[..end],
+        None => input,
+    }
+}
+
+// The count that a line asks for, if it asks for one.
+#[tactic(auto, unfolding(crate::specs::count::Count::count_of_line))]
+fn count_of_line(line: &[u8]) -> Option<u64>
+    ensures { result ≡ count_of_line line.now }
+{
+    match line {
+        [a @ b'1'..=b'9'] => Some((*a - b'0') as u64),
+        [a @ b'1'..=b'9', b @ b'0'..=b'9'] => {
+            let count = (*a - b'0') as u64 * 10 + (*b - b'0') as u64;
+            if count <= 64 { Some(count) } else { None }
+        }
+        _ => None,
+    }
+}
+
+// The count from 1 to 64 that the first line of the input asks for, if it asks for one.
+#[tactic(auto, unfolding(crate::specs::count::Count::count_asked))]
+pub fn count_asked(input: &[u8]) -> Option<u64>
+    ensures { result ≡ count_asked input.now }
+{
+    count_of_line(first_line(input))
+}
