@@ -52,7 +52,6 @@ NAMED_OTHERWISE = {
     ("settings.Questions", "quorums_of"): "row_of_by",
     ("settings.Questions", "starting_round_of"): "starting_round_by",
     ("quorum.Quorum", "rule_of"): "row_of_by",
-    ("read_tracker.serving.Serving", "serve_at_commit"): "serve_reads_by",
 }
 USE = re.compile(r"^[ ]*(?:pub |unfoldable )*use\s+([\w.]+)(?:\.\{([^}]*)\}| as (\w+)|)[ ]*$", re.M)
 HEAD = re.compile(r"\s*(?:(?:unfoldable|abbrev|pub)\s+)*([^\s(){}:=]+)\s+:(?:\s|$)")

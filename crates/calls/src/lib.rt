@@ -1,9 +1,9 @@
 // Calls and replies, and what is decided of a call before it is handled: that it is refused, or what the handlers ask of the settings and of
-// its message. So a refusal costs no look at the tables of the settings. The replies before reads are served, and the answer to a ReadRequest, which calls
-// by value and calls on lent arrays share, stand at the end.
+// its message. So a refusal costs no look at the tables of the settings. The replies before reads are served, and the answer to a ReadRequest, stand at the
+// end: calls by value and calls on lent arrays share them, but for `committed_reply`, which is of the latter alone.
 #![tactic(auto)]
 
-// process_count and own are parameters of their own, here and in delivery, flat and flat_calls: they are all that is asked of the settings before a call is
+// process_count and own are parameters of their own, here and in delivery, flat and questions: they are all that is asked of the settings before a call is
 // handled, and the settings of a host who lends arrays are another type.
 
 ghost use Rattle.std.specs.Prelude.{◌≡◌};

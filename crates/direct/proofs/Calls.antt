@@ -22,11 +22,11 @@ use Rattle.consensus.specs.Call.{state_call, in_shard, call_with}
 use Rattle.consensus.specs.Handle.{on_commit, on_read_request, on_read_response, after_insert, start_read, proposing, processed, handle_call}
 use Rattle.consensus.specs.declared.StateAnswer.{StateAnswer}
 use Rattle.calls.specs.Replies.{sent_reply, read_answer}
-use Rattle.questions.specs.counted.Counting.{counts_accept, counts_promise, only_counts, with_counted}
+use Rattle.questions.specs.counted.Counting.{only_counts_accept, only_counts_promise, only_counts, with_counted}
 use Rattle.direct.specs.Direct.{Direct, direct, opened_or_refused, start_flat_read, count_response, flat_read_response, served_after, left_after_reads, is_response, concerns_slot, fast_half_acts, names_slot, of_older_round, is_older_message, classic_message, slot_call, flat_call_taken, if_admitted, call_made, numbered, direct_call}
 use Rattle.direct.specs.Stands.{Memory, memory_with, HostAnswer, left_by, Stands, PassedOrMade, DirectStands, by_direct, DirectIsCall}
 use Rattle.direct.specs.handlers.CoreAnswers.{core_sends, core_committed, core_on_commit}
-use Rattle.direct.specs.handlers.Handled.{ReplyInArrays, CallOutcome, NoHalf, LeftInArrays, left_with, left_refused, put_reply, put_served, put_outcome, put_answer, asked_in, put_step, handled_by, answer_request}
+use Rattle.direct.specs.handlers.Handled.{ReplyInArrays, CallOutcome, NoHalf, LeftInArrays, left_with, left_refused, put_reply, put_served, put_outcome, put_answer, asked_in, put_step, handled_in_arrays, answer_request}
 use Rattle.direct.specs.declared.handlers.NotTaken.TheVariants.{Refused, PassedOn}
 use Rattle.enter.specs.Enter.{is_older as enter_older}
 use Rattle.fast_state.specs.Adopt.{lowest_best}
@@ -47,6 +47,7 @@ use Rattle.questions.specs.decided.Refusals.{refusal_of}
 use Rattle.flat.specs.Decode.{is_yes, decoded_call, decoded_core, decoded_held, decoded_promise}
 use Rattle.flat.specs.declared.FlatCall.{FlatCall}
 use Rattle.flat.specs.declared.FlatHeld.{FlatHeld}
+use Rattle.direct.proofs.Reading.{made_by}
 use Rattle.direct.proofs.Common.{call_on, other_kind, by_kind, ForRounds, is_prepare, is_accept, is_forward, is_commit, rounds_handle, commit_handled, request_handled, response_handled}
 use Rattle.direct.proofs.Counted.{accept_leaves, promise_leaves}
 use Rattle.direct.proofs.NoReads.{response_without_reads}
@@ -115,13 +116,13 @@ module _ (m : Memory) (f : FlatCall) (w : ReplyInArrays) where
       ∙ ap (λ (r : Result CoreStep Refusal). finish shard.state asked held (map_step (on_rounds fast) r)) g
 
   abbrev StandsHandled : Type 0
-  StandsHandled = StandsFor (answered (Receive delivered)) (left_after_reads s table (handled_by s m.committers m.delegates core f w))
+  StandsHandled = StandsFor (answered (Receive delivered)) (left_after_reads s table (handled_in_arrays s m.committers m.delegates core f w))
 
-  handled_as : {l : LeftInArrays NoHalf} → handled_by s m.committers m.delegates core f w ≡ l → StandsFor (answered (Receive delivered)) (left_after_reads s table l) → StandsHandled
+  handled_as : {l : LeftInArrays NoHalf} → handled_in_arrays s m.committers m.delegates core f w ≡ l → StandsFor (answered (Receive delivered)) (left_after_reads s table l) → StandsHandled
   handled_as e h = subst (λ (l : LeftInArrays NoHalf). StandsFor (answered (Receive delivered)) (left_after_reads s table l)) (sym e) h
 
   step_handled : Classic → {x : ConsensusMsg} → msg ≡ x → ForRounds x → eqb kind 4 ≡ false → StandsHandled
-  unfolding handled_by
+  unfolding handled_in_arrays
   step_handled p e t k4 =
       handled_as (simp (k4))
       (stands_as _ (steps_to p e t (sym (ap (λ (y : ConsensusMsg). process_classic asked heard y decoded) e)))
@@ -138,7 +139,7 @@ module _ (m : Memory) (f : FlatCall) (w : ReplyInArrays) where
       go false = commit_stands m w p f.message.v decoded no_messages
 
   own_commit : Classic → eqb kind 1 ≡ false → eqb kind 2 ≡ false → eqb kind 3 ≡ false → eqb kind 4 ≡ true → StandsHandled
-  unfolding handled_by
+  unfolding handled_in_arrays
   own_commit p k1 k2 k3 k4 = handled_as (simp (k4)) (stands_as _ (commit_handled m f (is_commit m f k1 k2 k3 k4)) (commit_stands_lem p))
 
   -- ---- messages of an older slot or round
@@ -195,14 +196,14 @@ module _ (m : Memory) (f : FlatCall) (w : ReplyInArrays) where
       accept : eqb kind 2 ≡ true → eqb kind 1 ≡ false → eqb kind 4 ≡ false
           → answered (Receive delivered) ≡ finish shard.state asked held (map_step (on_rounds fast) counted_step)
       accept k2 k1 k4 =
-          let e : counts_accept s (core_of core) f.message ≡ true = sym (simp (k2)) ∙ n in
+          let e : only_counts_accept s (core_of core) f.message ≡ true = sym (simp (k2)) ∙ n in
           let names : names_slot kind ≡ true = simp (k1, k2) in
           let step : process_classic asked heard (Accept f.message.slot round f.message.v) decoded ≡ counted_step =
           accept_leaves s m.committers m.delegates (core_of core) f p (not_older names k4 o) k2 e ∙ simp (k2)
           in
           steps_to p (is_accept m f k1 k2) tt step
 
-      promise : eqb kind 1 ≡ true → eqb kind 2 ≡ false → eqb kind 4 ≡ false → counts_promise s m.delegates (core_of core) f.message ≡ true
+      promise : eqb kind 1 ≡ true → eqb kind 2 ≡ false → eqb kind 4 ≡ false → only_counts_promise s m.delegates (core_of core) f.message ≡ true
           → answered (Receive delivered) ≡ finish shard.state asked held (map_step (on_rounds fast) counted_step)
       promise k1 k2 k4 e =
           let names : names_slot kind ≡ true = simp (k1) in
@@ -214,7 +215,7 @@ module _ (m : Memory) (f : FlatCall) (w : ReplyInArrays) where
       go : (eqb kind 2 ≡ true) ⊎ (eqb kind 2 ≡ false) → answered (Receive delivered) ≡ finish shard.state asked held (map_step (on_rounds fast) counted_step)
       go (inl k2) = accept k2 (other_kind kind 2 1 k2 refl) (other_kind kind 2 4 k2 refl)
       go (inr k2) =
-          let both : (eqb kind 1 && counts_promise s m.delegates (core_of core) f.message) ≡ true = sym (simp (k2)) ∙ n in
+          let both : (eqb kind 1 && only_counts_promise s m.delegates (core_of core) f.message) ≡ true = sym (simp (k2)) ∙ n in
           let k1 : eqb kind 1 ≡ true = and_left (eqb kind 1) _ both in
           promise k1 k2 (other_kind kind 1 4 k1 refl) (and_right (eqb kind 1) _ both)
 
@@ -322,7 +323,7 @@ module _ (m : Memory) (f : FlatCall) (w : ReplyInArrays) where
           counted_is o n = taken_is ∙ simp (r, p, h, k0, o, n)
 
           served_is : is_older_message (core_of core) f.message ≡ false → only_counts s m.delegates (core_of core) f.message ≡ false
-              → result ≡ left_after_reads s table (handled_by s m.committers m.delegates core f w)
+              → result ≡ left_after_reads s table (handled_in_arrays s m.committers m.delegates core f w)
           unfolding flat_call_taken slot_call classic_message
           served_is o n = taken_is ∙ simp (r, p, h, k0, o, n)
 
@@ -439,7 +440,7 @@ module _ (m : Memory) (f : FlatCall) (w : ReplyInArrays) where
 
       go : Passed result ⊎ StandsFor x result → PassedOrMade m f w (host result)
       go (inl p) = inl (p.0, ap host p.1)
-      go (inr h) = inr (together x x.reply.outcome h)
+      go (inr h) = inr (made_by m f w (host result) (together x x.reply.outcome h))
 
 pub direct_is_call : DirectIsCall
 direct_is_call m f w = claimed m f w

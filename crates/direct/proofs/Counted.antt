@@ -14,7 +14,7 @@ use Rattle.arrays.specs.Arrays.{settings_of}
 use Rattle.arrays.specs.declared.Setup.{Setup}
 use Rattle.calls.specs.Asked.{asked_of, gatherer_of, gatherer_in}
 use Rattle.consensus.proofs.Entered.{not_swift}
-use Rattle.questions.specs.counted.Counting.{round_in, member_of, member_majority, in_own_round, repeats_held, accepted_set_with, counts_accept, keeps_held, prepared_set_with, completes_majority, gathers_promises, counts_promise, with_accepts, with_promises}
+use Rattle.questions.specs.counted.Counting.{round_in, member_of, member_majority, in_own_round, repeats_held, accepted_set_with, only_counts_accept, keeps_held, prepared_set_with, completes_majority, gathers_promises, only_counts_promise, with_accepts, with_counted_promises}
 use Rattle.direct.specs.handlers.Handled.{flat_heard}
 use Rattle.enter.specs.Enter.{is_older, from_live, in_round, enter}
 use Rattle.message.specs.Modes.{has_fast_path, is_swift_paxos, mode_of_number}
@@ -128,9 +128,9 @@ module _ (s : Setup) (committers delegates : List ℕ) (c : FlatCore) (f : FlatC
       (record { round = core.paxos.round; max_rv = held; prepared_set = c.prepared_set; accepted_set = counted a.member src c.accepted_set })
       core)
 
-  pub accept_leaves : has_fast_path a.mode ≡ false → is_older m.slot (round_in m) core ≡ false → eqb m.kind 2 ≡ true → counts_accept s c m ≡ true
+  pub accept_leaves : has_fast_path a.mode ≡ false → is_older m.slot (round_in m) core ≡ false → eqb m.kind 2 ≡ true → only_counts_accept s c m ≡ true
       → process_classic a h (Accept m.slot (round_in m) m.v) core ≡ Ok (stays (decoded_core (with_accepts (accepted_set_with s c m) c)) no_messages)
-  unfolding counts_accept repeats_held accepted_set_with
+  unfolding only_counts_accept repeats_held accepted_set_with
   accept_leaves p o k e =
       accept_counted a h m.slot (round_in m) core m.v (meets o (and_left (in_own_round s c m) _ rest) src) (not_swift a.mode p)
       (and_left (eqb s.my_pid m.leader) _ e)
@@ -174,9 +174,9 @@ module _ (s : Setup) (committers delegates : List ℕ) (c : FlatCore) (f : FlatC
   unfolding gatherer_in decoded_msg decoded_promise
   gatherer_is k e = simp (k, e)
 
-  pub promise_leaves : is_older m.slot (round_in m) core ≡ false → eqb m.kind 1 ≡ true → counts_promise s delegates c m ≡ true
-      → process_classic a h (Prepare m.slot (round_in m) (decoded_promise m.rv)) core ≡ Ok (stays (decoded_core (with_promises (prepared_set_with s c m) c)) no_messages)
-  unfolding counts_promise gathers_promises keeps_held completes_majority prepared_set_with receive_promise
+  pub promise_leaves : is_older m.slot (round_in m) core ≡ false → eqb m.kind 1 ≡ true → only_counts_promise s delegates c m ≡ true
+      → process_classic a h (Prepare m.slot (round_in m) (decoded_promise m.rv)) core ≡ Ok (stays (decoded_core (with_counted_promises (prepared_set_with s c m) c)) no_messages)
+  unfolding only_counts_promise gathers_promises keeps_held completes_majority prepared_set_with receive_promise
   promise_leaves o k e =
       promise_counted a h m.slot (round_in m) core (decoded_promise m.rv) (meets o (and_left (in_own_round s c m) _ rest) src)
       (and_left (is_some (decoded_held c.max_rv)) _ keeps)

@@ -8,7 +8,7 @@ use Rattle.arrays.specs.Arrays.{core_of, core_numbers}
 use Rattle.arrays.specs.declared.Setup.{Setup}
 use Rattle.calls.specs.Replies.{sent_reply}
 use Rattle.questions.specs.counted.Counting.{round_in, only_counts, with_counted}
-use Rattle.direct.specs.handlers.Handled.{ReplyInArrays, put_reply, put_served, CallOutcome, call_number, LeftInArrays, NoHalf, asked_in, put_step, handled_by, answer_request}
+use Rattle.direct.specs.handlers.Handled.{ReplyInArrays, put_reply, put_served, CallOutcome, call_number, LeftInArrays, NoHalf, asked_in, put_step, handled_in_arrays, answer_request}
 use Rattle.direct.specs.handlers.Lent.{Array, at_entry, at_exit}
 use Rattle.direct.specs.declared.handlers.NotTaken.TheVariants.{Refused, PassedOn}
 use Rattle.message.specs.Modes.{has_fast_path, mode_of_number}
@@ -175,7 +175,7 @@ unfoldable pub classic_message : Setup → List ℕ → List ℕ → List ℕ �
 classic_message s committers delegates core table f w =
     cond (is_older_message (core_of core) f.message) (direct (Ok tt) core table (put_served 0 w))
     (cond (only_counts s delegates (core_of core) f.message) (direct (Ok tt) (core_numbers (with_counted s (core_of core) f.message)) table (put_served 0 w))
-    (left_after_reads s table (handled_by s committers delegates core f w)))
+    (left_after_reads s table (handled_in_arrays s committers delegates core f w)))
 
 -- EPaxos and SwiftPaxos are passed on
 unfoldable pub slot_call : Setup → List ℕ → List ℕ → List ℕ → ReadTable → FlatCall → ReplyInArrays → Direct CallOutcome NoHalf

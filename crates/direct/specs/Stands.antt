@@ -4,8 +4,10 @@
 use Rattle.std.specs.Prelude.{true, List, ◌⊎◌, ◌≡◌, ℕ, Ok, Err}
 use Rattle.arrays.specs.Arrays.{settings_of, core_of}
 use Rattle.arrays.specs.FastArrays.{FastArrays, fast_state_of}
+use Rattle.arrays.specs.Told.{decoded_reply}
 use Rattle.arrays.specs.declared.Setup.{Setup}
 use Rattle.calls.specs.declared.Call.{Call}
+use Rattle.calls.specs.declared.Reply.{Reply}
 use Rattle.consensus.specs.Call.{call_of}
 use Rattle.consensus.specs.declared.Answer.{Answer}
 use Rattle.consensus.specs.declared.Shard.{Shard}
@@ -53,6 +55,10 @@ pub record HostAnswer : Type 0 where
   pub memory : Memory
   pub reply : ReplyInArrays
 
+-- the reply that a host reads, in the number that came back and in the arrays of the reply
+abbrev pub told_by : HostAnswer → Reply
+told_by x = decoded_reply x.number x.reply.first x.reply.second x.reply.third x.reply.rest
+
 -- of what a function leaves, with the fast half as it is afterwards
 abbrev pub left_by : {Half : Type 0} → Memory → FastArrays → Direct ℕ Half → HostAnswer
 left_by m fast d = record { number = d.told; memory = memory_with m.setup m.committers m.delegates d.core fast d.table; reply = d.reply }
@@ -70,15 +76,15 @@ Stands m w a (Err why) x = x ≡ unwritten m w (refusal_number why)
 abbrev pub answer_to : Memory → FlatCall → Answer
 answer_to m f = call_of (shard_of m) (call_in m f)
 
--- the call is made
-abbrev pub IsMade : Memory → FlatCall → ReplyInArrays → HostAnswer → Type 0
-IsMade m f w x = Stands m w (answer_to m f) (answer_to m f).reply.outcome x
+-- the call is made, and what a host reads is its reply
+abbrev pub CallIsMade : Memory → FlatCall → ReplyInArrays → HostAnswer → Type 0
+CallIsMade m f w x = Stands m w (answer_to m f) (answer_to m f).reply.outcome x × (told_by x ≡ (answer_to m f).reply)
 
 -- ---- `chanbook_direct_call`
 
 -- where the fast half has a part in the call it may be passed on; else it is made. The fast half is left as it is.
 abbrev pub PassedOrMade : Memory → FlatCall → ReplyInArrays → HostAnswer → Type 0
-PassedOrMade m f w x = ((fast_half_acts m.setup f ≡ true) × (x ≡ unwritten m w passed_on)) ⊎ IsMade m f w x
+PassedOrMade m f w x = ((fast_half_acts m.setup f ≡ true) × (x ≡ unwritten m w passed_on)) ⊎ CallIsMade m f w x
 
 -- whatever the fast half is that stands beside the arrays
 unfoldable pub DirectStands : Setup → List ℕ → List ℕ → List ℕ → ReadTable → FlatCall → ReplyInArrays → Direct ℕ NoHalf → Type 0

@@ -5,7 +5,7 @@
 
 ghost use Rattle.std.specs.Prelude.{◌≡◌, Ok};
 ghost use Rattle.arrays.specs.Arrays.{core_of};
-ghost use Rattle.direct.specs.handlers.Handled.{reply_in, SameReply, put_reply, put_served, not_taken_number, call_number, left_with, no_reads, put_taken, put_answer, asked_in, put_step, put_processed, handled_by, answer_request};
+ghost use Rattle.direct.specs.handlers.Handled.{reply_in, SameReply, put_reply, put_served, not_taken_number, call_number, left_with, serves_no_read, put_taken, put_answer, asked_in, put_step, put_processed, handled_in_arrays, answer_request};
 ghost use Rattle.direct.specs.declared.handlers.NotTaken.TheVariants.{Refused};
 ghost use Rattle.propose.specs.Propose.{propose_classic};
 ghost use Rattle.calls.specs.Replies.{sent_reply};
@@ -195,7 +195,7 @@ pub fn answer_request(
     reply: &mut ReplyArrays<'_>,
 ) -> Outcome
     ensures same { SameReply reply.old reply.new }
-    ensures written { left_with (no_reads result) core.now (reply_in reply.new) ≡ answer_request setup core.now message (reply_in reply.old) }
+    ensures written { left_with (serves_no_read result) core.now (reply_in reply.new) ≡ answer_request setup core.now message (reply_in reply.old) }
 {
     let own = setup.my_pid;
     let src = flat::decode_source(setup.process_count, own, message);
@@ -211,7 +211,7 @@ pub fn answer_request(
 #[tactic(auto, unfolding(crate::specs::handlers::Handled::put_step))]
 pub fn propose(setup: Setup, core: &mut CoreArray, v: u64, reply: &mut ReplyArrays<'_>) -> Outcome
     ensures same { SameReply reply.old reply.new }
-    ensures written { left_with (no_reads result) core.new (reply_in reply.new)
+    ensures written { left_with (serves_no_read result) core.new (reply_in reply.new)
         ≡ put_step (propose_classic (asked_in setup) v (decoded_core (core_of core.old))) core.old (reply_in reply.old) }
 {
     let asked = questions::decided::asked_of(setup);
@@ -247,7 +247,7 @@ fn put_processed(
 }
 
 // A Commit, or what the rounds handle.
-#[tactic(auto, unfolding(crate::specs::handlers::Handled::handled_by, crate::specs::handlers::Handled::put_processed))]
+#[tactic(auto, unfolding(crate::specs::handlers::Handled::handled_in_arrays, crate::specs::handlers::Handled::put_processed))]
 pub fn handle(
     setup: Setup,
     tables: Tables<'_>,
@@ -257,7 +257,7 @@ pub fn handle(
 ) -> Result<bool, Refusal>
     ensures same { SameReply reply.old reply.new }
     ensures written { left_with result core.new (reply_in reply.new)
-        ≡ handled_by setup tables.entry.committers.now tables.entry.delegates.now core.old f (reply_in reply.old) }
+        ≡ handled_in_arrays setup tables.entry.committers.now tables.entry.delegates.now core.old f (reply_in reply.old) }
 {
     let asked = questions::decided::asked_of(setup);
     let decoded = flat::decode_core(arrays::core_in(core));

@@ -13,7 +13,7 @@ use arrays::{CallArray, CoreArray, MessageArray, RestArray, SetupArray};
 use basics::tables::PerProcess;
 
 // A call on the parts of a shard: what is left in the arrays stands for the engine's call of the shard that they stood for (`stands`), and which numbers are left
-// is `direct_call` (`rest_value`). 0: it was taken, and core, reads and reply are written. 1 to 12, or 17: it is refused with this number. 255: it has to go to
+// is `direct_call` (`numbers`). 0: it was taken, and core, reads and reply are written. 1 to 12, or 17: it is refused with this number. 255: it has to go to
 // the fast half, and nothing is written.
 #[unsafe(no_mangle)]
 pub extern "C" fn chanbook_direct_call(
@@ -31,7 +31,7 @@ pub extern "C" fn chanbook_direct_call(
 ) -> u64
     ensures stands { DirectStands (setup_of setup.now) committers.now delegates.now (at_entry core) (reads_at_entry reads served) (flat_call_of call.now)
         (reply_at_entry first second third rest) (direct result (at_exit core) (reads_at_exit reads served) (reply_at_exit first second third rest)) }
-    ensures rest_value { direct result (at_exit core) (reads_at_exit reads served) (reply_at_exit first second third rest)
+    ensures numbers { direct result (at_exit core) (reads_at_exit reads served) (reply_at_exit first second third rest)
         ≡ direct_call (setup_of setup.now) committers.now delegates.now (at_entry core) (reads_at_entry reads served) (flat_call_of call.now)
         (reply_at_entry first second third rest) }
     ensures left_unless_taken { LeftUnlessTaken result reads × LeftUnlessTaken result served }

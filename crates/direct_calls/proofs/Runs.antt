@@ -2,7 +2,7 @@
 -- Assumes nothing.
 use Rattle.std.specs.Prelude.{Ok, Err}
 use Rattle.message.specs.Outcomes.{Outcome}
-use mathlib.Core.Path.{◌≡◌, refl, sym, ap, subst, ◌∙◌}
+use mathlib.Core.Path.{◌≡◌, refl, sym, ap, ◌∙◌}
 use mathlib.Core.Logic.{◌⊎◌, inl, inr}
 use mathlib.Core.Bool.{Bool, true, false, cond}
 use Prim.Native.Nat.{ℕ}
@@ -11,12 +11,12 @@ use borrow.Author.Tests.{eqb-true}
 use Rattle.basics.proofs.Tests.{either, not_both}
 use Rattle.calls.specs.declared.Call.{Call}
 use Rattle.consensus.specs.Call.{call_of}
-use Rattle.consensus.specs.FirstCause.{ByFirstCause}
+use Rattle.consensus.specs.FirstCause.{number_of_outcome, ByFirstCause}
 use Rattle.consensus.specs.declared.Answer.{Answer}
 use Rattle.consensus.specs.declared.Shard.{Shard}
 use Rattle.consensus.proofs.Refusals.{by_first_cause, unmade_refuses}
 use Rattle.direct.specs.Direct.{fast_half_acts}
-use Rattle.direct.specs.Stands.{Memory, shard_of, call_in, HostAnswer, unwritten, Stands, answer_to, IsMade, by_direct}
+use Rattle.direct.specs.Stands.{Memory, shard_of, call_in, HostAnswer, told_by, unwritten, Stands, answer_to, CallIsMade, by_direct}
 use Rattle.direct.specs.handlers.Handled.{ReplyInArrays, passed_on}
 use Rattle.direct_fast.specs.FastStands.{by_fast}
 use Rattle.direct_fast.proofs.FastCalls.{one_of_both, declined_is_direct, classic_is_direct}
@@ -32,7 +32,7 @@ use Rattle.message.specs.Modes.{has_fast_path, mode_of_number}
 use Rattle.message.specs.Refusals.{refusal_number}
 use Rattle.message.specs.declared.Refusal.{Refusal}
 use Rattle.flat.specs.declared.FlatCall.{FlatCall}
-use Rattle.direct_calls.specs.Runs.{host_call, IsWritten}
+use Rattle.direct_calls.specs.Runs.{host_call}
 
 -- ---- refusals
 
@@ -56,31 +56,28 @@ module _ (m : Memory) (f : FlatCall) (w : ReplyInArrays) where
   abbrev made : Answer
   made = answer_to m f
 
-  -- the memory afterwards stands for the new shard, and the host is told the call's reply; a refusal leaves each number of the memory
+  -- the memory afterwards stands for the new shard, and the host reads the call's reply; a refusal gives its number and writes nothing
   pub record IsCall (x : HostAnswer) : Type 0 where
     pub stands : shard_of x.memory ≡ made.shard
-    pub told : IsWritten made.reply made.reply.outcome w x
-    pub left : (why : Refusal) → made.reply.outcome ≡ Err why → x.memory ≡ m
+    pub told : told_by x ≡ made.reply
+    pub left : (why : Refusal) → made.reply.outcome ≡ Err why → x ≡ unwritten m w (refusal_number why)
 
-  is_call_by : (o : Outcome) → made.reply.outcome ≡ o → (x : HostAnswer) → Stands m w made o x → IsCall x
-  is_call_by (Ok tt) e x (n, s, r) =
+  is_call_by : (o : Outcome) → made.reply.outcome ≡ o → (x : HostAnswer) → Stands m w made o x → told_by x ≡ made.reply → IsCall x
+  is_call_by (Ok tt) e x (n, s, r) told =
       record {
         stands = s;
-        told = subst (λ (o : Outcome). IsWritten made.reply o w x) (sym e) (n, r);
+        told = told;
         left = λ why refused. (let same : Ok tt ≡ Err why = sym e ∙ refused in cc);
       }
-  is_call_by (Err why) e x same = subst (λ (y : HostAnswer). IsCall y) (sym same) alone
-    where
-      alone : IsCall (unwritten m w (refusal_number why))
-      alone =
-          record {
-            stands = sym (refusal_leaves (shard_of m) (call_in m f) why e);
-            told = subst (λ (o : Outcome). IsWritten made.reply o w (unwritten m w (refusal_number why))) (sym e) (refl, refl);
-            left = λ other refused. refl;
-          }
+  is_call_by (Err why) e x same told =
+      record {
+        stands = ap (λ (y : HostAnswer). shard_of y.memory) same ∙ sym (refusal_leaves (shard_of m) (call_in m f) why e);
+        told = told;
+        left = λ other refused. same ∙ ap (λ (o : Outcome). unwritten m w (number_of_outcome o)) (sym e ∙ refused);
+      }
 
-  is_made : {x : HostAnswer} → IsMade m f w x → IsCall x
-  is_made {x} s = is_call_by made.reply.outcome refl x s
+  is_made : {x : HostAnswer} → CallIsMade m f w x → IsCall x
+  is_made {x} s = is_call_by made.reply.outcome refl x s.0 s.1
 
   -- the fast half has no part in the call
   direct_is : fast_half_acts m.setup f ≡ false → IsCall (by_direct m f w)
@@ -127,13 +124,9 @@ host_refuses t refused f w = go (marked_by_number t)
     refused_with : (why : Refusal) → (shard_of m).made ≡ Err why → (made m f w).reply.outcome ≡ Err why
     refused_with why e = ap (λ (r : Answer). r.reply.outcome) (unmade_refuses lowest_best (shard_of m) (call_in m f) why e)
 
-    told_refused : (why : Refusal) → (made m f w).reply.outcome ≡ Err why → IsWritten (made m f w).reply (Err why) w (host_call m f w)
-    told_refused why outcome = subst (λ (o : Outcome). IsWritten (made m f w).reply o w (host_call m f w)) outcome is_call.told
-
     go : MarkedBy (shard_of m).made (flat_settings_number t)
         → ((host_call m f w).number ≡ flat_settings_number t) × ((host_call m f w).reply ≡ w) × ((host_call m f w).memory ≡ m)
     go (inl (_, none)) = absurd (refused none)
     go (inr (why, (e, number))) =
-        let outcome = refused_with why e in
-        let (told, left) = told_refused why outcome in
-        (told ∙ sym number, left, is_call.left why outcome)
+        let left = is_call.left why (refused_with why e) in
+        (ap (λ (x : HostAnswer). x.number) left ∙ sym number, ap (λ (x : HostAnswer). x.reply) left, ap (λ (x : HostAnswer). x.memory) left)

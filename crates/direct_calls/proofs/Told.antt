@@ -1,66 +1,32 @@
 -- Demand 3 of hosts that lend arrays: what a host reads of a call is the reply of the call, and so what the hosts of a group are told over a legal list of
 -- calls is a run of the claim.
 -- Assumes nothing.
-use Rattle.std.specs.Prelude.{◌↔◌, Ok, Err}
-use Rattle.message.specs.Outcomes.{Outcome}
-use mathlib.Core.Path.{◌≡◌, refl, sym, ap, ap₂, subst, ◌∙◌}
-use mathlib.Core.Logic.{inl, inr}
+use Rattle.std.specs.Prelude.{◌↔◌}
+use mathlib.Core.Path.{◌≡◌, refl, sym, ap, subst, ◌∙◌}
 use mathlib.Core.Bool.{Bool, true, false, cond}
 use mathlib.Core.List.{List, [], ◌∷◌}
 use Prim.Native.Nat.{ℕ, ◌<◌}
 use lib.Dec.{eqb}
-use Rattle.arrays.specs.Told.{decoded_reply}
-use Rattle.arrays.proofs.Told.{refused_read}
-use Rattle.calls.specs.declared.Call.{Call}
 use Rattle.calls.specs.declared.Reply.{Reply}
 use Rattle.consensus.specs.Call.{call_of}
-use Rattle.consensus.specs.FirstCause.{ByFirstCause}
-use Rattle.consensus.specs.declared.Answer.{Answer}
 use Rattle.consensus.specs.declared.Shard.{Shard}
-use Rattle.consensus.proofs.Refusals.{by_first_cause}
-use Rattle.calls.specs.Replies.{refused_reply}
 use Rattle.direct.specs.handlers.Handled.{ReplyInArrays}
-use Rattle.direct.proofs.handlers.Told.{reply_read}
 use Rattle.fast_state.specs.Adopt.{lowest_best}
 use Rattle.group.specs.Claim.{ours, MemberCall, Entry, after_call, entry_of, entries_from, LegalFrom, Claim}
 use Rattle.group.proofs.Ties.{lowest_picks_best}
 use Rattle.group_settings.specs.declared.GroupSettings.{GroupSettings}
 use Rattle.group_settings_runs.specs.Groups.{begun_from, GroupLegal}
 use Rattle.group_settings_runs.proofs.Agreeing.{agreement_from}
-use Rattle.message.specs.declared.Refusal.{Refusal}
 use Rattle.flat.specs.declared.FlatCall.{FlatCall}
-use Rattle.direct_calls.specs.Runs.{Memory, shard_of, call_in, HostAnswer, host_call, IsWritten, HostCall, memories_after, calls_from}
+use Rattle.direct_calls.specs.Runs.{Memory, shard_of, call_in, host_call, HostCall, memories_after, calls_from}
 use Rattle.direct_calls.specs.Told.{told_by, told_entry, told_from, HostLegal, MemoriesBegin, HostAgreement}
 use Rattle.direct_calls.proofs.Runs.{host_is_call}
 
 -- ---- a call
 
--- a refusal hands back its number alone
-refusal_alone : (shard : Shard) (c : Call) (why : Refusal) → (call_of shard c).reply.outcome ≡ Err why → (call_of shard c).reply ≡ refused_reply why
-refusal_alone shard c why e = go (by_first_cause lowest_best shard c)
-  where
-    go : ByFirstCause lowest_best shard c (call_of shard c) → (call_of shard c).reply ≡ refused_reply why
-    go (inl (done, none)) = (let same : Ok tt ≡ Err why = sym done ∙ e in cc)
-    go (inr (first, alone, holds)) =
-        let given : (call_of shard c).reply ≡ refused_reply first = ap (λ (a : Answer). a.reply) alone in
-        let same : Err first ≡ Err why = sym (ap (λ (r : Reply). r.outcome) given) ∙ e in
-        given ∙ ap (λ (o : Outcome). record { outcome = o; messages = (refused_reply why).messages; commit = (refused_reply why).commit; served_count = 0 }) same
-
 -- a host reads the reply of the call on the shard that its memory stood for
-module _ (m : Memory) (f : FlatCall) (w : ReplyInArrays) where
-  abbrev made : Reply
-  made = (call_of (shard_of m) (call_in m f)).reply
-
-  read_as : (x : HostAnswer) (o : Outcome) → made.outcome ≡ o → IsWritten made o w x → told_by x ≡ made
-  read_as x (Ok tt) done (number, reply) =
-      ap₂ (λ (n : ℕ) (v : ReplyInArrays). decoded_reply n v.first v.second v.third v.rest) number reply ∙ reply_read made w done
-  read_as x (Err why) refused (number, reply) =
-      ap₂ (λ (n : ℕ) (v : ReplyInArrays). decoded_reply n v.first v.second v.third v.rest) number reply
-      ∙ refused_read why w.first w.second w.third w.rest
-      ∙ sym (refusal_alone (shard_of m) (call_in m f) why refused)
-
-  pub host_is_told : told_by (host_call m f w) ≡ made
-  host_is_told = read_as (host_call m f w) made.outcome refl (host_is_call m f w).told
+pub host_is_told : (m : Memory) (f : FlatCall) (w : ReplyInArrays) → told_by (host_call m f w) ≡ (call_of (shard_of m) (call_in m f)).reply
+host_is_told m f w = (host_is_call m f w).told
 
 -- ---- runs
 
@@ -75,15 +41,15 @@ module _ (n : ℕ) (shards : ℕ → Shard) (memories : ℕ → Memory) (same : 
   told_is_entry : told_entry memories c ≡ entry_of lowest_best shards made_call
   told_is_entry =
       ap (λ (r : Reply). record { member = c.member; call = made_call.call; reply = r })
-      (host_is_told (memories c.member) c.call c.came ∙ ap (λ (s : Shard). (call_of s made_call.call).reply) (same c.member member))
+      (host_is_told (memories c.member) c.call c.reply_before ∙ ap (λ (s : Shard). (call_of s made_call.call).reply) (same c.member member))
 
   next_same : MembersStand n (memories_after memories c) (after_call lowest_best shards made_call)
   next_same j inside = go (eqb j c.member)
     where
       go : (t : Bool)
-          → shard_of (cond t (host_call (memories c.member) c.call c.came).memory (memories j))
+          → shard_of (cond t (host_call (memories c.member) c.call c.reply_before).memory (memories j))
           ≡ cond t (call_of (shards c.member) made_call.call).shard (shards j)
-      go true = (host_is_call (memories c.member) c.call c.came).stands ∙ ap (λ (s : Shard). (call_of s made_call.call).shard) (same c.member member)
+      go true = (host_is_call (memories c.member) c.call c.reply_before).stands ∙ ap (λ (s : Shard). (call_of s made_call.call).shard) (same c.member member)
       go false = same j inside
 
 -- what the hosts are told, begun with some entries, is the run of the claim, begun with others, whose calls are legal

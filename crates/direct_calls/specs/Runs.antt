@@ -1,15 +1,12 @@
 -- Runs of a group whose hosts lend arrays (document 01, "Group runs": "A shard goes from one call of its member to the next, by value or lent, and has
 -- no other writer").
 -- Assumes nothing.
-use Rattle.std.specs.Prelude.{cond, List, [], ◌∷◌, ◌≡◌, ℕ, eqb, Ok, Err}
-use Rattle.message.specs.Outcomes.{Outcome}
-use Rattle.calls.specs.declared.Reply.{Reply}
+use Rattle.std.specs.Prelude.{cond, List, [], ◌∷◌, ℕ, eqb}
 pub use Rattle.direct.specs.Stands.{Memory, shard_of, call_in, HostAnswer, by_direct}
-use Rattle.direct.specs.handlers.Handled.{ReplyInArrays, put_reply, passed_on}
+use Rattle.direct.specs.handlers.Handled.{ReplyInArrays, passed_on}
 pub use Rattle.direct_fast.specs.FastStands.{by_fast}
 use Rattle.group.specs.Claim.{MemberCall}
 use Rattle.message.specs.Modes.{has_fast_path, mode_of_number}
-use Rattle.message.specs.Refusals.{refusal_number}
 use Rattle.flat.specs.declared.FlatCall.{FlatCall}
 
 -- ---- a call
@@ -21,23 +18,18 @@ host_call m f w =
     (cond (eqb (by_fast m f w).number passed_on) (by_direct m f w) (by_fast m f w))
     (by_direct m f w)
 
--- what is written for a reply: 0 and the reply in its arrays, or a refusal's number and nothing written
-abbrev pub IsWritten : Reply → Outcome → ReplyInArrays → HostAnswer → Type 0
-IsWritten reply (Ok tt) w x = (x.number ≡ 0) × (x.reply ≡ put_reply reply w)
-IsWritten reply (Err why) w x = (x.number ≡ refusal_number why) × (x.reply ≡ w)
-
 -- ---- runs
 
 -- a call on a member, and what stood in the arrays of the reply before
 pub record HostCall : Type 0 where
   pub member : ℕ
   pub call : FlatCall
-  pub came : ReplyInArrays
+  pub reply_before : ReplyInArrays
 
 -- each call is made on the memory that its member's last call left
 abbrev pub memories_after : (ℕ → Memory) → HostCall → ℕ → Memory
 memories_after memories c j =
-    cond (eqb j c.member) (host_call (memories c.member) c.call c.came).memory (memories j)
+    cond (eqb j c.member) (host_call (memories c.member) c.call c.reply_before).memory (memories j)
 
 -- the calls that are made
 unfoldable pub calls_from : (ℕ → Memory) → List HostCall → List MemberCall

@@ -1,16 +1,11 @@
 -- What the hosts of a group are told, call by call, as they read it by the header; and which lists of calls are legal by what they were told.
 -- Assumes nothing.
 use Rattle.std.specs.Prelude.{List, [], ◌∷◌, ◌≡◌, ℕ, ◌<◌}
-use Rattle.arrays.specs.Told.{decoded_reply}
-use Rattle.calls.specs.declared.Reply.{Reply}
+pub use Rattle.direct.specs.Stands.{told_by}
 use Rattle.group.specs.Claim.{Entry, MayStand, Claim, NotSwift}
 use Rattle.group_settings.specs.declared.GroupSettings.{GroupSettings}
 use Rattle.group_settings_runs.specs.Groups.{begun_from}
-use Rattle.direct_calls.specs.Runs.{Memory, shard_of, call_in, HostAnswer, host_call, HostCall, memories_after}
-
--- the reply, from the number that came back and what stands in the arrays of the reply
-abbrev pub told_by : HostAnswer → Reply
-told_by x = decoded_reply x.number x.reply.first x.reply.second x.reply.third x.reply.rest
+use Rattle.direct_calls.specs.Runs.{Memory, shard_of, call_in, host_call, HostCall, memories_after}
 
 -- a call that was made, with what its host is told
 abbrev pub told_entry : (ℕ → Memory) → HostCall → Entry
@@ -18,7 +13,7 @@ told_entry memories c =
     record {
       member = c.member;
       call = call_in (memories c.member) c.call;
-      reply = told_by (host_call (memories c.member) c.call c.came);
+      reply = told_by (host_call (memories c.member) c.call c.reply_before);
     }
 
 -- those of a list of calls, each made on the memory that its member's last call left

@@ -23,8 +23,9 @@ use Rattle.consensus.specs.Handle.{on_commit, proposing, processed, handle_call}
 use Rattle.consensus.specs.declared.Answer.{Answer}
 use Rattle.consensus.specs.declared.StateAnswer.{StateAnswer}
 use Rattle.direct.specs.Direct.{Direct, served_after, left_after_reads, numbered, concerns_slot, fast_half_acts, names_slot, of_older_round, is_older_message}
-use Rattle.direct.specs.Stands.{Memory, HostAnswer, left_by, unwritten, Stands, answer_to, IsMade, PassedOrMade, by_direct}
+use Rattle.direct.specs.Stands.{Memory, HostAnswer, left_by, unwritten, Stands, answer_to, CallIsMade, PassedOrMade, by_direct}
 use Rattle.direct.proofs.Calls.{direct_is_call}
+use Rattle.direct.proofs.Reading.{made_by}
 use Rattle.direct.proofs.Common.{call_on, not_passed_on, other_kind, by_kind, ForRounds, is_prepare, is_accept, is_forward, is_commit, rounds_handle, commit_handled}
 use Rattle.direct.proofs.Steps.{rounds_with, StandsBy, StandsFor, in_memory, sends_stand, commits_stand}
 use Rattle.direct.specs.handlers.CoreAnswers.{core_committed}
@@ -322,9 +323,9 @@ module _ (m : Memory) (f : FlatCall) (w : ReplyInArrays) where
     decided (Ok tt) e = taken_stands e
     decided (Err why) e = refused_is why e
 
-    made : IsMade m f w (by_fast m f w)
+    made : CallIsMade m f w (by_fast m f w)
     unfolding decision_of fast_call call_with
-    made = together x x.reply.outcome (decided outcome refl)
+    made = made_by m f w (by_fast m f w) (together x x.reply.outcome (decided outcome refl))
       where
         x : StateAnswer
         x = state_call lowest_best shard.state (decision_for settings called outcome)
@@ -333,10 +334,10 @@ module _ (m : Memory) (f : FlatCall) (w : ReplyInArrays) where
   unfolding fast_call fast_made
   declines a = simp (a)
 
-  direct_makes : fast_half_acts m.setup f ≡ false → IsMade m f w (by_direct m f w)
+  direct_makes : fast_half_acts m.setup f ≡ false → CallIsMade m f w (by_direct m f w)
   direct_makes a = go (direct_is_call m f w)
     where
-      go : PassedOrMade m f w (by_direct m f w) → IsMade m f w (by_direct m f w)
+      go : PassedOrMade m f w (by_direct m f w) → CallIsMade m f w (by_direct m f w)
       go (inl q) = absurd (not_both q.0 a)
       go (inr q) = q
 
@@ -347,7 +348,7 @@ module _ (m : Memory) (f : FlatCall) (w : ReplyInArrays) where
       not_both (ap (λ (y : ℕ). eqb y passed_on) e) (ap (λ (y : HostAnswer). eqb y.number passed_on) p ∙ not_passed_on why)
 
   has_no_part : (by_fast m f w).number ≡ passed_on → fast_half_acts m.setup f ≡ false
-  has_no_part e = fails (λ a. not_declined (answer_to m f) (answer_to m f).reply.outcome (by_fast m f w) (made a) e)
+  has_no_part e = fails (λ a. not_declined (answer_to m f) (answer_to m f).reply.outcome (by_fast m f w) (made a).0 e)
 
 pub one_of_both : OneOfBoth
 one_of_both m f w = (made m f w, λ a. (declines m f w a, direct_makes m f w a))

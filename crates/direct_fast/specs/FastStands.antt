@@ -4,7 +4,7 @@ use Rattle.std.specs.Prelude.{true, false, ◌≡◌, ℕ}
 use Rattle.arrays.specs.FastArrays.{FastArrays}
 use Rattle.arrays.specs.declared.Setup.{Setup}
 use Rattle.direct.specs.Direct.{Direct, fast_half_acts}
-use Rattle.direct.specs.Stands.{Memory, HostAnswer, left_by, unwritten, IsMade, by_direct}
+use Rattle.direct.specs.Stands.{Memory, HostAnswer, left_by, unwritten, CallIsMade, by_direct}
 use Rattle.direct.specs.handlers.Handled.{ReplyInArrays, passed_on}
 use Rattle.direct_fast.specs.DirectFast.{fast_call}
 use Rattle.message.specs.Modes.{has_fast_path, mode_of_number}
@@ -12,7 +12,7 @@ use Rattle.flat.specs.declared.FlatCall.{FlatCall}
 
 -- where the fast half has a part in the call, it is made; where it has none, the number is `passed_on` and nothing is written
 abbrev pub MadeOrDeclined : Memory → FlatCall → ReplyInArrays → HostAnswer → Type 0
-MadeOrDeclined m f w x = (fast_half_acts m.setup f ≡ true → IsMade m f w x) × (fast_half_acts m.setup f ≡ false → x ≡ unwritten m w passed_on)
+MadeOrDeclined m f w x = (fast_half_acts m.setup f ≡ true → CallIsMade m f w x) × (fast_half_acts m.setup f ≡ false → x ≡ unwritten m w passed_on)
 
 unfoldable pub FastStands : Memory → FlatCall → ReplyInArrays → Direct ℕ FastArrays → Type 0
 FastStands m f w d = MadeOrDeclined m f w (left_by m d.half d)
@@ -28,8 +28,8 @@ by_fast m f w = left_by m (fast_left m f w).half (fast_left m f w)
 abbrev pub OneOfBoth : Type 0
 OneOfBoth =
     (m : Memory) (f : FlatCall) (w : ReplyInArrays)
-    → (fast_half_acts m.setup f ≡ true → IsMade m f w (by_fast m f w))
-    × (fast_half_acts m.setup f ≡ false → (by_fast m f w ≡ unwritten m w passed_on) × IsMade m f w (by_direct m f w))
+    → (fast_half_acts m.setup f ≡ true → CallIsMade m f w (by_fast m f w))
+    × (fast_half_acts m.setup f ≡ false → (by_fast m f w ≡ unwritten m w passed_on) × CallIsMade m f w (by_direct m f w))
 
 -- where `chanbook_fast_call` gives `passed_on` the fast half has no part in the call
 abbrev pub DeclinedIsDirect : Type 0

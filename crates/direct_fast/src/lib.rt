@@ -200,7 +200,7 @@ fn fast_made(
 }
 
 // A call on the parts of a shard: what is left in the arrays stands for the engine's call of the shard that they stood for (`stands`), and which numbers are left
-// is `fast_call` (`rest_value`). 0: it was taken, and core, fast half, reads and reply are written. 1 to 12, or 17: it is refused with this number. 255: it goes
+// is `fast_call` (`numbers`). 0: it was taken, and core, fast half, reads and reply are written. 1 to 12, or 17: it is refused with this number. 255: it goes
 // to `chanbook_direct_call`, since the fast half has no part in it, and nothing is written.
 #[tactic(auto, unfolding(crate::specs::DirectFast::fast_call))]
 pub fn chanbook_fast_call(
@@ -224,7 +224,7 @@ pub fn chanbook_fast_call(
         (memory_with (setup_of setup.now) committers.now delegates.now (at_entry core) (half_at_entry answers values epaxos swift) (reads_at_entry reads served))
         (flat_call_of call.now) (reply_at_entry first second third rest)
         (fast_direct result (at_exit core) (half_at_exit answers values epaxos swift) (reads_at_exit reads served) (reply_at_exit first second third rest)) }
-    ensures rest_value { fast_direct result (at_exit core) (half_at_exit answers values epaxos swift) (reads_at_exit reads served) (reply_at_exit first second third rest)
+    ensures numbers { fast_direct result (at_exit core) (half_at_exit answers values epaxos swift) (reads_at_exit reads served) (reply_at_exit first second third rest)
         ≡ fast_call (setup_of setup.now) committers.now delegates.now (at_entry core) (half_at_entry answers values epaxos swift)
         (reads_at_entry reads served) (flat_call_of call.now) (reply_at_entry first second third rest) }
     ensures left_unless_taken { LeftUnlessTaken result reads × LeftUnlessTaken result served }

@@ -7,7 +7,7 @@ ghost use Rattle.enter.specs.Enter.{can_propose, source_taken, in_round, is_olde
 use message::{PaxosRound, Refusal};
 use steps::{Asked, Core, CoreStep, Heard, no_messages};
 
-// asked, heard and round are parameters of their own, as in accept, which tells of a trial: two of these six functions take all three.
+// asked, heard and round are parameters of their own, as in classic::accept, which tells of a trial: two of these six functions take all three.
 
 // Whether the member takes part: a replica does, and in SwiftPaxos its clients do.
 pub fn can_propose(asked: Asked) -> bool

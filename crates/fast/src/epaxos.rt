@@ -10,8 +10,8 @@ use fast_state::{FastAnswers, FastChange};
 use message::{PaxosRound, Refusal, RoundV};
 use steps::{Asked, ChangeStep, Core, CoreStep, Heard};
 
-// asked, heard and round are parameters of their own: 4 of these 6 functions take one or two of the three, and a struct of them is no plainer (accept tells of
-// a trial).
+// asked, heard and round are parameters of their own: 4 of these 6 functions take one or two of the three, and a struct of them is no plainer
+// (classic::accept tells of a trial).
 
 // The requester of a value by the host's two answers: the first is for the message's value v, and the second for the value that was
 // held when the call came.

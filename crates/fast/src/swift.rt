@@ -9,8 +9,8 @@ use fast_state::{FastAnswers, FastChange};
 use message::{PaxosRound, Refusal, RoundV};
 use steps::{Asked, ChangeStep, Core, CoreStep, Heard, Messages};
 
-// asked, heard and round are parameters of their own, as in accept and prepare, whose functions are called with them: a struct of the three would be taken
-// apart in each contract (accept tells of a trial).
+// asked, heard and round are parameters of their own, as in classic::accept and classic::prepare, whose functions are called with them: a struct of the three
+// would be taken apart in each contract (classic::accept tells of a trial).
 
 fn swift_commits(asked: Asked, answers: FastAnswers) -> bool
     ensures { result ≡ swift_commits asked answers }

@@ -1,4 +1,4 @@
--- What the engine writes of a reply is read as what it handed back, and the kinds that it writes are those that the header names.
+-- What the engine writes of a reply is read as what it handed back: so the kinds of destinations and of messages that it writes are those that the header names.
 -- Assumes nothing.
 use Rattle.std.specs.Prelude.{Option, None, Some, Ok, Err}
 use mathlib.Core.Path.{◌≡◌, refl, sym, ap, ap₂, ◌∙◌}
@@ -19,7 +19,7 @@ use Rattle.calls.specs.Commits.{committed_slot}
 use Rattle.calls.specs.declared.CommittedSlot.{CommittedSlot}
 use Rattle.flat.specs.Encode.{encoded_outcome, encoded_msg, encoded_message, encoded_to, encoded_outgoing, encoded_commit}
 use Rattle.flat.specs.Decode.{is_known, decoded_source, decoded_message}
-use Rattle.flat.specs.Told.{refusal_by_number, decoded_outcome, sent_message, decoded_destination, decoded_outgoing, decoded_commit}
+use Rattle.flat.specs.Told.{refusal_by_number, decoded_outcome, sent_message, decoded_outgoing, decoded_commit}
 use Rattle.flat.specs.declared.FlatMessage.{FlatMessage}
 use Rattle.flat.proofs.Encoded.{yes_encoded, value_encoded, message_encoded}
 
@@ -83,7 +83,7 @@ message_read : (m : ConsensusMessage) → sent_message (encoded_message m) ≡ m
 message_read m = sym (read_at_both 0 0 (encoded_message m) (kind_is_known m.msg)) ∙ message_encoded 0 0 m
 
 sent_read : (d : Destination) (m : ConsensusMessage) → decoded_outgoing (encoded_to d (encoded_message m)) ≡ Some (record { destination = d; message = m })
-unfolding decoded_outgoing decoded_destination encoded_to
+unfolding decoded_outgoing encoded_to
 sent_read (One p) m = ap (λ (x : ConsensusMessage). Some (record { destination = One p; message = x })) (message_read m)
 sent_read (All first) m =
     ap₂ (λ (o : Option ℕ) (x : ConsensusMessage). Some (record { destination = All o; message = x })) (value_encoded first) (message_read m)

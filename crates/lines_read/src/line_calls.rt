@@ -157,7 +157,7 @@ fn delivery_at(numbers: &[u64], at: usize) -> Delivery
 
 // The call of a line of kind 3 to 10. On a line of another kind, which is no call, the words count as those from its first number on.
 #[tactic(auto, unfolding(crate::specs::line_calls::Calls::call_of_numbers))]
-pub fn call_of(numbers: &[u64]) -> Call
+pub fn call_of_numbers(numbers: &[u64]) -> Call
     ensures { result ≡ call_of_numbers numbers.now }
 {
     match number_at(numbers, 0) {

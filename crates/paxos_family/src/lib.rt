@@ -11,8 +11,8 @@ use fast_state::{FastAnswers, FastState, FastTables};
 use message::{ConsensusMsg, PaxosRound, Refusal, RoundV};
 use steps::{Asked, ChangeStep, Core, CoreStep, Heard, Rounds, RoundsStep};
 
-// asked, heard and round are parameters of their own, as in accept and prepare, whose functions are called with them: a struct of the three would be taken
-// apart in each contract (accept tells of a trial). So are answers and tables: the first is changed by value, the others are lent.
+// asked, heard and round are parameters of their own, as in classic::accept and classic::prepare, whose functions are called with them: a struct of the three
+// would be taken apart in each contract (classic::accept tells of a trial). So are answers and tables: the first is changed by value, the others are lent.
 
 // The rest of the handler where it goes on from a step, and else the step. In EPaxos and SwiftPaxos the same stands in the four handlers: by a function
 // and_then_change like this one the proofs of the three whose rest takes the tables did not close, with `|core|` nor with `move |core|` (the goal `returns`).

@@ -3,7 +3,7 @@
 #![tactic(auto)]
 
 ghost use Rattle.std.specs.Prelude.{◌≡◌};
-ghost use Rattle.questions.specs.counted.Counting.{round_in, member_of, member_majority, in_own_round, repeats_held, accepted_set_with, counts_accept, keeps_held, prepared_set_with, completes_majority, gathers_promises, counts_promise, only_counts, with_counted};
+ghost use Rattle.questions.specs.counted.Counting.{round_in, member_of, member_majority, in_own_round, repeats_held, accepted_set_with, only_counts_accept, keeps_held, prepared_set_with, completes_majority, gathers_promises, only_counts_promise, only_counts, with_counted};
 
 use arrays::Setup;
 use basics::tables::PerProcess;
@@ -69,9 +69,9 @@ fn accepted_set_with(setup: Setup, c: FlatCore, m: FlatMessage) -> u64
 }
 
 // Whether an accept is counted by the leader and the majority is not reached.
-#[tactic(auto, unfolding(crate::specs::counted::Counting::counts_accept))]
-fn counts_accept(setup: Setup, c: FlatCore, m: FlatMessage) -> bool
-    ensures { result ≡ counts_accept setup c m }
+#[tactic(auto, unfolding(crate::specs::counted::Counting::only_counts_accept))]
+fn only_counts_accept(setup: Setup, c: FlatCore, m: FlatMessage) -> bool
+    ensures { result ≡ only_counts_accept setup c m }
 {
     setup.my_pid == m.leader
         && in_own_round(setup, c, m)
@@ -119,9 +119,9 @@ fn gathers_promises(setup: Setup, delegates: &PerProcess, m: FlatMessage) -> boo
 }
 
 // Whether a promise is counted, and the majority is not reached with this one.
-#[tactic(auto, unfolding(crate::specs::counted::Counting::counts_promise))]
-fn counts_promise(setup: Setup, delegates: &PerProcess, c: FlatCore, m: FlatMessage) -> bool
-    ensures { result ≡ counts_promise setup delegates.now c m }
+#[tactic(auto, unfolding(crate::specs::counted::Counting::only_counts_promise))]
+fn only_counts_promise(setup: Setup, delegates: &PerProcess, c: FlatCore, m: FlatMessage) -> bool
+    ensures { result ≡ only_counts_promise setup delegates.now c m }
 {
     gathers_promises(setup, delegates, m)
         && in_own_round(setup, c, m)
@@ -135,8 +135,8 @@ pub fn only_counts(setup: Setup, delegates: &PerProcess, c: FlatCore, m: FlatMes
     ensures { result ≡ only_counts setup delegates.now c m }
 {
     match m.kind {
-        flat::ACCEPT => counts_accept(setup, c, m),
-        flat::PREPARE => counts_promise(setup, delegates, c, m),
+        flat::ACCEPT => only_counts_accept(setup, c, m),
+        flat::PREPARE => only_counts_promise(setup, delegates, c, m),
         _ => false,
     }
 }

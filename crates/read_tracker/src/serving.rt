@@ -1,5 +1,5 @@
 // What a response and a commit do with the open reads: which of them are served, and which stay open. The Rust's read_tracker.rs,
-// `receive_ready` and `serve_at_commit`.
+// `receive_ready` and `commit_slot`.
 #![tactic(auto)]
 
 ghost use Rattle.std.specs.Prelude.{ℕ, List, ◌≡◌, ◌<◌, ◌≤◌, length, position, slice_index_or, slice_set, take};

@@ -66,7 +66,7 @@ fn line_answer_of(shard: Shard, numbers: &[u64]) -> Answer
     match lines_read::line_calls::number_at(numbers, 0) {
         1 => new_shard(lines_read::line_states::group_settings_of(numbers)),
         2 => state_answer(shard, lines_read::line_states::state_of(numbers)),
-        _ => shard.call(lines_read::line_calls::call_of(numbers)),
+        _ => shard.call(lines_read::line_calls::call_of_numbers(numbers)),
     }
 }
 

@@ -56,7 +56,7 @@ use Rattle.paxos_family.specs.Commit.{commit_slot}
 use Rattle.delivery.specs.declared.Delivery.{Delivery}
 use Rattle.calls.specs.Asked.{asked_of, proposer_gathers, gatherer_in, heard_of}
 use Rattle.sums.specs.Sums.{Sums}
-use Rattle.sums.specs.Parts.{next_leader_round_by, starting_round_by, proposal_round_by, may_propose_by, delegate_in_by, committer_for_by, committer_in_by, asked_of_by, gatherer_in_by, heard_of_by, to_v_after_by, epaxos_scores_after_by, swift_scores_after_by, change_rounds_by, preaccepted_after_by, score_after_by, epaxos_counted_by, epaxos_answered_by, epaxos_propose_v_by, value_in_by, score_in_by, epaxos_try_adopt_after_by, swift_counted_by, swift_first_by, swift_answered_by, swift_own_by, swift_unanswered_by, swift_propose_v_by, opening_by, open_next_by, insert_opened_by, insert_read_by, after_response_by, after_commit_by, kept_by_ready_by, served_by_ready_by, kept_by_commit_by, served_by_commit_by, receive_ready_by, serve_reads_by, commit_slot_by}
+use Rattle.sums.specs.Parts.{next_leader_round_by, starting_round_by, proposal_round_by, may_propose_by, delegate_in_by, committer_for_by, committer_in_by, asked_of_by, gatherer_in_by, heard_of_by, to_v_after_by, epaxos_scores_after_by, swift_scores_after_by, change_rounds_by, preaccepted_after_by, score_after_by, epaxos_counted_by, epaxos_answered_by, epaxos_propose_v_by, value_in_by, score_in_by, epaxos_try_adopt_after_by, swift_counted_by, swift_first_by, swift_answered_by, swift_own_by, swift_unanswered_by, swift_propose_v_by, opening_by, open_next_by, insert_opened_by, insert_read_by, after_response_by, after_commit_by, kept_by_ready_by, served_by_ready_by, kept_by_commit_by, served_by_commit_by, receive_ready_by, serve_at_commit_by, commit_slot_by}
 
 -- ---- two results that are the same, of which what is not refused has a property
 
@@ -186,8 +186,8 @@ module _ (m : Sums) where
     ready_same id quorum slot fast =
         ap₂ (tracked tracker table) (ready_kept_same id quorum (open_reads tracker table) e) (ready_served_same id quorum slot fast (open_reads tracker table) e)
 
-    pub serve_same : (quorum slot : ℕ) → serve_reads_by m tracker table quorum slot ≡ serve_at_commit tracker table quorum slot
-    unfolding serve_reads_by serve_at_commit
+    pub serve_same : (quorum slot : ℕ) → serve_at_commit_by m tracker table quorum slot ≡ serve_at_commit tracker table quorum slot
+    unfolding serve_at_commit_by serve_at_commit
     serve_same quorum slot =
         ap₂ (tracked tracker table) (commit_kept_same quorum (open_reads tracker table) e) (commit_served_same quorum slot (open_reads tracker table) e)
 

@@ -38,7 +38,7 @@ use Rattle.consensus.specs.declared.Shard.{Shard}
 use Rattle.consensus.specs.declared.State.{State}
 use Rattle.consensus.specs.declared.StateAnswer.{StateAnswer}
 use Rattle.sums.specs.Sums.{Sums}
-use Rattle.sums.specs.Parts.{starting_round_by, asked_of_by, heard_in_by, insert_read_by, receive_ready_by, serve_reads_by, read_answer_by, next_slot_by}
+use Rattle.sums.specs.Parts.{starting_round_by, asked_of_by, heard_in_by, insert_read_by, receive_ready_by, serve_at_commit_by, read_answer_by, next_slot_by}
 use Rattle.sums.specs.Handlers.{process_fast_by, propose_classic_by, propose_fast_by}
 
 module _ (m : Sums) where
@@ -70,7 +70,7 @@ module _ (m : Sums) where
 
   unfoldable pub committed_by : State → Asked → ℕ → Rounds → Messages → StateAnswer
   committed_by state a v s messages =
-      served (next_slot_by m a v s) (serve_reads_by m s.core.tracker state.table a.member.quorums.majority (next_slot_by m a v s).core.slot) messages
+      served (next_slot_by m a v s) (serve_at_commit_by m s.core.tracker state.table a.member.quorums.majority (next_slot_by m a v s).core.slot) messages
       (committed_slot s.core.slot v (is_fast a s.core))
 
   abbrev pub finish_at_by : State → Asked → Bool → Rounds → Messages → Next → StateAnswer

@@ -313,9 +313,9 @@ module _ (m : Sums) where
   receive_ready_by tracker table id quorum slot fast =
       tracked tracker table (kept_by_ready_by id quorum (open_reads tracker table)) (served_by_ready_by id quorum slot fast (open_reads tracker table))
 
-  -- `serve_at_commit` of serving
-  unfoldable pub serve_reads_by : ReadTracker → ReadTable → ℕ → ℕ → Tracked
-  serve_reads_by tracker table quorum slot =
+  -- `serve_at_commit` of read_tracker::serving
+  unfoldable pub serve_at_commit_by : ReadTracker → ReadTable → ℕ → ℕ → Tracked
+  serve_at_commit_by tracker table quorum slot =
       tracked tracker table (kept_by_commit_by quorum (open_reads tracker table)) (served_by_commit_by quorum slot (open_reads tracker table))
 
   abbrev pub next_readable_by : Core → ℕ

@@ -93,7 +93,7 @@ call_number (Err why) = not_taken_number why
 
 -- ---- what is left
 
--- what a function of this crate leaves: whether reads may have become ready, or the refusal; and the numbers in the arrays of the core and of the reply
+-- what a function of direct::handlers leaves: whether reads may have become ready, or the refusal; and the numbers in the arrays of the core and of the reply
 pub record LeftInArrays (Half : Type 0) : Type 0 where
   pub handled : Result Bool Refusal
   pub core : List ℕ
@@ -108,9 +108,9 @@ abbrev pub left_with : Result Bool Refusal → List ℕ → ReplyInArrays → Le
 left_with handled core reply = record { handled = handled; core = core; half = tt; reply = reply }
 
 -- no read is to be served
-abbrev pub no_reads : Outcome → Result Bool Refusal
-no_reads (Ok tt) = Ok false
-no_reads (Err why) = Err why
+abbrev pub serves_no_read : Outcome → Result Bool Refusal
+serves_no_read (Ok tt) = Ok false
+serves_no_read (Err why) = Err why
 
 -- a refusal writes nothing
 abbrev pub left_refused : Refusal → List ℕ → ReplyInArrays → LeftInArrays NoHalf
@@ -169,8 +169,8 @@ put_processed a held (Ok s) core w = put_next a held s s.next core w
 put_processed a held (Err why) core w = left_refused why core w
 
 -- a Commit has no round, and goes to the core at once
-unfoldable pub handled_by : Setup → List ℕ → List ℕ → List ℕ → FlatCall → ReplyInArrays → LeftInArrays NoHalf
-handled_by s committers delegates core f w =
+unfoldable pub handled_in_arrays : Setup → List ℕ → List ℕ → List ℕ → FlatCall → ReplyInArrays → LeftInArrays NoHalf
+handled_in_arrays s committers delegates core f w =
     cond (eqb f.message.kind 4) (put_answer (core_on_commit (asked_in s) f.message.slot f.message.v (decoded_core (core_of core))) core w)
     (put_processed (asked_in s) (is_yes f.value_held)
     (process_classic (asked_in s) (flat_heard s committers delegates f) (decoded_msg f.message) (decoded_core (core_of core)))

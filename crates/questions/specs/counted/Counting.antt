@@ -44,8 +44,8 @@ unfoldable pub accepted_set_with : Setup → FlatCore → FlatMessage → ℕ
 accepted_set_with s c m = counted (member_of s) m.src c.accepted_set
 
 -- the leader counts, and the majority is not reached
-unfoldable pub counts_accept : Setup → FlatCore → FlatMessage → Bool
-counts_accept s c m =
+unfoldable pub only_counts_accept : Setup → FlatCore → FlatMessage → Bool
+only_counts_accept s c m =
     eqb s.my_pid m.leader
     && (in_own_round s c m && (repeats_held c m && not (leb (member_majority s) (size (accepted_set_with s c m)))))
 
@@ -71,13 +71,13 @@ gathers_promises s delegates m =
     eqb m.rv.fast 0 && eqb (delegate_in delegates (mode_of_number s.mode) m.leader) s.my_pid
 
 -- who gathers the promises counts, and the majority is not reached with this one
-unfoldable pub counts_promise : Setup → List ℕ → FlatCore → FlatMessage → Bool
-counts_promise s delegates c m = gathers_promises s delegates m && (in_own_round s c m && (keeps_held c m && not (completes_majority s c m)))
+unfoldable pub only_counts_promise : Setup → List ℕ → FlatCore → FlatMessage → Bool
+only_counts_promise s delegates c m = gathers_promises s delegates m && (in_own_round s c m && (keeps_held c m && not (completes_majority s c m)))
 
 -- ---- both
 
 unfoldable pub only_counts : Setup → List ℕ → FlatCore → FlatMessage → Bool
-only_counts s delegates c m = cond (eqb m.kind 2) (counts_accept s c m) (eqb m.kind 1 && counts_promise s delegates c m)
+only_counts s delegates c m = cond (eqb m.kind 2) (only_counts_accept s c m) (eqb m.kind 1 && only_counts_promise s delegates c m)
 
 -- an accept takes the slot off the fast path
 abbrev pub with_accepts : ℕ → FlatCore → FlatCore
@@ -94,8 +94,8 @@ with_accepts set c =
       open_count = c.open_count;
     }
 
-abbrev pub with_promises : ℕ → FlatCore → FlatCore
-with_promises set c =
+abbrev pub with_counted_promises : ℕ → FlatCore → FlatCore
+with_counted_promises set c =
     record {
       slot = c.slot;
       last_v = c.last_v;
@@ -109,4 +109,4 @@ with_promises set c =
     }
 
 unfoldable pub with_counted : Setup → FlatCore → FlatMessage → FlatCore
-with_counted s c m = cond (eqb m.kind 2) (with_accepts (accepted_set_with s c m) c) (with_promises (prepared_set_with s c m) c)
+with_counted s c m = cond (eqb m.kind 2) (with_accepts (accepted_set_with s c m) c) (with_counted_promises (prepared_set_with s c m) c)
