@@ -205,7 +205,8 @@ fn outgoing(f: &FlatOutgoing) -> Option<Outgoing> {
     let destination = match f.kind {
         0 => return None,
         1 => Destination::One(f.to),
-        _ => Destination::All(option(f.first)),
+        2 => Destination::All(option(f.first)),
+        kind => unreachable!("the engine writes a destination as 1 or 2, not as {kind}"),
     };
     Some(Outgoing { destination, message: message(&f.message) })
 }
