@@ -1,5 +1,5 @@
-//! The flat forms of shards, calls and replies, whose parts are lent to the functions that crates/host, crates/direct and crates/direct_fast export, as rows of
-//! numbers. Those of the parts are as crates/flat, crates/calendar, crates/windows and crates/group_settings declare them. A flat form has numbers only: 0 is
+//! The flat forms of shards, calls and replies, which are lent to the functions that crates/host, crates/direct and crates/direct_fast export. Those of the
+//! parts are as crates/flat, crates/calendar, crates/windows and crates/group_settings declare them. A flat form has numbers only: 0 is
 //! no and any other number yes. Every flat form stands for some shard or call, whatever numbers are in it, and so a call on one is safe.
 //!
 //! [`Shard`](crate::Shard) is the interface for a host; these are for whoever keeps shards in memory of their own.
@@ -238,72 +238,20 @@ pub struct FlatReply {
     pub served_count: u64,
 }
 
+// SAFETY: each function is proved to write nothing but what is lent to it as `mut`, in the very layout of these structs (tests/layout.rs), and to take every
+// number that may stand there.
 unsafe extern "C" {
-    /// A shard as it begins, in rows of numbers that are parts of it: `setup` has the numbers of a shard up to `has_committers`, `answers` those of its
-    /// fast half up to the tables, and `values`, `epaxos` and `swift` are these. Every number is written. Gives the shard's `made`: 0; 1 where the settings
-    /// are outside the limits; or else 17 where a window does not fit.
-    ///
-    /// # Safety
-    ///
-    /// Each row can be written, and none overlaps another.
-    pub unsafe fn chanbook_shard_new(
-        group: FlatGroupSettings,
-        setup: *mut [u64; 10],
-        committers: *mut [u64; 64],
-        delegates: *mut [u64; 64],
-        core: *mut [u64; 18],
-        answers: *mut [u64; 5],
-        values: *mut [u64; 64],
-        epaxos: *mut [u64; 64],
-        swift: *mut [u64; 64],
-        reads: *mut [u64; 640],
-        served: *mut [u64; 512],
-    ) -> u64;
+    /// A shard as it begins. Every number of it is written. Gives its `made`: 0; 1 where the settings are outside the limits; or else 17 where a window does
+    /// not fit.
+    pub safe fn chanbook_shard_new(group: FlatGroupSettings, shard: &mut FlatShard) -> u64;
 
-    /// A call in place, on the same rows of a shard, and on those of a call and of a reply: `rest` has the reply's commit and `served_count`. Gives 0 where
-    /// the call is taken; of a message that is not sent only the kind is written. Gives the number of a refusal, or [`PASSED_ON`] for a call that
-    /// [`chanbook_fast_call`] takes: nothing at all is written then.
-    ///
-    /// # Safety
-    ///
-    /// Each row can be read, and written where it is `mut`, and none that is written overlaps another.
-    pub unsafe fn chanbook_direct_call(
-        setup: *const [u64; 10],
-        committers: *const [u64; 64],
-        delegates: *const [u64; 64],
-        core: *mut [u64; 18],
-        reads: *mut [u64; 640],
-        served: *mut [u64; 512],
-        call: *const [u64; 25],
-        first: *mut [u64; 20],
-        second: *mut [u64; 20],
-        third: *mut [u64; 20],
-        rest: *mut [u64; 5],
-    ) -> u64;
+    /// A call in place. Gives 0 where the call is taken; of a message that is not sent only the kind is written. Gives the number of a refusal, or
+    /// [`PASSED_ON`] for a call that [`chanbook_fast_call`] takes: nothing at all is written then. The reply's outcome is left for the caller to write.
+    pub safe fn chanbook_direct_call(shard: &mut FlatShard, call: &FlatCall, reply: &mut FlatReply) -> u64;
 
-    /// The same for EPaxos and SwiftPaxos: proposals, Prepare, Accept, ForwardRequest and Commit. The fast half is lent besides. Gives [`PASSED_ON`] for a
-    /// call that [`chanbook_direct_call`] takes: a new read, a message of a read or of an unknown kind, and all of the other modes.
-    ///
-    /// # Safety
-    ///
-    /// Each row can be read, and written where it is `mut`, and none that is written overlaps another.
-    pub unsafe fn chanbook_fast_call(
-        setup: *const [u64; 10],
-        committers: *const [u64; 64],
-        delegates: *const [u64; 64],
-        core: *mut [u64; 18],
-        answers: *mut [u64; 5],
-        values: *mut [u64; 64],
-        epaxos: *mut [u64; 64],
-        swift: *mut [u64; 64],
-        reads: *mut [u64; 640],
-        served: *mut [u64; 512],
-        call: *const [u64; 25],
-        first: *mut [u64; 20],
-        second: *mut [u64; 20],
-        third: *mut [u64; 20],
-        rest: *mut [u64; 5],
-    ) -> u64;
+    /// The same for EPaxos and SwiftPaxos: proposals, Prepare, Accept, ForwardRequest and Commit. The fast half is written besides. Gives [`PASSED_ON`] for
+    /// a call that [`chanbook_direct_call`] takes: a new read, a message of a read or of an unknown kind, and all of the other modes.
+    pub safe fn chanbook_fast_call(shard: &mut FlatShard, call: &FlatCall, reply: &mut FlatReply) -> u64;
 }
 
 /// The modes with a fast path, as numbers.
@@ -332,92 +280,12 @@ pub fn chanbook_call(shard: &mut FlatShard, call: &FlatCall, reply: &mut FlatRep
 #[inline]
 fn outcome(shard: &mut FlatShard, call: &FlatCall, reply: &mut FlatReply) -> u64 {
     if matches!(shard.settings.mode, EPAXOS | SWIFT_PAXOS) {
-        let number = fast_call(shard, call, reply);
+        let number = chanbook_fast_call(shard, call, reply);
         if number != PASSED_ON {
             return number;
         }
     }
-    direct_call(shard, call, reply)
-}
-
-// SAFETY, of the three functions below: shard, call and reply are borrowed for as long as the call lasts, and have numbers only. The rows are parts of
-// them that do not overlap. `row` checks the length of a field that is handed over whole. The lengths of the other four are checked at the end of
-// this file: from the shard's first number to its committers, from the fast half's first number to its tables, the whole call, and from the reply's
-// commit to its end.
-
-/// A shard as it begins, in place, whatever stood there. Gives its `made`.
-pub fn chanbook_begin(shard: &mut FlatShard, group: &FlatGroupSettings) -> u64 {
-    let shard = &raw mut *shard;
-    // SAFETY: as above.
-    unsafe {
-        let fast = &raw mut (*shard).state.rounds.fast;
-        chanbook_shard_new(
-            *group,
-            shard.cast(),
-            &raw mut (*shard).settings.committers,
-            &raw mut (*shard).settings.delegates,
-            row(&raw mut (*shard).state.rounds.core),
-            fast.cast(),
-            &raw mut (*fast).fast_proposer_to_v,
-            &raw mut (*fast).epaxos_proposer_scores,
-            &raw mut (*fast).swift_proposer_scores,
-            row(&raw mut (*shard).state.table.reads),
-            row(&raw mut (*shard).state.table.served),
-        )
-    }
-}
-
-#[inline]
-fn fast_call(shard: &mut FlatShard, call: &FlatCall, reply: &mut FlatReply) -> u64 {
-    let (shard, call, reply) = (&raw mut *shard, &raw const *call, &raw mut *reply);
-    // SAFETY: as above.
-    unsafe {
-        let fast = &raw mut (*shard).state.rounds.fast;
-        chanbook_fast_call(
-            shard.cast(),
-            &raw const (*shard).settings.committers,
-            &raw const (*shard).settings.delegates,
-            row(&raw mut (*shard).state.rounds.core),
-            fast.cast(),
-            &raw mut (*fast).fast_proposer_to_v,
-            &raw mut (*fast).epaxos_proposer_scores,
-            &raw mut (*fast).swift_proposer_scores,
-            row(&raw mut (*shard).state.table.reads),
-            row(&raw mut (*shard).state.table.served),
-            call.cast(),
-            row(&raw mut (*reply).first),
-            row(&raw mut (*reply).second),
-            row(&raw mut (*reply).third),
-            (&raw mut (*reply).commit).cast(),
-        )
-    }
-}
-
-#[inline]
-fn direct_call(shard: &mut FlatShard, call: &FlatCall, reply: &mut FlatReply) -> u64 {
-    let (shard, call, reply) = (&raw mut *shard, &raw const *call, &raw mut *reply);
-    // SAFETY: as above.
-    unsafe {
-        chanbook_direct_call(
-            shard.cast(),
-            &raw const (*shard).settings.committers,
-            &raw const (*shard).settings.delegates,
-            row(&raw mut (*shard).state.rounds.core),
-            row(&raw mut (*shard).state.table.reads),
-            row(&raw mut (*shard).state.table.served),
-            call.cast(),
-            row(&raw mut (*reply).first),
-            row(&raw mut (*reply).second),
-            row(&raw mut (*reply).third),
-            (&raw mut (*reply).commit).cast(),
-        )
-    }
-}
-
-/// The numbers of a flat form, or of a list of flat forms, as a row.
-fn row<T, const LENGTH: usize>(part: *mut T) -> *mut [u64; LENGTH] {
-    const { assert!(size_of::<T>() == LENGTH * size_of::<u64>()) };
-    part.cast()
+    chanbook_direct_call(shard, call, reply)
 }
 
 macro_rules! numbers {
@@ -448,7 +316,7 @@ impl FlatShard {
     /// A shard as it begins. Its `made` says whether it is made.
     pub fn begun(group: &FlatGroupSettings) -> Box<FlatShard> {
         let mut shard = Box::new(FlatShard::from_numbers([0; FlatShard::NUMBERS]));
-        chanbook_begin(&mut shard, group);
+        chanbook_shard_new(*group, &mut shard);
         shard
     }
 }

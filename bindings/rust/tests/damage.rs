@@ -141,7 +141,7 @@ fn a_shard_begins_in_any_memory() {
             let whole_mhz_from = LAST_SLOT + mark;
             let group = (&GroupSettings::new(settings.clone(), whole_mhz_from)).into();
             let mut shard = FlatShard::from_numbers(std::array::from_fn(|_| any_number(&mut random)));
-            assert_eq!(sys::chanbook_begin(&mut shard, &group), mark);
+            assert_eq!(sys::chanbook_shard_new(group, &mut shard), mark);
             assert_eq!(shard.numbers(), FlatShard { made: mark, ..*begun.flat() }.numbers());
         }
     }

@@ -1,9 +1,11 @@
 //! The flat forms of this crate have the fields of the C header, in the same order and of the same types, and those of the parts have the fields of crates/flat,
 //! crates/calendar, crates/windows and crates/group_settings. All are numbers and `#[repr(C)]`, and so equal fields are equal sizes and offsets. The functions
-//! that begin a shard and make a call have the rows of the source and of the header, in the same order, and so have the functions of a register and of lists.
-//! A shard and a reply are whole in this crate and in the header alone: the source has their rows.
+//! that begin a shard and make a call are lent the same structs on all sides: the source has arrays of numbers in them, which begin where the parts of a host's
+//! shard and reply do. The functions of a register and of lists have the rows of the source and of the header, in the same order.
 
+use chanbook_shard::sys::{FlatCall, FlatReply, FlatShard};
 use std::collections::BTreeMap;
+use std::mem::{offset_of, size_of};
 
 const MIRROR: &str = include_str!("../src/sys.rs");
 const FLAT: &str = include_str!("../../../crates/flat/src/lib.rt");
@@ -13,6 +15,7 @@ const GROUP_SETTINGS: &str = include_str!("../../../crates/group_settings/src/li
 const HOST: &str = include_str!("../../../crates/host/src/lib.rt");
 const HOST_C: &str = include_str!("../../../crates/host_c/src/lib.rt");
 const DIRECT: &str = include_str!("../../../crates/direct/src/lib.rt");
+const HANDLERS: &str = include_str!("../../../crates/direct/src/handlers.rt");
 const DIRECT_FAST: &str = include_str!("../../../crates/direct_fast/src/lib.rt");
 const DIRECT_C: &str = include_str!("../../../crates/direct_c/src/lib.rt");
 const DIRECT_FAST_C: &str = include_str!("../../../crates/direct_fast_c/src/lib.rt");
@@ -20,15 +23,14 @@ const HEADER: &str = include_str!("../../../crates/host/include/chanbook_shard.h
 
 const PLANNING_MIRROR: &str = include_str!("../src/planning_sys.rs");
 const PLANNING_HOST: &str = include_str!("../../../crates/planning_host/src/lib.rt");
-const POSITION_ARRAYS: &str = include_str!("../../../crates/position_arrays/src/lib.rt");
+const POSITION_ARRAYS: &str = include_str!("../../../crates/register_arrays/src/positioned.rt");
 const REGISTER: &str = include_str!("../../../crates/register/src/lib.rt");
 const PLANNING_HEADER: &str = include_str!("../../../crates/planning_host/include/chanbook_planning.h");
 
 /// Where the arrays that are lent have their names.
-const ARRAYS: [&str; 5] = [
+const ARRAYS: [&str; 4] = [
     include_str!("../../../crates/arrays/src/lib.rt"),
     include_str!("../../../crates/arrays/src/reads.rt"),
-    include_str!("../../../crates/direct_fast/src/half.rt"),
     include_str!("../../../crates/basics/src/tables.rt"),
     include_str!("../../../crates/register_arrays/src/lib.rt"),
 ];
@@ -96,39 +98,92 @@ fn arguments<'a>(text: &'a str, opening: &str) -> Vec<&'a str> {
     list.split(',').map(str::trim).filter(|argument| !argument.is_empty()).collect()
 }
 
-/// `setup: *const [u64; 10]` for `const uint64_t setup[10]`, and the settings of a group.
-fn row_in_c(argument: &str) -> String {
-    if let Some(name) = argument.strip_prefix("struct chanbook_group_settings ") {
-        return format!("{name}: FlatGroupSettings");
+/// `call: &FlatCall` for `const struct chanbook_call *call`, and the settings of a group by value.
+fn lent_struct_in_c(argument: &str) -> String {
+    let (of, name) = argument.rsplit_once(' ').expect("a type and a name");
+    let flat = |of: &str| flat_of(of.trim_start_matches("struct "));
+    match (of.strip_prefix("const "), name.strip_prefix('*')) {
+        (Some(of), Some(name)) => format!("{name}: &{}", flat(of)),
+        (None, Some(name)) => format!("{name}: &mut {}", flat(of)),
+        _ => format!("{name}: {}", flat(of)),
     }
-    let (kind, declared) = argument.split_once("uint64_t ").expect("a row of numbers");
-    let (name, length) = declared.trim_end_matches(']').split_once('[').expect("a name and a length");
-    let kind = if kind.is_empty() { "mut" } else { kind.trim_end() };
-    format!("{name}: *{kind} [u64; {length}]")
 }
 
-/// `setup: *const [u64; 10]` for `setup: &[u64; 10]`.
-fn row_in_source(argument: &str) -> String {
-    argument.replace("&mut [", "*mut [").replace("&[", "*const [")
+/// `call: &FlatCall` for `call: &CallArray`.
+fn lent_struct_in_source(argument: &str) -> String {
+    argument.replace("ShardArrays", "FlatShard").replace("CallArray", "FlatCall").replace("ReplyInArrays", "FlatReply")
 }
 
-/// The call has so many rows, and they are the same ones on all three sides.
-fn same_rows(function: &str, source: &str, count: usize) {
+/// The function is lent so many structs, and they are the same ones on all three sides.
+fn same_structs(function: &str, source: &str, count: usize) {
     let (in_rust, in_c) = (format!("fn {function}("), format!("\nuint64_t {function}("));
-    let rows = arguments(MIRROR, &in_rust);
-    assert_eq!(rows.len(), count, "{function}");
-    assert_eq!(arguments(HEADER, &in_c).into_iter().map(row_in_c).collect::<Vec<_>>(), rows);
-    assert_eq!(arguments(&spelled_out(source), &in_rust).into_iter().map(row_in_source).collect::<Vec<_>>(), rows);
+    let structs = arguments(MIRROR, &in_rust);
+    assert_eq!(structs.len(), count, "{function}");
+    assert_eq!(arguments(HEADER, &in_c).into_iter().map(lent_struct_in_c).collect::<Vec<_>>(), structs);
+    assert_eq!(arguments(source, &in_rust).into_iter().map(lent_struct_in_source).collect::<Vec<_>>(), structs);
 }
 
 #[test]
-fn the_rows_are_those_of_the_source_and_of_the_header() {
-    same_rows("chanbook_shard_new", HOST, 11);
-    same_rows("chanbook_shard_new", HOST_C, 11);
-    same_rows("chanbook_direct_call", DIRECT, 11);
-    same_rows("chanbook_direct_call", DIRECT_C, 11);
-    same_rows("chanbook_fast_call", DIRECT_FAST, 15);
-    same_rows("chanbook_fast_call", DIRECT_FAST_C, 15);
+fn the_lent_structs_are_those_of_the_source_and_of_the_header() {
+    same_structs("chanbook_shard_new", HOST, 2);
+    same_structs("chanbook_shard_new", HOST_C, 2);
+    same_structs("chanbook_direct_call", DIRECT, 3);
+    same_structs("chanbook_direct_call", DIRECT_C, 3);
+    same_structs("chanbook_fast_call", DIRECT_FAST, 3);
+    same_structs("chanbook_fast_call", DIRECT_FAST_C, 3);
+}
+
+/// The arrays of a struct of the source, in their order, each with its length; a number alone is one of length 1.
+fn arrays_of(fields: &[String], of: &str) -> Vec<(String, usize)> {
+    let own = fields.iter().filter_map(|field| field.strip_prefix(of)?.strip_prefix('.'));
+    let arrays = |field: &str| {
+        let (name, of) = field.split_once(": ").expect("a name and a type");
+        match of.strip_prefix("[u64; ") {
+            Some(length) => vec![(name.to_string(), length.trim_end_matches(']').parse().expect("a length"))],
+            None if of == "u64" => vec![(name.to_string(), 1)],
+            None => arrays_of(fields, of).into_iter().map(|(inner, length)| (format!("{name}.{inner}"), length)).collect(),
+        }
+    };
+    own.flat_map(arrays).collect()
+}
+
+/// Each of them begins, in bytes, where the part of the host's struct begins that is named beside it; and the last one ends where that struct does.
+fn begin_at(of: &str, parts: &[(&str, usize)], size: usize) {
+    let source = spelled_out(&[ARRAYS[0], ARRAYS[1], HANDLERS].concat());
+    let mut end = 0;
+    let mut places = Vec::new();
+    for (name, length) in arrays_of(&fields_in_rust(&source), of) {
+        places.push((name, end));
+        end += length * size_of::<u64>();
+    }
+    assert_eq!(places.iter().map(|(name, at)| (name.as_str(), *at)).collect::<Vec<_>>(), parts);
+    assert_eq!(end, size, "{of}");
+}
+
+#[test]
+fn what_is_lent_is_the_memory_of_a_host() {
+    let shard = [
+        ("settings.setup", 0),
+        ("settings.committers", offset_of!(FlatShard, settings.committers)),
+        ("settings.delegates", offset_of!(FlatShard, settings.delegates)),
+        ("core", offset_of!(FlatShard, state.rounds.core)),
+        ("fast.answers", offset_of!(FlatShard, state.rounds.fast)),
+        ("fast.values", offset_of!(FlatShard, state.rounds.fast.fast_proposer_to_v)),
+        ("fast.epaxos", offset_of!(FlatShard, state.rounds.fast.epaxos_proposer_scores)),
+        ("fast.swift", offset_of!(FlatShard, state.rounds.fast.swift_proposer_scores)),
+        ("reads.reads", offset_of!(FlatShard, state.table.reads)),
+        ("reads.served", offset_of!(FlatShard, state.table.served)),
+    ];
+    begin_at("ShardArrays", &shard, size_of::<FlatShard>());
+    let reply = [
+        ("outcome", offset_of!(FlatReply, outcome)),
+        ("first", offset_of!(FlatReply, first)),
+        ("second", offset_of!(FlatReply, second)),
+        ("third", offset_of!(FlatReply, third)),
+        ("rest", offset_of!(FlatReply, commit)),
+    ];
+    begin_at("ReplyInArrays", &reply, size_of::<FlatReply>());
+    assert_eq!(spelled_out("CallArray"), format!("[u64; {}]", size_of::<FlatCall>() / size_of::<u64>()));
 }
 
 /// The fields of each struct, in their order: the structs stand in another order in the source.

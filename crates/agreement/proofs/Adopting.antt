@@ -12,9 +12,9 @@ use native.Mathlib.Decide.{ℕ_discrete}
 use borrow.Author.Tests.{eq-eqb}
 use Rattle.basics.specs.sets.Sets.{one, count}
 use Rattle.basics.proofs.sets.Counting.{count_some}
-use Rattle.agreement.specs.Voting.{Voters, World, Blocked, Clear, Consistent, VotersRules}
-use Rattle.agreement.specs.Model.{Answers}
-use Rattle.agreement.proofs.Tests.{and_both}
+use Rattle.agreement.specs.Voting.{Voters, World, NoFastQuorum, Clear, Consistent, VotersRules}
+use Rattle.agreement.specs.Model.{ModelAnswers}
+use Rattle.agreement.proofs.Tests.{both_hold}
 use Rattle.agreement.proofs.Growth.{names, TrueAnswers}
 use Rattle.agreement.proofs.Answers.{count_none, count_nobody, count_sum, proposer_first}
 
@@ -53,7 +53,7 @@ apart true false b f = one_bound b
     one_bound false = omega arith
 apart false a b f = omega arith
 
-module _ (g : Voters) (rules : VotersRules g) (fast : T g.fast_path) (w : World) (ok : Consistent g w) (i s : ℕ) (f : Answers) (o : TrueAnswers g w i s f)
+module _ (g : Voters) (rules : VotersRules g) (fast : T g.fast_path) (w : World) (ok : Consistent g w) (i s : ℕ) (f : ModelAnswers) (o : TrueAnswers g w i s f)
     (enough : g.quorum ≤ count f.answered g.count) (b : ℕ) (named-b : T (f.proposers b)) (best : (q : ℕ) → T (f.proposers q) → f.scores q ≤ f.scores b) where
   abbrev for : ℕ → ℕ → Bool
   for = names f o.name
@@ -67,7 +67,7 @@ module _ (g : Voters) (rules : VotersRules g) (fast : T g.fast_path) (w : World)
     blocked_by : (e : ℕ → Bool) → ((m : ℕ) → T (e m) → T (g.live m) × T (not (f.answered m)) × ((c : ℕ) × (u : ℕ) × w.First m s c u × (c ≡ suc p → ⊥)))
         → (count e g.count + count (λ m. rest (e m) (g.live m) (f.answered m) (eqb (o.name m) p)) g.count + count f.answered g.count ≤ count g.live g.count + count (for p) g.count
         → count (λ m. rest (e m) (g.live m) (f.answered m) (eqb (o.name m) p)) g.count < g.fast_quorum)
-        → Blocked g w s p
+        → NoFastQuorum g w s p
     blocked_by e out few = (
       left,
       few (count_sum e left f.answered g.live (for p) g.count
@@ -113,13 +113,13 @@ module _ (g : Voters) (rules : VotersRules g) (fast : T g.fast_path) (w : World)
         (λ m. apart (f.answered m) (eqb (o.name m) b) (eqb (o.name m) p) (λ t u. ne (sym (eqb→eq (o.name m) p u) ∙ eqb→eq (o.name m) b t)))
 
     -- b has answered: the answers for b are two more than those for p
-    if_answered : f.scores p ≤ f.scores b → T (f.answered b) → Blocked g w s p
+    if_answered : f.scores p ≤ f.scores b → T (f.answered b) → NoFastQuorum g w s p
     if_answered le t = blocked_by (λ m. false) (λ m t. absurd t) (λ h.
         let sp = silent_score p silent in let sb = answered_score t in let two = both_named in let z = count_none g.count in
         let c1 = rules.few in let c2 = rules.fast_enough fast in omega arith)
 
     -- b has not: the answers for b are no fewer than those for p, and b itself is left out
-    if_silent : f.scores p ≤ f.scores b → T (not (f.answered b)) → Blocked g w s p
+    if_silent : f.scores p ≤ f.scores b → T (not (f.answered b)) → NoFastQuorum g w s p
     if_silent le t = blocked_by (λ m. eqb m b) (λ m e. out m (eqb→eq m b e)) (λ h.
         let sp = silent_score p silent in let sb = silent_score b t in let two = both_named in let z = count_none g.count in
         let alone = count_some (λ m. eqb m b) b (eq-eqb b b refl) g.count (rules.below fast b (ok.first_live b s (suc b) (f.values b) first_b)) in
@@ -130,22 +130,22 @@ module _ (g : Voters) (rules : VotersRules g) (fast : T g.fast_path) (w : World)
             (ok.first_live b s (suc b) (f.values b) first_b, t, (suc b, f.values b, first_b, λ q. ne (omega arith)))
 
     -- nobody has answered for p
-    if_unnamed : T (not (f.proposers p)) → Blocked g w s p
+    if_unnamed : T (not (f.proposers p)) → NoFastQuorum g w s p
     if_unnamed t = blocked_by (λ m. false) (λ m t. absurd t) (λ h.
-        let none = count_nobody (for p) g.count (λ m u. unnamed m (and_both (f.answered m) (eqb (o.name m) p) u)) in let z = count_none g.count in
+        let none = count_nobody (for p) g.count (λ m u. unnamed m (both_hold (f.answered m) (eqb (o.name m) p) u)) in let z = count_none g.count in
         let c1 = rules.few in let c2 = rules.majority in let c3 = rules.fast_large fast in omega arith)
       where
         unnamed : (m : ℕ) → T (f.answered m) × T (eqb (o.name m) p) → ⊥
         unnamed m u = T_not (f.proposers p) t (subst (λ (q : ℕ). T (f.proposers q)) (eqb→eq (o.name m) p u.1) (o.proposer m u.0))
 
-    blocked : Blocked g w s p
+    blocked : NoFastQuorum g w s p
     blocked = go (f.proposers p) refl
       where
-        by_answer : f.scores p ≤ f.scores b → (c : Bool) → f.answered b ≡ c → Blocked g w s p
+        by_answer : f.scores p ≤ f.scores b → (c : Bool) → f.answered b ≡ c → NoFastQuorum g w s p
         by_answer le true e = if_answered le (passes (f.answered b) e)
         by_answer le false e = if_silent le (subst (λ (c : Bool). T (not c)) (sym e) tt)
 
-        go : (c : Bool) → f.proposers p ≡ c → Blocked g w s p
+        go : (c : Bool) → f.proposers p ≡ c → NoFastQuorum g w s p
         go true e = by_answer (best p (passes (f.proposers p) e)) (f.answered b) refl
         go false e = if_unnamed (subst (λ (c : Bool). T (not c)) (sym e) tt)
 

@@ -13,7 +13,7 @@ use Rattle.basics.proofs.Tests.{not_both, or_cases, or_left, or_right}
 use Rattle.basics.specs.sets.Sets.{one, count}
 use Rattle.basics.proofs.sets.Counting.{count_ext, count_one_more}
 use Rattle.agreement.specs.Voting.{Voters, World, Consistent}
-use Rattle.agreement.specs.Model.{Answers, add, model_no_answers, model_score_after, model_with_answer}
+use Rattle.agreement.specs.Model.{ModelAnswers, add, model_no_answers, model_score_after, model_with_answer}
 use Rattle.agreement.proofs.Tests.{is_true}
 use Rattle.agreement.proofs.Voting.{count_within}
 use Rattle.agreement.proofs.Growth.{names, TrueAnswers}
@@ -65,7 +65,7 @@ no_answers_true g w i s = record {
   scored = λ p. let e = count_none g.count in omega arith;
 }
 
-module _ (g : Voters) (w : World) (ok : Consistent g w) (i s : ℕ) (f : Answers) (o : TrueAnswers g w i s f) where
+module _ (g : Voters) (w : World) (ok : Consistent g w) (i s : ℕ) (f : ModelAnswers) (o : TrueAnswers g w i s f) where
   -- what an answer names was proposed by the proposer that it names
   pub proposer_first : (p : ℕ) → T (f.proposers p) → w.First p s (suc p) (f.values p)
   proposer_first p t =
@@ -74,7 +74,7 @@ module _ (g : Voters) (w : World) (ok : Consistent g w) (i s : ℕ) (f : Answers
 
   -- ---- one answer more: m has come to i's round, and names p with the value v
   module _ (m p v : ℕ) (new : T (not (f.answered m))) (live-m : T (g.live m)) (below : m < g.count) (came-m : w.Reached m s (suc i)) (first : w.First m s (suc p) v) where
-    abbrev f⁺ : Answers
+    abbrev f⁺ : ModelAnswers
     f⁺ = model_with_answer i m p v f
 
     abbrev name⁺ : ℕ → ℕ

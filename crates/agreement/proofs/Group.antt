@@ -8,7 +8,7 @@ use mathlib.Core.List.{List, [], ◌∷◌}
 use lib.Dec.{eqb, eqb→eq}
 use native.Mathlib.Omega.{arith}
 use Rattle.agreement.specs.Voting.{Voters, VotersRules, World, Consistent, Chosen}
-use Rattle.agreement.specs.Model.{View, ModelMessage, all, to, Decision, undecided, decided, initial}
+use Rattle.agreement.specs.Model.{View, ModelMessage, all, to, Decision, undecided, decided, model_initial}
 use Rattle.agreement.specs.Engine.{CallKind, proposes, delivers, reads, Envelope, EngineAnswer, Sent, LogEvent, proposal, committed, sent_with, log_with_commit, commits_by, log_with_proposal, Agrees, EngineClaim, Engine, RunOf, run_with_call, SentInRun, empty_run, run_of_calls, LegalCalls}
 use Rattle.agreement.specs.Refinement.{meanings, seen_as_model}
 use Rattle.basics.specs.Lists.{In}
@@ -37,7 +37,7 @@ pub record Sound (g : Voters) (E : Engine) : Type 1 where
   pub view : E.Shard → View
   pub meaning : E.Message → ModelMessage
   pub Valid : ℕ → E.Shard → Type 0
-  pub initial_view : (i : ℕ) → i < E.size → view (E.initial i) ≡ initial g.start
+  pub initial_view : (i : ℕ) → i < E.size → view (E.initial i) ≡ model_initial g.start
   pub initial_valid : (i : ℕ) → i < E.size → Valid i (E.initial i)
   pub answer_valid : (c : E.Call) (x : E.Shard) → Valid (E.member c) x → Valid (E.member c) (E.answer x c).shard
   pub answer_moves_on : (c : E.Call) (x : E.Shard) → Valid (E.member c) x → MovesOn (view x) (seen_as_model view meaning (E.answer x c))

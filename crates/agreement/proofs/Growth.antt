@@ -7,8 +7,8 @@ use mathlib.Core.Logic.{◌⊎◌, inl, inr}
 use lib.Dec.{T, eqb}
 use native.Mathlib.Omega.{arith}
 use Rattle.basics.specs.sets.Sets.{one, count}
-use Rattle.agreement.specs.Voting.{Voters, World, NotAfter, Voted, Promise, Blocked, Clear, Safe, FastChosen, Chosen}
-use Rattle.agreement.specs.Model.{View, Answers}
+use Rattle.agreement.specs.Voting.{Voters, World, NotAfter, Voted, ModelPromise, NoFastQuorum, Clear, Safe, FastChosen, Chosen}
+use Rattle.agreement.specs.Model.{View, ModelAnswers}
 
 -- why a vote may be new: i has cast it, at no position before one that it had reached; and the value was voted there already, or i is the
 -- round's delegate
@@ -82,7 +82,7 @@ module _ (g : Voters) (P : ℕ → ℕ → Type 0) (i : ℕ) (w w' : World) (e :
   pub voted_stays : (s r v : ℕ) → Voted w s r v → Voted w' s r v
   voted_stays s r v d = (d.0, e.votes d.0 s r v d.1)
 
-  pub promise_stays : (m s r a : ℕ) → Promise g w m s r a → Promise g w' m s r a
+  pub promise_stays : (m s r a : ℕ) → ModelPromise g w m s r a → ModelPromise g w' m s r a
   promise_stays m s r a b = (
     b.0,
     e.reached m s r b.1,
@@ -94,7 +94,7 @@ module _ (g : Voters) (P : ℕ → ℕ → Type 0) (i : ℕ) (w w' : World) (e :
       go r' v' l (inl h) = b.2 r' v' h l
       go r' v' l (inr k) = let z : r ≤ r' = (k.1 s r b.1).1 refl in absurd (omega arith)
 
-  blocked_stays : (s p : ℕ) → Blocked g w s p → Blocked g w' s p
+  blocked_stays : (s p : ℕ) → NoFastQuorum g w s p → NoFastQuorum g w' s p
   blocked_stays s p b = (b.0, b.1, λ m t. go m (b.2 m t))
     where
       go : (m : ℕ) → T (b.0 m) ⊎ ((c : ℕ) × (u : ℕ) × w.First m s c u × (c ≡ suc p → ⊥)) → T (b.0 m) ⊎ ((c : ℕ) × (u : ℕ) × w'.First m s c u × (c ≡ suc p → ⊥))
@@ -148,13 +148,13 @@ module _ (g : Voters) (P : ℕ → ℕ → Type 0) (i : ℕ) (w w' : World) (e :
   chosen_stays s v (inr c) = inr (c.0, fast_stays s c.0 v c.1)
 
 -- m has answered, and names p
-abbrev pub names : Answers → (ℕ → ℕ) → ℕ → ℕ → Bool
+abbrev pub names : ModelAnswers → (ℕ → ℕ) → ℕ → ℕ → Bool
 names f name p m = f.answered m && eqb (name m) p
 
 -- The answers f to the proposal of member i in slot s are true of the world, where `name` says which proposer each answer names: who has
 -- answered is live, has come to i's round and held what it names first; the proposers are those that are named; and the figures are those
 -- of the answers.
-pub record TrueAnswers (g : Voters) (w : World) (i s : ℕ) (f : Answers) : Type 0 where
+pub record TrueAnswers (g : Voters) (w : World) (i s : ℕ) (f : ModelAnswers) : Type 0 where
   pub name : ℕ → ℕ
   pub live : (m : ℕ) → T (f.answered m) → T (g.live m)
   pub came : (m : ℕ) → T (f.answered m) → w.Reached m s (suc i)
@@ -165,7 +165,7 @@ pub record TrueAnswers (g : Voters) (w : World) (i s : ℕ) (f : Answers) : Type
   pub scored : (p : ℕ) → f.scores p + (one (names f name p p) + one (names f name p p)) ≡ 2 + count (names f name p) g.count
 
 pub answers_stay : (g : Voters) (P : ℕ → ℕ → Type 0) (i : ℕ) (w w' : World) → Grows g P i w w'
-    → (j s : ℕ) (f : Answers) → TrueAnswers g w j s f → TrueAnswers g w' j s f
+    → (j s : ℕ) (f : ModelAnswers) → TrueAnswers g w j s f → TrueAnswers g w' j s f
 answers_stay g P i w w' e j s f o = record {
   name = o.name;
   live = o.live;
@@ -201,7 +201,7 @@ pub record TrueHeld (w : World) (i s r : ℕ) (holds : Bool) (a c v : ℕ) : Typ
 pub record TrueView (g : Voters) (w : World) (i : ℕ) (x : View) : Type 0 where
   pub position : TruePosition g w i x.slot x.round
   pub held : TrueHeld w i x.slot x.round x.holds x.held_round x.held_proposer x.held_value
-  pub promises : (m : ℕ) → T (x.prepared m) → Promise g w m x.slot x.round x.held_round
+  pub promises : (m : ℕ) → T (x.prepared m) → ModelPromise g w m x.slot x.round x.held_round
   pub accepts : (m : ℕ) → T (x.accepted m) → (x.held_round ≡ x.round) × w.Votes m x.slot x.round x.held_value
   pub picked : (m v : ℕ) → w.Votes m x.slot x.round v → i ≡ g.delegate x.round → T (x.accepted i)
   pub answers : TrueAnswers g w i x.slot x.answers

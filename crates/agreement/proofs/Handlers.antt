@@ -15,10 +15,10 @@ use borrow.Author.Tests.{eq-eqb, lt-ltb}
 use Rattle.basics.specs.sets.Sets.{one, count}
 use Rattle.basics.proofs.sets.Counting.{count_some, count_meet}
 use Rattle.basics.proofs.Tests as basic
-use Rattle.agreement.specs.Voting.{Voters, World, Voted, Promise, Clear, Safe, Consistent, Chosen}
-use Rattle.agreement.specs.Model.{View, Answers, ModelSetup, ModelMessage, prepare, accept, commit, other, all, ModelOutgoing, Host, Decision, undecided, decided, ModelOutcome, in_later_round, advanced, holding_other_value, prepared_by, accepted_by, voted, model_with_answer, with_answers, refuse, quiet, say, holds_before, enough_prepared, enough_accepted, fast_enough, may_adopt, is_best, model_enter, model_counted, casts, picks, model_adopts_best, decides, answering, model_gathers, model_promised, model_on_prepare, model_commits, replies, model_after_accept, model_on_accept, model_on_commit, model_own_answer, model_on_propose, model_on_message}
+use Rattle.agreement.specs.Voting.{Voters, World, Voted, ModelPromise, Clear, Safe, Consistent, Chosen}
+use Rattle.agreement.specs.Model.{View, ModelAnswers, ModelSetup, ModelMessage, prepare, accept, commit, other, all, ModelOutgoing, Host, Decision, undecided, decided, ModelOutcome, in_later_round, advanced, holding_other_value, prepared_by, accepted_by, model_voted, model_with_answer, with_answers, model_refused, quiet, model_sends, holds_before, enough_prepared, enough_accepted, fast_quorum_answered, may_adopt, is_best, model_enter, model_counted, casts, picks, model_adopts_best, decides, answering, model_gathers, model_promised, model_on_prepare, model_commits, replies, model_after_accept, model_on_accept, model_on_commit, model_own_answer, model_on_propose, model_on_message}
 use Rattle.agreement.specs.Refinement.{SetupRules, OnlyOther}
-use Rattle.agreement.proofs.Tests.{is_true, by_test, and_both, nor_both, neqb→ne}
+use Rattle.agreement.proofs.Tests.{is_true, by_test, both_hold, nor_both, neqb→ne}
 use Rattle.agreement.proofs.Growth.{Grows, grows_refl, grows_trans, voted_stays, promise_stays, chosen_stays, names, TrueAnswers, TrueView}
 use Rattle.agreement.proofs.Answers.{count_sum, count_nobody, add_self, proposer_first, answer_true}
 use Rattle.agreement.proofs.Adopting.{adopt_clear}
@@ -27,7 +27,7 @@ use Rattle.agreement.proofs.Moves.{add_reached, add_first, add_vote, add_proposa
 -- A message of member m is true: a Prepare is a promise of m, and what it holds was voted, or is what m held first; an Accept is a vote of m;
 -- and what is committed is chosen.
 abbrev pub MessageTrue : Voters → World → ℕ → ModelMessage → Type 0
-MessageTrue g w m (prepare s r a c v) = Promise g w m s r a × (a < r) × (1 ≤ a → Voted w s a v) × w.Proposed s v × (a ≡ 0 → w.First m s c v)
+MessageTrue g w m (prepare s r a c v) = ModelPromise g w m s r a × (a < r) × (1 ≤ a → Voted w s a v) × w.Proposed s v × (a ≡ 0 → w.First m s c v)
 MessageTrue g w m (accept s r v) = w.Votes m s r v
 MessageTrue g w m (commit s v) = Chosen g w s v
 MessageTrue g w m other = Unit {0}
@@ -136,12 +136,12 @@ module _ (S : ModelSetup) (rules : SetupRules S) where
     quiet_correct : Keeps (quiet x0)
     quiet_correct = idle_correct g P i w ok x0 o0 (quiet x0) refl refl tt
 
-    refuse_correct : Keeps (refuse x0)
-    refuse_correct = idle_correct g P i w ok x0 o0 (refuse x0) refl refl tt
+    refuse_correct : Keeps (model_refused x0)
+    refuse_correct = idle_correct g P i w ok x0 o0 (model_refused x0) refl refl tt
 
     -- on the way through a handler: the world has grown to w1, and the view x is true of it
     module _ (w1 : World) (e1 : Grows g P i w w1) (ok1 : Consistent g w1) (x : View) (o : TrueView g w1 i x) where
-      say_correct : (os : List ModelOutgoing) → OutgoingTrue g w1 i os → Keeps (say x os)
+      say_correct : (os : List ModelOutgoing) → OutgoingTrue g w1 i os → Keeps (model_sends x os)
       say_correct os k = record { world = w1; grows = e1; consistent = ok1; view = o; outgoing = k; decision = tt }
 
       -- the world after a commit
@@ -212,7 +212,7 @@ module _ (S : ModelSetup) (rules : SetupRules S) where
         picks_correct : (old : View) → (x.held_round ≡ 0 → T (not g.fast_path)) → Keeps (picks S i x0 old x)
         unfolding picks
         picks_correct old slow = by_test Keeps (ltb (count old.prepared g.count) g.quorum && enough_prepared S x) _ _
-            (λ t. let enough = leb→le g.quorum (count x.prepared g.count) (and_both (ltb (count old.prepared g.count) g.quorum) (enough_prepared S x) t).1 in
+            (λ t. let enough = leb→le g.quorum (count x.prepared g.count) (both_hold (ltb (count old.prepared g.count) g.quorum) (enough_prepared S x) t).1 in
             casts_correct x.held_value (o.held.held_proposed holds) (λ unvoted. inr (
               x.prepared,
               x.held_round,
@@ -247,8 +247,8 @@ module _ (S : ModelSetup) (rules : SetupRules S) where
           unfolding model_adopts_best
           adopts_correct h may = by_test Keeps (eqb h.adoptee 0) _ _ (λ _. say_correct [] tt)
               (λ _. by_test Keeps (is_best S b x.answers && enough_prepared S x) _ _
-              (λ t. let both = and_both (is_best S b x.answers) (enough_prepared S x) t in
-              let top = and_both (x.answers.proposers b) (eqb (count better g.count) 0) both.0 in
+              (λ t. let both = both_hold (is_best S b x.answers) (enough_prepared S x) t in
+              let top = both_hold (x.answers.proposers b) (eqb (count better g.count) 0) both.0 in
               let first = proposer_first g w1 ok1 i x.slot x.answers o.answers b top.0 in
               casts_correct (x.answers.values b) (ok1.first_proposed b x.slot (suc b) (x.answers.values b) first) (λ unvoted. inr (
                 x.prepared,
@@ -270,7 +270,7 @@ module _ (S : ModelSetup) (rules : SetupRules S) where
               enough : g.quorum ≤ count x.answers.answered g.count
               enough =
                   leb→le g.quorum (count x.answers.answered g.count)
-                  (and_both (leb g.quorum (count x.answers.answered g.count)) (leb 2 (count x.answers.proposers g.count)) may).0
+                  (both_hold (leb g.quorum (count x.answers.answered g.count)) (leb 2 (count x.answers.proposers g.count)) may).0
 
               none_better : T (eqb (count better g.count) 0) → (q : ℕ) → T (x.answers.proposers q) → Dec (x.answers.scores q ≤ x.answers.scores b) → x.answers.scores q ≤ x.answers.scores b
               none_better none q n (yes le) = le
@@ -283,8 +283,8 @@ module _ (S : ModelSetup) (rules : SetupRules S) where
           -- an answer of `source` was counted, which names p and v
           decides_correct : (source p v : ℕ) (h : Host) → T (x.answers.answered source) → w1.First source x.slot (suc p) v → Keeps (decides S i v h x0 x)
           unfolding decides
-          decides_correct source p v h counted_answer_lem first = by_test Keeps (fast_enough S x.answers) _ _
-              (λ t. let both = and_both (eqb (count x.answers.proposers g.count) 1) (leb g.fast_quorum x.answers.preaccepted) t in
+          decides_correct source p v h counted_answer_lem first = by_test Keeps (fast_quorum_answered S x.answers) _ _
+              (λ t. let both = both_hold (eqb (count x.answers.proposers g.count) 1) (leb g.fast_quorum x.answers.preaccepted) t in
               committed (eqb→eq (count x.answers.proposers g.count) 1 both.0) (leb→le g.fast_quorum x.answers.preaccepted both.1))
               (λ _. by_test Keeps (may_adopt S x.answers) _ _ (λ may. adopts_correct h may) (λ _. say_correct [] tt))
             where
@@ -313,7 +313,7 @@ module _ (S : ModelSetup) (rules : SetupRules S) where
                   one_holder = some_member holders g.count (let l = rules.voters.fast_large fast in let q = rules.voters.majority in let f = fast_enough_lem in omega arith)
 
                   holder_says : (m : ℕ) → T (holders m) → T (x.answers.answered m) × (a.name m ≡ i)
-                  holder_says m t = let k = and_both (x.answers.answered m) (eqb (a.name m) i) t in (k.0, eqb→eq (a.name m) i k.1)
+                  holder_says m t = let k = both_hold (x.answers.answered m) (eqb (a.name m) i) t in (k.0, eqb→eq (a.name m) i k.1)
 
                   own_proposal : T (x.answers.proposers i)
                   own_proposal = let k = holder_says one_holder.0 one_holder.1 in subst (λ (q : ℕ). T (x.answers.proposers q)) k.1 (a.proposer one_holder.0 k.0)
@@ -377,7 +377,7 @@ module _ (S : ModelSetup) (rules : SetupRules S) where
           (λ _. refuse_correct))
           (λ new. let came' : w1.Reached source x.slot (suc i) =
           subst (λ (r : ℕ). w1.Reached source x.slot r) (own_round_lem w1 e1 ok1 x o live-i holds in_round_lem delegated fast zero-round) came in
-          let f : Answers = model_with_answer i source (pred c) v x.answers in
+          let f : ModelAnswers = model_with_answer i source (pred c) v x.answers in
           let a : TrueAnswers g w1 i x.slot f =
           answer_true g w1 ok1 i x.slot x.answers o.answers source (pred c) v new live_source (rules.voters.below fast source live_source) came' first' in
           let o1 : TrueView g w1 i (with_answers f x) = with_answers_true g w1 ok1 i x o f a in
@@ -388,7 +388,7 @@ module _ (S : ModelSetup) (rules : SetupRules S) where
           → T (g.live source) → w1.Reached source x.slot x.round → (x.held_round ≡ 0 → w1.First source x.slot c v) → Keeps (model_gathers S i source c v h x0 old x)
       unfolding model_gathers
       gathers_correct source c v h old live-i holds in_round_lem delegated live_source came first = by_test Keeps (g.fast_path && eqb x.held_round 0) _ _
-          (λ t. let both = and_both g.fast_path (eqb x.held_round 0) t in
+          (λ t. let both = both_hold g.fast_path (eqb x.held_round 0) t in
           let zero-round = eqb→eq x.held_round 0 both.1 in
           answering_correct source c v h live-i holds in_round_lem delegated both.0 zero-round live_source came (first zero-round))
           (λ t. picks_correct w1 e1 ok1 x o live-i holds in_round_lem delegated old (λ z. not_and g.fast_path (eqb x.held_round 0) t (passes (eqb x.held_round 0) (eq-eqb x.held_round 0 z))))
@@ -491,7 +491,7 @@ module _ (S : ModelSetup) (rules : SetupRules S) where
 
     -- a value that `source` has voted for is accepted, by a member that holds something
     accepts_correct : (w1 : World) → Grows g P i w w1 → Consistent g w1 → (y : View) → TrueView g w1 i y → (source v : ℕ) (h : Host)
-        → T (g.live i) → T y.holds → w1.Votes source y.slot y.round v → Keeps (model_after_accept S i source h x0 (accepted_by source (voted i v y)))
+        → T (g.live i) → T y.holds → w1.Votes source y.slot y.round v → Keeps (model_after_accept S i source h x0 (accepted_by source (model_voted i v y)))
     accepts_correct w1 e1 ok1 y o source v h live-i holds told =
         let in_round_lem = (ok1.in_round source y.slot y.round v told).0 in
         let p = ok1.proposed source y.slot y.round v told in
@@ -499,9 +499,9 @@ module _ (S : ModelSetup) (rules : SetupRules S) where
         let w2 : World = add_vote w1 i y.slot y.round v in
         let e2 : Grows g P i w1 w2 = vote_grows g w1 ok1 i y o v live-i holds in_round_lem p f P in
         let ok2 : Consistent g w2 = vote_consistent g w1 ok1 i y o v live-i holds in_round_lem p f in
-        let o2 : TrueView g w2 i (voted i v y) = voted_true g w1 ok1 i y o v live-i holds in_round_lem p f in
-        let o3 : TrueView g w2 i (accepted_by source (voted i v y)) = accepted_by_true g w2 ok2 i (voted i v y) o2 source refl (inl told) in
-        after_accept_correct w2 (grows_trans g P i w w1 w2 e1 e2) ok2 (accepted_by source (voted i v y)) o3 source h (inr (refl, refl, refl, refl))
+        let o2 : TrueView g w2 i (model_voted i v y) = voted_true g w1 ok1 i y o v live-i holds in_round_lem p f in
+        let o3 : TrueView g w2 i (accepted_by source (model_voted i v y)) = accepted_by_true g w2 ok2 i (model_voted i v y) o2 source refl (inl told) in
+        after_accept_correct w2 (grows_trans g P i w w1 w2 e1 e2) ok2 (accepted_by source (model_voted i v y)) o3 source h (inr (refl, refl, refl, refl))
 
     on_accept_correct : (source s r v : ℕ) (h : Host) → w.Votes source s r v → Keeps (model_on_accept S i x0 source s r v h)
     unfolding model_on_accept
@@ -514,7 +514,7 @@ module _ (S : ModelSetup) (rules : SetupRules S) where
         (λ _. refuse_correct))
       where
         go : (w1 : World) → Grows g P i w w1 → Consistent g w1 → (y : View) → TrueView g w1 i y → T (g.live i) → w1.Votes source y.slot y.round v
-            → (b : Bool) → y.holds ≡ b → Keeps (model_after_accept S i source h x0 (accepted_by source (voted i v y)))
+            → (b : Bool) → y.holds ≡ b → Keeps (model_after_accept S i source h x0 (accepted_by source (model_voted i v y)))
         go w1 e1 ok1 y o live-i told1 true e = accepts_correct w1 e1 ok1 y o source v h live-i (passes y.holds e) told1
         -- what is accepted is the first that is held
         go w1 e1 ok1 y o live-i told1 false e =
@@ -555,8 +555,8 @@ module _ (S : ModelSetup) (rules : SetupRules S) where
     abbrev KeepsProposal : ModelOutcome → Type 1
     KeepsProposal r = Correct g (NewProposal x v r.taken) i w r
 
-    refused_correct : KeepsProposal (refuse x)
-    refused_correct = idle_correct g (NewProposal x v false) i w ok x o (refuse x) refl refl tt
+    refused_correct : KeepsProposal (model_refused x)
+    refused_correct = idle_correct g (NewProposal x v false) i w ok x o (model_refused x) refl refl tt
 
     abbrev wᵖ : World
     wᵖ = add_proposal w x.slot v
@@ -572,7 +572,7 @@ module _ (S : ModelSetup) (rules : SetupRules S) where
 
     -- the leader of the starting round votes at once
     led_correct : T (g.live i) → T (not x.holds) → x.round ≡ g.start → T S.starts_led → i ≡ g.delegate x.round
-        → KeepsProposal (say (voted i v (prepared_by i (holding_other_value 0 0 v (in_later_round x.round x)))) (record { destination = all; message = accept x.slot x.round v } ∷ []))
+        → KeepsProposal (model_sends (model_voted i v (prepared_by i (holding_other_value 0 0 v (in_later_round x.round x)))) (record { destination = all; message = accept x.slot x.round v } ∷ []))
     led_correct live-i unheld same_round led delegated =
         let z = o.held.unheld unheld in
         let positive = rules.starts_in_round led in
@@ -634,7 +634,7 @@ module _ (S : ModelSetup) (rules : SetupRules S) where
       held = held_true g w¹ ok¹ i (in_later_round (S.own_round i) x) (joined_true g wᵖ okᵖ i x oᵖ (S.own_round i) later) 0 f f v unheld
           (let l = later in omega arith) (λ l. absurd (omega arith)) (inr (refl, refl)) (λ _. refl) early
 
-      promise : Promise g w² i x.slot (S.own_round i) 0
+      promise : ModelPromise g w² i x.slot (S.own_round i) 0
       promise = own_promise g w² ok² i (holding_other_value 0 f v (in_later_round (S.own_round i) x)) held live-i tt
 
       asked_view : TrueView g w² i (prepared_by i (holding_other_value 0 f v (in_later_round (S.own_round i) x)))
@@ -643,12 +643,12 @@ module _ (S : ModelSetup) (rules : SetupRules S) where
       asked_true : MessageTrue g w² i (prepare x.slot (S.own_round i) 0 f v)
       asked_true = (promise, (let l = later in omega arith), (λ l. absurd (omega arith)), inr (refl, refl), λ z. inr (refl, refl, refl, refl))
 
-      asked_correct : KeepsProposal (say (prepared_by i (holding_other_value 0 f v (in_later_round (S.own_round i) x))) (record { destination = all; message = prepare x.slot (S.own_round i) 0 f v } ∷ []))
+      asked_correct : KeepsProposal (model_sends (prepared_by i (holding_other_value 0 f v (in_later_round (S.own_round i) x))) (record { destination = all; message = prepare x.slot (S.own_round i) 0 f v } ∷ []))
       asked_correct = record { world = w²; grows = asked_grows; consistent = ok²; view = asked_view; outgoing = (asked_true, tt); decision = tt }
 
     -- on the fast path it has answered itself
     fast_correct : T (g.live i) → T (not x.holds) → x.round ≡ g.start → T (not S.starts_led) → T g.fast_path → T (eqb (count x.answers.answered g.count) 0)
-        → KeepsProposal (say (model_own_answer S i v (prepared_by i (holding_other_value 0 (suc i) v (in_later_round (S.own_round i) x)))) (record { destination = all; message = prepare x.slot (S.own_round i) 0 (suc i) v } ∷ []))
+        → KeepsProposal (model_sends (model_own_answer S i v (prepared_by i (holding_other_value 0 (suc i) v (in_later_round (S.own_round i) x)))) (record { destination = all; message = prepare x.slot (S.own_round i) 0 (suc i) v } ∷ []))
     fast_correct live-i unheld same_round not-led fast unanswered = record {
       world = w2;
       grows = asked_grows live-i unheld same_round not-led (suc i) early owner;
@@ -693,8 +693,8 @@ module _ (S : ModelSetup) (rules : SetupRules S) where
     pub on_propose_correct : KeepsProposal (model_on_propose S i x v)
     unfolding model_on_propose
     on_propose_correct = by_test KeepsProposal (g.live i && (eqb x.round g.start && not x.holds)) _ _
-        (λ t. let a = and_both (g.live i) (eqb x.round g.start && not x.holds) t in
-        let b = and_both (eqb x.round g.start) (not x.holds) a.1 in
+        (λ t. let a = both_hold (g.live i) (eqb x.round g.start && not x.holds) t in
+        let b = both_hold (eqb x.round g.start) (not x.holds) a.1 in
         let same_round = eqb→eq x.round g.start b.0 in
         by_test KeepsProposal S.starts_led _ _
         (λ led. by_test KeepsProposal (eqb i (g.delegate x.round)) _ _ (λ d. led_correct a.0 b.1 same_round led (eqb→eq i (g.delegate x.round) d)) (λ _. refused_correct))

@@ -6,8 +6,8 @@ use mathlib.Core.Bool.{not}
 use mathlib.Core.Logic.{◌⊎◌, inl, inr}
 use lib.Dec.{T}
 use native.Mathlib.Omega.{arith}
-use Rattle.agreement.specs.Voting.{Voters, World, NotAfter, Voted, Promise, Safe, Consistent}
-use Rattle.agreement.specs.Model.{View, Answers, fresh, in_later_round, advanced, holding_other_value, prepared_by, accepted_by, voted, with_answers}
+use Rattle.agreement.specs.Voting.{Voters, World, NotAfter, Voted, ModelPromise, Safe, Consistent}
+use Rattle.agreement.specs.Model.{View, ModelAnswers, fresh, in_later_round, advanced, holding_other_value, prepared_by, accepted_by, model_voted, with_answers}
 use Rattle.agreement.proofs.Growth.{NewVote, NewPosition, Grows, promise_stays, safe_stays, TrueAnswers, answers_stay, TruePosition, TrueView, others_keep}
 use Rattle.agreement.proofs.Answers.{add_case, add_self, add_old, no_answers_true}
 
@@ -351,13 +351,13 @@ module _ (g : Voters) (w : World) (ok : Consistent g w) (i : ℕ) (x : View) (o 
       picked = o.picked;
     }
       where
-        promise : (m : ℕ) → Promise g w m x.slot x.round x.held_round → Promise g w¹ m x.slot x.round a
+        promise : (m : ℕ) → ModelPromise g w m x.slot x.round x.held_round → ModelPromise g w¹ m x.slot x.round a
         promise m q =
             let b = promise_stays g nothing i w w¹ (add_first_grows g nothing w i x.slot f v) m x.slot x.round x.held_round q in
             let z = o.held.unheld unheld in (b.0, b.1, (λ r' v' h l. let k = b.2 r' v' h l in omega arith), b.3)
 
   -- to count a promise
-  pub prepared_by_true : (m : ℕ) → Promise g w m x.slot x.round x.held_round → TrueView g w i (prepared_by m x)
+  pub prepared_by_true : (m : ℕ) → ModelPromise g w m x.slot x.round x.held_round → TrueView g w i (prepared_by m x)
   prepared_by_true m b = record {
     position = o.position;
     held = o.held;
@@ -367,12 +367,12 @@ module _ (g : Voters) (w : World) (ok : Consistent g w) (i : ℕ) (x : View) (o 
     picked = o.picked;
   }
     where
-      go : (k : ℕ) → (k ≡ m) ⊎ T (x.prepared k) → Promise g w k x.slot x.round x.held_round
-      go k (inl e) = subst (λ (j : ℕ). Promise g w j x.slot x.round x.held_round) (sym e) b
+      go : (k : ℕ) → (k ≡ m) ⊎ T (x.prepared k) → ModelPromise g w k x.slot x.round x.held_round
+      go k (inl e) = subst (λ (j : ℕ). ModelPromise g w j x.slot x.round x.held_round) (sym e) b
       go k (inr t) = o.promises k t
 
   -- the member's own promise
-  pub own_promise : T (g.live i) → T x.holds → Promise g w i x.slot x.round x.held_round
+  pub own_promise : T (g.live i) → T x.holds → ModelPromise g w i x.slot x.round x.held_round
   own_promise l holds = (l, o.position.at, (λ r' v' h lt. o.held.own_votes r' v' h), o.held.held_first holds)
 
   -- to count an accept
@@ -391,7 +391,7 @@ module _ (g : Voters) (w : World) (ok : Consistent g w) (i : ℕ) (x : View) (o 
       go k (inr t) = o.accepts k t
 
   -- to have other answers
-  pub with_answers_true : (f : Answers) → TrueAnswers g w i x.slot f → TrueView g w i (with_answers f x)
+  pub with_answers_true : (f : ModelAnswers) → TrueAnswers g w i x.slot f → TrueView g w i (with_answers f x)
   with_answers_true f a = record {
     position = o.position;
     held = o.held;
@@ -493,7 +493,7 @@ module _ (g : Voters) (w : World) (ok : Consistent g w) (i : ℕ) (x : View) (o 
         delegate_reached m s r u (inl h) = ok.delegate_reached m s r u h
         delegate_reached m s r u (inr k) = same_vote (λ m s r u. w.Reached (g.delegate r) s r) m s r u i x.slot x.round v k (delegate_there f)
 
-    pub voted_true : TrueView g w⁺ i (voted i v x)
+    pub voted_true : TrueView g w⁺ i (model_voted i v x)
     voted_true = record {
       position = record { at = o.position.at; furthest = o.position.furthest; started = o.position.started };
       held = record {

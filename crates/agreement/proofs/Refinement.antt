@@ -6,7 +6,7 @@ use mathlib.Core.Path.{◌≡◌, refl, sym, subst, ap}
 use mathlib.Core.Logic.{inl, inr}
 use mathlib.Core.List.{List}
 use Rattle.agreement.specs.Voting.{World, Consistent}
-use Rattle.agreement.specs.Model.{View, ModelSetup, ModelMessage, Host, undecided, ModelOutcome, refuse, model_on_propose, model_on_message}
+use Rattle.agreement.specs.Model.{View, ModelSetup, ModelMessage, Host, undecided, ModelOutcome, model_refused, model_on_propose, model_on_message}
 use Rattle.agreement.specs.Engine.{CallKind, proposes, delivers, reads, EngineClaim, Engine, empty_run, run_of_calls, LegalCalls}
 use Rattle.agreement.specs.Refinement.{SetupRules, propose, deliver, model_outcome, seen_as_model, AsModel, Refines}
 use Rattle.basics.proofs.Tests.{of-both}
@@ -43,16 +43,16 @@ module _ (S : ModelSetup) (rules : SetupRules S) (i : ℕ) (x : View) where
   propose_correct : (v : ℕ) (h : Host) (w : World) → Consistent S.voters w → TrueView S.voters w i x
       → Correct S.voters (NewProposal x v (model_outcome S x (propose i v h)).taken) i w (model_outcome S x (propose i v h))
   unfolding model_outcome
-  propose_correct v h w ok o = by_test (λ (r : ModelOutcome). Correct S.voters (NewProposal x v r.taken) i w r) h.allows (model_on_propose S i x v) (refuse x)
+  propose_correct v h w ok o = by_test (λ (r : ModelOutcome). Correct S.voters (NewProposal x v r.taken) i w r) h.allows (model_on_propose S i x v) (model_refused x)
       (λ _. on_propose_correct S rules i w ok x o v)
-      (λ _. idle_correct S.voters (NewProposal x v (refuse x).taken) i w ok x o (refuse x) refl refl tt)
+      (λ _. idle_correct S.voters (NewProposal x v (model_refused x).taken) i w ok x o (model_refused x) refl refl tt)
 
   deliver_correct : (P : ℕ → ℕ → Type 0) (source : ℕ) (c : ModelMessage) (h : Host) (w : World) → Consistent S.voters w → TrueView S.voters w i x
       → MessageTrue S.voters w source c → Correct S.voters P i w (model_outcome S x (deliver i source c h))
   unfolding model_outcome
-  deliver_correct P source c h w ok o k = by_test (Correct S.voters P i w) h.allows (model_on_message S i x source h c) (refuse x)
+  deliver_correct P source c h w ok o k = by_test (Correct S.voters P i w) h.allows (model_on_message S i x source h c) (model_refused x)
       (λ _. on_message_correct S rules P i w ok x o source h c k)
-      (λ _. idle_correct S.voters P i w ok x o (refuse x) refl refl tt)
+      (λ _. idle_correct S.voters P i w ok x o (model_refused x) refl refl tt)
 
   -- a call that is the model's
   module _ {M : Type 0} (meaning : M → ModelMessage) where

@@ -6,7 +6,7 @@ use mathlib.Core.Bool.{Bool, true, not, ◌&&◌, ◌||◌, cond}
 use mathlib.Core.List.{List, []}
 use lib.Dec.{eqb, ltb}
 use Rattle.basics.specs.sets.Sets.{count}
-use Rattle.agreement.specs.Model.{View, ModelSetup, ModelMessage, prepare, accept, commit, other, ModelOutgoing, Host, Decision, undecided, decided, ModelOutcome, in_later_round, holding_other_value, prepared_by, accepted_by, voted, model_with_answer, with_answers, holds_before, enough_prepared, enough_accepted, fast_enough, may_adopt, is_best, model_enter, model_counted, casts, picks, model_adopts_best, decides, answering, model_gathers, model_promised, model_on_prepare, model_commits, replies, model_after_accept, model_on_accept, model_on_commit, model_on_propose, model_on_message}
+use Rattle.agreement.specs.Model.{View, ModelSetup, ModelMessage, prepare, accept, commit, other, ModelOutgoing, Host, Decision, undecided, decided, ModelOutcome, in_later_round, holding_other_value, prepared_by, accepted_by, model_voted, model_with_answer, with_answers, holds_before, enough_prepared, enough_accepted, fast_quorum_answered, may_adopt, is_best, model_enter, model_counted, casts, picks, model_adopts_best, decides, answering, model_gathers, model_promised, model_on_prepare, model_commits, replies, model_after_accept, model_on_accept, model_on_commit, model_on_propose, model_on_message}
 use Rattle.basics.proofs.Tests.{of-both}
 
 -- from slot s to s': the same without a commit, and the next with a commit in s
@@ -44,7 +44,7 @@ module _ (S : ModelSetup) (i : ℕ) (x : View) where
 
   decides_moves_on : (v : ℕ) (h : Host) (y : View) → y.slot ≡ x.slot → MovesOn x (decides S i v h x y)
   unfolding decides model_adopts_best
-  decides_moves_on v h y e = of-both (MovesOn x) (fast_enough S y.answers) (e, λ j. suc (e j))
+  decides_moves_on v h y e = of-both (MovesOn x) (fast_quorum_answered S y.answers) (e, λ j. suc (e j))
       (of-both (MovesOn x) (may_adopt S y.answers)
       (of-both (MovesOn x) (eqb h.adoptee 0) e
       (of-both (MovesOn x) (is_best S (pred h.adoptee) y.answers && enough_prepared S y) (casts_moves_on (y.answers.values (pred h.adoptee)) y e) refl))
@@ -78,7 +78,7 @@ module _ (S : ModelSetup) (i : ℕ) (x : View) where
       of-both (λ (z : View). MovesOn x (model_promised S i source a c v h x z)) y.holds {x = y} {y = prepared_by i (holding_other_value a c v y)}
       (promised_moves_on source a c v h y e) (promised_moves_on source a c v h (prepared_by i (holding_other_value a c v y)) e))
   on_message_moves_on source h (accept s r v) = enter_moves_on source s r _ (λ y e.
-      of-both (MovesOn x) (ltb y.held_round y.round || (eqb y.held_round y.round && eqb y.held_value v)) (after_accept_moves_on source h (accepted_by source (voted i v y)) e) refl)
+      of-both (MovesOn x) (ltb y.held_round y.round || (eqb y.held_round y.round && eqb y.held_value v)) (after_accept_moves_on source h (accepted_by source (model_voted i v y)) e) refl)
   on_message_moves_on source h (commit s v) = of-both (MovesOn x) (ltb s x.slot) refl (of-both (MovesOn x) (eqb s x.slot) (refl, refl) refl)
   on_message_moves_on source h other = refl
 

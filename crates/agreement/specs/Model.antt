@@ -10,7 +10,7 @@ use Rattle.agreement.specs.Voting.{Voters}
 
 -- the answers to a member's proposal on the fast path: who has answered, how many answers name the member itself, which proposers they
 -- name, and the value and the score of each proposer
-pub record Answers : Type 0 where
+pub record ModelAnswers : Type 0 where
   pub answered : ℕ → Bool
   pub preaccepted : ℕ
   pub proposers : ℕ → Bool
@@ -29,7 +29,7 @@ pub record View : Type 0 where
   pub held_value : ℕ
   pub prepared : ℕ → Bool
   pub accepted : ℕ → Bool
-  pub answers : Answers
+  pub answers : ModelAnswers
 
 -- the settings of a group: who votes; the leader of a round; the round in which a member proposes; whether a slot starts in a round
 -- that has a leader, which then proposes without asking; whether Accepts are answered to a committer too; and the committer of a
@@ -88,7 +88,7 @@ add m f k = eqb k m || f k
 -- ---- what a member knows next
 
 -- no answer: every score is 2
-abbrev pub model_no_answers : Answers
+abbrev pub model_no_answers : ModelAnswers
 model_no_answers = record { answered = empty; preaccepted = 0; proposers = empty; values = λ p. 0; scores = λ p. 2 }
 
 -- one more for an answer from another than the proposer, one less from the proposer itself
@@ -96,7 +96,7 @@ abbrev pub model_score_after : ℕ → ℕ → ℕ → ℕ
 model_score_after m p n = cond (eqb m p) (n - 1) (suc n)
 
 -- m has answered i's proposal, and names p and its value
-abbrev pub model_with_answer : ℕ → ℕ → ℕ → ℕ → Answers → Answers
+abbrev pub model_with_answer : ℕ → ℕ → ℕ → ℕ → ModelAnswers → ModelAnswers
 model_with_answer i m p v f = record {
   answered = add m f.answered;
   preaccepted = cond (eqb p i) (suc f.preaccepted) f.preaccepted;
@@ -110,8 +110,8 @@ abbrev pub fresh : ℕ → ℕ → View
 fresh s r = record { slot = s; round = r; holds = false; held_round = 0; held_proposer = 0; held_value = 0; prepared = empty; accepted = empty; answers = model_no_answers }
 
 -- a new member
-abbrev pub initial : ℕ → View
-initial start = fresh 0 start
+abbrev pub model_initial : ℕ → View
+model_initial start = fresh 0 start
 
 -- after a commit
 abbrev pub advanced : ℕ → View → View
@@ -134,23 +134,23 @@ abbrev pub accepted_by : ℕ → View → View
 accepted_by m x = record { slot = x.slot; round = x.round; holds = x.holds; held_round = x.held_round; held_proposer = x.held_proposer; held_value = x.held_value; prepared = x.prepared; accepted = add m x.accepted; answers = x.answers }
 
 -- having accepted v itself, in its round
-abbrev pub voted : ℕ → ℕ → View → View
-voted i v x = record { slot = x.slot; round = x.round; holds = true; held_round = x.round; held_proposer = 0; held_value = v; prepared = x.prepared; accepted = add i x.accepted; answers = x.answers }
+abbrev pub model_voted : ℕ → ℕ → View → View
+model_voted i v x = record { slot = x.slot; round = x.round; holds = true; held_round = x.round; held_proposer = 0; held_value = v; prepared = x.prepared; accepted = add i x.accepted; answers = x.answers }
 
 -- with other answers to its proposal
-abbrev pub with_answers : Answers → View → View
+abbrev pub with_answers : ModelAnswers → View → View
 with_answers f x = record { slot = x.slot; round = x.round; holds = x.holds; held_round = x.held_round; held_proposer = x.held_proposer; held_value = x.held_value; prepared = x.prepared; accepted = x.accepted; answers = f }
 
 -- ---- outcomes without a commit
 
-abbrev pub refuse : View → ModelOutcome
-refuse x = record { view = x; outgoing = []; decision = undecided; taken = false }
+abbrev pub model_refused : View → ModelOutcome
+model_refused x = record { view = x; outgoing = []; decision = undecided; taken = false }
 
-abbrev pub say : View → List ModelOutgoing → ModelOutcome
-say x os = record { view = x; outgoing = os; decision = undecided; taken = true }
+abbrev pub model_sends : View → List ModelOutgoing → ModelOutcome
+model_sends x os = record { view = x; outgoing = os; decision = undecided; taken = true }
 
 abbrev pub quiet : View → ModelOutcome
-quiet x = say x []
+quiet x = model_sends x []
 
 -- ---- the calls
 
@@ -172,7 +172,7 @@ module _ (S : ModelSetup) where
   model_enter i x source s r next =
       cond (not (S.voters.live i)) (quiet x)
       (cond (ltb s x.slot || ltb r x.round) (quiet x)
-      (cond (not (eqb s x.slot) || not (S.voters.live source)) (refuse x)
+      (cond (not (eqb s x.slot) || not (S.voters.live source)) (model_refused x)
       (next (cond (ltb x.round r) (in_later_round r x) x))))
 
   -- a promise counted: of two held values the one of the later round is held
@@ -181,7 +181,7 @@ module _ (S : ModelSetup) where
 
   -- the delegate votes for v and asks all to, unless it has voted in the round; x0 is the view before the call
   unfoldable pub casts : ℕ → View → ℕ → View → ModelOutcome
-  casts i x0 v x = cond (x.accepted i) (refuse x0) (say (voted i v x) (record { destination = all; message = accept x.slot x.round v } ∷ []))
+  casts i x0 v x = cond (x.accepted i) (model_refused x0) (model_sends (model_voted i v x) (record { destination = all; message = accept x.slot x.round v } ∷ []))
 
   -- the delegate picks the held value at the promise that completes a quorum: `old` is the view before that promise, x the view with it
   unfoldable pub picks : ℕ → View → View → View → ModelOutcome
@@ -190,27 +190,27 @@ module _ (S : ModelSetup) where
   -- ---- the fast path
 
   -- all who answered name the member itself, and are a fast quorum
-  abbrev pub fast_enough : Answers → Bool
-  fast_enough f = eqb (count f.proposers S.voters.count) 1 && leb S.voters.fast_quorum f.preaccepted
+  abbrev pub fast_quorum_answered : ModelAnswers → Bool
+  fast_quorum_answered f = eqb (count f.proposers S.voters.count) 1 && leb S.voters.fast_quorum f.preaccepted
 
   -- a quorum has answered, and names two proposers or more
-  abbrev pub may_adopt : Answers → Bool
+  abbrev pub may_adopt : ModelAnswers → Bool
   may_adopt f = leb S.voters.quorum (count f.answered S.voters.count) && leb 2 (count f.proposers S.voters.count)
 
   -- p is a proposer, and none has a better score
-  abbrev pub is_best : ℕ → Answers → Bool
+  abbrev pub is_best : ℕ → ModelAnswers → Bool
   is_best p f = f.proposers p && eqb (count (λ q. f.proposers q && ltb (f.scores p) (f.scores q)) S.voters.count) 0
 
   -- the value of one of the best proposers goes into the accept phase
   unfoldable pub model_adopts_best : ℕ → Host → View → View → ModelOutcome
   model_adopts_best i h x0 x =
       cond (eqb h.adoptee 0) (quiet x)
-      (cond (is_best (pred h.adoptee) x.answers && enough_prepared x) (casts i x0 (x.answers.values (pred h.adoptee)) x) (refuse x0))
+      (cond (is_best (pred h.adoptee) x.answers && enough_prepared x) (casts i x0 (x.answers.values (pred h.adoptee)) x) (model_refused x0))
 
   -- an answer was counted: it completes a fast quorum for the member's own value, which is v; or a value is adopted, or nothing happens
   unfoldable pub decides : ℕ → ℕ → Host → View → View → ModelOutcome
   decides i v h x0 x =
-      cond (fast_enough x.answers)
+      cond (fast_quorum_answered x.answers)
       (record {
         view = advanced S.voters.start x;
         outgoing = record { destination = all; message = commit x.slot x.held_value } ∷ [];
@@ -222,8 +222,8 @@ module _ (S : ModelSetup) where
   -- an answer on the fast path names a proposer; it counts once, and one's own may come again
   unfoldable pub answering : ℕ → ℕ → ℕ → ℕ → Host → View → View → ModelOutcome
   answering i source c v h x0 x =
-      cond (eqb c 0) (refuse x0)
-      (cond (x.answers.answered source) (cond (eqb source i) (decides i v h x0 x) (refuse x0))
+      cond (eqb c 0) (model_refused x0)
+      (cond (x.answers.answered source) (cond (eqb source i) (decides i v h x0 x) (model_refused x0))
       (decides i v h x0 (with_answers (model_with_answer i source (pred c) v x.answers) x)))
 
   -- a promise to the delegate, counted in x: an answer on the fast path as long as nothing was accepted in a round
@@ -235,7 +235,7 @@ module _ (S : ModelSetup) where
   model_promised i source a c v h x0 x =
       cond (eqb (S.voters.delegate x.round) i) (model_gathers i source c v h x0 x (model_counted i source a c v x))
       (cond (eqb x.held_round x.round) (quiet x)
-      (say x (record { destination = to (S.voters.delegate x.round); message = prepare x.slot x.round x.held_round x.held_proposer x.held_value } ∷ [])))
+      (model_sends x (record { destination = to (S.voters.delegate x.round); message = prepare x.slot x.round x.held_round x.held_proposer x.held_value } ∷ [])))
 
   unfoldable pub model_on_prepare : ℕ → View → ℕ → ℕ → ℕ → ℕ → ℕ → ℕ → Host → ModelOutcome
   model_on_prepare i x source s r a c v h = model_enter i x source s r (λ y. model_promised i source a c v h x (cond y.holds y (prepared_by i (holding_other_value a c v y))))
@@ -250,7 +250,7 @@ module _ (S : ModelSetup) where
         decision = decided x.slot x.held_value;
         taken = true;
       })
-      (say x os)
+      (model_sends x os)
 
   -- the replies to an Accept: to the committer c, where there is one besides the leader and oneself, and to the leader
   unfoldable pub replies : ℕ → ℕ → View → List ModelOutgoing
@@ -265,18 +265,18 @@ module _ (S : ModelSetup) where
       let c : ℕ = cond S.three_phases (S.committer h.requester) 0 in
       cond (eqb i (S.leader x.round)) (model_commits x [] true)
       (cond (eqb source (S.voters.delegate x.round))
-      (cond (eqb c (suc i)) (model_commits x (replies i c x) (not (eqb h.requester (suc i)))) (say x (replies i c x)))
-      (cond (eqb c (suc i)) (model_commits x [] (not (eqb h.requester (suc i)))) (refuse x0)))
+      (cond (eqb c (suc i)) (model_commits x (replies i c x) (not (eqb h.requester (suc i)))) (model_sends x (replies i c x)))
+      (cond (eqb c (suc i)) (model_commits x [] (not (eqb h.requester (suc i)))) (model_refused x0)))
 
   -- a value is accepted unless another was accepted in the round
   unfoldable pub model_on_accept : ℕ → View → ℕ → ℕ → ℕ → ℕ → Host → ModelOutcome
   model_on_accept i x source s r v h = model_enter i x source s r (λ y.
-      cond (ltb y.held_round y.round || (eqb y.held_round y.round && eqb y.held_value v)) (model_after_accept i source h x (accepted_by source (voted i v y))) (refuse x))
+      cond (ltb y.held_round y.round || (eqb y.held_round y.round && eqb y.held_value v)) (model_after_accept i source h x (accepted_by source (model_voted i v y))) (model_refused x))
 
   unfoldable pub model_on_commit : ℕ → View → ℕ → ℕ → ModelOutcome
   model_on_commit i x s v =
       cond (ltb s x.slot) (quiet x)
-      (cond (eqb s x.slot) (record { view = advanced S.voters.start x; outgoing = []; decision = decided x.slot v; taken = true }) (refuse x))
+      (cond (eqb s x.slot) (record { view = advanced S.voters.start x; outgoing = []; decision = decided x.slot v; taken = true }) (model_refused x))
 
   -- a proposal on the fast path: the member answers it first
   abbrev pub model_own_answer : ℕ → ℕ → View → View
@@ -289,14 +289,14 @@ module _ (S : ModelSetup) where
       cond (S.voters.live i && (eqb x.round S.voters.start && not x.holds))
       (cond S.starts_led
       (cond (eqb i (S.voters.delegate x.round))
-      (say (voted i v (prepared_by i (holding_other_value 0 0 v (in_later_round x.round x)))) (record { destination = all; message = accept x.slot x.round v } ∷ []))
-      (refuse x))
+      (model_sends (model_voted i v (prepared_by i (holding_other_value 0 0 v (in_later_round x.round x)))) (record { destination = all; message = accept x.slot x.round v } ∷ []))
+      (model_refused x))
       (cond S.voters.fast_path
       (cond (eqb (count x.answers.answered S.voters.count) 0)
-      (say (model_own_answer i v (prepared_by i (holding_other_value 0 (suc i) v (in_later_round (S.own_round i) x)))) (record { destination = all; message = prepare x.slot (S.own_round i) 0 (suc i) v } ∷ []))
-      (refuse x))
-      (say (prepared_by i (holding_other_value 0 0 v (in_later_round (S.own_round i) x))) (record { destination = all; message = prepare x.slot (S.own_round i) 0 0 v } ∷ []))))
-      (refuse x)
+      (model_sends (model_own_answer i v (prepared_by i (holding_other_value 0 (suc i) v (in_later_round (S.own_round i) x)))) (record { destination = all; message = prepare x.slot (S.own_round i) 0 (suc i) v } ∷ []))
+      (model_refused x))
+      (model_sends (prepared_by i (holding_other_value 0 0 v (in_later_round (S.own_round i) x))) (record { destination = all; message = prepare x.slot (S.own_round i) 0 0 v } ∷ []))))
+      (model_refused x)
 
   unfoldable pub model_on_message : ℕ → View → ℕ → Host → ModelMessage → ModelOutcome
   model_on_message i x source h (prepare s r a c v) = model_on_prepare i x source s r a c v h

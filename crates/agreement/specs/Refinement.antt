@@ -2,7 +2,7 @@
 -- Assumes nothing.
 use Rattle.std.specs.Prelude.{ℕ, suc, ◌≤◌, ◌<◌, ◌≡◌, not, cond, ◌⊎◌, List, [], ◌∷◌, T}
 use Rattle.agreement.specs.Voting.{VotersRules}
-use Rattle.agreement.specs.Model.{View, ModelSetup, ModelMessage, other, ModelOutgoing, Host, undecided, ModelOutcome, initial, refuse, model_on_propose, model_on_message}
+use Rattle.agreement.specs.Model.{View, ModelSetup, ModelMessage, other, ModelOutgoing, Host, undecided, ModelOutcome, model_initial, model_refused, model_on_propose, model_on_message}
 use Rattle.agreement.specs.Engine.{CallKind, proposes, delivers, reads, Envelope, EngineAnswer, Engine}
 
 -- what is asked of the settings: where slots start in a led round, it is a round; elsewhere a member proposes in a round after the
@@ -20,8 +20,8 @@ pub data ModelCall : Type 0 where
 
 -- what the model makes of a call; the host may refuse any
 unfoldable pub model_outcome : ModelSetup → View → ModelCall → ModelOutcome
-model_outcome S x (propose i v h) = cond h.allows (model_on_propose S i x v) (refuse x)
-model_outcome S x (deliver i source c h) = cond h.allows (model_on_message S i x source h c) (refuse x)
+model_outcome S x (propose i v h) = cond h.allows (model_on_propose S i x v) (model_refused x)
+model_outcome S x (deliver i source c h) = cond h.allows (model_on_message S i x source h c) (model_refused x)
 
 -- an engine's messages and answers, seen as the model's
 abbrev pub meanings : {M : Type 0} → (M → ModelMessage) → List (Envelope M) → List ModelOutgoing
@@ -50,7 +50,7 @@ pub record Refines (S : ModelSetup) (E : Engine) : Type 1 where
   pub view : E.Shard → View
   pub meaning : E.Message → ModelMessage
   pub Valid : ℕ → E.Shard → Type 0
-  pub initial_view : (i : ℕ) → i < E.size → view (E.initial i) ≡ initial S.voters.start
+  pub initial_view : (i : ℕ) → i < E.size → view (E.initial i) ≡ model_initial S.voters.start
   pub initial_valid : (i : ℕ) → i < E.size → Valid i (E.initial i)
   pub answer_valid : (c : E.Call) (x : E.Shard) → Valid (E.member c) x → Valid (E.member c) (E.answer x c).shard
   pub answer_as_model : (c : E.Call) (x : E.Shard) → Valid (E.member c) x → AsModel meaning S (E.member c) (view x) (E.kind c) (seen_as_model view meaning (E.answer x c))

@@ -40,24 +40,24 @@ Voted w s r v = (m : ℕ) × w.Votes m s r v
 
 -- m is live, has reached (s, r), and has voted in s in no round between a and r; nor will it, for it votes only where it stands. It holds
 -- something in s, and what it held first is of no later round than r.
-abbrev pub Promise : Voters → World → ℕ → ℕ → ℕ → ℕ → Type 0
-Promise g w m s r a = T (g.live m) × w.Reached m s r × ((r' v' : ℕ) → w.Votes m s r' v' → r' < r → r' ≤ a)
+abbrev pub ModelPromise : Voters → World → ℕ → ℕ → ℕ → ℕ → Type 0
+ModelPromise g w m s r a = T (g.live m) × w.Reached m s r × ((r' v' : ℕ) → w.Votes m s r' v' → r' < r → r' ≤ a)
     × ((c : ℕ) × (u : ℕ) × w.First m s c u × (c ≤ r))
 
 -- a fast quorum for the proposal of p in s cannot come about: too few are left besides those that held something else first
-abbrev pub Blocked : Voters → World → ℕ → ℕ → Type 0
-Blocked g w s p = (f : ℕ → Bool) × (count f g.count < g.fast_quorum)
+abbrev pub NoFastQuorum : Voters → World → ℕ → ℕ → Type 0
+NoFastQuorum g w s p = (f : ℕ → Bool) × (count f g.count < g.fast_quorum)
     × ((m : ℕ) → T (g.live m) → T (f m) ⊎ ((c : ℕ) × (u : ℕ) × w.First m s c u × (c ≡ suc p → ⊥)))
 
--- why a fast commit by p, if there is one, is of v, where v is voted for at (s, r): v is what p proposed; or p has come to r without one; or it is
--- blocked
+-- why a fast commit by p, if there is one, is of v, where v is voted for at (s, r): v is what p proposed; or p has come to r without one; or there
+-- can be none
 abbrev pub Clear : Voters → World → ℕ → ℕ → ℕ → ℕ → Type 0
-Clear g w s r v p = w.First p s (suc p) v ⊎ (w.Reached p s r ⊎ Blocked g w s p)
+Clear g w s r v p = w.First p s (suc p) v ⊎ (w.Reached p s r ⊎ NoFastQuorum g w s p)
 
 -- a quorum promises that its votes in s below r are at most at a; v is what was voted at a, where a is a round at all, and else every
 -- earlier fast commit is of v
 abbrev pub SafeByQuorum : Voters → World → ℕ → ℕ → ℕ → Type 0
-SafeByQuorum g w s r v = (f : ℕ → Bool) × (a : ℕ) × (g.quorum ≤ count f g.count) × ((m : ℕ) → T (f m) → Promise g w m s r a)
+SafeByQuorum g w s r v = (f : ℕ → Bool) × (a : ℕ) × (g.quorum ≤ count f g.count) × ((m : ℕ) → T (f m) → ModelPromise g w m s r a)
     × (1 ≤ a → (a < r) × Voted w s a v) × (a ≡ 0 → (p : ℕ) → suc p < r → Clear g w s r v p)
 
 -- no other value is chosen in s below r, now or later: there is no earlier round, or a quorum says so

@@ -6,7 +6,7 @@ use mathlib.Core.List.{List, [], ◌∷◌}
 use Prim.Native.Nat.{ℕ}
 use Rattle.message.specs.Refusals.{refusal_number}
 use Rattle.message.specs.declared.Refusal.{Refusal}
-use Rattle.steps.specs.declared.Messages.{Messages}
+use Rattle.steps.specs.declared.SentMessages.{SentMessages}
 use Rattle.steps.specs.declared.Outgoing.{Outgoing}
 use Rattle.calls.specs.declared.CommittedSlot.{CommittedSlot}
 use Rattle.calls.specs.declared.Reply.{Reply}
@@ -23,7 +23,7 @@ put_read None (x ∷ l) = refl
 put_read (Some o) l = outgoing_read (Some o)
 
 -- what a taken call sends, commits and serves
-module _ (messages : Messages) (commit : Option CommittedSlot) (served : ℕ) (first second third : List ℕ) where
+module _ (messages : SentMessages) (commit : Option CommittedSlot) (served : ℕ) (first second third : List ℕ) where
   abbrev pub taken_reply : Reply
   taken_reply = record { outcome = Ok tt; messages = messages; commit = commit; served_count = served }
 

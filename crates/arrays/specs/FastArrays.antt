@@ -1,15 +1,10 @@
 -- The fast half of a shard as the arrays of numbers that a host lends: the five numbers of the answers, and the three tables by proposer.
 -- Assumes nothing.
 use Rattle.std.specs.Prelude.{List, ℕ, get_or}
+use Rattle.arrays.specs.declared.FastArrays.{FastArrays}
 use Rattle.fast_state.specs.declared.FastState.{FastState}
 use Rattle.flat.specs.Decode.{decoded_fast}
 use Rattle.flat.specs.declared.FlatFast.{FlatFast}
-
-pub record FastArrays : Type 0 where
-  pub answers : List ℕ
-  pub values : List ℕ
-  pub epaxos : List ℕ
-  pub swift : List ℕ
 
 abbrev pub fast_arrays : List ℕ → List ℕ → List ℕ → List ℕ → FastArrays
 fast_arrays answers values epaxos swift = record { answers = answers; values = values; epaxos = epaxos; swift = swift }

@@ -4,13 +4,13 @@
 -- Assumes nothing.
 use Rattle.std.specs.Prelude.{List, ℕ, get_or, None, Ok, Err}
 use Rattle.message.specs.Outcomes.{Outcome}
-use Rattle.steps.specs.declared.Messages.{Messages}
+use Rattle.steps.specs.declared.SentMessages.{SentMessages}
 use Rattle.calls.specs.declared.Reply.{Reply}
 use Rattle.flat.specs.Told.{decoded_outcome, decoded_outgoing, decoded_commit}
 use Rattle.arrays.specs.Arrays.{outgoing_of, commit_row}
 
-abbrev pub decoded_messages : List ℕ → List ℕ → List ℕ → Messages
-decoded_messages first second third =
+abbrev pub decoded_sent : List ℕ → List ℕ → List ℕ → SentMessages
+decoded_sent first second third =
     record {
       first = decoded_outgoing (outgoing_of first);
       second = decoded_outgoing (outgoing_of second);
@@ -22,7 +22,7 @@ unfoldable pub reply_by : Outcome → List ℕ → List ℕ → List ℕ → Lis
 reply_by (Ok tt) first second third rest =
     record {
       outcome = Ok tt;
-      messages = decoded_messages first second third;
+      messages = decoded_sent first second third;
       commit = decoded_commit (commit_row rest);
       served_count = get_or rest 4 0;
     }

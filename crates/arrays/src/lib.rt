@@ -9,6 +9,7 @@ ghost use Rattle.std.specs.Prelude.{◌≡◌, Some};
 ghost use Rattle.arrays.specs.Arrays.{setup_of, setup_numbers, core_of, core_numbers, flat_message_of, flat_call_of, outgoing_numbers, put_message, rest_numbers};
 ghost use Rattle.flat.specs.Encode.{encoded_outgoing};
 
+use crate::reads::ReadArrays;
 use basics::tables::PerProcess;
 use calls::CommittedSlot;
 use flat::{
@@ -26,6 +27,9 @@ pub type CallArray = [u64; 25];
 pub type MessageArray = [u64; 20];
 
 pub type RestArray = [u64; 5];
+
+// The answers on the fast path, without their tables.
+pub type AnswersArray = [u64; 5];
 
 // The settings without their tables, and whether the shard is made. Flags and the mode are numbers, as the C interface has them: any may stand in a host's
 // array, and each is answered.
@@ -49,6 +53,36 @@ pub struct Tables<'a> {
     pub delegates: &'a PerProcess,
 }
 
+// What a host lends is a struct of arrays: the memory of the header's struct, in which each array has a name and a place, so that a caller cannot put one in the
+// place of another of its length. Any numbers may stand there. The settings of a shard: its mark with what is no table, and the two tables.
+#[repr(C)]
+#[derive(Clone, Copy)]
+pub struct SettingsArrays {
+    pub setup: SetupArray,
+    pub committers: PerProcess,
+    pub delegates: PerProcess,
+}
+
+// The fast half of a shard: the answers, and three tables by proposer. Tables of numbers, as a host lends them (C interface), and none of structs.
+#[repr(C)]
+#[derive(Clone, Copy)]
+pub struct FastArrays {
+    pub answers: AnswersArray,
+    pub values: PerProcess,
+    pub epaxos: PerProcess,
+    pub swift: PerProcess,
+}
+
+// A shard. What is exported takes it whole, and lends its parts on.
+#[repr(C)]
+#[derive(Clone, Copy)]
+pub struct ShardArrays {
+    pub settings: SettingsArrays,
+    pub core: CoreArray,
+    pub fast: FastArrays,
+    pub reads: ReadArrays,
+}
+
 pub fn setup_in(s: &SetupArray) -> Setup
     ensures { result ≡ setup_of s.now }
 {
@@ -70,7 +104,7 @@ pub fn setup_in(s: &SetupArray) -> Setup
 }
 
 // The mark of a shard, and its settings without their tables.
-pub fn put_setup(s: &mut SetupArray, made: u64, f: FlatSettings)
+fn put_setup(s: &mut SetupArray, made: u64, f: FlatSettings)
     ensures { s.new ≡ setup_numbers made f }
 {
     let quorum = f.quorum;
@@ -86,6 +120,19 @@ pub fn put_setup(s: &mut SetupArray, made: u64, f: FlatSettings)
         quorum.n,
         f.has_committers,
     ];
+}
+
+// The settings of a shard, with its mark and the two tables.
+pub fn put_settings(s: &mut SettingsArrays, made: u64, f: FlatSettings)
+    ensures setup { s.new.setup ≡ setup_numbers made f }
+    ensures committers { s.new.committers ≡ f.committers }
+    ensures delegates { s.new.delegates ≡ f.delegates }
+{
+    put_setup(&mut s.setup, made, f);
+    let committers = f.committers;
+    let delegates = f.delegates;
+    s.committers = committers;
+    s.delegates = delegates;
 }
 
 pub fn core_in(c: &CoreArray) -> FlatCore
@@ -159,7 +206,7 @@ fn message_in(c: &CallArray) -> FlatMessage
     }
 }
 
-pub fn call_in(c: &CallArray) -> FlatCall
+pub fn flat_call_of(c: &CallArray) -> FlatCall
     ensures { result ≡ flat_call_of c.now }
 {
     let requester = FlatOption {
@@ -216,7 +263,7 @@ pub fn put_core(c: &mut CoreArray, f: FlatCore)
 pub fn put_sent(out: &mut MessageArray, sent: Outgoing)
     ensures { out.new ≡ outgoing_numbers (encoded_outgoing (Some sent)) }
 {
-    let f = flat::encode_outgoing(Some(sent));
+    let f = flat::encoded_outgoing(Some(sent));
     let first = f.first;
     let message = f.message;
     let rv = message.rv;
@@ -265,6 +312,6 @@ pub fn put_message(out: &mut MessageArray, m: Option<Outgoing>)
 pub fn put_rest(rest: &mut RestArray, commit: Option<CommittedSlot>, served_count: u64)
     ensures { rest.new ≡ rest_numbers commit served_count }
 {
-    let f = flat::encode_commit(commit);
+    let f = flat::encoded_commit(commit);
     *rest = [f.given, f.slot, f.v, f.fast, served_count];
 }

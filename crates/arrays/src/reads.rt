@@ -6,8 +6,8 @@
 ghost use Rattle.std.specs.Prelude.{◌≡◌, ◌<◌, ◌≤◌, get_or, length, set, take};
 ghost use Rattle.basics.specs.elements.Places.{without, at_front};
 ghost use Rattle.read_tracker.specs.serving.Serving.{receive_ready, serve_at_commit};
-ghost use Rattle.read_tracker.specs.Reads.{new_table};
-ghost use Rattle.arrays.specs.reads.Rows.{open_rows, served_rows, reads_in, SameReads, tracked_in, no_read};
+ghost use Rattle.read_tracker.specs.Reads.{new_table, no_read};
+ghost use Rattle.arrays.specs.reads.Rows.{open_rows, served_rows, reads_in, tracked_in};
 
 use message::ReadId;
 use read_tracker::serving::{Counted, OpenReads, ServedReads};
@@ -57,7 +57,7 @@ impl ServedReads for ServedRows<'_> {
 
     fn put_served(&mut self, at: usize, read: ServedRead) {
         have_served(self.numbers);
-        put_served(self.numbers, at, read);
+        put_served_read(self.numbers, at, read);
     }
 }
 
@@ -107,7 +107,7 @@ fn put_open(open: &mut OpenReadsArray, i: usize, read: OpenRead)
 }
 
 #[tactic(auto, using(crate::proofs::reads::Rows::served_set))]
-fn put_served(served: &mut ServedReadsArray, i: usize, read: ServedRead)
+fn put_served_read(served: &mut ServedReadsArray, i: usize, read: ServedRead)
     requires { i < 128 }
     ensures { served_rows served.new ≡ set (served_rows served.old) i read }
 {
@@ -130,37 +130,36 @@ fn remove(open: &mut OpenReadsArray, at: usize, open_places: usize)
 
 // Puts an open read at place `at`. Where there is no such place, nothing changes. For a caller that has the open reads alone, which in this repository none
 // is but the method below: that is this one where both arrays are lent together.
-pub fn insert(open: &mut OpenReadsArray, at: u64, read: OpenRead)
+pub fn insert_open_read(open: &mut OpenReadsArray, at: u64, read: OpenRead)
     ensures { open_rows «open».new ≡ set (open_rows «open».old) at read }
 {
     put_open(open, at as usize, read);
 }
 
-// The arrays of the open and of the served reads, which are lent. Any numbers may stand in them.
-#[derive(Drop)]
-pub struct ReadArrays<'a> {
-    pub reads: &'a mut OpenReadsArray,
-    pub served: &'a mut ServedReadsArray,
+// The arrays of the open and of the served reads, which are lent as one. Any numbers may stand in them.
+#[repr(C)]
+#[derive(Clone, Copy)]
+pub struct ReadArrays {
+    pub reads: OpenReadsArray,
+    pub served: ServedReadsArray,
 }
 
-impl ReadArrays<'_> {
+impl ReadArrays {
     // The reads of a new shard: none.
     #[tactic(auto, using(crate::proofs::reads::Rows::zeros_new))]
     pub fn clear(&mut self)
-        ensures same { SameReads self.old self.new }
-        ensures cleared { reads_in self.new ≡ new_table }
+        ensures { reads_in self.new ≡ new_table }
     {
-        *self.reads = [0; 640];
-        *self.served = [0; 512];
+        self.reads = [0; 640];
+        self.served = [0; 512];
     }
 
-    // Puts an open read, as `insert` above does, into the array of open reads.
+    // Puts an open read, as `insert_open_read` above does, into the array of open reads.
     pub fn insert(&mut self, at: u64, read: OpenRead)
-        ensures same { SameReads self.old self.new }
-        ensures reads { open_rows self.new.reads.now ≡ set (open_rows self.old.reads.now) at read }
-        ensures served { self.new.served.now ≡ self.old.served.now }
+        ensures reads { open_rows self.new.reads ≡ set (open_rows self.old.reads) at read }
+        ensures served { self.new.served ≡ self.old.served }
     {
-        insert(self.reads, at, read);
+        insert_open_read(&mut self.reads, at, read);
     }
 
     // One response. `fast` says whether this one completed the quorum the moment it arrived.
@@ -172,16 +171,15 @@ impl ReadArrays<'_> {
         slot: u64,
         fast: bool,
     ) -> Counted
-        ensures same { SameReads self.old self.new }
-        ensures tracked { tracked_in result self.new ≡ receive_ready tracker (reads_in self.old) id read_quorum slot fast }
+        ensures { tracked_in result self.new ≡ receive_ready tracker (reads_in self.old) id read_quorum slot fast }
     {
-        have_open(self.reads);
-        have_served(self.served);
+        have_open(&self.reads);
+        have_served(&self.served);
         let mut open = OpenRows {
-            numbers: self.reads,
+            numbers: &mut self.reads,
         };
         let mut served = ServedRows {
-            numbers: self.served,
+            numbers: &mut self.served,
         };
         read_tracker::serving::receive_ready_in(
             &mut open,
@@ -197,16 +195,15 @@ impl ReadArrays<'_> {
     // The reads that the newly committed slot has made ready are served in the order of their ids. No answer completed their quorum as it
     // arrived, so none of them is fast. The others move to the front.
     pub fn commit_slot(&mut self, tracker: ReadTracker, read_quorum: u64, slot: u64) -> Counted
-        ensures same { SameReads self.old self.new }
-        ensures tracked { tracked_in result self.new ≡ serve_at_commit tracker (reads_in self.old) read_quorum slot }
+        ensures { tracked_in result self.new ≡ serve_at_commit tracker (reads_in self.old) read_quorum slot }
     {
-        have_open(self.reads);
-        have_served(self.served);
+        have_open(&self.reads);
+        have_served(&self.served);
         let mut open = OpenRows {
-            numbers: self.reads,
+            numbers: &mut self.reads,
         };
         let mut served = ServedRows {
-            numbers: self.served,
+            numbers: &mut self.served,
         };
         read_tracker::serving::commit_slot_in(&mut open, &mut served, tracker, read_quorum, slot)
     }

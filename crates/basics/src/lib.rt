@@ -2,5 +2,6 @@
 #![tactic(auto)]
 
 pub mod elements;
+pub mod refusals;
 pub mod sets;
 pub mod tables;

@@ -2,7 +2,7 @@
 -- Assumes nothing.
 use Rattle.std.specs.Prelude.{Option, Some, None}
 use Rattle.std.specs.Option.{ok_or}
-use Rattle.refusals.specs.Refusals as refusals
+use Rattle.basics.specs.refusals.Refusals as refusals
 use mathlib.Core.Path.{◌≡◌, refl, sym, ap, subst, ◌∙◌}
 use mathlib.Core.Bool.{true, false}
 use mathlib.Core.Logic.{◌⊎◌, inl, inr}
@@ -124,9 +124,9 @@ module _ (minute k rest : ℕ) (within : k ≤ 8029) (in_year : rest < year_days
   unfolding days_of_months
   not_ended = month_not_ended (is_leap (1970 + k)) rest in_year
 
-  pub date_in_numbers : Numbers (date_in_year minute k rest)
+  pub date_fits_numbers : Numbers (date_in_year minute k rest)
   unfolding date_in_year
-  date_in_numbers =
+  date_fits_numbers =
       let m = month_within (is_leap (1970 + k)) rest _ refl in
       let b = begun in
       let e = not_ended in
@@ -162,7 +162,7 @@ module _ (minute : ℕ) (before : minute < 4223371680) where
 
   pub date_of_numbers : Numbers (date_of minute)
   unfolding date_of
-  date_of_numbers = date_in_numbers minute _ _ (year_within (minute / 1440) _ refl) rest_in_year
+  date_of_numbers = date_fits_numbers minute _ _ (year_within (minute / 1440) _ refl) rest_in_year
 
   days_again : days_before (date_of minute) ≡ minute / 1440
   unfolding date_of

@@ -5,7 +5,7 @@
 ghost use Rattle.std.specs.Prelude.{◌≡◌, true, ◌≤◌, ◌<◌};
 ghost use Rattle.calendar.specs.Calendar.{is_leap, days_of_years, month_days, days_of_months, is_month, is_day, is_time, is_date, days_before, minute_of, to_minute, year_of, month_of, date_of, to_date, EarlyYear, not_in_calendar};
 
-use refusals::Refused;
+use basics::refusals::Refused;
 
 // A day of the calendar with the time of day, in UTC. Five numbers of 64 bits, so that any can be asked of.
 #[repr(C)]

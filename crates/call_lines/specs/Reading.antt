@@ -16,8 +16,8 @@ is_full n d = ltb 18446744073709551615 (n * 10 + d)
 unfoldable pub with_digit : ℕ → ℕ → ℕ
 with_digit n d = cond (is_full n d) n (n * 10 + d)
 
-unfoldable pub start : Scan
-start = record { value = 0; before = 0; has_digit = false; malformed = false; above_limit = false }
+unfoldable pub scan_start : Scan
+scan_start = record { value = 0; before = 0; has_digit = false; malformed = false; above_limit = false }
 
 unfoldable pub not_decimal : Scan → Scan
 not_decimal s =
@@ -52,18 +52,19 @@ scan_fault s =
     (cond s.above_limit (Err NumberAboveLimit) (cond (leb 2048 s.before) (Err TooLong) (Ok tt)))
     (Err NotDecimal))
 
-unfoldable pub stored : List ℕ → ℕ → ℕ → List ℕ
-stored numbers at n = cond (ltb at (length numbers)) (set numbers at n) numbers
+-- what has no place is left out
+unfoldable pub put_in_place : {A : Type 0} → List A → ℕ → A → List A
+put_in_place places at x = cond (ltb at (length places)) (set places at x) places
 
 -- ---- the first bytes of a line: how far it is read, and the numbers, with the number under way behind those that have ended
 
 unfoldable pub scan_to : List ℕ → ℕ → Scan
-scan_to line zero = start
+scan_to line zero = scan_start
 scan_to line (suc i) = after_byte (scan_to line i) (get_or line i 0)
 
 unfoldable pub numbers_to : List ℕ → List ℕ → ℕ → List ℕ
 numbers_to line buffer zero = buffer
-numbers_to line buffer (suc i) = stored (numbers_to line buffer i) (scan_to line (suc i)).before (scan_to line (suc i)).value
+numbers_to line buffer (suc i) = put_in_place (numbers_to line buffer i) (scan_to line (suc i)).before (scan_to line (suc i)).value
 
 -- ---- the whole line
 

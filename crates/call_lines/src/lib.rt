@@ -1,8 +1,10 @@
 // A call line, from its bytes to numbers (docs/ORACLE.md, "Call lines"), and the faults that a line can have.
 #![tactic(auto)]
 
-ghost use Rattle.std.specs.Prelude.{◌≡◌, ◌<◌};
-ghost use Rattle.call_lines.specs.Reading.{next_place, not_decimal, after_digit, after_space, after_byte, scan_fault, stored, scan_of, numbers_in_line};
+pub mod dates;
+
+ghost use Rattle.std.specs.Prelude.{◌≡◌, ◌<◌, get_or};
+ghost use Rattle.call_lines.specs.Reading.{next_place, not_decimal, after_digit, after_space, after_byte, scan_fault, put_in_place, scan_of, numbers_in_line};
 
 // Why a line is no call, in the order of looking.
 #[derive(Clone, Copy, PartialEq, Eq, Debug)]
@@ -111,9 +113,9 @@ impl Scan {
 }
 
 // A number for which there is no place is left out.
-#[tactic(auto, unfolding(crate::specs::Reading::stored))]
-fn store(numbers: &mut [u64], at: usize, n: u64)
-    ensures { numbers.new ≡ stored numbers.old at n }
+#[tactic(auto, unfolding(crate::specs::Reading::put_in_place))]
+fn put_in_place(numbers: &mut [u64], at: usize, n: u64)
+    ensures { numbers.new ≡ put_in_place numbers.old at n }
 {
     if at < numbers.len() {
         numbers[at] = n;
@@ -121,7 +123,7 @@ fn store(numbers: &mut [u64], at: usize, n: u64)
 }
 
 // Reads the bytes of a line, without its LF, into numbers. The number under way stands behind those before it.
-#[tactic(auto, using(crate::proofs::Turns::scan_next, crate::proofs::Turns::numbers_next), unfolding(crate::specs::Reading::scan_to, crate::specs::Reading::numbers_to, crate::specs::Reading::start))]
+#[tactic(auto, using(crate::proofs::Turns::scan_next, crate::proofs::Turns::numbers_next), unfolding(crate::specs::Reading::scan_to, crate::specs::Reading::numbers_to, crate::specs::Reading::scan_start))]
 pub fn read_numbers(line: &[u8], numbers: &mut [u64]) -> Scan
     ensures value { result ≡ scan_of line.now }
     ensures numbers_after { numbers.new ≡ numbers_in_line line.now numbers.old }
@@ -129,7 +131,14 @@ pub fn read_numbers(line: &[u8], numbers: &mut [u64]) -> Scan
     let mut scan = Scan::default();
     for b in line {
         scan = scan.after_byte(*b);
-        store(numbers, scan.before, scan.value);
+        put_in_place(numbers, scan.before, scan.value);
     }
     scan
+}
+
+// The number at a place of a line, and 0 where the line has none.
+pub fn number_at(numbers: &[u64], i: usize) -> u64
+    ensures { result ≡ get_or numbers.now i 0 }
+{
+    if i < numbers.len() { numbers[i] } else { 0 }
 }

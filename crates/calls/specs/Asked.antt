@@ -11,7 +11,7 @@ use Rattle.settings.specs.Questions.{is_live_replica, is_replica, quorums_of, de
 use Rattle.settings.specs.declared.Settings.{Settings}
 use Rattle.steps.specs.declared.Asked.{Asked}
 use Rattle.steps.specs.declared.Heard.{Heard}
-use Rattle.delivery.specs.declared.Delivery.{Delivery}
+use Rattle.calls.specs.declared.delivery.Delivery.{Delivery}
 use Rattle.calls.specs.declared.Call.{Call}
 use Rattle.calls.specs.declared.Call.TheVariants.{Propose, StartRead, Receive}
 

@@ -2,3 +2,4 @@ pub mod Asked
 pub mod Decision
 pub mod Commits
 pub mod Replies
+pub mod delivery

@@ -10,7 +10,7 @@ use Rattle.steps.specs.Steps.{no_messages}
 use Rattle.steps.specs.declared.Asked.{Asked}
 use Rattle.steps.specs.declared.Core.{Core}
 use Rattle.steps.specs.declared.Destination.TheVariants.{One}
-use Rattle.steps.specs.declared.Messages.{Messages}
+use Rattle.steps.specs.declared.SentMessages.{SentMessages}
 use Rattle.steps.specs.declared.Outgoing.{Outgoing}
 use Rattle.calls.specs.Commits.{committed_slot}
 use Rattle.calls.specs.declared.Reply.{Reply}
@@ -19,14 +19,14 @@ use Rattle.calls.specs.declared.Reply.{Reply}
 abbrev pub refused_reply : Refusal → Reply
 refused_reply why = record { outcome = Err why; messages = no_messages; commit = None; served_count = 0 }
 
-abbrev pub sent_reply : Messages → Reply
+abbrev pub sent_reply : SentMessages → Reply
 sent_reply messages = record { outcome = Ok tt; messages = messages; commit = None; served_count = 0 }
 
 -- "fast mark from `has_fast_path` and `slot_left_fast_path`, whoever the requester"
 abbrev pub is_fast : Asked → Core → Bool
 is_fast a core = has_fast_path a.mode && not core.slot_left_fast_path
 
-abbrev pub committed_reply : Asked → ℕ → Core → Messages → Reply
+abbrev pub committed_reply : Asked → ℕ → Core → SentMessages → Reply
 committed_reply a v core messages =
     record { outcome = Ok tt; messages = messages; commit = committed_slot core.slot v (is_fast a core); served_count = 0 }
 

@@ -3,22 +3,24 @@
 // end: calls by value and calls on lent arrays share them, but for `committed_reply`, which is of the latter alone.
 #![tactic(auto)]
 
-// process_count and own are parameters of their own, here and in delivery, flat and questions: they are all that is asked of the settings before a call is
+pub mod delivery;
+
+// process_count and own are parameters of their own, here and in calls::delivery, flat and questions: they are all that is asked of the settings before a call is
 // handled, and the settings of a host who lends arrays are another type.
 
 ghost use Rattle.std.specs.Prelude.{◌≡◌};
 ghost use Rattle.calls.specs.Asked.{asked_of, proposer_gathers, gatherer_in, heard_of, nothing_heard, heard_in};
-ghost use Rattle.calls.specs.Decision.{if_fit, read_fits, admission_of, unless_spent, if_made, decision_of};
+ghost use Rattle.calls.specs.Decision.{if_fit, read_fits, admission_of, unless_spent, unless_unmade, decision_of};
 ghost use Rattle.calls.specs.Replies.{refused_reply, sent_reply, is_fast, committed_reply, next_readable, read_answer};
 
+use crate::delivery::Delivery;
 use basics::tables::PerProcess;
-use delivery::Delivery;
 use message::{
     ConsensusMessage, ConsensusMsg, Outcome, PFMode, PaxosRound, ReadId, Refusal, RoundV,
 };
 use round_state::Member;
 use settings::Settings;
-use steps::{Asked, Core, Destination, Heard, Messages, Outgoing, no_messages};
+use steps::{Asked, Core, Destination, Heard, Outgoing, SentMessages, no_messages};
 
 #[derive(Clone, Copy, PartialEq, Eq, Debug)]
 pub enum Call {
@@ -40,7 +42,7 @@ pub struct CommittedSlot {
 #[derive(Clone, Copy, PartialEq, Eq, Debug)]
 pub struct Reply {
     pub outcome: Outcome,
-    pub messages: Messages,
+    pub messages: SentMessages,
     pub commit: Option<CommittedSlot>,
     pub served_count: u64,
 }
@@ -152,7 +154,7 @@ fn if_fit(fit: bool) -> Outcome
 fn read_fits(tag: u64, arrival_slot: u64) -> bool
     ensures { result ≡ read_fits tag arrival_slot }
 {
-    delivery::is_number(tag) && delivery::is_slot(arrival_slot)
+    crate::delivery::is_number(tag) && crate::delivery::is_slot(arrival_slot)
 }
 
 // A proposal and a new read are refused for their numbers, a message for all that is asked before it is handled.
@@ -161,7 +163,7 @@ fn admission(process_count: u64, own: u64, core: Core, call: Call) -> Outcome
     ensures { result ≡ admission_of process_count own core call }
 {
     match call {
-        Call::Propose(v) => if_fit(delivery::is_number(v)),
+        Call::Propose(v) => if_fit(crate::delivery::is_number(v)),
         Call::StartRead { tag, arrival_slot } => if_fit(read_fits(tag, arrival_slot)),
         Call::Receive(d) => d.admit(process_count, own, core),
     }
@@ -179,8 +181,8 @@ fn unless_spent(process_count: u64, own: u64, core: Core, call: Call) -> Outcome
 }
 
 // An unmade shard gives its number, before anything else.
-fn if_made(made: Outcome, process_count: u64, own: u64, core: Core, call: Call) -> Outcome
-    ensures { result ≡ if_made made process_count own core call }
+fn unless_unmade(made: Outcome, process_count: u64, own: u64, core: Core, call: Call) -> Outcome
+    ensures { result ≡ unless_unmade made process_count own core call }
 {
     made?;
     unless_spent(process_count, own, core, call)
@@ -196,7 +198,7 @@ pub fn decision_of(
 ) -> Result<Taken, Refusal>
     ensures { result ≡ decision_of made settings.now core call }
 {
-    if_made(made, settings.process_count, settings.my_pid, core, call)?;
+    unless_unmade(made, settings.process_count, settings.my_pid, core, call)?;
     Ok(Taken {
         asked: asked_of(settings),
         heard: heard_in(settings, call),
@@ -215,7 +217,7 @@ pub fn refused_reply(why: Refusal) -> Reply
     }
 }
 
-pub fn sent_reply(messages: Messages) -> Reply
+pub fn sent_reply(messages: SentMessages) -> Reply
     ensures { result ≡ sent_reply messages }
 {
     Reply {
@@ -234,7 +236,7 @@ pub fn is_fast(a: Asked, core: Core) -> bool
 }
 
 // The reply of a commit before reads are served.
-pub fn committed_reply(a: Asked, v: u64, core: Core, messages: Messages) -> Reply
+pub fn committed_reply(a: Asked, v: u64, core: Core, messages: SentMessages) -> Reply
     ensures { result ≡ committed_reply a v core messages }
 {
     Reply {

@@ -1,4 +1,4 @@
--- "Lists from one group run .. that meet never give 20": over any commits that have one value for each slot. The crate catch_up_runs has it for the
+-- "Lists from one group run .. that meet never give 20": over any commits that have one value for each slot. group_settings_runs::catching_up has it for the
 -- commits of a group run.
 -- Assumes nothing.
 use Rattle.std.specs.Prelude.{Ok, Err}
@@ -9,7 +9,7 @@ use Rattle.basics.specs.Lists.{In}
 use Rattle.catch_up.specs.Causes.{CommitList, listed_commits, JoinCause}
 use Rattle.catch_up.specs.Joining.{joining}
 use Rattle.catch_up.specs.declared.JoinRefusal.TheVariants.{NumberTooLarge, OutsideLimits, Gap, TwoValues}
-use Rattle.catch_up.proofs.Exact.{numbered, joined_otherwise, is_join, no_more}
+use Rattle.catch_up.proofs.Exact.{number_joined, joined_otherwise, is_join, no_more}
 
 module _ (Committed : ℕ → ℕ → Type 0) where
   -- one value for each slot
@@ -25,7 +25,7 @@ module _ (Committed : ℕ → ℕ → Type 0) where
     agree d = d.5 (one d.0 d.1 d.2 (from-a d.0 d.1 d.3) (from-b d.0 d.2 d.4))
 
     pub never_two_values : joining a b places ≡ Err TwoValues → ⊥
-    never_two_values e = agree ((numbered a b places TwoValues).0 e).0
+    never_two_values e = agree ((number_joined a b places TwoValues).0 e).0
 
     -- and where they meet, within the limits, they are joined
     pub joined_where_they_meet : (JoinCause NumberTooLarge a b places → ⊥) → (JoinCause OutsideLimits a b places → ⊥) → (JoinCause Gap a b places → ⊥)

@@ -7,7 +7,7 @@ use native.Mathlib.Omega.{arith}
 use lib.ListN.{length, get_or}
 use lib.Seq.{ext_get_or}
 use Rattle.basics.specs.Lists.{In}
-use Rattle.catch_up.specs.Causes.{CommitList, Commit, Consecutive, listed_commits}
+use Rattle.catch_up.specs.Causes.{CommitList, ListedCommit, Consecutive, listed_commits}
 use Rattle.catch_up.specs.Joining.{list_of, first_slot}
 use Rattle.catch_up.proofs.Deciding.{below, from_first}
 use Rattle.catch_up.proofs.Indices.{in_stands, stands_in}
@@ -17,12 +17,12 @@ pub record Orderly (l : CommitList) : Type 0 where
   pub same : length l.slots ≡ length l.values
   pub consecutive : Consecutive l.slots
 
-module _ (a b : CommitList) (A : Orderly a) (B : Orderly b) (all : (c : Commit) → In c (listed_commits a) → In c (listed_commits b)) where
+module _ (a b : CommitList) (A : Orderly a) (B : Orderly b) (all : (c : ListedCommit) → In c (listed_commits a) → In c (listed_commits b)) where
   -- the place in the second list of the entry at a place of the first
   there : (i : ℕ) → i < length a.slots → (k : ℕ) × (k < length b.slots) × (first_slot b.slots + k ≡ first_slot a.slots + i) × (get_or b.values k 0 ≡ get_or a.values i 0)
   there i h =
       let same = A.same in
-      let c : Commit = record { slot = get_or a.slots i 0; value = get_or a.values i 0 } in
+      let c : ListedCommit = record { slot = get_or a.slots i 0; value = get_or a.values i 0 } in
       let r = in_stands b.slots b.values c (all c (stands_in a.slots a.values c (i, h, omega arith, refl, refl))) in
       (r.0, r.1, omega (arith, r.3, from_first b.slots B.consecutive r.0 r.1, from_first a.slots A.consecutive i h), r.4)
 
@@ -39,7 +39,7 @@ module _ (a b : CommitList) (A : Orderly a) (B : Orderly b) (all : (c : Commit) 
       let k : p.0 ≡ i = omega (arith, p.2) in
       sym p.3 ∙ ap (λ (n : ℕ). get_or b.values n 0) k
 
-module _ (a b : CommitList) (A : Orderly a) (B : Orderly b) (all : (c : Commit) → In c (listed_commits a) ↔ In c (listed_commits b)) where
+module _ (a b : CommitList) (A : Orderly a) (B : Orderly b) (all : (c : ListedCommit) → In c (listed_commits a) ↔ In c (listed_commits b)) where
   equal_length : (length a.slots ≡ length b.slots) × (0 < length a.slots → first_slot a.slots ≡ first_slot b.slots)
   equal_length = go (below 0 (length a.slots)) (below 0 (length b.slots))
     where

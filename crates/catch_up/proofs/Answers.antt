@@ -16,7 +16,7 @@ use Rattle.basics.proofs.Tests.{either}
 use Rattle.catch_up.specs.Causes.{CommitList}
 use Rattle.basics.specs.elements.Places.{at_front}
 use Rattle.catch_up.proofs.Loops.{usual_slots, left_whole}
-use Rattle.catch_up.specs.Joining.{checked_of, counts_within, some_above, list_too_large, first_slot, outside, InLimits, differ, ahead, apart, disagree, joined_list, in_order, joining, one_refused, lent, Gives}
+use Rattle.catch_up.specs.Joining.{checked_of, counts_within, some_above, list_too_large, first_slot, outside, InLimits, differ, ahead, apart, disagree, joined_list, in_order, joining, one_refused, lent, JoinGives}
 use Rattle.catch_up.specs.declared.JoinRefusal.{JoinRefusal}
 use Rattle.catch_up.specs.declared.JoinRefusal.TheVariants.{NumberTooLarge, OutsideLimits, Gap, TwoValues}
 
@@ -35,16 +35,16 @@ usual_list l within above e t v =
 
 module _ (places : CommitList) where
   -- one result for another
-  pub as_given : (r r' : Result CommitList JoinRefusal) (after : CommitList) (answer : Result ℕ JoinRefusal) → r ≡ r' → Gives r' places after answer → Gives r places after answer
-  as_given r r' after answer e g = subst (λ (x : Result CommitList JoinRefusal). Gives x places after answer) (sym e) g
+  pub as_given : (r r' : Result CommitList JoinRefusal) (after : CommitList) (answer : Result ℕ JoinRefusal) → r ≡ r' → JoinGives r' places after answer → JoinGives r places after answer
+  as_given r r' after answer e g = subst (λ (x : Result CommitList JoinRefusal). JoinGives x places after answer) (sym e) g
 
   -- nothing is written
-  pub refuses : (r : Result CommitList JoinRefusal) (why : JoinRefusal) → r ≡ Err why → Gives r places places (Err why)
+  pub refuses : (r : Result CommitList JoinRefusal) (why : JoinRefusal) → r ≡ Err why → JoinGives r places places (Err why)
   unfolding at_front
   refuses r why e = as_given r (Err why) places (Err why) e (record { answered = refl; slots = refl; values = refl })
 
   pub writes : (r : Result CommitList JoinRefusal) (l after : CommitList) (count : ℕ) → r ≡ Ok l → count ≡ length l.slots
-      → after.slots ≡ at_front l.slots places.slots → after.values ≡ at_front l.values places.values → Gives r places after (Ok count)
+      → after.slots ≡ at_front l.slots places.slots → after.values ≡ at_front l.values places.values → JoinGives r places after (Ok count)
   writes r l after count e n s v = as_given r (Ok l) after (Ok count) e (record { answered = ap Ok n; slots = s; values = v })
 
 -- ---- two lists in order
@@ -88,7 +88,7 @@ module _ (e l : CommitList) (f g : ℕ) (later_first : f ≡ first_slot l.slots)
 
   pub order_writes : (places after : CommitList) (known count : ℕ) → apart e l ≡ false → disagree e l ≡ false → known ≡ length e.slots - (f - g)
       → (after.slots ≡ at_front (e.slots ++ drop known l.slots) places.slots) → count ≡ length (e.slots ++ drop known l.slots)
-      → (after.values ≡ at_front (e.values ++ drop known l.values) places.values) → Gives (in_order e l) places after (Ok count)
+      → (after.values ≡ at_front (e.values ++ drop known l.values) places.values) → JoinGives (in_order e l) places after (Ok count)
   order_writes places after known count p q k s n v =
       let k' : known ≡ length e.slots - ahead e l = k ∙ ap (λ (m : ℕ). length e.slots - m) (ap₂ ◌-◌ later_first earlier-first) in
       writes places (in_order e l) (joined_list e l) after count (order_join e l p q)
@@ -146,8 +146,8 @@ module _ (a b : CommitList) (places : ℕ) where
 
 -- the answer of `?`
 pub refused_call : (a b places : CommitList) (n : ℕ) (why : JoinRefusal) (answer : Result ℕ JoinRefusal) → n ≡ lent places → Err why ≡ one_refused a b n
-    → IsErrAnd answer (λ given. given ≡ why) → Gives (joining a b (lent places)) places places answer
+    → IsErrAnd answer (λ given. given ≡ why) → JoinGives (joining a b (lent places)) places places answer
 refused_call a b places n why (Ok count) m e h = absurd h
 refused_call a b places n why (Err given) m e h =
-    subst (λ (x : JoinRefusal). Gives (joining a b (lent places)) places places (Err x)) (sym h)
+    subst (λ (x : JoinRefusal). JoinGives (joining a b (lent places)) places places (Err x)) (sym h)
     (refuses places _ why (refused_so a b (lent places) why (e ∙ ap (one_refused a b) m)))

@@ -11,11 +11,11 @@ use lib.Seq.{take-append_seam}
 use Rattle.basics.specs.elements.Places.{at_front}
 use Rattle.basics.proofs.elements.Lists.{front_later}
 use Rattle.catch_up.specs.Causes.{CommitList, ListTooLarge, JoinCause, NoneBefore, NoCause, join_number}
-use Rattle.catch_up.specs.Joining.{list_of, joining, join_answer, join_refusal, join_count, lent, handed_back, Gives, Joins}
+use Rattle.catch_up.specs.Joining.{list_of, joining, join_answer, join_refusal, join_count, lent, handed_back, JoinGives, Joins}
 use Rattle.catch_up.specs.declared.JoinRefusal.{JoinRefusal}
 use Rattle.catch_up.specs.declared.JoinRefusal.TheVariants.{NumberTooLarge, OutsideLimits, Gap, TwoValues}
-use Rattle.catch_up.proofs.Exact.{numbered, joined_otherwise, is_join, JoinOf}
-use Rattle.catch_up.proofs.Indices.{slot_beside, value_beside, own_slot, own_value}
+use Rattle.catch_up.proofs.Exact.{number_joined, joined_otherwise, is_join, JoinOf}
+use Rattle.catch_up.proofs.Indices.{slot_beside, value_beside, own_slot, own_value_stands}
 
 -- ---- numbers
 
@@ -65,7 +65,7 @@ kept_front l places after i e h = ap (λ (r : List ℕ). get_or r i 0) e ∙ fro
 
 module _ (a b places after : CommitList) where
   -- whatever the result is
-  kept : (r : Result CommitList JoinRefusal) → r ≡ joining a b (lent places) → (answer : Result ℕ JoinRefusal) → Gives r places after answer → (i : ℕ) → join_count answer ≤ i
+  kept : (r : Result CommitList JoinRefusal) → r ≡ joining a b (lent places) → (answer : Result ℕ JoinRefusal) → JoinGives r places after answer → (i : ℕ) → join_count answer ≤ i
       → Kept after.slots places.slots i × Kept after.values places.values i
   unfolding at_front
   kept (Err why) e answer g i h = (ap (λ (r : List ℕ). get_or r i 0) g.slots, ap (λ (r : List ℕ). get_or r i 0) g.values)
@@ -78,8 +78,8 @@ module _ (a b places after : CommitList) (answer : Result ℕ JoinRefusal) (call
   -- a call refuses exactly where the cause holds and no earlier one does
   pub call_numbered : (why : JoinRefusal) → (answer ≡ Err why) ↔ (JoinCause why a b (lent places) × NoneBefore why a b (lent places))
   call_numbered why = (
-    λ e. (numbered a b (lent places) why).0 (refused_answer _ why (sym call.answered ∙ e)),
-    λ c. call.answered ∙ ap join_answer ((numbered a b (lent places) why).1 c),
+    λ e. (number_joined a b (lent places) why).0 (refused_answer _ why (sym call.answered ∙ e)),
+    λ c. call.answered ∙ ap join_answer ((number_joined a b (lent places) why).1 c),
   )
 
   -- and so with document 02's number
@@ -97,7 +97,7 @@ module _ (a b places after : CommitList) (answer : Result ℕ JoinRefusal) (call
       go : (l : CommitList) × (joining a b (lent places) ≡ Ok l)
           → (join_refusal answer ≡ 0) × JoinOf a b (handed_back (join_count answer) after)
       go j =
-          let g = subst (λ (r : Result CommitList JoinRefusal). Gives r places after answer) j.1 call in
+          let g = subst (λ (r : Result CommitList JoinRefusal). JoinGives r places after answer) j.1 call in
           let n : join_count answer ≡ length j.0.slots = ap join_count g.answered in
           let J = is_join a b (lent places) j.0 j.1 in
           let slots : take (join_count answer) after.slots ≡ j.0.slots = ap₂ take n g.slots ∙ front_taken j.0.slots places.slots in
@@ -117,7 +117,7 @@ join_fits a b l J p q (inl s) =
     ⊎_elim (λ m. p (inl (s.0, own_slot a.slots a.values _ m, s.2))) (λ m. q (inl (s.0, own_slot b.slots b.values _ m, s.2))) ((J.holds _).0 c.1)
 join_fits a b l J p q (inr v) =
     let c = value_beside l.slots l.values J.same v.0 v.1 in
-    ⊎_elim (λ m. p (inr (v.0, own_value a.slots a.values _ m, v.2))) (λ m. q (inr (v.0, own_value b.slots b.values _ m, v.2))) ((J.holds _).0 c.1)
+    ⊎_elim (λ m. p (inr (v.0, own_value_stands a.slots a.values _ m, v.2))) (λ m. q (inr (v.0, own_value_stands b.slots b.values _ m, v.2))) ((J.holds _).0 c.1)
 
 module _ (a b places after : CommitList) (count : ℕ) (call : Joins a b places after (Ok count)) where
   joined : (l : CommitList) × (joining a b (lent places) ≡ Ok l)
@@ -132,7 +132,7 @@ module _ (a b places after : CommitList) (count : ℕ) (call : Joins a b places 
 
   pub hands_count : length (handed_back count after).slots ≡ count
   hands_count =
-      let g = subst (λ (r : Result CommitList JoinRefusal). Gives r places after (Ok count)) joined.1 call in
+      let g = subst (λ (r : Result CommitList JoinRefusal). JoinGives r places after (Ok count)) joined.1 call in
       let n : count ≡ length joined.0.slots = ap join_count g.answered in
       ap length (ap₂ take n g.slots ∙ front_taken joined.0.slots places.slots) ∙ sym n
 

@@ -101,13 +101,13 @@ outside_decides l =
     (either_decides _ _ _ _ (not_decides _ _ (equal_decides (length l.slots) (length l.values))) (not_decides _ _ (consecutive_decides l.slots)))
 
 -- what a list is that is not outside the limits
-pub record Listed (l : CommitList) : Type 0 where
+pub record IsListed (l : CommitList) : Type 0 where
   pub same : length l.slots ≡ length l.values
   pub few : length l.slots ≤ 4096
   pub at : (i : ℕ) → i < length l.slots → get_or l.slots i 0 ≡ first_slot l.slots + i
 
-pub listed : (l : CommitList) → (Outside l → ⊥) → Listed l
-listed l n =
+pub listed_commit : (l : CommitList) → (Outside l → ⊥) → IsListed l
+listed_commit l n =
     let near : ltb 4096 (length l.slots) ≡ false = fails (λ t. n (inl (ltb-true _ _ t))) in
     let even : eqb (length l.slots) (length l.values) ≡ true = not-false _ (fails (λ t. n (inr (inl ((not_decides _ _ (equal_decides _ _)).0 t))))) in
     let steady : counts_from (first_slot l.slots) l.slots ≡ true = not-false _ (fails (λ t. n (inr (inr ((not_decides _ _ (consecutive_decides l.slots)).0 t))))) in

@@ -14,12 +14,12 @@ use lib.ListN.{length, get_or}
 use borrow.Author.Tests.{leb-true, leb-false}
 use Rattle.basics.specs.Lists.{In}
 use Rattle.basics.proofs.Tests.{either}
-use Rattle.catch_up.specs.Causes.{CommitList, Commit, Consecutive, listed_commits, beside, Disagree, EndsBefore, JoinCause, NoneBefore, NoCause}
+use Rattle.catch_up.specs.Causes.{CommitList, ListedCommit, Consecutive, listed_commits, beside, Disagree, EndsBefore, JoinCause, NoneBefore, NoCause}
 use Rattle.catch_up.specs.Joining.{first_slot, list_too_large, outside, joined_list, in_order, joining, apart}
 use Rattle.catch_up.specs.declared.JoinRefusal.{JoinRefusal}
 use Rattle.catch_up.specs.declared.JoinRefusal.TheVariants.{NumberTooLarge, OutsideLimits, Gap, TwoValues}
 use Rattle.catch_up.proofs.Answers.{order_gap, order_two, order_join}
-use Rattle.catch_up.proofs.Deciding.{Decides, decided, either_decides, less_decides, large_decides, outside_decides, Listed, listed, from_first, one_by_one}
+use Rattle.catch_up.proofs.Deciding.{Decides, decided, either_decides, less_decides, large_decides, outside_decides, IsListed, listed_commit, from_first, one_by_one}
 use Rattle.catch_up.proofs.Ordered.{gap_decides, two_decides, join_same, join_few, join_consecutive, join_holds}
 use Rattle.catch_up.proofs.Alike.{alike}
 
@@ -27,7 +27,7 @@ use Rattle.catch_up.proofs.Alike.{alike}
 
 -- "join into one of at most 8,192 entries holding every slot and value of both and no other", consecutive
 pub record JoinOf (a b l : CommitList) : Type 0 where
-  pub holds : (c : Commit) → In c (listed_commits l) ↔ (In c (listed_commits a) ⊎ In c (listed_commits b))
+  pub holds : (c : ListedCommit) → In c (listed_commits l) ↔ (In c (listed_commits a) ⊎ In c (listed_commits b))
   pub same : length l.slots ≡ length l.values
   pub consecutive : Consecutive l.slots
   pub few : length l.slots ≤ 8192
@@ -52,7 +52,7 @@ swapped_join a b l J =
       few = J.few;
     }
 
-swapped_disagree : (a b : List Commit) → Disagree a b → Disagree b a
+swapped_disagree : (a b : List ListedCommit) → Disagree a b → Disagree b a
 swapped_disagree a b d = (d.0, d.2, d.1, d.4, d.3, λ e. d.5 (sym e))
 
 -- ---- the five ways
@@ -72,11 +72,11 @@ module _ (a b : CommitList) (places : ℕ) where
   no_more p q r s TwoValues = s
 
   module _ (fits : JoinCause NumberTooLarge a b places → ⊥) (inside : JoinCause OutsideLimits a b places → ⊥) where
-    A : Listed a
-    A = listed a (λ o. inside (inl o))
+    A : IsListed a
+    A = listed_commit a (λ o. inside (inl o))
 
-    B : Listed b
-    B = listed b (λ o. inside (inr (inl o)))
+    B : IsListed b
+    B = listed_commit b (λ o. inside (inr (inl o)))
 
     -- a begins no later than b
     a_begins : first_slot a.slots ≤ first_slot b.slots → Ends a b places (in_order a b)
@@ -175,8 +175,8 @@ not_joined r x l p q = cc
 
 module _ (a b : CommitList) (places : ℕ) where
   -- a number is given exactly where its cause holds and no earlier one does
-  pub numbered : (why : JoinRefusal) → (joining a b places ≡ Err why) ↔ (JoinCause why a b places × NoneBefore why a b places)
-  numbered why = (λ e. given e (ends a b places), λ c. gives c (ends a b places))
+  pub number_joined : (why : JoinRefusal) → (joining a b places ≡ Err why) ↔ (JoinCause why a b places × NoneBefore why a b places)
+  number_joined why = (λ e. given e (ends a b places), λ c. gives c (ends a b places))
     where
       given : joining a b places ≡ Err why → Ends a b places (joining a b places) → JoinCause why a b places × NoneBefore why a b places
       given e (inl r) = subst (λ (x : JoinRefusal). JoinCause x a b places × NoneBefore x a b places) (same_refusal _ _ _ r.3 e) (r.1, r.2)
@@ -225,21 +225,21 @@ pub symmetric : (a b : CommitList) (places : ℕ) → joining a b places ≡ joi
 symmetric a b places = go (ends a b places)
   where
     go : Ends a b places (joining a b places) → joining a b places ≡ joining b a places
-    go (inl r) = r.3 ∙ sym ((numbered b a places r.0).1 (swapped_cause a b places r.0 r.1, swapped_none a b places r.0 r.2))
+    go (inl r) = r.3 ∙ sym ((number_joined b a places r.0).1 (swapped_cause a b places r.0 r.1, swapped_none a b places r.0 r.2))
     go (inr k) =
         let other = (joined_otherwise b a places).1 (λ why c. k.0 why (swapped_cause b a places why c)) in
         k.1.1 ∙ ap Ok (one_join a b k.1.0 other.0 k.1.2 (swapped_join a b other.0 (is_join b a places other.0 other.1))) ∙ sym other.1
 
 -- ---- "An empty list joined to another gives the other"
 
-abbrev pub nothing : CommitList
-nothing = record { slots = []; values = [] }
+abbrev pub nothing_joined : CommitList
+nothing_joined = record { slots = []; values = [] }
 
-module _ (b : CommitList) (places : ℕ) (fits : JoinCause NumberTooLarge nothing b places → ⊥) (inside : JoinCause OutsideLimits nothing b places → ⊥) where
-  other : JoinOf nothing b b
+module _ (b : CommitList) (places : ℕ) (fits : JoinCause NumberTooLarge nothing_joined b places → ⊥) (inside : JoinCause OutsideLimits nothing_joined b places → ⊥) where
+  other : JoinOf nothing_joined b b
   unfolding beside
   other =
-      let B = listed b (λ o. inside (inr (inl o))) in
+      let B = listed_commit b (λ o. inside (inr (inl o))) in
       let few = B.few in
       record {
         holds = λ c. (λ i. inr i, ⊎_elim (λ i. absurd i) (λ i. i));
@@ -248,14 +248,14 @@ module _ (b : CommitList) (places : ℕ) (fits : JoinCause NumberTooLarge nothin
         few = omega arith;
       }
 
-  no_cause : NoCause nothing b places
+  no_cause : NoCause nothing_joined b places
   unfolding beside
-  no_cause = no_more nothing b places fits inside (⊎_elim (λ g. absurd (not-suc-le-zero g.0)) (λ g. absurd (not-suc-le-zero g.1))) (λ d. d.3)
+  no_cause = no_more nothing_joined b places fits inside (⊎_elim (λ g. absurd (not-suc-le-zero g.0)) (λ g. absurd (not-suc-le-zero g.1))) (λ d. d.3)
 
-  pub empty_first : joining nothing b places ≡ Ok b
+  pub empty_first : joining nothing_joined b places ≡ Ok b
   empty_first =
-      let j = (joined_otherwise nothing b places).1 no_cause in
-      j.1 ∙ ap Ok (one_join nothing b j.0 b (is_join nothing b places j.0 j.1) other)
+      let j = (joined_otherwise nothing_joined b places).1 no_cause in
+      j.1 ∙ ap Ok (one_join nothing_joined b j.0 b (is_join nothing_joined b places j.0 j.1) other)
 
-  pub empty_second : joining b nothing places ≡ Ok b
-  empty_second = symmetric b nothing places ∙ empty_first
+  pub empty_second : joining b nothing_joined places ≡ Ok b
+  empty_second = symmetric b nothing_joined places ∙ empty_first

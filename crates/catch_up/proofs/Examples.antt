@@ -6,7 +6,7 @@ use mathlib.Core.Logic.{inl, inr}
 use mathlib.Core.List.{[], ◌∷◌}
 use Prim.Native.Nat.{ℕ, ◌*◌}
 use native.Mathlib.Omega.{arith}
-use Rattle.catch_up.specs.Causes.{CommitList, Commit, beside}
+use Rattle.catch_up.specs.Causes.{CommitList, ListedCommit, beside}
 use Rattle.catch_up.specs.Joining.{list_of, some_above, list_too_large, counts_from, outside, differ, in_order, joining}
 use Rattle.catch_up.specs.declared.JoinRefusal.TheVariants.{NumberTooLarge, OutsideLimits, Gap, TwoValues}
 use Rattle.catch_up.proofs.Agreeing.{OneValue, Lists, never_two_values}
@@ -53,13 +53,13 @@ one_value slot v w p q = p ∙ sym q
 
 from_five : Lists tenfold five_six
 unfolding beside
-from_five slot v (inl e) = omega (arith, ap (λ (c : Commit). c.slot) e, ap (λ (c : Commit). c.value) e)
-from_five slot v (inr (inl e)) = omega (arith, ap (λ (c : Commit). c.slot) e, ap (λ (c : Commit). c.value) e)
+from_five slot v (inl e) = omega (arith, ap (λ (c : ListedCommit). c.slot) e, ap (λ (c : ListedCommit). c.value) e)
+from_five slot v (inr (inl e)) = omega (arith, ap (λ (c : ListedCommit). c.slot) e, ap (λ (c : ListedCommit). c.value) e)
 from_five slot v (inr (inr e)) = absurd e
 
 from_seven : Lists tenfold (list_of (7 ∷ []) (70 ∷ []))
 unfolding beside
-from_seven slot v (inl e) = omega (arith, ap (λ (c : Commit). c.slot) e, ap (λ (c : Commit). c.value) e)
+from_seven slot v (inl e) = omega (arith, ap (λ (c : ListedCommit). c.slot) e, ap (λ (c : ListedCommit). c.value) e)
 from_seven slot v (inr e) = absurd e
 
 no_two_values : joining five_six (list_of (7 ∷ []) (70 ∷ [])) 8192 ≡ Err TwoValues → ⊥

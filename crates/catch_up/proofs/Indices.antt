@@ -12,19 +12,19 @@ use lib.ListN.{length, get_or}
 use borrow.Author.Tests.{eqb-true, eqb-false, not-true, not-false}
 use Rattle.basics.specs.Lists.{In}
 use Rattle.basics.proofs.Tests.{not_both, or_cases}
-use Rattle.catch_up.specs.Causes.{Commit, beside}
+use Rattle.catch_up.specs.Causes.{ListedCommit, beside}
 use Rattle.catch_up.specs.Joining.{differ}
 use Rattle.std.proofs.lemmas.Bool.{or_parts}
 
 -- the commit stands at a place of both slices
-abbrev pub Stands : List ℕ → List ℕ → Commit → Type 0
-Stands slots values c = (i : ℕ) × (i < length slots) × (i < length values) × (get_or slots i 0 ≡ c.slot) × (get_or values i 0 ≡ c.value)
+abbrev pub StandsInList : List ℕ → List ℕ → ListedCommit → Type 0
+StandsInList slots values c = (i : ℕ) × (i < length slots) × (i < length values) × (get_or slots i 0 ≡ c.slot) × (get_or values i 0 ≡ c.value)
 
-pub in_stands : (slots values : List ℕ) (c : Commit) → In c (beside slots values) → Stands slots values c
+pub in_stands : (slots values : List ℕ) (c : ListedCommit) → In c (beside slots values) → StandsInList slots values c
 unfolding beside
 in_stands [] values c m = absurd m
 in_stands (s ∷ slots) [] c m = absurd m
-in_stands (s ∷ slots) (v ∷ values) c (inl e) = (0, omega arith, omega arith, sym (ap (λ (x : Commit). x.slot) e), sym (ap (λ (x : Commit). x.value) e))
+in_stands (s ∷ slots) (v ∷ values) c (inl e) = (0, omega arith, omega arith, sym (ap (λ (x : ListedCommit). x.slot) e), sym (ap (λ (x : ListedCommit). x.value) e))
 in_stands (s ∷ slots) (v ∷ values) c (inr m) =
     let r = in_stands slots values c m in
     (suc r.0, omega (arith, r.1), omega (arith, r.2), r.3, r.4)
@@ -36,28 +36,28 @@ in_place (s ∷ slots) [] i h k = absurd (not-suc-le-zero k)
 in_place (s ∷ slots) (v ∷ values) zero h k = inl refl
 in_place (s ∷ slots) (v ∷ values) (suc i) h k = inr (in_place slots values i (le_of_suc-le-suc h) (le_of_suc-le-suc k))
 
-pub stands_in : (slots values : List ℕ) (c : Commit) → Stands slots values c → In c (beside slots values)
+pub stands_in : (slots values : List ℕ) (c : ListedCommit) → StandsInList slots values c → In c (beside slots values)
 stands_in slots values c r =
     let e : record { slot = get_or slots r.0 0; value = get_or values r.0 0 } ≡ c = λ i. record { slot = r.3 i; value = r.4 i } in
-    subst (λ (x : Commit). In x (beside slots values)) e (in_place slots values r.0 r.1 r.2)
+    subst (λ (x : ListedCommit). In x (beside slots values)) e (in_place slots values r.0 r.1 r.2)
 
 -- ---- a commit's slot and value, by membership
 
-pub own_slot : (slots values : List ℕ) (c : Commit) → In c (beside slots values) → In c.slot slots
+pub own_slot : (slots values : List ℕ) (c : ListedCommit) → In c (beside slots values) → In c.slot slots
 unfolding beside
 own_slot [] values c m = absurd m
 own_slot (s ∷ slots) [] c m = absurd m
-own_slot (s ∷ slots) (v ∷ values) c (inl e) = inl (ap (λ (x : Commit). x.slot) e)
+own_slot (s ∷ slots) (v ∷ values) c (inl e) = inl (ap (λ (x : ListedCommit). x.slot) e)
 own_slot (s ∷ slots) (v ∷ values) c (inr m) = inr (own_slot slots values c m)
 
-pub own_value : (slots values : List ℕ) (c : Commit) → In c (beside slots values) → In c.value values
+pub own_value_stands : (slots values : List ℕ) (c : ListedCommit) → In c (beside slots values) → In c.value values
 unfolding beside
-own_value [] values c m = absurd m
-own_value (s ∷ slots) [] c m = absurd m
-own_value (s ∷ slots) (v ∷ values) c (inl e) = inl (ap (λ (x : Commit). x.value) e)
-own_value (s ∷ slots) (v ∷ values) c (inr m) = inr (own_value slots values c m)
+own_value_stands [] values c m = absurd m
+own_value_stands (s ∷ slots) [] c m = absurd m
+own_value_stands (s ∷ slots) (v ∷ values) c (inl e) = inl (ap (λ (x : ListedCommit). x.value) e)
+own_value_stands (s ∷ slots) (v ∷ values) c (inr m) = inr (own_value_stands slots values c m)
 
-abbrev commit : ℕ → ℕ → Commit
+abbrev commit : ℕ → ℕ → ListedCommit
 commit s v = record { slot = s; value = v }
 
 -- where there are as many values as slots, each has the other beside it

@@ -12,16 +12,16 @@ use lib.Seq.{get_or-drop, get_or-append-add}
 use borrow.Author.Tests.{ltb-true, lt-ltb}
 use Rattle.basics.specs.Lists.{In}
 use Rattle.basics.proofs.Tests.{either, not_both, and_left, and_right, and_both}
-use Rattle.catch_up.specs.Causes.{CommitList, Commit, Consecutive, listed_commits, EndsBefore, Disagree}
+use Rattle.catch_up.specs.Causes.{CommitList, ListedCommit, Consecutive, listed_commits, EndsBefore, Disagree}
 use Rattle.catch_up.specs.Joining.{first_slot, ahead, apart, disagree, together, joined_list}
-use Rattle.catch_up.proofs.Deciding.{below, Decides, Listed}
-use Rattle.catch_up.proofs.Indices.{Stands, in_stands, stands_in, differ_at, same_at}
+use Rattle.catch_up.proofs.Deciding.{below, Decides, IsListed}
+use Rattle.catch_up.proofs.Indices.{StandsInList, in_stands, stands_in, differ_at, same_at}
 
 -- where no slot is, the first one is 0
 none_first : (l : List ℕ) → length l ≤ 0 → first_slot l ≡ 0
 none_first l h = get_or-eq_default l 0 {n = 0} h
 
-module _ (e l : CommitList) (E : Listed e) (L : Listed l) (order : first_slot e.slots ≤ first_slot l.slots) where
+module _ (e l : CommitList) (E : IsListed e) (L : IsListed l) (order : first_slot e.slots ≤ first_slot l.slots) where
   -- ---- 19
 
   gap_found : apart e l ≡ true → EndsBefore e.slots l.slots ⊎ EndsBefore l.slots e.slots
@@ -108,7 +108,7 @@ module _ (e l : CommitList) (E : Listed e) (L : Listed l) (order : first_slot e.
     behind : (es ls : List ℕ) (k : ℕ) → get_or (together e l es ls) (length es + k) 0 ≡ get_or ls (length e.slots - ahead e l + k) 0
     behind es ls k = get_or-append-add es _ k 0 ∙ get_or-drop _ ls k 0
 
-    to_one : (c : Commit) → Stands (joined_list e l).slots (joined_list e l).values c → Stands e.slots e.values c ⊎ Stands l.slots l.values c
+    to_one : (c : ListedCommit) → StandsInList (joined_list e l).slots (joined_list e l).values c → StandsInList e.slots e.values c ⊎ StandsInList l.slots l.values c
     to_one c r =
         let i = r.0 in
         let same-e = E.same in
@@ -129,7 +129,7 @@ module _ (e l : CommitList) (E : Listed e) (L : Listed l) (order : first_slot e.
         ))
         (below i (length e.slots))
 
-    from_earlier : (c : Commit) → Stands e.slots e.values c → Stands (joined_list e l).slots (joined_list e l).values c
+    from_earlier : (c : ListedCommit) → StandsInList e.slots e.values c → StandsInList (joined_list e l).slots (joined_list e l).values c
     from_earlier c r = (
       r.0,
       omega (arith, slots_long, r.1),
@@ -138,7 +138,7 @@ module _ (e l : CommitList) (E : Listed e) (L : Listed l) (order : first_slot e.
       front e.values l.values r.0 r.2 ∙ r.4,
     )
 
-    from_later : (c : Commit) → Stands l.slots l.values c → Stands (joined_list e l).slots (joined_list e l).values c
+    from_later : (c : ListedCommit) → StandsInList l.slots l.values c → StandsInList (joined_list e l).slots (joined_list e l).values c
     from_later c r =
         let k = r.0 in
         let same-e = E.same in
@@ -166,7 +166,7 @@ module _ (e l : CommitList) (E : Listed e) (L : Listed l) (order : first_slot e.
         ))
         (below k (length e.slots - ahead e l))
 
-    pub join_holds : (c : Commit) → In c (listed_commits (joined_list e l)) ↔ (In c (listed_commits e) ⊎ In c (listed_commits l))
+    pub join_holds : (c : ListedCommit) → In c (listed_commits (joined_list e l)) ↔ (In c (listed_commits e) ⊎ In c (listed_commits l))
     join_holds c = (
       λ m. ⊎_elim (λ s. inl (stands_in e.slots e.values c s)) (λ s. inr (stands_in l.slots l.values c s)) (to_one c (in_stands (joined_list e l).slots (joined_list e l).values c m)),
       ⊎_elim (λ m. stands_in (joined_list e l).slots (joined_list e l).values c (from_earlier c (in_stands e.slots e.values c m)))

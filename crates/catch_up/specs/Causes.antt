@@ -14,18 +14,18 @@ pub record CommitList : Type 0 where
   pub values : List ℕ
 
 -- an entry of a list
-pub record Commit : Type 0 where
+pub record ListedCommit : Type 0 where
   pub slot : ℕ
   pub value : ℕ
 
 -- each slot with the value beside it
-unfoldable pub beside : List ℕ → List ℕ → List Commit
+unfoldable pub beside : List ℕ → List ℕ → List ListedCommit
 beside [] values = []
 beside (s ∷ slots) [] = []
 beside (s ∷ slots) (v ∷ values) = record { slot = s; value = v } ∷ beside slots values
 
 -- a list as its entries
-abbrev pub listed_commits : CommitList → List Commit
+abbrev pub listed_commits : CommitList → List ListedCommit
 listed_commits l = beside l.slots l.values
 
 -- each slot is the one after the slot before it
@@ -47,7 +47,7 @@ abbrev pub EndsBefore : List ℕ → List ℕ → Type 0
 EndsBefore a b = (0 < length a) × (0 < length b) × (get_or a (length a - 1) 0 + 1 < get_or b 0 0)
 
 -- 20: "one slot with two values"
-abbrev pub Disagree : List Commit → List Commit → Type 0
+abbrev pub Disagree : List ListedCommit → List ListedCommit → Type 0
 Disagree a b = (slot v w : ℕ) × In (record { slot = slot; value = v }) a × In (record { slot = slot; value = w }) b × (v ≡ w → ⊥)
 
 -- two lists, and how many places are lent for the result: "Fewer than 8,192 lent places give 18"

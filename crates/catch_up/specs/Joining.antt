@@ -4,7 +4,7 @@ use Rattle.std.specs.Prelude.{◌≡◌, Result, Ok, Err, Bool, true, false, con
 use Rattle.std.specs.List.{list_any, zip}
 use Rattle.std.specs.Result.{result_unwrap_or}
 use Rattle.basics.specs.elements.Places.{at_front}
-use Rattle.refusals.specs.Refusals.{refusal}
+use Rattle.basics.specs.refusals.Refusals.{refusal}
 use Rattle.catch_up.specs.Causes.{CommitList, join_number}
 use Rattle.catch_up.specs.declared.JoinRefusal.{JoinRefusal}
 use Rattle.catch_up.specs.declared.JoinRefusal.TheVariants.{NumberTooLarge, OutsideLimits, Gap, TwoValues}
@@ -128,7 +128,7 @@ result_of (Err why) = record { slots = []; values = [] }
 result_of (Ok l) = l
 
 -- a call answers the result, and leaves it in the first of the lent places: "places past the result, and all after a refusal, are unchanged"
-pub record Gives (result : Result CommitList JoinRefusal) (places after : CommitList) (answer : Result ℕ JoinRefusal) : Type 0 where
+pub record JoinGives (result : Result CommitList JoinRefusal) (places after : CommitList) (answer : Result ℕ JoinRefusal) : Type 0 where
   pub answered : answer ≡ join_answer result
   pub slots : after.slots ≡ at_front (result_of result).slots places.slots
   pub values : after.values ≡ at_front (result_of result).values places.values
@@ -143,4 +143,4 @@ handed_back count after = list_of (take count after.slots) (take count after.val
 
 -- the lists a and b are joined into the lent places
 abbrev pub Joins : CommitList → CommitList → CommitList → CommitList → Result ℕ JoinRefusal → Type 0
-Joins a b places after answer = Gives (joining a b (lent places)) places after answer
+Joins a b places after answer = JoinGives (joining a b (lent places)) places after answer

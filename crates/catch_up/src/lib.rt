@@ -6,10 +6,10 @@ ghost use Rattle.std.specs.Prelude.{◌≡◌, ◌&&◌, ◌++◌, ◌+◌, ◌-
 ghost use Rattle.std.specs.List.{list_all, fold, zip};
 ghost use Rattle.basics.specs.elements.Places.{at_front};
 ghost use Rattle.catch_up.specs.Causes.{join_number};
-ghost use Rattle.catch_up.specs.Joining.{lent_list, lent_places, SamePlaces, some_above, list_too_large, counts_from, first_slot, outside, InLimits, checked_of, counts_within, differ, in_order, Gives, Joins, one_refused};
+ghost use Rattle.catch_up.specs.Joining.{lent_list, lent_places, SamePlaces, some_above, list_too_large, counts_from, first_slot, outside, InLimits, checked_of, counts_within, differ, in_order, JoinGives, Joins, one_refused};
 
+use basics::refusals::Refused;
 use message::{LARGEST_NUMBER, LARGEST_SLOT};
-use refusals::Refused;
 
 // A list as a host lends it: slots, and the value beside each. Two slices in place of one of pairs: the C interface has them so.
 #[derive(Clone, Copy)]
@@ -234,7 +234,7 @@ fn join_in_order(
     requires slot_places { 8192 ≤ length places.old.slots.now }
     requires value_places { 8192 ≤ length places.old.values.now }
     ensures same { SamePlaces places.old places.new }
-    ensures joined { Gives (in_order (lent_list earlier.entry) (lent_list later.entry)) (lent_places places.old) (lent_places places.new) result }
+    ensures joined { JoinGives (in_order (lent_list earlier.entry) (lent_list later.entry)) (lent_places places.old) (lent_places places.new) result }
 {
     let ahead = (first_slot(later.slots) - first_slot(earlier.slots)) as usize;
     let length = earlier.slots.len();

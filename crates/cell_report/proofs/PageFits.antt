@@ -11,12 +11,12 @@ use Rattle.std.specs.Prelude.{Option, Some, None}
 use Rattle.basics.proofs.Tests.{of-both}
 use Rattle.register.specs.Register.{live_places}
 use Rattle.register.specs.declared.Register.{Register}
-use Rattle.report.specs.Report.{report_text, refusal_text, page_holding, page_with}
-use Rattle.report.specs.declared.ReportPage.{ReportPage}
+use Rattle.register.specs.report.Report.{report_text, refusal_text, page_holding, page_with}
+use Rattle.register.specs.declared.report.ReportPage.{ReportPage}
 use Rattle.group_register.specs.Settings.{settings_refusal, is_made}
 use Rattle.group_register.specs.GroupRegister.{group_page}
-use Rattle.entry_lines.specs.Reports.{page_after}
-use Rattle.entry_lines.specs.declared.EntriesTaken.{EntriesTaken}
+use Rattle.register_lines.specs.entries.Reports.{page_after}
+use Rattle.register_lines.specs.declared.entries.EntriesTaken.{EntriesTaken}
 
 abbrev Fits : ReportPage → Type 0
 Fits p = IsPrefixLen p.len p.bytes

@@ -4,12 +4,12 @@
 #![tactic(auto)]
 
 ghost use Rattle.std.specs.Prelude.{◌≡◌, is_some, None};
-ghost use Rattle.entry_lines.specs.Reports.{take_line};
+ghost use Rattle.register_lines.specs.entries.Reports.{take_line};
 
-use entry_lines::EntriesTaken;
-use line_blocks::LineTaker;
+use register_lines::entries::EntriesTaken;
 use std::io::Read;
 use texts::Output;
+use texts::blocks::LineTaker;
 
 // The register after the lines so far, where none refuses the input. Nothing is put while lines are taken.
 #[derive(Clone, Copy)]
@@ -25,7 +25,7 @@ impl LineTaker for Entries {
     ghost asks = { λ entries. is_some entries.taken };
 
     fn take(&mut self, line: &[u8], _out: &mut Output<'_>) {
-        self.taken = entry_lines::take_line(self.taken, line);
+        self.taken = register_lines::entries::take_line(self.taken, line);
     }
 
     fn take_too_long(&mut self, _start: &[u8], _out: &mut Output<'_>) {
@@ -65,9 +65,9 @@ fn take_entries<R: Read + Drop>(
     };
     let mut out = Output::new(nothing);
     let mut entries = Entries {
-        taken: entry_lines::no_lines(),
+        taken: register_lines::entries::no_lines(),
     };
-    line_blocks::take_input(&mut watched, input, &mut entries, &mut out);
+    texts::blocks::take_input(&mut watched, input, &mut entries, &mut out);
     if watched.failed {
         return None;
     }
@@ -75,7 +75,7 @@ fn take_entries<R: Read + Drop>(
 }
 
 fn write_report(taken: Option<EntriesTaken>) {
-    let page = entry_lines::page_after(taken);
+    let page = register_lines::entries::page_after(taken);
     let bytes = page.bytes;
     let len = page.len;
     io::write_all(1, &bytes[..len]);

@@ -2,10 +2,10 @@
 #![tactic(auto)]
 
 ghost use Rattle.std.specs.Prelude.{◌≡◌};
-ghost use Rattle.classic.specs.accept.Accept.{tells_committer, is_committer, accept_to, committer_hears, answer_accept, commit_message, tells_commit, with_commit_message, try_commit, accept_answer, continues_fast, counts_accepts, accepted, accepting};
+ghost use Rattle.classic.specs.accept.Accept.{tells_committer, is_committer, accept_to, committer_hears, answer_accept, commit_message, tells_commit, with_commit_message, try_commit, accept_answer, continues_fast, counts_accepts, accept_taken, accepting};
 
 use message::{ConsensusMsg, PFMode, PaxosRound, Refusal};
-use steps::{Asked, Core, CoreStep, Destination, Heard, Messages, Outgoing};
+use steps::{Asked, Core, CoreStep, Destination, Heard, Outgoing, SentMessages};
 
 // asked, heard and round are parameters of their own: a struct of them was tried here, and the page was as long, since the contracts name the settings' part
 // and the message's part apart, and 5 of these 14 functions take one or two of the three.
@@ -46,7 +46,12 @@ fn committer_hears(asked: Asked, round: PaxosRound, p: u64) -> bool
 
 // The own accept, to the committer first and then to the leader.
 #[tactic(auto, unfolding(crate::specs::accept::Accept::answer_accept))]
-fn answer_accept(asked: Asked, round: PaxosRound, core: Core, committer: Option<u64>) -> Messages
+fn answer_accept(
+    asked: Asked,
+    round: PaxosRound,
+    core: Core,
+    committer: Option<u64>,
+) -> SentMessages
     ensures { result ≡ answer_accept asked round core committer }
 {
     let to_leader = accept_to(asked, core, round, round.leader);
@@ -90,8 +95,8 @@ fn with_commit_message(
     heard: Heard,
     round: PaxosRound,
     core: Core,
-    messages: Messages,
-) -> Messages
+    messages: SentMessages,
+) -> SentMessages
     ensures { result ≡ with_commit_message asked heard round core messages }
 {
     if tells_commit(asked, heard, round) {
@@ -108,7 +113,7 @@ pub fn try_commit(
     round: PaxosRound,
     v: u64,
     core: Core,
-    messages: Messages,
+    messages: SentMessages,
 ) -> CoreStep
     ensures { result ≡ try_commit asked heard round v core messages }
 {
@@ -121,7 +126,7 @@ pub fn try_commit(
 
 // What the delegate's accept is answered with. The leader answers nobody, and no other accept is answered.
 #[tactic(auto, unfolding(crate::specs::accept::Accept::accept_answer))]
-fn accept_answer(asked: Asked, heard: Heard, round: PaxosRound, core: Core) -> Messages
+fn accept_answer(asked: Asked, heard: Heard, round: PaxosRound, core: Core) -> SentMessages
     ensures { result ≡ accept_answer asked heard round core }
 {
     if asked.member.my_pid == round.leader {
@@ -155,14 +160,14 @@ fn counts_accepts(asked: Asked, heard: Heard, round: PaxosRound) -> bool
 // The Rust's three branches, of the leader, of one that answers and of one that only counts, meet in one place that commits: a function with one
 // caller is compiled into it, and then nothing is copied.
 #[tactic(auto, using(crate::proofs::accept::Roles::accepted_by_role))]
-fn accepted(
+fn accept_taken(
     asked: Asked,
     heard: Heard,
     round: PaxosRound,
     v: u64,
     core: Core,
 ) -> Result<CoreStep, Refusal>
-    ensures { result ≡ accepted asked heard round v core }
+    ensures { result ≡ accept_taken asked heard round v core }
 {
     let answer = accept_answer(asked, heard, round, core);
     if continues_fast(asked, heard, round) {
@@ -192,5 +197,5 @@ pub fn accepting(
         .paxos
         .receive_accept(asked.member, heard.src, round, v)?;
     let taken = crate::prepare::off_fast_path(asked, core.with_paxos(p));
-    accepted(asked, heard, round, v, taken)
+    accept_taken(asked, heard, round, v, taken)
 }

@@ -2,7 +2,7 @@
 #![tactic(auto)]
 
 ghost use Rattle.std.specs.Prelude.{◌≡◌};
-ghost use Rattle.classic.specs.prepare.Prepare.{hold_first, may_answer, answer_prepare, leaves_leader, answers_nothing, preparing, prepared, off_fast_path, broadcast_accept, after_own_accept, accept_phase, with_promise, becomes_prepared, gather, has_accepted};
+ghost use Rattle.classic.specs.prepare.Prepare.{hold_first, may_answer, answer_prepare, leaves_leader, answers_nothing, preparing, prepare_answered, off_fast_path, broadcast_accept, after_own_accept, accept_phase, with_promise, becomes_prepared, gather, has_accepted};
 
 use message::{ConsensusMsg, PaxosRound, Refusal, RoundV};
 use round_state::{PaxosState, get_last_accepted_round};
@@ -79,15 +79,15 @@ fn preparing(asked: Asked, heard: Heard, round: PaxosRound, core: Core) -> Resul
 }
 
 // A Prepare, up to the point where the delegate counts the promise.
-#[tactic(auto, unfolding(crate::specs::prepare::Prepare::prepared))]
-pub fn prepared(
+#[tactic(auto, unfolding(crate::specs::prepare::Prepare::prepare_answered))]
+pub fn prepare_answered(
     asked: Asked,
     heard: Heard,
     round: PaxosRound,
     rv: RoundV,
     core: Core,
 ) -> Result<CoreStep, Refusal>
-    ensures { result ≡ prepared asked heard round rv core }
+    ensures { result ≡ prepare_answered asked heard round rv core }
 {
     let p = hold_first(asked, rv, core.paxos)?;
     preparing(asked, heard, round, core.with_paxos(p))

@@ -14,10 +14,10 @@ use Rattle.message.specs.declared.RoundV.{RoundV}
 use Rattle.message.specs.declared.RoundV.TheVariants.{FastV, PaxosV}
 use Rattle.steps.specs.declared.Core.{Core}
 use Rattle.basics.proofs.Tests.{by_cases}
-use Rattle.delivery.specs.Admit.{is_ahead, is_own_slot, is_other_last, needs_value}
-use Rattle.delivery.specs.Limits.{round_numbers, rv_numbers, msg_numbers, number_given, rv_processes, msg_processes, requester_below, numbers_fit, processes_fit}
-use Rattle.delivery.specs.declared.Delivery.{Delivery}
-use Rattle.consensus.specs.FirstCause.{any_above, any_from, too_large, given_number, slots_of, promise_processes, processes_of, promise_numbers, numbers_of, joined, all_processes, all_numbers, ahead_of, of_slot, given_and_different, waits_for_value}
+use Rattle.calls.specs.delivery.Admit.{is_ahead, is_own_slot, is_other_last, needs_value}
+use Rattle.calls.specs.delivery.Limits.{round_numbers, rv_numbers, msg_numbers, number_given, rv_processes, msg_processes, requester_below, numbers_fit, processes_fit}
+use Rattle.calls.specs.declared.delivery.Delivery.{Delivery}
+use Rattle.consensus.specs.FirstCause.{any_above, any_from, numbers_too_large, given_number, message_slots, promise_processes, message_processes, promise_numbers, other_numbers, appended, all_processes, all_numbers, ahead_of, of_slot, given_and_different, waits_for_value}
 
 -- ---- tests
 
@@ -47,8 +47,8 @@ unfoldable every : (ℕ → Bool) → List ℕ → Bool
 every test [] = true
 every test (n ∷ ns) = test n && every test ns
 
-every_joined : (test : ℕ → Bool) (ms ns : List ℕ) → every test (joined ms ns) ≡ (every test ms && every test ns)
-unfolding every joined
+every_joined : (test : ℕ → Bool) (ms ns : List ℕ) → every test (appended ms ns) ≡ (every test ms && every test ns)
+unfolding every appended
 every_joined test [] ns = refl
 every_joined test (m ∷ ms) ns = ap (λ (t : Bool). test m && t) (every_joined test ms ns) ∙ sym (and_assoc (test m) (every test ms) (every test ns))
 
@@ -87,7 +87,7 @@ promise_small (FastV proposer v) = simp (and-true)
 promise_small (PaxosV None v) = simp (and-true)
 promise_small (PaxosV (Some round) v) = simp (and-true, and_assoc, and_comm, and_left)
 
-message_small : (m : ConsensusMsg) → msg_numbers m ≡ (every small_slot (slots_of m) && every small (processes_of m) && every small (numbers_of m))
+message_small : (m : ConsensusMsg) → msg_numbers m ≡ (every small_slot (message_slots m) && every small (message_processes m) && every small (other_numbers m))
 unfolding every msg_numbers round_numbers
 message_small (Prepare slot round rv) = simp (promise_small rv, and-true, and_assoc, and_comm)
 message_small (Accept slot round v) = simp (and-true, and_assoc, and_comm, and_left)
@@ -97,17 +97,17 @@ message_small (ReadRequest id) = simp (and-true)
 message_small (ReadResponse id next) = simp (and-true)
 
 -- the tests of a message in the order of the causes and in that of the code
-reordered : (a v n s h r p : Bool) → (a && (v && (n && (s && (h && (r && p)))))) ≡ (a && (h && (v && (r && (n && (p && s))))))
+reordered : (a v n s h r p : Bool) → (a && (v && (n && (s && (h && (r && p)))))) ≡ (a && (h && (v && (r && (p && (n && s))))))
 reordered a v n s h r p = simp (and_comm, and_left)
 
-pub numbers_cause : (d : Delivery) → too_large (slots_of d.message.msg) (all_numbers d) ≡ not (numbers_fit d)
+pub numbers_cause : (d : Delivery) → numbers_too_large (message_slots d.message.msg) (all_numbers d) ≡ not (numbers_fit d)
 unfolding numbers_fit every
 numbers_cause d =
     simp (any_large, any_large_slot, or_not, every_joined, message_small, given_small, and_assoc, and_comm, and_left)
     (ap not
-    (reordered (small d.message.src) (every small (given_number d.message.last_v)) (every small (numbers_of d.message.msg))
-    (every small_slot (slots_of d.message.msg)) (every small (given_number d.held_requester)) (every small (given_number d.said.requester))
-    (every small (processes_of d.message.msg))))
+    (reordered (small d.message.src) (every small (given_number d.message.last_v)) (every small (other_numbers d.message.msg))
+    (every small_slot (message_slots d.message.msg)) (every small (given_number d.held_requester)) (every small (given_number d.said.requester))
+    (every small (message_processes d.message.msg))))
 
 -- ---- 3
 
@@ -122,7 +122,7 @@ promise_below n (FastV proposer v) = sym (and-true (ltb proposer n))
 promise_below n (PaxosV None v) = refl
 promise_below n (PaxosV (Some round) v) = sym (and-true (ltb round.leader n))
 
-message_below : (n : ℕ) (m : ConsensusMsg) → msg_processes n m ≡ every (λ p. ltb p n) (processes_of m)
+message_below : (n : ℕ) (m : ConsensusMsg) → msg_processes n m ≡ every (λ p. ltb p n) (message_processes m)
 unfolding every msg_processes
 message_below n (Prepare slot round rv) = ap (λ (t : Bool). ltb round.leader n && t) (promise_below n rv)
 message_below n (Accept slot round v) = sym (and-true (ltb round.leader n))

@@ -10,9 +10,9 @@ use borrow.Author.Tests.{leb-false}
 use Rattle.message.specs.Outcomes.{Outcome}
 use Rattle.message.specs.declared.Refusal.{Refusal}
 use Rattle.message.specs.declared.Refusal.TheVariants.{NumberTooLarge}
-use Rattle.fast_state.specs.Adopt.{Choice}
+use Rattle.fast_state.specs.Adopt.{ProposerChoice}
 use Rattle.calls.specs.Asked.{asked_of, heard_in}
-use Rattle.calls.specs.Decision.{admission_of, unless_spent, if_made, decision_for, decision_of}
+use Rattle.calls.specs.Decision.{admission_of, unless_spent, unless_unmade, decision_for, decision_of}
 use Rattle.calls.specs.declared.Call.{Call}
 use Rattle.consensus.specs.Call.{state_call, in_shard, call_with}
 use Rattle.consensus.specs.FirstCause.{number_alone}
@@ -27,7 +27,7 @@ admission shard c = admission_of shard.settings.process_count shard.settings.my_
 -- what is decided of a call: it is refused, or the shard is made, its slot is not spent, and the call is admitted
 pub by_outcome : (shard : Shard) (c : Call) (P : Outcome → Type 0) → ((why : Refusal) → P (Err why))
     → (shard.made ≡ Ok tt → shard.state.rounds.core.slot < 9223372036854775807 → admission shard c ≡ Ok tt → P (Ok tt))
-    → P (if_made shard.made shard.settings.process_count shard.settings.my_pid shard.state.rounds.core c)
+    → P (unless_unmade shard.made shard.settings.process_count shard.settings.my_pid shard.state.rounds.core c)
 unfolding unless_spent
 by_outcome shard c P refused taken = if_made_lem shard.made refl
   where
@@ -39,11 +39,11 @@ by_outcome shard c P refused taken = if_made_lem shard.made refl
     not_spent made true e = refused NumberTooLarge
     not_spent made false e = admitted made (leb-false 9223372036854775807 shard.state.rounds.core.slot e) (admission shard c) refl
 
-    if_made_lem : (o : Outcome) → shard.made ≡ o → P (if_made o shard.settings.process_count shard.settings.my_pid shard.state.rounds.core c)
+    if_made_lem : (o : Outcome) → shard.made ≡ o → P (unless_unmade o shard.settings.process_count shard.settings.my_pid shard.state.rounds.core c)
     if_made_lem (Ok tt) made = not_spent made (leb 9223372036854775807 shard.state.rounds.core.slot) refl
     if_made_lem (Err why) made = refused why
 
-module _ (choose : Choice) (shard : Shard) where
+module _ (choose : ProposerChoice) (shard : Shard) where
   -- what is made of a call that is taken
   abbrev pub handled : Call → Answer
   handled c = in_shard shard (handle_call choose shard.state (asked_of shard.settings) (heard_in shard.settings c) c)

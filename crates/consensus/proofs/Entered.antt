@@ -21,9 +21,9 @@ use Rattle.message.specs.declared.RoundV.{RoundV}
 use Rattle.message.specs.declared.RoundV.TheVariants.{FastV, PaxosV}
 use Rattle.settings.specs.Questions.{delegate_in, committer_for, committer_in, committer_of as get_committer}
 use Rattle.settings.specs.declared.Settings.{Settings}
-use Rattle.fast_state.specs.Adopt.{Choice}
+use Rattle.fast_state.specs.Adopt.{ProposerChoice}
 use Rattle.fast_state.specs.Fast.{answers_of}
-use Rattle.enter.specs.Enter.{in_round, is_older, from_live, enter}
+use Rattle.steps.specs.enter.Enter.{in_round, is_older, from_live, enter}
 use Rattle.paxos_family.specs.Process.{entered_prepare, on_prepare, on_accept, process_classic, entered_fast_prepare, on_fast_prepare, entered_fast_accept, on_fast_accept, replica_accept, process_change, process_fast}
 use Rattle.classic.specs.accept.Accept.{is_committer, accepting}
 use Rattle.fast.specs.swift.Swift.{swift_client_accept}
@@ -39,12 +39,12 @@ use Rattle.steps.specs.declared.Core.{Core}
 use Rattle.steps.specs.declared.Heard.{Heard}
 use Rattle.steps.specs.declared.Rounds.{Rounds}
 use Rattle.calls.specs.Asked.{asked_of, heard_of, gatherer_in, gatherer_of}
-use Rattle.delivery.specs.declared.Delivery.{Delivery}
+use Rattle.calls.specs.declared.delivery.Delivery.{Delivery}
 use Rattle.consensus.specs.Handle.{processed}
 use Rattle.consensus.specs.FirstCause.{value_committer, leader_delegate, promise_delegate, facts_of, is_ignored, source_not_live, handling_causes}
 use Rattle.consensus.specs.Panics.{Facts, classic_prepare, epaxos_prepare, swift_prepare, classic_accept, swift_replica_accept_rows, swift_client_accept_rows}
 use Rattle.consensus.specs.Rows.{Row, gives, first_of}
-use Rattle.consensus.proofs.Handled.{facts_in, step_number, change_number, rounds_number, mapped_number, after_step, and_then_number, and_then_change_number, classic_prepare_lem}
+use Rattle.consensus.proofs.Handled.{facts_in, step_number, change_number, rounds_number, mapped_number, number_after_step, and_then_number, and_then_change_number, classic_prepare_lem}
 use Rattle.consensus.proofs.HandledAccept.{classic_accept_lem, accept_ends}
 use Rattle.consensus.proofs.HandledEPaxos.{epaxos_prepare_lem}
 use Rattle.consensus.proofs.HandledSwift.{behind, replica_number, swift_prepare_lem, swift_accept_lem}
@@ -52,13 +52,13 @@ use Rattle.consensus.proofs.HandledSwift.{behind, replica_number, swift_prepare_
 -- ---- who takes part, and 7
 
 -- SwiftPaxos has a fast path
-pub not_swift : (m : PFMode) → has_fast_path m ≡ false → is_swift_paxos m ≡ false
-not_swift Paxos e = refl
-not_swift MultiPaxos e = refl
-not_swift MultiPaxos3P e = refl
-not_swift EPaxos e = refl
-not_swift Pando e = refl
-not_swift SwiftPaxos e = absurd (not_both refl e)
+pub not_swift_without_fast_path : (m : PFMode) → has_fast_path m ≡ false → is_swift_paxos m ≡ false
+not_swift_without_fast_path Paxos e = refl
+not_swift_without_fast_path MultiPaxos e = refl
+not_swift_without_fast_path MultiPaxos3P e = refl
+not_swift_without_fast_path EPaxos e = refl
+not_swift_without_fast_path Pando e = refl
+not_swift_without_fast_path SwiftPaxos e = absurd (not_both refl e)
 
 enter_table : (part older before live swift : Bool) (x : ℕ) (rows : List Row) → (part ≡ true → x ≡ first_of rows)
     → cond part (cond (older || before) 0 (cond (live || swift) x 7)) 0 ≡ first_of (cond (not part || older || before) [] (gives 7 (not live && not swift) ∷ rows))
@@ -72,7 +72,7 @@ enter_table true false false false false x rows e = refl
 
 enter_number : (a : Asked) (h : Heard) (value_held : Bool) (slot : ℕ) (round : PaxosRound) (core : Core) (rest : Core → ℕ) (rows : List Row)
     → ((a.member.replica || is_swift_paxos a.mode) ≡ true → rest (in_round round core) ≡ first_of rows)
-    → after_step value_held rest (enter a h slot round core)
+    → number_after_step value_held rest (enter a h slot round core)
     ≡ first_of (cond (not (a.member.replica || is_swift_paxos a.mode) || ltb slot core.slot || before (Some round) core.paxos.round) []
     (gives 7 (not h.source_live && not (is_swift_paxos a.mode)) ∷ rows))
 unfolding enter is_older from_live
@@ -81,7 +81,7 @@ enter_number a h value_held slot round core rest rows e =
     ∙ enter_table (a.member.replica || is_swift_paxos a.mode) (ltb slot core.slot) (before (Some round) core.paxos.round) h.source_live (is_swift_paxos a.mode)
     (rest (in_round round core)) rows e
   where
-    shape : after_step value_held rest (enter a h slot round core)
+    shape : number_after_step value_held rest (enter a h slot round core)
         ≡ cond (a.member.replica || is_swift_paxos a.mode)
         (cond (ltb slot core.slot || before (Some round) core.paxos.round) 0 (cond (h.source_live || is_swift_paxos a.mode) (rest (in_round round core)) 7)) 0
     shape =
@@ -161,7 +161,7 @@ entered_facts s rounds d round =
 
 -- ---- a Prepare or an Accept, by the table
 
-module _ (choose : Choice) (s : Settings) (rounds : Rounds) (d : Delivery) where
+module _ (choose : ProposerChoice) (s : Settings) (rounds : Rounds) (d : Delivery) where
   abbrev a : Asked
   a = asked_of s
 
@@ -292,7 +292,7 @@ with_mode m s =
       delegates = s.delegates;
     }
 
-module _ (choose : Choice) (s : Settings) (rounds : Rounds) (d : Delivery) where
+module _ (choose : ProposerChoice) (s : Settings) (rounds : Rounds) (d : Delivery) where
   -- what is handled gives the number of the first of its causes
   abbrev Handled : PFMode → ConsensusMsg → Type 0
   Handled m msg =
@@ -336,7 +336,7 @@ module _ (choose : Choice) (s : Settings) (rounds : Rounds) (d : Delivery) where
   forward_handled Pando v = refl
   forward_handled SwiftPaxos v = refl
 
-module _ (choose : Choice) (s : Settings) (rounds : Rounds) (d : Delivery) where
+module _ (choose : ProposerChoice) (s : Settings) (rounds : Rounds) (d : Delivery) where
   abbrev Number : ConsensusMsg → Type 0
   Number msg = rounds_number d.said.value_held (processed choose (asked_of s) (heard_of s d) msg rounds) ≡ first_of (handling_causes choose s rounds d msg)
 

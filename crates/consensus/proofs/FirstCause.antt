@@ -22,12 +22,12 @@ use Rattle.message.specs.declared.PFMode.TheVariants.{Paxos, MultiPaxos, MultiPa
 use Rattle.message.specs.declared.Refusal.{Refusal}
 use Rattle.message.specs.declared.Refusal.TheVariants.{NumberTooLarge, NoSuchProcess, OtherLastValue, SlotAhead, ValueNotHeld, Panic, NoRoomForRead}
 use Rattle.message.proofs.Order.{equal_rounds}
-use Rattle.fast_state.specs.Adopt.{Choice}
+use Rattle.fast_state.specs.Adopt.{ProposerChoice}
 use Rattle.message.specs.declared.ConsensusMsg.{ConsensusMsg}
 use Rattle.message.specs.declared.ConsensusMsg.TheVariants.{Prepare, Accept, ForwardRequest, Commit, ReadRequest, ReadResponse}
-use Rattle.delivery.specs.Admit.{is_ahead, is_own_slot, is_other_last, needs_value, other_last_value, value_awaited, ready, admit}
-use Rattle.delivery.specs.Limits.{numbers_fit, processes_fit}
-use Rattle.delivery.specs.declared.Delivery.{Delivery}
+use Rattle.calls.specs.delivery.Admit.{is_ahead, is_own_slot, is_other_last, needs_value, other_last_value, value_awaited, ready, admit}
+use Rattle.calls.specs.delivery.Limits.{numbers_fit, processes_fit}
+use Rattle.calls.specs.declared.delivery.Delivery.{Delivery}
 use Rattle.calls.specs.Replies.{read_answer}
 use Rattle.steps.specs.Steps.{RoundsStep, one_message, map_step, with_change, change_rounds}
 use Rattle.message.specs.Messages.{msg_slot}
@@ -46,17 +46,17 @@ use Rattle.propose.specs.Propose.{propose_prepare, propose_accept, propose_class
 use Rattle.steps.specs.declared.Asked.{Asked}
 use Rattle.steps.specs.declared.Core.{Core}
 use Rattle.steps.specs.declared.Heard.{Heard}
-use Rattle.steps.specs.declared.Messages.{Messages}
+use Rattle.steps.specs.declared.SentMessages.{SentMessages}
 use Rattle.steps.specs.declared.Next.{Next}
 use Rattle.steps.specs.declared.Next.TheVariants.{Stays, Continues, Commits}
 use Rattle.steps.specs.declared.Rounds.{Rounds}
 use Rattle.calls.specs.Asked.{asked_of, heard_of}
-use Rattle.calls.specs.Decision.{if_fit, admission_of, unless_spent, if_made, decision_for, decision_of}
+use Rattle.calls.specs.Decision.{if_fit, admission_of, unless_spent, unless_unmade, decision_for, decision_of}
 use Rattle.calls.specs.declared.Call.{Call}
 use Rattle.calls.specs.declared.Call.TheVariants.{Propose, StartRead, Receive}
-use Rattle.consensus.specs.Answers.{refused, committed, finish_at, finish, sent}
+use Rattle.consensus.specs.Answers.{refused, committed, finish_at, finish, sent_answer}
 use Rattle.consensus.specs.Call.{state_call, in_shard, call_with}
-use Rattle.consensus.specs.FirstCause.{number_alone, number_of_outcome, any_above, too_large, proposal_causes, not_allowed_causes, read_causes, causes, unmade, first_cause, handling_causes, is_spent}
+use Rattle.consensus.specs.FirstCause.{number_alone, number_of_outcome, any_above, numbers_too_large, proposal_causes, not_allowed_causes, read_causes, causes, unmade, first_cause, handling_causes, is_spent}
 use Rattle.consensus.specs.Handle.{on_commit, on_read_request, on_read_response, start_read, after_insert, proposing, processed, process_message, handle, handle_call}
 use Rattle.consensus.specs.Rows.{gives, first_of, then}
 use Rattle.consensus.specs.declared.Answer.{Answer}
@@ -68,20 +68,20 @@ use Rattle.consensus.proofs.Entered.{with_mode, prepare_number, accept_number_le
 use Rattle.consensus.proofs.Handled.{next_number, step_number, rounds_number, mapped_number, with_change_number}
 
 -- the call is taken and the number is 0, or it is refused, the shard is left, nothing is handed back but the number, and it is that number
-abbrev pub Gives : Shard → Answer → ℕ → Type 0
-Gives shard r n = ((r.reply.outcome ≡ Ok tt) × (n ≡ 0)) ⊎ ((why : Refusal) × (r ≡ number_alone why shard) × (n ≡ refusal_number why))
+abbrev pub GivesNumber : Shard → Answer → ℕ → Type 0
+GivesNumber shard r n = ((r.reply.outcome ≡ Ok tt) × (n ≡ 0)) ⊎ ((why : Refusal) × (r ≡ number_alone why shard) × (n ≡ refusal_number why))
 
 -- the same of the state
 abbrev StateGives : State → StateAnswer → ℕ → Type 0
 StateGives state r n = ((r.reply.outcome ≡ Ok tt) × (n ≡ 0)) ⊎ ((why : Refusal) × (r ≡ refused why state) × (n ≡ refusal_number why))
 
-of_state : (shard : Shard) (r : StateAnswer) (n : ℕ) → StateGives shard.state r n → Gives shard (in_shard shard r) n
+of_state : (shard : Shard) (r : StateAnswer) (n : ℕ) → StateGives shard.state r n → GivesNumber shard (in_shard shard r) n
 of_state shard r n (inl taken) = inl taken
 of_state shard r n (inr (why, e, number)) = inr (why, ap (in_shard shard) e, number)
 
 -- ---- the end of a call
 
-ended_gives : (state : State) (a : Asked) (held : Bool) (s : Rounds) (ms : Messages) (n : Next)
+ended_gives : (state : State) (a : Asked) (held : Bool) (s : Rounds) (ms : SentMessages) (n : Next)
     → StateGives state (finish_at state a held s ms n) (next_number held n)
 unfolding committed
 ended_gives state a held s ms Stays = inl (refl, refl)
@@ -264,7 +264,7 @@ module _ (s : Settings) (v : ℕ) (rounds : Rounds) where
   proposed_number Pando = pando_proposed
   proposed_number SwiftPaxos = swift_proposed
 
-module _ (choose : Choice) (shard : Shard) where
+module _ (choose : ProposerChoice) (shard : Shard) where
   abbrev state : State
   state = shard.state
 
@@ -294,7 +294,7 @@ module _ (choose : Choice) (shard : Shard) where
 
   -- ---- new reads
 
-  read_large : (tag arrival : ℕ) → too_large (arrival ∷ []) (tag ∷ []) ≡ not (leb tag 9223372036854775807 && leb arrival 9223372036854775806)
+  read_large : (tag arrival : ℕ) → numbers_too_large (arrival ∷ []) (tag ∷ []) ≡ not (leb tag 9223372036854775807 && leb arrival 9223372036854775806)
   unfolding any_above
   read_large tag arrival = simp (above_test) (go (leb tag 9223372036854775807) (leb arrival 9223372036854775806))
     where
@@ -354,7 +354,7 @@ module _ (choose : Choice) (shard : Shard) where
     handle_gives (Commit slot v) e = of-both (λ (r : StateAnswer). StateGives state r 0) (ltb slot rounds.core.slot) (inl (refl, refl)) (inl (refl, refl))
     handle_gives (ReadRequest id) e = go (eqb d.message.src shard.settings.my_pid)
       where
-        go : (t : Bool) → StateGives state (cond t (refused Panic state) (sent state (one_message (read_answer shard.settings.my_pid d.message.src id rounds.core)))) (cond t 8 0)
+        go : (t : Bool) → StateGives state (cond t (refused Panic state) (sent_answer state (one_message (read_answer shard.settings.my_pid d.message.src id rounds.core)))) (cond t 8 0)
         go true = inr (Panic, refl, refl)
         go false = inl (refl, refl)
     handle_gives (ReadResponse id next) e = inl (refl, refl)
@@ -397,7 +397,7 @@ module _ (choose : Choice) (shard : Shard) where
   admission_gives (Receive d) = receive_gives d
 
   marked_gives : (c : Call) (o : Outcome)
-      → StateGives state (answered c (if_made o shard.settings.process_count shard.settings.my_pid rounds.core c))
+      → StateGives state (answered c (unless_unmade o shard.settings.process_count shard.settings.my_pid rounds.core c))
       (first_of (then (unmade o) (gives 2 (is_spent shard) ∷ causes choose shard c)))
   unfolding state_call unless_spent first_of then
   marked_gives c (Ok tt) = spent (is_spent shard)
@@ -409,7 +409,7 @@ module _ (choose : Choice) (shard : Shard) where
 
   -- Every call on every shard, whatever stands in it: taken where the number is 0, and else refused with that number, the shard as it was. It is said of each
   -- kind of call by itself, so that an engine which treats one kind otherwise is refused there.
-  pub first_cause_lem : (c : Call) → Gives shard (call_with choose shard c) (first_cause choose shard c)
+  pub first_cause_lem : (c : Call) → GivesNumber shard (call_with choose shard c) (first_cause choose shard c)
   unfolding call_with decision_of first_cause
   first_cause_lem (Propose v) = of_state shard _ _ (marked_gives (Propose v) shard.made)
   first_cause_lem (StartRead tag arrival) = of_state shard _ _ (marked_gives (StartRead tag arrival) shard.made)
@@ -419,6 +419,6 @@ module _ (choose : Choice) (shard : Shard) where
   pub number_is_first_cause : (c : Call) → number_of_outcome (call_with choose shard c).reply.outcome ≡ first_cause choose shard c
   number_is_first_cause c = go (first_cause_lem c)
     where
-      go : {n : ℕ} → Gives shard (call_with choose shard c) n → number_of_outcome (call_with choose shard c).reply.outcome ≡ n
+      go : {n : ℕ} → GivesNumber shard (call_with choose shard c) n → number_of_outcome (call_with choose shard c).reply.outcome ≡ n
       go (inl (e, n)) = ap number_of_outcome e ∙ sym n
       go (inr (why, e, n)) = ap (λ (r : Answer). number_of_outcome r.reply.outcome) e ∙ sym n

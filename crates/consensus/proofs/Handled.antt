@@ -25,7 +25,7 @@ use Rattle.round_state.specs.declared.Member.{Member}
 use Rattle.round_state.specs.declared.PaxosState.{PaxosState}
 use Rattle.fast_state.specs.declared.FastAnswers.{FastAnswers}
 use Rattle.fast_state.specs.declared.FastChange.{FastChange}
-use Rattle.classic.specs.prepare.Prepare.{hold_first, may_answer, answer_prepare, answers_nothing, preparing, prepared, accept_phase, broadcast_accept, with_promise, becomes_prepared, gather}
+use Rattle.classic.specs.prepare.Prepare.{hold_first, may_answer, answer_prepare, answers_nothing, preparing, prepare_answered, accept_phase, broadcast_accept, with_promise, becomes_prepared, gather}
 use Rattle.paxos_family.specs.Process.{entered_prepare}
 use Rattle.steps.specs.Steps.{RoundsStep, CoreStep, with_paxos, goes_on, and_then, and_then_change, map_step, with_change}
 use Rattle.steps.specs.declared.Asked.{Asked}
@@ -35,7 +35,7 @@ use Rattle.steps.specs.declared.Heard.{Heard}
 use Rattle.steps.specs.declared.Next.{Next}
 use Rattle.steps.specs.declared.Next.TheVariants.{Stays, Continues, Commits}
 use Rattle.basics.proofs.Tests.{by_cases, same_test}
-use Rattle.consensus.specs.Panics.{Facts, is_delegate, nothing_held, reaches_majority, promises_first, promises_then, completes, own_fits, accepted_in_round, fits_held, with_both, held_before, held_then, classic_prepare, prepare_rows, own_accept_rows}
+use Rattle.consensus.specs.Panics.{Facts, is_delegate, nothing_held, reaches_majority, promises_first, promises_then, completes, own_accept_fits, accepted_in_round, fits_held, with_both, held_before, held_then, classic_prepare, prepare_rows, own_accept_rows}
 use Rattle.consensus.specs.Rows.{Row, first_of, then}
 
 -- the number of a step that is taken, with whether the value is held
@@ -141,17 +141,17 @@ self_accept_number me round p rv e =
 -- ---- steps one after another
 
 -- the number of a step and what comes behind it
-abbrev pub after_step : Bool → (Core → ℕ) → Result CoreStep Refusal → ℕ
-after_step value_held rest (Ok step) = cond (goes_on step.next) (rest step.state) (next_number value_held step.next)
-after_step value_held rest (Err why) = refusal_number why
+abbrev pub number_after_step : Bool → (Core → ℕ) → Result CoreStep Refusal → ℕ
+number_after_step value_held rest (Ok step) = cond (goes_on step.next) (rest step.state) (next_number value_held step.next)
+number_after_step value_held rest (Err why) = refusal_number why
 
 pub and_then_number : (value_held : Bool) (step : Result CoreStep Refusal) (rest : Core → Result CoreStep Refusal)
-    → step_number value_held (and_then step rest) ≡ after_step value_held (λ c. step_number value_held (rest c)) step
+    → step_number value_held (and_then step rest) ≡ number_after_step value_held (λ c. step_number value_held (rest c)) step
 and_then_number value_held (Ok step) rest = by_cases (goes_on step.next) (λ e. simp e) (λ e. simp e)
 and_then_number value_held (Err why) rest = refl
 
 pub and_then_change_number : (value_held : Bool) (answers : FastAnswers) (step : Result CoreStep Refusal) (rest : Core → Result ChangeStep Refusal)
-    → change_number value_held (and_then_change answers step rest) ≡ after_step value_held (λ c. change_number value_held (rest c)) step
+    → change_number value_held (and_then_change answers step rest) ≡ number_after_step value_held (λ c. change_number value_held (rest c)) step
 and_then_change_number value_held answers (Ok step) rest = by_cases (goes_on step.next) (λ e. simp e) (λ e. simp e)
 and_then_change_number value_held answers (Err why) rest = refl
 
@@ -199,7 +199,7 @@ own_table true false fit = refl
 own_table false empty fit = refl
 
 -- a handler that ends with a step gives its number
-pub stop_number : (value_held : Bool) (step : Result CoreStep Refusal) → step_number value_held step ≡ after_step value_held (λ c. 0) step
+pub stop_number : (value_held : Bool) (step : Result CoreStep Refusal) → step_number value_held step ≡ number_after_step value_held (λ c. 0) step
 stop_number value_held (Ok step) = go step.next
   where
     go : (n : Next) → next_number value_held n ≡ cond (goes_on n) 0 (next_number value_held n)
@@ -237,7 +237,7 @@ module _ (a : Asked) (h : Heard) (value_held : Bool) (round : PaxosRound) where
   me = a.member
 
   preparing_number : (rest : Core → ℕ) (core : Core)
-      → after_step value_held rest (preparing a h round core)
+      → number_after_step value_held rest (preparing a h round core)
       ≡ cond (eqb h.delegate me.my_pid) (rest core) (cond (answers_nothing a h round core) 0 (cond (may_answer h round) 0 8))
   unfolding preparing answer_prepare
   preparing_number rest core =
@@ -245,11 +245,11 @@ module _ (a : Asked) (h : Heard) (value_held : Bool) (round : PaxosRound) where
       (λ g. by_cases (answers_nothing a h round core) (λ n. simp (g, n)) (λ n. by_cases (may_answer h round) (λ m. simp (g, n, m)) (λ m. simp (g, n, m))))
 
   prepared_number : (rv : RoundV) → me.replica ≡ true → (rest : Core → ℕ) (core : Core)
-      → after_step value_held rest (prepared a h round rv core)
+      → number_after_step value_held rest (prepare_answered a h round rv core)
       ≡ cond (nothing_held core.paxos.max_rv && not (is_empty core.paxos.prepared_set)) 8
       (cond (eqb h.delegate me.my_pid) (rest (with_paxos (first_state me rv core.paxos) core))
       (cond (answers_nothing a h round (with_paxos (first_state me rv core.paxos) core)) 0 (cond (may_answer h round) 0 8)))
-  unfolding prepared
+  unfolding prepare_answered
   prepared_number rv l rest core =
       by_cases (nothing_held core.paxos.max_rv && not (is_empty core.paxos.prepared_set))
       (λ e. simp (hold_first_lem a rv l core.paxos.round core.paxos.max_rv core.paxos.prepared_set core.paxos.accepted_set, e))
@@ -297,18 +297,18 @@ module _ (a : Asked) (h : Heard) (value_held : Bool) (round : PaxosRound) where
     unfolding becomes_prepared
     becomes = ap (λ (t : Bool). not (reaches_majority known (promises_first known)) && t) promised_enough
 
-    pub own_accept_number : step_number value_held (accept_phase a round (with_promise a h rv first)) ≡ cond (is_empty core.paxos.accepted_set) (cond (own_fits known rv) 0 9) 9
+    pub own_accept_number : step_number value_held (accept_phase a round (with_promise a h rv first)) ≡ cond (is_empty core.paxos.accepted_set) (cond (own_accept_fits known rv) 0 9) 9
     unfolding receive_promise
     own_accept_number = accept_phase_number (with_promise a h rv first) (held_then core.paxos.max_rv rv) promised_held
 
-    gather_number : step_number value_held (gather a h round rv first) ≡ cond (completes known) (cond (is_empty core.paxos.accepted_set) (cond (own_fits known rv) 0 9) 9) 0
+    gather_number : step_number value_held (gather a h round rv first) ≡ cond (completes known) (cond (is_empty core.paxos.accepted_set) (cond (own_accept_fits known rv) 0 9) 9) 0
     unfolding gather
     gather_number = by_cases (completes known) (λ e. simp (becomes, e) own_accept_number) (λ e. simp (becomes, e))
 
     -- the rows of every mode, and those of the delegate behind them
     pub prepare_begins : me.replica ≡ true → (swift : Bool) → is_swift_paxos a.mode ≡ swift → (rest : Core → ℕ) (rows : List Row)
         → (is_delegate known ≡ true → rest first ≡ first_of rows) → (is_delegate known ≡ false → 0 ≡ first_of rows)
-        → after_step value_held rest (prepared a h round rv core) ≡ first_of (then (prepare_rows known swift rv) rows)
+        → number_after_step value_held rest (prepare_answered a h round rv core) ≡ first_of (then (prepare_rows known swift rv) rows)
     unfolding first_of then
     prepare_begins l swift c rest rows at other =
         prepared_number rv l rest core
@@ -321,6 +321,6 @@ module _ (a : Asked) (h : Heard) (value_held : Bool) (round : PaxosRound) where
     pub classic_prepare_lem : is_swift_paxos a.mode ≡ false → me.replica ≡ true → step_number value_held (entered_prepare a h round rv core) ≡ first_of (classic_prepare known rv)
     unfolding entered_prepare first_of then
     classic_prepare_lem c l =
-        and_then_number value_held (prepared a h round rv core) (gather a h round rv)
+        and_then_number value_held (prepare_answered a h round rv core) (gather a h round rv)
         ∙ prepare_begins l false c (λ x. step_number value_held (gather a h round rv x)) (own_accept_rows known (is_delegate known && completes known) rv)
-        (λ g. simp g (gather_number ∙ own_table (completes known) (is_empty core.paxos.accepted_set) (own_fits known rv))) (λ g. simp g)
+        (λ g. simp g (gather_number ∙ own_table (completes known) (is_empty core.paxos.accepted_set) (own_accept_fits known rv))) (λ g. simp g)

@@ -16,12 +16,12 @@ use Rattle.steps.specs.Steps.{with_paxos, no_messages}
 use Rattle.steps.specs.declared.Asked.{Asked}
 use Rattle.steps.specs.declared.Core.{Core}
 use Rattle.steps.specs.declared.Heard.{Heard}
-use Rattle.classic.specs.accept.Accept.{is_committer, answer_accept, try_commit, answered, follower, accepted, accepting}
+use Rattle.classic.specs.accept.Accept.{is_committer, answer_accept, try_commit, answered_delegate, follower, accept_taken, accepting}
 use Rattle.classic.specs.prepare.Prepare.{off_fast_path}
-use Rattle.steps.specs.declared.Messages.{Messages}
-use Rattle.consensus.specs.Panics.{Facts, leads, from_delegate, accepts_enough, classic_accept, fits_held}
+use Rattle.steps.specs.declared.SentMessages.{SentMessages}
+use Rattle.consensus.specs.Panics.{Facts, oneself_leads, from_delegate, accepts_enough, classic_accept, fits_held}
 use Rattle.consensus.specs.Rows.{first_of}
-use Rattle.consensus.proofs.Handled.{facts_in, step_number, after_step, stop_number, eqb_sym, if_enough, accept_table, fits_same, counted_size}
+use Rattle.consensus.proofs.Handled.{facts_in, step_number, number_after_step, stop_number, eqb_sym, if_enough, accept_table, fits_same, counted_size}
 
 module _ (a : Asked) (h : Heard) (value_held : Bool) (round : PaxosRound) (v : ℕ) where
   abbrev pub me : Member
@@ -31,18 +31,18 @@ module _ (a : Asked) (h : Heard) (value_held : Bool) (round : PaxosRound) (v : �
   abbrev pub accepted_core : Core → Core
   accepted_core core = off_fast_path a (with_paxos (after_accept me h.src round v core.paxos) core)
 
-  pub try_commit_number : (rest : Core → ℕ) (core : Core) (ms : Messages)
-      → after_step value_held rest (Ok (try_commit a h round v core ms)) ≡ if_enough value_held (paxos_can_commit me core.paxos)
+  pub try_commit_number : (rest : Core → ℕ) (core : Core) (ms : SentMessages)
+      → number_after_step value_held rest (Ok (try_commit a h round v core ms)) ≡ if_enough value_held (paxos_can_commit me core.paxos)
   unfolding try_commit
   try_commit_number rest core ms = by_cases (paxos_can_commit me core.paxos) (λ e. simp e) (λ e. simp e)
 
   pub accepted_number : (rest : Core → ℕ) (core : Core)
-      → after_step value_held rest (accepted a h round v core)
+      → number_after_step value_held rest (accept_taken a h round v core)
       ≡ cond (eqb round.leader me.my_pid) (if_enough value_held (paxos_can_commit me core.paxos))
       (cond (eqb h.src h.delegate)
       (cond (is_committer a h) (cond (is_swift_paxos a.mode) (rest core) (if_enough value_held (paxos_can_commit me core.paxos))) 0)
       (cond (is_committer a h) (if_enough value_held (paxos_can_commit me core.paxos)) 8))
-  unfolding accepted follower answered
+  unfolding accept_taken follower answered_delegate
   accepted_number rest core =
       by_cases (eqb round.leader me.my_pid)
       (λ l. simp (eqb_sym me.my_pid round.leader, l) (try_commit_number rest core no_messages))
@@ -68,9 +68,9 @@ module _ (a : Asked) (h : Heard) (value_held : Bool) (round : PaxosRound) (v : �
         ∙ ap (leb me.quorums.majority) (counted_size a h value_held round core.paxos answers scores core.paxos.accepted_set)
 
     pub accepting_number : (rest : Core → ℕ)
-        → after_step value_held rest (accepting a h round v core)
+        → number_after_step value_held rest (accepting a h round v core)
         ≡ cond (fits_held core.paxos.max_rv round v)
-        (cond (leads known) (if_enough value_held (accepts_enough known))
+        (cond (oneself_leads known) (if_enough value_held (accepts_enough known))
         (cond (from_delegate known)
         (cond (is_committer a h) (cond (is_swift_paxos a.mode) (rest (accepted_core core)) (if_enough value_held (accepts_enough known))) 0)
         (cond (is_committer a h) (if_enough value_held (accepts_enough known)) 8)))
@@ -82,11 +82,11 @@ module _ (a : Asked) (h : Heard) (value_held : Bool) (round : PaxosRound) (v : �
         (λ e. simp (fits_same, e))
 
     -- whatever would come behind: nothing does, but in SwiftPaxos
-    pub accept_ends : is_swift_paxos a.mode ≡ false → (rest : Core → ℕ) → after_step value_held rest (accepting a h round v core) ≡ first_of (classic_accept known (is_committer a h) v)
+    pub accept_ends : is_swift_paxos a.mode ≡ false → (rest : Core → ℕ) → number_after_step value_held rest (accepting a h round v core) ≡ first_of (classic_accept known (is_committer a h) v)
     unfolding first_of
     accept_ends c rest =
         accepting_number rest
-        ∙ simp c (accept_table (fits_held core.paxos.max_rv round v) (leads known) (from_delegate known) (is_committer a h) (accepts_enough known) value_held)
+        ∙ simp c (accept_table (fits_held core.paxos.max_rv round v) (oneself_leads known) (from_delegate known) (is_committer a h) (accepts_enough known) value_held)
 
     pub classic_accept_lem : is_swift_paxos a.mode ≡ false → step_number value_held (accepting a h round v core) ≡ first_of (classic_accept known (is_committer a h) v)
     classic_accept_lem c = stop_number value_held (accepting a h round v core) ∙ accept_ends c (λ x. 0)

@@ -16,22 +16,22 @@ use Rattle.round_state.specs.Paxos.{is_prepared, receive_promise, accept_fits, r
 use Rattle.round_state.specs.declared.Member.{Member}
 use Rattle.round_state.specs.declared.PaxosState.{PaxosState}
 use Rattle.fast_state.specs.declared.FastAnswers.{FastAnswers}
-use Rattle.classic.specs.prepare.Prepare.{prepared, accept_phase, broadcast_accept, with_promise, has_accepted}
+use Rattle.classic.specs.prepare.Prepare.{prepare_answered, accept_phase, broadcast_accept, with_promise, has_accepted}
 use Rattle.steps.specs.Steps.{map_step, with_change}
 use Rattle.steps.specs.declared.Asked.{Asked}
 use Rattle.steps.specs.declared.Core.{Core}
 use Rattle.steps.specs.declared.Heard.{Heard}
-use Rattle.consensus.specs.Panics.{Facts, is_delegate, reaches_majority, promises_then, completes, own_fits, prepare_rows, own_accept_rows, unopposed, is_one, answers_again, epaxos_answers_then, epaxos_scores_then, fast_quorum_unopposed, adopts, accepted_then, epaxos_answer_rows, epaxos_prepare}
+use Rattle.consensus.specs.Panics.{Facts, is_delegate, reaches_majority, promises_then, completes, own_accept_fits, prepare_rows, own_accept_rows, unopposed, is_one, answers_again, epaxos_answers_then, epaxos_scores_then, fast_quorum_unopposed, adopts, accepted_then, epaxos_answer_rows, epaxos_prepare}
 use Rattle.consensus.specs.Rows.{Row, first_of, then}
 use Rattle.consensus.proofs.Admitted.{above_test}
-use Rattle.fast_state.specs.Adopt.{Choice, value_in, score_in, adopted, epaxos_try_adopt}
+use Rattle.fast_state.specs.Adopt.{ProposerChoice, value_in, score_in, adopted, epaxos_try_adopt}
 use Rattle.fast_state.specs.Fast.{unchanged, preaccepted_after, second_answer, score_after, epaxos_counted, epaxos_answered, epaxos_can_commit}
 use Rattle.fast_state.specs.declared.FastChange.{FastChange}
 use Rattle.fast.specs.epaxos.EPaxos.{adopting, epaxos_adopt, epaxos_decide, epaxos_answer}
 use Rattle.paxos_family.specs.Process.{fast_prepared, fast_promised, starts_accept, waits, fast_answered, fast_gather, entered_fast_prepare}
-use Rattle.consensus.proofs.Handled.{facts_in, step_number, change_number, with_change_number, after_step, and_then_change_number, prepare_begins, promised_held, promised_enough, becomes, own_accept_number, first}
+use Rattle.consensus.proofs.Handled.{facts_in, step_number, change_number, with_change_number, number_after_step, and_then_change_number, prepare_begins, promised_held, promised_enough, becomes, own_accept_number, first}
 
-module _ (a : Asked) (h : Heard) (value_held : Bool) (round : PaxosRound) (choose : Choice) where
+module _ (a : Asked) (h : Heard) (value_held : Bool) (round : PaxosRound) (choose : ProposerChoice) where
   abbrev pub me : Member
   me = a.member
 
@@ -138,11 +138,11 @@ module _ (a : Asked) (h : Heard) (value_held : Bool) (round : PaxosRound) (choos
     abbrev pub facts : Facts
     facts = facts_in a h value_held round core.paxos answers scores
 
-    abbrev pub start : Core
-    start = first a h value_held round answers scores rv core
+    abbrev pub start_score : Core
+    start_score = first a h value_held round answers scores rv core
 
     abbrev pub promised : Core
-    promised = with_promise a h rv start
+    promised = with_promise a h rv start_score
 
     pub has_accepted_lem : has_accepted promised ≡ accepted_then facts rv
     has_accepted_lem = ap (λ (x : Option RoundV). is_some (get_last_accepted_round x)) (promised_held a h value_held round answers scores rv core)
@@ -179,28 +179,28 @@ module _ (a : Asked) (h : Heard) (value_held : Bool) (round : PaxosRound) (choos
 
     -- at a replica, in EPaxos and in SwiftPaxos
     module _ (l : me.replica ≡ true) where
-      pub counts : fast_promised a h rv start ≡ promised
+      pub counts : fast_promised a h rv start_score ≡ promised
       unfolding fast_promised
       counts = simp l
 
-      prepares : fast_prepared a h round rv core ≡ prepared a h round rv core
+      prepares : fast_prepared a h round rv core ≡ prepare_answered a h round rv core
       unfolding fast_prepared
       prepares = simp l
 
       -- by the rows of what the delegate gathers: none is met where another is the delegate
-      pub replica_prepares : (swift : Bool) → is_swift_paxos a.mode ≡ swift → (rows : Bool → List Row) → gathered start ≡ first_of (rows true) → first_of (rows false) ≡ 0
+      pub replica_prepares : (swift : Bool) → is_swift_paxos a.mode ≡ swift → (rows : Bool → List Row) → gathered start_score ≡ first_of (rows true) → first_of (rows false) ≡ 0
           → change_number value_held (entered_fast_prepare choose a h round rv core answers values scores swift_scores)
           ≡ first_of (then (prepare_rows facts swift rv) (rows (is_delegate facts)))
       unfolding entered_fast_prepare
       replica_prepares swift c rows at other =
           and_then_change_number value_held answers (fast_prepared a h round rv core) (λ x. fast_gather choose a h round rv x answers values scores swift_scores)
-          ∙ ap (after_step value_held gathered) prepares
+          ∙ ap (number_after_step value_held gathered) prepares
           ∙ prepare_begins a h value_held round answers scores rv core l swift c gathered (rows (is_delegate facts))
-          (λ g. subst (λ (b : Bool). gathered start ≡ first_of (rows b)) (sym g) at)
+          (λ g. subst (λ (b : Bool). gathered start_score ≡ first_of (rows b)) (sym g) at)
           (λ g. subst (λ (b : Bool). 0 ≡ first_of (rows b)) (sym g) (sym other))
 
     module _ (c : is_swift_paxos a.mode ≡ false) (l : me.replica ≡ true) where
-      starts : starts_accept a round start promised ≡ (accepted_then facts rv && completes facts)
+      starts : starts_accept a round start_score promised ≡ (accepted_then facts rv && completes facts)
       unfolding starts_accept
       starts = simp c (ap₂ ◌&&◌ has_accepted_lem (becomes a h value_held round answers scores rv core))
 
@@ -212,12 +212,12 @@ module _ (a : Asked) (h : Heard) (value_held : Bool) (round : PaxosRound) (choos
       unfolding fast_answered
       answers_fast = simp c (fast_answer_lem rv)
 
-      delegate_number : gathered start ≡ first_of (delegate_rows true)
+      delegate_number : gathered start_score ≡ first_of (delegate_rows true)
       unfolding first_of then
       delegate_number =
-          gather_shape start promised (counts l)
+          gather_shape start_score promised (counts l)
           ∙ simp (starts, waits_accepted, own_accept_number a h value_held round answers scores rv core, answers_fast)
-          (delegate_table (accepted_then facts rv) (completes facts) (is_empty facts.accepts) (own_fits facts rv) (λ path. first_of (epaxos_answer_rows choose facts path rv)) (off_answer rv))
+          (delegate_table (accepted_then facts rv) (completes facts) (is_empty facts.accepts) (own_accept_fits facts rv) (λ path. first_of (epaxos_answer_rows choose facts path rv)) (off_answer rv))
 
       pub epaxos_prepare_lem : change_number value_held (entered_fast_prepare choose a h round rv core answers values scores swift_scores) ≡ first_of (epaxos_prepare choose facts rv)
       unfolding first_of then

@@ -25,16 +25,16 @@ use Rattle.classic.specs.prepare.Prepare.{with_promise}
 use Rattle.steps.specs.declared.Asked.{Asked}
 use Rattle.steps.specs.declared.Core.{Core}
 use Rattle.steps.specs.declared.Heard.{Heard}
-use Rattle.classic.specs.accept.Accept.{tells_committer, is_committer, try_commit, accepted, accepting}
+use Rattle.classic.specs.accept.Accept.{tells_committer, is_committer, try_commit, accept_taken, accepting}
 use Rattle.steps.specs.Steps.{CoreStep, no_messages, continues, goes_on}
 use Rattle.consensus.proofs.HandledEPaxos.{has_accepted_lem, gather_shape, counts, replica_prepares}
-use Rattle.steps.specs.declared.Messages.{Messages}
-use Rattle.consensus.specs.Panics.{Facts, is_delegate, own_fits, fits_held, held_then, prepare_rows, unopposed, may_count, answered_before, answers_again, swift_needs, answer_commits, leader_answer_commits, accepted_then, swift_answer_rows, swift_prepare, leads, is_from_leader, from_delegate, accepts_enough, swift_replica_accept_rows, swift_client_accept_rows}
+use Rattle.steps.specs.declared.SentMessages.{SentMessages}
+use Rattle.consensus.specs.Panics.{Facts, is_delegate, own_accept_fits, fits_held, held_then, prepare_rows, unopposed, may_count, answered_before, answers_again, swift_needs, answer_commits, leader_answer_commits, accepted_then, swift_answer_rows, swift_prepare, oneself_leads, is_from_leader, from_delegate, accepts_enough, swift_replica_accept_rows, swift_client_accept_rows}
 use Rattle.consensus.specs.Rows.{Row, asserts, first_of, then}
 use Rattle.paxos_family.specs.Process.{fast_prepared, fast_promised, leads_round, starts_accept, waits, fast_answered, fast_gather, entered_fast_prepare, after_replica_accept, replica_accept, entered_fast_accept}
-use Rattle.consensus.proofs.Handled.{next_number, facts_in, change_number, with_change_number, step_number, after_step, and_then_change_number, own_accept_number, first, counted_size, fits_same, if_enough, stop_number}
+use Rattle.consensus.proofs.Handled.{next_number, facts_in, change_number, with_change_number, step_number, number_after_step, and_then_change_number, own_accept_number, first, counted_size, fits_same, if_enough, stop_number}
 use Rattle.basics.proofs.Tests.{by_cases, not_both}
-use Rattle.fast_state.specs.Adopt.{Choice}
+use Rattle.fast_state.specs.Adopt.{ProposerChoice}
 use Rattle.fast_state.specs.Fast.{swift_counted, swift_recorded, unchanged, preaccepted_after, leader_answer_after, second_answer, swift_uncounted, swift_first, swift_answered, swift_quorum, swift_can_commit, in_quorum}
 use Rattle.fast_state.specs.declared.FastChange.{FastChange}
 use Rattle.fast.specs.swift.Swift.{after_step as after_fast_step, after_swift_answer, after_client_accept, after_accept_answer, after_replica_answer, swift_commits, swift_answer, swift_client_prepare, leader_answered, accept_answered, client_accept, swift_accept, swift_client_accept, swift_answered_accept}
@@ -260,22 +260,22 @@ module _ (a : Asked) (h : Heard) (value_held : Bool) (round : PaxosRound) (answe
 
 -- ---- a Prepare
 
-module _ (a : Asked) (h : Heard) (value_held : Bool) (round : PaxosRound) (choose : Choice) (answers : FastAnswers) (values scores swift_scores : List ℕ) (rv : RoundV) (core : Core)
+module _ (a : Asked) (h : Heard) (value_held : Bool) (round : PaxosRound) (choose : ProposerChoice) (answers : FastAnswers) (values scores swift_scores : List ℕ) (rv : RoundV) (core : Core)
     (c : is_swift_paxos a.mode ≡ true) where
   abbrev facts : Facts
   facts = facts_in a h value_held round core.paxos answers scores
 
-  abbrev start : Core
-  start = first a h value_held round answers scores rv core
+  abbrev start_score : Core
+  start_score = first a h value_held round answers scores rv core
 
   abbrev promised : Core
-  promised = with_promise a h rv start
+  promised = with_promise a h rv start_score
 
   abbrev gathered : Core → ℕ
   gathered x = change_number value_held (fast_gather choose a h round rv x answers values scores swift_scores)
 
   abbrev delegate_rows : Bool → List Row
-  delegate_rows g = asserts 9 (g && leads facts && not (accepted_then facts rv)) (is_empty facts.accepts) ∷ swift_answer_rows facts (g && not (leads facts)) rv
+  delegate_rows g = asserts 9 (g && oneself_leads facts && not (accepted_then facts rv)) (is_empty facts.accepts) ∷ swift_answer_rows facts (g && not (oneself_leads facts)) rv
 
   off_answer : (x : RoundV) → first_of (swift_answer_rows facts false x) ≡ 0
   unfolding first_of
@@ -289,20 +289,20 @@ module _ (a : Asked) (h : Heard) (value_held : Bool) (round : PaxosRound) (choos
 
   -- at a replica
   module _ (l : a.member.replica ≡ true) where
-    starts : starts_accept a round start promised ≡ (leads facts && not (accepted_then facts rv))
+    starts : starts_accept a round start_score promised ≡ (oneself_leads facts && not (accepted_then facts rv))
     unfolding starts_accept leads_round
     starts = simp (c, l, has_accepted_lem a h value_held round choose answers values scores swift_scores rv core)
 
-    waits_leader : waits a round promised ≡ leads facts
+    waits_leader : waits a round promised ≡ oneself_leads facts
     unfolding waits leads_round
     waits_leader = simp (c, l)
 
-    delegate_number : gathered start ≡ first_of (delegate_rows true)
+    delegate_number : gathered start_score ≡ first_of (delegate_rows true)
     unfolding first_of
     delegate_number =
-        gather_shape a h value_held round choose answers values scores swift_scores rv core start promised (counts a h value_held round choose answers values scores swift_scores rv core l)
+        gather_shape a h value_held round choose answers values scores swift_scores rv core start_score promised (counts a h value_held round choose answers values scores swift_scores rv core l)
         ∙ simp (starts, waits_leader, own_accept_number a h value_held round answers scores rv core, answers_client promised)
-        (swift_table (leads facts) (accepted_then facts rv) (is_empty facts.accepts) (own_fits facts rv) (λ path. first_of (swift_answer_rows facts path rv)) (off_answer rv)
+        (swift_table (oneself_leads facts) (accepted_then facts rv) (is_empty facts.accepts) (own_accept_fits facts rv) (λ path. first_of (swift_answer_rows facts path rv)) (off_answer rv)
         (fresh_fits (held_then core.paxos.max_rv rv) round))
 
     replica_prepare : change_number value_held (entered_fast_prepare choose a h round rv core answers values scores swift_scores)
@@ -336,7 +336,7 @@ module _ (a : Asked) (h : Heard) (value_held : Bool) (round : PaxosRound) (choos
     unfolding entered_fast_prepare
     client_prepares =
         and_then_change_number value_held answers (fast_prepared a h round rv core) (λ x. fast_gather choose a h round rv x answers values scores swift_scores)
-        ∙ ap (after_step value_held gathered) prepares_nothing ∙ client_gathers
+        ∙ ap (number_after_step value_held gathered) prepares_nothing ∙ client_gathers
 
   pub swift_prepare_lem : change_number value_held (entered_fast_prepare choose a h round rv core answers values scores swift_scores) ≡ first_of (swift_prepare facts rv)
   swift_prepare_lem = by_cases a.member.replica
@@ -358,12 +358,12 @@ module _ (a : Asked) (h : Heard) (value_held : Bool) (round : PaxosRound) (v : �
   abbrev pub behind : Core → ℕ
   behind x = leader_number a h value_held round answers p scores swift_scores (if_enough value_held (paxos_can_commit a.member x.paxos))
 
-  replica_done : (ms : Messages) (x : Core) (f : FastAnswers)
+  replica_done : (ms : SentMessages) (x : Core) (f : FastAnswers)
       → step_number value_held (Ok (after_replica_answer a h round v x ms f)) ≡ cond (swift_commits a f) (cond value_held 0 6) (if_enough value_held (paxos_can_commit a.member x.paxos))
   replica_done ms x f = by_cases (swift_commits a f) (λ e. simp e)
       (λ e. simp e (stop_number value_held (Ok (try_commit a h round v x ms)) ∙ try_commit_number a h value_held round v (λ y. 0) x ms))
 
-  replica_answered : (ms : Messages) (x : Core) → change_number value_held (swift_answered_accept a h round v x ms answers swift_scores) ≡ behind x
+  replica_answered : (ms : SentMessages) (x : Core) → change_number value_held (swift_answered_accept a h round v x ms answers swift_scores) ≡ behind x
   unfolding swift_answered_accept
   replica_answered ms x =
       leader_number_lem a h value_held round answers p scores swift_scores v (λ after. Ok (after_replica_answer a h round v x ms after))
@@ -371,7 +371,7 @@ module _ (a : Asked) (h : Heard) (value_held : Bool) (round : PaxosRound) (v : �
 
   -- whatever was sent with it
   pub replica_number : (step : Result CoreStep Refusal)
-      → change_number value_held (after_replica_accept a h round v answers swift_scores step) ≡ after_step value_held behind step
+      → change_number value_held (after_replica_accept a h round v answers swift_scores step) ≡ number_after_step value_held behind step
   replica_number (Ok step) =
       and_then_change_number value_held answers (Ok step) (λ x. swift_answered_accept a h round v x step.messages answers swift_scores)
       ∙ ap (λ (n : ℕ). cond (goes_on step.next) n (next_number value_held step.next)) (replica_answered step.messages step.state)
@@ -396,7 +396,7 @@ module _ (a : Asked) (h : Heard) (value_held : Bool) (round : PaxosRound) (v : �
       ∙ ap (λ (t : Bool). shape t true (later (accepted_core a h value_held round v core))) committer_hears_lem
       ∙ ap (λ (e : Bool). shape now.committer true (leader_number a h value_held round answers core.paxos scores swift_scores (if_enough value_held e)))
       (accepts_enough_lem a h value_held round v answers scores core)
-      ∙ replica_table (fits_held core.paxos.max_rv round v) (leads now) (from_delegate now) now.committer (answers_again now) (answered_before now) (may_count a.quorum h.src)
+      ∙ replica_table (fits_held core.paxos.max_rv round v) (oneself_leads now) (from_delegate now) now.committer (answers_again now) (answered_before now) (may_count a.quorum h.src)
       (leader_answer_commits now) (accepts_enough now) value_held
     where
       later : Core → ℕ
@@ -408,7 +408,7 @@ module _ (a : Asked) (h : Heard) (value_held : Bool) (round : PaxosRound) (v : �
       shape : Bool → Bool → ℕ → ℕ
       shape committer swift x =
           cond (fits_held core.paxos.max_rv round v)
-          (cond (leads now) enough (cond (from_delegate now) (cond committer (cond swift x enough) 0) (cond committer enough 8)))
+          (cond (oneself_leads now) enough (cond (from_delegate now) (cond committer (cond swift x enough) 0) (cond committer enough 8)))
           9
 
   -- at a client

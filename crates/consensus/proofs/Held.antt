@@ -14,18 +14,18 @@ use Rattle.message.specs.declared.ConsensusMsg.{ConsensusMsg}
 use Rattle.message.specs.declared.ConsensusMsg.TheVariants.{Prepare, Accept, ForwardRequest, Commit, ReadRequest, ReadResponse}
 use Rattle.message.specs.declared.Refusal.{Refusal}
 use Rattle.message.specs.declared.Refusal.TheVariants.{NumberTooLarge, NoSuchProcess, SlotAhead, OtherLastValue, ValueNotHeld}
-use Rattle.fast_state.specs.Adopt.{Choice}
+use Rattle.fast_state.specs.Adopt.{ProposerChoice}
 use Rattle.steps.specs.declared.Core.{Core}
-use Rattle.steps.specs.declared.Messages.{Messages}
+use Rattle.steps.specs.declared.SentMessages.{SentMessages}
 use Rattle.steps.specs.declared.Next.{Next}
 use Rattle.steps.specs.declared.Next.TheVariants.{Stays, Continues, Commits}
 use Rattle.steps.specs.declared.Rounds.{Rounds}
 use Rattle.steps.specs.Steps.{RoundsStep}
-use Rattle.delivery.specs.Admit.{is_ahead, is_own_slot, needs_value, other_last_value, value_awaited, ready, admit}
-use Rattle.delivery.specs.Limits.{numbers_fit, processes_fit}
-use Rattle.delivery.specs.declared.Delivery.{Delivery}
+use Rattle.calls.specs.delivery.Admit.{is_ahead, is_own_slot, needs_value, other_last_value, value_awaited, ready, admit}
+use Rattle.calls.specs.delivery.Limits.{numbers_fit, processes_fit}
+use Rattle.calls.specs.declared.delivery.Delivery.{Delivery}
 use Rattle.calls.specs.Asked.{asked_of, heard_of}
-use Rattle.calls.specs.Decision.{admission_of, unless_spent, if_made, decision_for, decision_of}
+use Rattle.calls.specs.Decision.{admission_of, unless_spent, unless_unmade, decision_for, decision_of}
 use Rattle.calls.specs.declared.Call.TheVariants.{Receive}
 use Rattle.consensus.specs.Answers.{finish_at, finish}
 use Rattle.consensus.specs.Call.{state_call, call_with}
@@ -43,7 +43,7 @@ NoCommit r = r.reply.commit ≡ None
 older : (own slot : ℕ) → ltb own slot ≡ false → eqb slot own ≡ false → ltb slot own ≡ true
 older own slot a e = let le : slot ≤ own = ltb-false own slot a in let other : slot ≡ own → ⊥ = eqb-false slot own e in lt-ltb slot own (omega arith)
 
-module _ (choose : Choice) (shard : Shard) (d : Delivery) (lacks : d.said.value_held ≡ false) where
+module _ (choose : ProposerChoice) (shard : Shard) (d : Delivery) (lacks : d.said.value_held ≡ false) where
   abbrev state : State
   state = shard.state
 
@@ -60,7 +60,7 @@ module _ (choose : Choice) (shard : Shard) (d : Delivery) (lacks : d.said.value_
   unfolding process_message
   processed_none = ended (processed choose asked heard d.message.msg state.rounds)
     where
-      go : (s : Rounds) (messages : Messages) (n : Next) (held : Bool) → held ≡ false → NoCommit (finish_at state asked held s messages n)
+      go : (s : Rounds) (messages : SentMessages) (n : Next) (held : Bool) → held ≡ false → NoCommit (finish_at state asked held s messages n)
       go s messages Stays held e = refl
       go s messages Continues held e = refl
       go s messages (Commits v) true e = absurd (not_both refl e)
@@ -113,7 +113,7 @@ module _ (choose : Choice) (shard : Shard) (d : Delivery) (lacks : d.said.value_
   unfolding call_with decision_of unless_spent admission_of state_call
   not_held_not_committed = go shard.made
     where
-      go : (o : Outcome) → NoCommit (answered (if_made o shard.settings.process_count shard.settings.my_pid core (Receive d)))
+      go : (o : Outcome) → NoCommit (answered (unless_unmade o shard.settings.process_count shard.settings.my_pid core (Receive d)))
       go (Ok tt) =
           of-both (λ (o : Outcome). NoCommit (answered o)) (leb 9223372036854775807 core.slot) refl receive_none
       go (Err why) = refl

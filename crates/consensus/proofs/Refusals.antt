@@ -21,20 +21,20 @@ use Rattle.message.specs.declared.Refusal.TheVariants.{SettingsOutsideLimits, Nu
 use Rattle.message.specs.declared.RoundV.{RoundV}
 use Rattle.message.specs.declared.RoundV.TheVariants.{FastV, PaxosV}
 use Rattle.settings.specs.declared.Settings.{Settings}
-use Rattle.fast_state.specs.Adopt.{Choice, lowest_best}
+use Rattle.fast_state.specs.Adopt.{ProposerChoice, lowest_best}
 use Rattle.steps.specs.declared.Rounds.{Rounds}
-use Rattle.delivery.specs.declared.Delivery.{Delivery}
+use Rattle.calls.specs.declared.delivery.Delivery.{Delivery}
 use Rattle.calls.specs.declared.Call.{Call}
 use Rattle.calls.specs.declared.Call.TheVariants.{Propose, StartRead, Receive}
-use Rattle.calls.specs.Decision.{admission_of, unless_spent, if_made, decision_for, decision_of}
-use Rattle.consensus.specs.Call.{state_call, in_shard, call_with, call_of, after_calls, new_shard}
+use Rattle.calls.specs.Decision.{admission_of, unless_spent, unless_unmade, decision_for, decision_of}
+use Rattle.consensus.specs.Call.{state_call, in_shard, call_with, call_of, shard_after_calls, new_shard}
 use Rattle.consensus.specs.FirstCause.{number_alone, number_of_outcome, committers_outside, quorum_outside, mode_outside, some_outside, settings_causes, admission_causes, handling_causes, causes, first_cause, is_spent, unmade, is_ignored, all_causes, ByFirstCause, MadeBySettings, OfSettings}
 use Rattle.consensus.specs.Panics.{Facts, prepare_panics, accept_panics}
 use Rattle.consensus.specs.Rows.{Row, then, NoneHolds, FirstHolds, first_of}
 use Rattle.consensus.specs.declared.Answer.{Answer}
 use Rattle.consensus.specs.declared.Shard.{Shard}
 use Rattle.consensus.proofs.Decided.{mark_kept}
-use Rattle.consensus.proofs.FirstCause.{Gives, first_cause_lem}
+use Rattle.consensus.proofs.FirstCause.{GivesNumber, first_cause_lem}
 use Rattle.settings.specs.Settings.{counts_fit, members_fit, committers_fit, quorum_fits, mode_fits, within_limits}
 use Rattle.basics.specs.sets.Sets.{size, fits}
 use Rattle.basics.specs.tables.Tables.{every}
@@ -112,7 +112,7 @@ numbered_then (x ∷ xs) ys p q =
 abbrev Numbered : List Row → Type 0
 Numbered rows = numbered rows ≡ true
 
-module _ (choose : Choice) where
+module _ (choose : ProposerChoice) where
   prepare_numbered : (m : PFMode) (f : Facts) (rv : RoundV) → Numbered (prepare_panics choose m f rv)
   unfolding numbered then
   prepare_numbered Paxos f rv = refl
@@ -177,7 +177,7 @@ first_above (row ∷ rows) n p (inr (c, r)) = first_above rows n (and_right (ltb
 
 -- ---- every call
 
-module _ (choose : Choice) (shard : Shard) where
+module _ (choose : ProposerChoice) (shard : Shard) where
   all_numbered : (c : Call) → Numbered (all_causes choose shard c)
   unfolding numbered
   all_numbered c = numbered_then (unmade shard.made) _ (unmade_numbered shard.made) (causes_numbered choose shard c)
@@ -187,7 +187,7 @@ module _ (choose : Choice) (shard : Shard) where
   unfolding first_cause
   by_first_cause c = go (first_cause_lem choose shard c) (none_or_first (all_causes choose shard c))
     where
-      go : Gives shard (call_with choose shard c) (first_of (all_causes choose shard c))
+      go : GivesNumber shard (call_with choose shard c) (first_of (all_causes choose shard c))
           → (NoneHolds (all_causes choose shard c) × (first_of (all_causes choose shard c) ≡ 0)) ⊎ FirstHolds (all_causes choose shard c) (first_of (all_causes choose shard c))
           → ByFirstCause choose shard c (call_with choose shard c)
       go (inl (e, z)) (inl (none, _)) = inl (e, none)
@@ -219,13 +219,13 @@ module _ (choose : Choice) (shard : Shard) where
   pub unmade_refuses : (c : Call) (why : Refusal) → shard.made ≡ Err why → call_with choose shard c ≡ number_alone why shard
   unfolding call_with decision_of state_call
   unmade_refuses c why e =
-      ap (λ (o : Outcome). answered c (if_made o shard.settings.process_count shard.settings.my_pid shard.state.rounds.core c)) e
+      ap (λ (o : Outcome). answered c (unless_unmade o shard.settings.process_count shard.settings.my_pid shard.state.rounds.core c)) e
 
   -- A spent slot refuses every call with 2.
   pub spent_refuses : (c : Call) → shard.made ≡ Ok tt → is_spent shard ≡ true → call_with choose shard c ≡ number_alone NumberTooLarge shard
   unfolding call_with decision_of state_call unless_spent
   spent_refuses c e f =
-      ap (λ (o : Outcome). answered c (if_made o shard.settings.process_count shard.settings.my_pid shard.state.rounds.core c)) e
+      ap (λ (o : Outcome). answered c (unless_unmade o shard.settings.process_count shard.settings.my_pid shard.state.rounds.core c)) e
       ∙ ap
       (λ (t : Bool).
       answered c (cond t (Err NumberTooLarge) (admission_of shard.settings.process_count shard.settings.my_pid shard.state.rounds.core c)))
@@ -317,25 +317,25 @@ new_by_settings s = go (within_limits s) (settings_number_lem s) (none_or_first 
 -- ---- a shard from its making on, through any list of calls
 
 -- no list of calls changes the mark
-pub marked_once : (shard : Shard) (cs : List Call) → (after_calls shard cs).made ≡ shard.made
-unfolding after_calls
+pub marked_once : (shard : Shard) (cs : List Call) → (shard_after_calls shard cs).made ≡ shard.made
+unfolding shard_after_calls
 marked_once shard [] = refl
 marked_once shard (c ∷ cs) = marked_once (call_of shard c).shard cs ∙ mark_kept lowest_best shard c
 
 -- what refuses every call stays as it is
-refusing_stays : (shard : Shard) (why : Refusal) → ((c : Call) → call_of shard c ≡ number_alone why shard) → (cs : List Call) → after_calls shard cs ≡ shard
-unfolding after_calls
+refusing_stays : (shard : Shard) (why : Refusal) → ((c : Call) → call_of shard c ≡ number_alone why shard) → (cs : List Call) → shard_after_calls shard cs ≡ shard
+unfolding shard_after_calls
 refusing_stays shard why all [] = refl
 refusing_stays shard why all (c ∷ cs) =
-    ap (λ (r : Answer). after_calls r.shard cs) (all c) ∙ refusing_stays shard why all cs
+    ap (λ (r : Answer). shard_after_calls r.shard cs) (all c) ∙ refusing_stays shard why all cs
 
 -- "a shard marked unmade; all its calls give 1"; "own slot 2^63−1, which is spent (then every call)". There is no other mark, whatever calls came before.
-pub made_or_unmade : (s : Settings) (cs : List Call) → OfSettings s (after_calls (new_shard s) cs)
+pub made_or_unmade : (s : Settings) (cs : List Call) → OfSettings s (shard_after_calls (new_shard s) cs)
 made_or_unmade s cs = go (new_by_settings s)
   where
-    go : MadeBySettings s (new_shard s).made → OfSettings s (after_calls (new_shard s) cs)
+    go : MadeBySettings s (new_shard s).made → OfSettings s (shard_after_calls (new_shard s) cs)
     go (inl (e, none)) =
-        let made = marked_once (new_shard s) cs ∙ e in inl (none, made, λ spent c. spent_refuses lowest_best (after_calls (new_shard s) cs) c made spent)
+        let made = marked_once (new_shard s) cs ∙ e in inl (none, made, λ spent c. spent_refuses lowest_best (shard_after_calls (new_shard s) cs) c made spent)
     go (inr (e, first)) = subst (OfSettings s) (sym (refusing_stays (new_shard s) SettingsOutsideLimits all cs)) (inr (first, refl, all))
       where
         all : (c : Call) → call_of (new_shard s) c ≡ number_alone SettingsOutsideLimits (new_shard s)

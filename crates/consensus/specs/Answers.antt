@@ -14,7 +14,7 @@ use Rattle.paxos_family.specs.Commit.{next_slot}
 use Rattle.steps.specs.Steps.{RoundsStep, no_messages}
 use Rattle.steps.specs.declared.Asked.{Asked}
 use Rattle.steps.specs.declared.Core.{Core}
-use Rattle.steps.specs.declared.Messages.{Messages}
+use Rattle.steps.specs.declared.SentMessages.{SentMessages}
 use Rattle.steps.specs.declared.Next.{Next}
 use Rattle.steps.specs.declared.Next.TheVariants.{Stays, Continues, Commits}
 use Rattle.steps.specs.declared.Rounds.{Rounds}
@@ -41,15 +41,15 @@ track tracker rounds = record { core = with_tracker tracker rounds.core; fast = 
 abbrev pub refused : Refusal → State → StateAnswer
 refused why state = record { state = state; reply = refused_reply why }
 
-abbrev pub sent : State → Messages → StateAnswer
-sent state messages = record { state = state; reply = sent_reply messages }
+abbrev pub sent_answer : State → SentMessages → StateAnswer
+sent_answer state messages = record { state = state; reply = sent_reply messages }
 
 abbrev pub nothing : State → StateAnswer
-nothing state = sent state no_messages
+nothing state = sent_answer state no_messages
 
 -- these rounds and what has become of the reads, with the number of those that are served
-abbrev pub served : Rounds → Tracked → Messages → Option CommittedSlot → StateAnswer
-served rounds reads messages commit =
+abbrev pub served_answer : Rounds → Tracked → SentMessages → Option CommittedSlot → StateAnswer
+served_answer rounds reads messages commit =
     record {
       state = record { rounds = track reads.tracker rounds; table = reads.table };
       reply = record { outcome = Ok tt; messages = messages; commit = commit; served_count = reads.served_count };
@@ -59,18 +59,18 @@ served rounds reads messages commit =
 
 -- commit_slot, and then commit_commands: the mark of the fast path is read and cleared, and the reads that the commit has made ready are
 -- served at the new slot
-unfoldable pub committed : State → Asked → ℕ → Rounds → Messages → StateAnswer
+unfoldable pub committed : State → Asked → ℕ → Rounds → SentMessages → StateAnswer
 committed state a v s messages =
-    served (next_slot a v s) (serve_at_commit s.core.tracker state.table a.member.quorums.majority (next_slot a v s).core.slot) messages
+    served_answer (next_slot a v s) (serve_at_commit s.core.tracker state.table a.member.quorums.majority (next_slot a v s).core.slot) messages
     (committed_slot s.core.slot v (is_fast a s.core))
 
 -- ---- the end of a call
 
 -- a step becomes an answer, and a commit needs its value ("last the 6 of a commit"). No handler ends with `Continues`; it is answered all the same, so
 -- that every step has an answer.
-abbrev pub finish_at : State → Asked → Bool → Rounds → Messages → Next → StateAnswer
-finish_at state a held s messages Stays = sent (state_with_rounds state s) messages
-finish_at state a held s messages Continues = sent (state_with_rounds state s) messages
+abbrev pub finish_at : State → Asked → Bool → Rounds → SentMessages → Next → StateAnswer
+finish_at state a held s messages Stays = sent_answer (state_with_rounds state s) messages
+finish_at state a held s messages Continues = sent_answer (state_with_rounds state s) messages
 finish_at state a held s messages (Commits v) = cond held (committed state a v s messages) (refused ValueNotHeld state)
 
 -- what is refused leaves the old state

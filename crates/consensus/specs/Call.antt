@@ -5,7 +5,7 @@ use Rattle.std.specs.Prelude.{false, cond, List, [], ◌∷◌, None, Result, Ok
 use Rattle.calls.specs.Decision.{decision_of}
 use Rattle.calls.specs.declared.Call.{Call}
 use Rattle.calls.specs.declared.Taken.{Taken}
-use Rattle.fast_state.specs.Adopt.{Choice, lowest_best}
+use Rattle.fast_state.specs.Adopt.{ProposerChoice, lowest_best}
 use Rattle.fast_state.specs.RoundState.{new_round_state}
 use Rattle.message.specs.declared.Refusal.{Refusal}
 use Rattle.message.specs.declared.Refusal.TheVariants.{SettingsOutsideLimits}
@@ -43,7 +43,7 @@ new_shard s = record { made = cond (within_limits s) (Ok tt) (Err SettingsOutsid
 -- ---- calls
 
 -- what a call that is decided on makes of the state; the choice among the best proposers of EPaxos is a parameter
-unfoldable pub state_call : Choice → State → Result Taken Refusal → StateAnswer
+unfoldable pub state_call : ProposerChoice → State → Result Taken Refusal → StateAnswer
 state_call choose state (Err why) = refused why state
 state_call choose state (Ok t) = handle_call choose state t.asked t.heard t.call
 
@@ -54,18 +54,18 @@ with_state shard state = record { made = shard.made; settings = shard.settings; 
 abbrev pub in_shard : Shard → StateAnswer → Answer
 in_shard shard a = record { shard = with_state shard a.state; reply = a.reply }
 
-abbrev pub decision : Shard → Call → Result Taken Refusal
-decision shard c = decision_of shard.made shard.settings shard.state.rounds.core c
+abbrev pub call_decision : Shard → Call → Result Taken Refusal
+call_decision shard c = decision_of shard.made shard.settings shard.state.rounds.core c
 
 -- it is decided whether the call is taken, and it is handled or refused
-unfoldable pub call_with : Choice → Shard → Call → Answer
-call_with choose shard c = in_shard shard (state_call choose shard.state (decision shard c))
+unfoldable pub call_with : ProposerChoice → Shard → Call → Answer
+call_with choose shard c = in_shard shard (state_call choose shard.state (call_decision shard c))
 
 -- ours takes the lowest of the best proposers
 abbrev pub call_of : Shard → Call → Answer
 call_of shard c = call_with lowest_best shard c
 
 -- the shard after calls, one after another
-unfoldable pub after_calls : Shard → List Call → Shard
-after_calls shard [] = shard
-after_calls shard (c ∷ cs) = after_calls (call_of shard c).shard cs
+unfoldable pub shard_after_calls : Shard → List Call → Shard
+shard_after_calls shard [] = shard
+shard_after_calls shard (c ∷ cs) = shard_after_calls (call_of shard c).shard cs

@@ -20,12 +20,12 @@ use Rattle.message.specs.declared.Refusal.TheVariants.{SettingsOutsideLimits, Nu
 use Rattle.message.specs.declared.RoundV.{RoundV}
 use Rattle.message.specs.declared.RoundV.TheVariants.{FastV, PaxosV}
 use Rattle.quorum.specs.Quorum.{row_of}
-use Rattle.fast_state.specs.Adopt.{Choice}
+use Rattle.fast_state.specs.Adopt.{ProposerChoice}
 use Rattle.fast_state.specs.Fast.{answers_of}
 use Rattle.fast_state.specs.declared.FastState.{FastState}
 use Rattle.settings.specs.declared.Settings.{Settings}
 use Rattle.steps.specs.declared.Rounds.{Rounds}
-use Rattle.delivery.specs.declared.Delivery.{Delivery}
+use Rattle.calls.specs.declared.delivery.Delivery.{Delivery}
 use Rattle.calls.specs.declared.Call.{Call}
 use Rattle.calls.specs.declared.Call.TheVariants.{Propose, StartRead, Receive}
 use Rattle.consensus.specs.Call.{new_shard, call_of}
@@ -65,8 +65,8 @@ any_from count [] = false
 any_from count (n ∷ ns) = leb count n || any_from count ns
 
 -- "slot above 2^63−2, or other number above 2^63−1"
-abbrev pub too_large : List ℕ → List ℕ → Bool
-too_large slots others = any_above 9223372036854775806 slots || any_above 9223372036854775807 others
+abbrev pub numbers_too_large : List ℕ → List ℕ → Bool
+numbers_too_large slots others = any_above 9223372036854775806 slots || any_above 9223372036854775807 others
 
 -- what is optional, as a list
 abbrev pub given_number : Option ℕ → List ℕ
@@ -74,13 +74,13 @@ given_number None = []
 given_number (Some n) = n ∷ []
 
 -- the slots of a message. "A ReadResponse's slot field may be 2^63−1": it stands among the other numbers
-abbrev pub slots_of : ConsensusMsg → List ℕ
-slots_of (Prepare slot round rv) = slot ∷ []
-slots_of (Accept slot round v) = slot ∷ []
-slots_of (ForwardRequest v) = []
-slots_of (Commit slot v) = slot ∷ []
-slots_of (ReadRequest id) = []
-slots_of (ReadResponse id next) = []
+abbrev pub message_slots : ConsensusMsg → List ℕ
+message_slots (Prepare slot round rv) = slot ∷ []
+message_slots (Accept slot round v) = slot ∷ []
+message_slots (ForwardRequest v) = []
+message_slots (Commit slot v) = slot ∷ []
+message_slots (ReadRequest id) = []
+message_slots (ReadResponse id next) = []
 
 -- its process numbers: the leader of its round, the leader of the accept round, the proposer
 abbrev pub promise_processes : RoundV → List ℕ
@@ -88,13 +88,13 @@ promise_processes (FastV proposer v) = proposer ∷ []
 promise_processes (PaxosV None v) = []
 promise_processes (PaxosV (Some round) v) = round.leader ∷ []
 
-abbrev pub processes_of : ConsensusMsg → List ℕ
-processes_of (Prepare slot round rv) = round.leader ∷ promise_processes rv
-processes_of (Accept slot round v) = round.leader ∷ []
-processes_of (ForwardRequest v) = []
-processes_of (Commit slot v) = []
-processes_of (ReadRequest id) = []
-processes_of (ReadResponse id next) = []
+abbrev pub message_processes : ConsensusMsg → List ℕ
+message_processes (Prepare slot round rv) = round.leader ∷ promise_processes rv
+message_processes (Accept slot round v) = round.leader ∷ []
+message_processes (ForwardRequest v) = []
+message_processes (Commit slot v) = []
+message_processes (ReadRequest id) = []
+message_processes (ReadResponse id next) = []
 
 -- its other numbers: groups of rounds, values, ids
 abbrev pub promise_numbers : RoundV → List ℕ
@@ -102,25 +102,25 @@ promise_numbers (FastV proposer v) = v ∷ []
 promise_numbers (PaxosV None v) = v ∷ []
 promise_numbers (PaxosV (Some round) v) = round.round_group ∷ v ∷ []
 
-abbrev pub numbers_of : ConsensusMsg → List ℕ
-numbers_of (Prepare slot round rv) = round.round_group ∷ promise_numbers rv
-numbers_of (Accept slot round v) = round.round_group ∷ v ∷ []
-numbers_of (ForwardRequest v) = v ∷ []
-numbers_of (Commit slot v) = v ∷ []
-numbers_of (ReadRequest id) = id.0 ∷ []
-numbers_of (ReadResponse id next) = id.0 ∷ next ∷ []
+abbrev pub other_numbers : ConsensusMsg → List ℕ
+other_numbers (Prepare slot round rv) = round.round_group ∷ promise_numbers rv
+other_numbers (Accept slot round v) = round.round_group ∷ v ∷ []
+other_numbers (ForwardRequest v) = v ∷ []
+other_numbers (Commit slot v) = v ∷ []
+other_numbers (ReadRequest id) = id.0 ∷ []
+other_numbers (ReadResponse id next) = id.0 ∷ next ∷ []
 
-unfoldable pub joined : List ℕ → List ℕ → List ℕ
-joined [] ns = ns
-joined (m ∷ ms) ns = m ∷ joined ms ns
+unfoldable pub appended : List ℕ → List ℕ → List ℕ
+appended [] ns = ns
+appended (m ∷ ms) ns = m ∷ appended ms ns
 
 -- the process numbers of a message with what the host adds: its source and both requesters as well
 abbrev pub all_processes : Delivery → List ℕ
-all_processes d = d.message.src ∷ joined (processes_of d.message.msg) (joined (given_number d.said.requester) (given_number d.held_requester))
+all_processes d = d.message.src ∷ appended (message_processes d.message.msg) (appended (given_number d.said.requester) (given_number d.held_requester))
 
 -- all its numbers but for the slot: with its last value
 abbrev pub all_numbers : Delivery → List ℕ
-all_numbers d = joined (all_processes d) (joined (numbers_of d.message.msg) (given_number d.message.last_v))
+all_numbers d = appended (all_processes d) (appended (other_numbers d.message.msg) (given_number d.message.last_v))
 
 -- ---- 5, 4 and the first 6: the slot that a message names
 
@@ -162,17 +162,17 @@ waits_for_value own (ReadResponse id next) = false
 abbrev pub is_live : Settings → ℕ → Bool
 is_live s p = contains s.alive_replicas p
 
-abbrev pub in_swift_paxos : PFMode → Bool
-in_swift_paxos Paxos = false
-in_swift_paxos MultiPaxos = false
-in_swift_paxos MultiPaxos3P = false
-in_swift_paxos EPaxos = false
-in_swift_paxos Pando = false
-in_swift_paxos SwiftPaxos = true
+abbrev pub swift_paxos_mode : PFMode → Bool
+swift_paxos_mode Paxos = false
+swift_paxos_mode MultiPaxos = false
+swift_paxos_mode MultiPaxos3P = false
+swift_paxos_mode EPaxos = false
+swift_paxos_mode Pando = false
+swift_paxos_mode SwiftPaxos = true
 
 -- can_propose: a replica, and in SwiftPaxos every process
 abbrev pub may_take_part : Settings → Bool
-may_take_part s = is_live s s.my_pid || in_swift_paxos s.mode
+may_take_part s = is_live s s.my_pid || swift_paxos_mode s.mode
 
 -- "a non-replica (not SwiftPaxos) does nothing; older ones do nothing": of an older slot or round
 abbrev pub is_ignored : Settings → Rounds → ℕ → PaxosRound → Bool
@@ -189,7 +189,7 @@ leader_delegate s Pando leader = look_up s.delegates leader
 leader_delegate s SwiftPaxos leader = leader
 
 abbrev pub promise_delegate : Settings → ℕ → RoundV → ℕ
-promise_delegate s leader (FastV proposer v) = cond (in_swift_paxos s.mode && not (eqb leader s.my_pid)) proposer (leader_delegate s s.mode leader)
+promise_delegate s leader (FastV proposer v) = cond (swift_paxos_mode s.mode && not (eqb leader s.my_pid)) proposer (leader_delegate s s.mode leader)
 promise_delegate s leader (PaxosV at v) = leader_delegate s s.mode leader
 
 -- get_committer: "optional committer per process", by the value's requester; in SwiftPaxos without committers the requester itself
@@ -197,12 +197,12 @@ abbrev pub table_committer : List ℕ → Option ℕ → Option ℕ
 table_committer table None = None
 table_committer table (Some p) = Some (look_up table p)
 
-abbrev pub committer_by : Option (List ℕ) → PFMode → Option ℕ → Option ℕ
-committer_by None mode requester = cond (in_swift_paxos mode) requester None
-committer_by (Some table) mode requester = table_committer table requester
+abbrev pub committer_by_table : Option (List ℕ) → PFMode → Option ℕ → Option ℕ
+committer_by_table None mode requester = cond (swift_paxos_mode mode) requester None
+committer_by_table (Some table) mode requester = table_committer table requester
 
 abbrev pub value_committer : Settings → Option ℕ → Option ℕ
-value_committer s requester = committer_by s.committers s.mode requester
+value_committer s requester = committer_by_table s.committers s.mode requester
 
 -- it is oneself; where there is none it is nobody
 abbrev pub is_oneself : Option ℕ → ℕ → Bool
@@ -234,7 +234,7 @@ facts_of s rounds d round delegate =
 
 -- "source not a live replica (not SwiftPaxos)"
 abbrev pub source_not_live : Settings → ℕ → Bool
-source_not_live s source = not (is_live s source) && not (in_swift_paxos s.mode)
+source_not_live s source = not (is_live s source) && not (swift_paxos_mode s.mode)
 
 -- ---- the causes of each kind of call
 
@@ -319,12 +319,12 @@ not_allowed_causes s rounds =
 
 -- "A proposal meets 2, then 11"
 abbrev pub proposal_causes : Shard → ℕ → List Row
-proposal_causes shard v = gives 2 (too_large [] (v ∷ [])) ∷ not_allowed_causes shard.settings shard.state.rounds
+proposal_causes shard v = gives 2 (numbers_too_large [] (v ∷ [])) ∷ not_allowed_causes shard.settings shard.state.rounds
 
 -- "a new read 2, then 12"
 abbrev pub read_causes : Shard → ℕ → ℕ → List Row
 read_causes shard tag arrival =
-    gives 2 (too_large (arrival ∷ []) (tag ∷ []))
+    gives 2 (numbers_too_large (arrival ∷ []) (tag ∷ []))
     -- "128 reads open, or ids spent (the last id is 2^63−1)"
     ∷ gives 12 (leb 128 shard.state.rounds.core.tracker.open_count)
     ∷ gives 12 (ltb 9223372036854775807 shard.state.rounds.core.tracker.next_id)
@@ -333,7 +333,7 @@ read_causes shard tag arrival =
 -- "2, 3, then 5, or 4 before 6"
 abbrev pub admission_causes : Shard → Delivery → List Row
 admission_causes shard d =
-    gives 2 (too_large (slots_of d.message.msg) (all_numbers d))
+    gives 2 (numbers_too_large (message_slots d.message.msg) (all_numbers d))
     ∷ gives 3 (any_from shard.settings.process_count (all_processes d))
     ∷ gives 5 (ahead_of shard.state.rounds.core.slot d.message.msg)
     ∷ gives 4 (of_slot shard.state.rounds.core.slot d.message.msg && given_and_different d.message.last_v shard.state.rounds.core.last_v)
@@ -351,7 +351,7 @@ abbrev pub unmade : Outcome → List Row
 unmade (Ok tt) = []
 unmade (Err why) = gives (refusal_number why) true ∷ []
 
-module _ (choose : Choice) where
+module _ (choose : ProposerChoice) where
   -- "then Commit and reads are handled; a non-replica (not SwiftPaxos) does nothing; older ones do nothing; 7; of 8, 9, 10 the panic that the Rust meets
   -- first; last the 6 of a commit"
   abbrev pub handling_causes : Settings → Rounds → Delivery → ConsensusMsg → List Row

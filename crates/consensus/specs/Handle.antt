@@ -7,7 +7,7 @@ use Rattle.message.specs.declared.ConsensusMsg.{ConsensusMsg}
 use Rattle.message.specs.declared.ConsensusMsg.TheVariants.{Prepare, Accept, ForwardRequest, Commit, ReadRequest, ReadResponse}
 use Rattle.message.specs.declared.ReadId.{ReadId}
 use Rattle.message.specs.declared.Refusal.TheVariants.{Panic}
-use Rattle.fast_state.specs.Adopt.{Choice}
+use Rattle.fast_state.specs.Adopt.{ProposerChoice}
 use Rattle.read_tracker.specs.Reads.{insert_read}
 use Rattle.read_tracker.specs.serving.Serving.{receive_ready}
 use Rattle.read_tracker.specs.declared.Inserted.{Inserted}
@@ -20,10 +20,10 @@ use Rattle.steps.specs.declared.Rounds.{Rounds}
 use Rattle.calls.specs.Replies.{sent_reply, read_answer}
 use Rattle.calls.specs.declared.Call.{Call}
 use Rattle.calls.specs.declared.Call.TheVariants.{Propose, StartRead, Receive}
-use Rattle.consensus.specs.Answers.{track, refused, sent, nothing, served, committed, finish}
+use Rattle.consensus.specs.Answers.{track, refused, sent_answer, nothing, served_answer, committed, finish}
 use Rattle.consensus.specs.declared.State.{State}
 use Rattle.consensus.specs.declared.StateAnswer.{StateAnswer}
-use Rattle.delivery.specs.declared.Delivery.{Delivery}
+use Rattle.calls.specs.declared.delivery.Delivery.{Delivery}
 
 -- ---- Commit
 
@@ -37,12 +37,12 @@ on_commit state a slot v = cond (ltb slot state.rounds.core.slot) (nothing state
 unfoldable pub on_read_request : State → Asked → ℕ → ReadId → StateAnswer
 on_read_request state a src id =
     cond (eqb src a.member.my_pid) (refused Panic state)
-    (sent state (one_message (read_answer a.member.my_pid src id state.rounds.core)))
+    (sent_answer state (one_message (read_answer a.member.my_pid src id state.rounds.core)))
 
 -- a response of an older slot still counts
 unfoldable pub on_read_response : State → Asked → ReadId → Bool → StateAnswer
 on_read_response state a id fast =
-    served state.rounds
+    served_answer state.rounds
     (receive_ready state.rounds.core.tracker state.table id a.member.quorums.majority state.rounds.core.slot fast)
     no_messages
     None
@@ -70,7 +70,7 @@ proposing a v s = cond (has_fast_path a.mode) (propose_fast a v s) (map_step (on
 
 -- ---- Prepare, Accept and ForwardRequest; the choice among the best proposers of EPaxos is a parameter
 
-module _ (choose : Choice) where
+module _ (choose : ProposerChoice) where
   unfoldable pub processed : Asked → Heard → ConsensusMsg → Rounds → Result RoundsStep Refusal
   processed a h msg s = cond (has_fast_path a.mode) (process_fast choose a h msg s) (map_step (on_rounds s.fast) (process_classic a h msg s.core))
 

@@ -2,7 +2,7 @@
 -- (docs/DIFFERENCES.md, "Panics of the Rust while it handles a message"), and last the 6 of a commit. What is said here is said of what is held and
 -- who is in which set when the message comes. Cited from below: sets (`contains`, `insert`, `size`, `is_empty`), the order of rounds (`before`, `equal`,
 -- `round_before`, `round_equal`), one more (`increment`, which leaves the largest number), the parts of a promise (`value_of`, `accept_round_of`),
--- `is_some` (a value is given), and the choice among the best proposers of EPaxos (`Choice`).
+-- `is_some` (a value is given), and the choice among the best proposers of EPaxos (`ProposerChoice`).
 -- Assumes nothing.
 use Rattle.std.specs.Prelude.{Bool, true, false, cond, not, ◌&&◌, ◌||◌, List, [], ◌∷◌, ℕ, ◌-◌, eqb, leb, Option, None, Some, is_some}
 use Rattle.basics.specs.sets.Sets.{contains, insert, size, is_empty}
@@ -14,7 +14,7 @@ use Rattle.message.specs.declared.PFMode.TheVariants.{Paxos, MultiPaxos, MultiPa
 use Rattle.message.specs.declared.PaxosRound.{PaxosRound}
 use Rattle.message.specs.declared.RoundV.{RoundV}
 use Rattle.message.specs.declared.RoundV.TheVariants.{FastV, PaxosV}
-use Rattle.fast_state.specs.Adopt.{Choice}
+use Rattle.fast_state.specs.Adopt.{ProposerChoice}
 use Rattle.fast_state.specs.declared.FastAnswers.{FastAnswers}
 use Rattle.consensus.specs.Rows.{Row, gives, asserts, then}
 
@@ -36,12 +36,12 @@ pub record Facts : Type 0 where
   pub answers : FastAnswers  -- who has answered on the fast path, for how many proposers, how often for oneself, and the leader's answer
   pub scores : ℕ → ℕ  -- the EPaxos score of each proposer
 
-abbrev pub leader : Facts → ℕ
-leader f = f.round.leader
+abbrev pub round_leader : Facts → ℕ
+round_leader f = f.round.leader
 
 -- oneself leads the round
-abbrev pub leads : Facts → Bool
-leads f = eqb (leader f) f.own
+abbrev pub oneself_leads : Facts → Bool
+oneself_leads f = eqb (round_leader f) f.own
 
 -- oneself is the delegate
 abbrev pub is_delegate : Facts → Bool
@@ -51,7 +51,7 @@ abbrev pub from_delegate : Facts → Bool
 from_delegate f = eqb f.source f.delegate
 
 abbrev pub is_from_leader : Facts → Bool
-is_from_leader f = eqb f.source (leader f)
+is_from_leader f = eqb f.source (round_leader f)
 
 -- so many as the quorums' majority are in the set
 abbrev pub reaches_majority : Facts → ℕ → Bool
@@ -107,8 +107,8 @@ abbrev pub completes : Facts → Bool
 completes f = not (reaches_majority f (promises_first f)) && reaches_majority f (promises_then f)
 
 -- what is held fits an accept of oneself in the round
-abbrev pub own_fits : Facts → RoundV → Bool
-own_fits f rv = fits_held (Some (held_then f.held rv)) f.round (value_of (held_then f.held rv))
+abbrev pub own_accept_fits : Facts → RoundV → Bool
+own_accept_fits f rv = fits_held (Some (held_then f.held rv)) f.round (value_of (held_then f.held rv))
 
 -- oneself, another than the delegate, holds a value as accepted in the round already
 abbrev pub accepted_in_round : Facts → RoundV → Bool
@@ -165,7 +165,7 @@ is_one (Some p) = true
 
 -- "`epaxos_try_adopt` needs a majority of answers and two proposers; best score wins": one of them is chosen. The engine chooses one exactly where some
 -- proposer that is present has a score above 0 (`one_scored` and `none_scored`, proofs/Reading.antt).
-abbrev pub adopts : Choice → Facts → ℕ → Bool
+abbrev pub adopts : ProposerChoice → Facts → ℕ → Bool
 adopts choose f proposer =
     reaches_majority f (epaxos_answers_then f proposer).fast_answer_set && leb 2 (size (epaxos_answers_then f proposer).fast_proposers)
     && is_one (choose (epaxos_answers_then f proposer) (epaxos_scores_then f proposer))
@@ -209,7 +209,7 @@ leader_answer_commits f =
 
 -- another than the delegate answers, unless it has accepted in the round; in SwiftPaxos the leader is not answered
 abbrev pub answers_delegate : Facts → Bool → RoundV → Bool
-answers_delegate f swift rv = not (is_delegate f) && not ((swift && eqb f.delegate (leader f)) || accepted_in_round f rv)
+answers_delegate f swift rv = not (is_delegate f) && not ((swift && eqb f.delegate (round_leader f)) || accepted_in_round f rv)
 
 -- at a replica, in every mode
 abbrev pub prepare_rows : Facts → Bool → RoundV → List Row
@@ -217,21 +217,21 @@ prepare_rows f swift rv =
     -- "where nothing is held: no promise is counted"
     asserts 8 (nothing_held f.held) (is_empty f.promises)
     -- "then at another than the delegate, if it answers: the delegate is the source, or is not the leader" (in SwiftPaxos that holds wherever it answers)
-    ∷ asserts 8 (answers_delegate f swift rv) (eqb f.delegate f.source || not (eqb f.delegate (leader f)))
+    ∷ asserts 8 (answers_delegate f swift rv) (eqb f.delegate f.source || not (eqb f.delegate (round_leader f)))
     ∷ []
 
 -- "then at the delegate, where the promise completes a majority: no accept is counted in the round; the accept fits³"
 abbrev pub own_accept_rows : Facts → Bool → RoundV → List Row
 own_accept_rows f path rv =
     asserts 9 path (is_empty f.accepts)
-    ∷ asserts 9 path (own_fits f rv)
+    ∷ asserts 9 path (own_accept_fits f rv)
     ∷ []
 
 abbrev pub classic_prepare : Facts → RoundV → List Row
 classic_prepare f rv = then (prepare_rows f false rv) (own_accept_rows f (is_delegate f && completes f) rv)
 
 -- "then at the delegate in EPaxos, where nothing is accepted", of a FastV and of any other
-abbrev pub epaxos_answer_rows : Choice → Facts → Bool → RoundV → List Row
+abbrev pub epaxos_answer_rows : ProposerChoice → Facts → Bool → RoundV → List Row
 epaxos_answer_rows choose f path (PaxosV at v) =
     -- "the promise is a FastV"
     gives 8 path
@@ -249,7 +249,7 @@ epaxos_answer_rows choose f path (FastV proposer v) =
     ∷ gives 6 (not f.value_held && path && fast_quorum_unopposed f proposer)
     ∷ []
 
-abbrev pub epaxos_prepare : Choice → Facts → RoundV → List Row
+abbrev pub epaxos_prepare : ProposerChoice → Facts → RoundV → List Row
 epaxos_prepare choose f rv =
     then (prepare_rows f false rv)
     (then (own_accept_rows f (is_delegate f && accepted_then f rv && completes f) rv) (epaxos_answer_rows choose f (is_delegate f && not (accepted_then f rv)) rv))
@@ -274,10 +274,10 @@ swift_prepare f rv =
     cond f.replica
     (then (prepare_rows f true rv)
     -- "then at the leader in SwiftPaxos, where nothing is accepted: no accept is counted in the round"
-    (asserts 9 (is_delegate f && leads f && not (accepted_then f rv)) (is_empty f.accepts) ∷ swift_answer_rows f (is_delegate f && not (leads f)) rv))
+    (asserts 9 (is_delegate f && oneself_leads f && not (accepted_then f rv)) (is_empty f.accepts) ∷ swift_answer_rows f (is_delegate f && not (oneself_leads f)) rv))
     (swift_answer_rows f true rv)
 
-abbrev pub prepare_panics : Choice → PFMode → Facts → RoundV → List Row
+abbrev pub prepare_panics : ProposerChoice → PFMode → Facts → RoundV → List Row
 prepare_panics choose Paxos f rv = classic_prepare f rv
 prepare_panics choose MultiPaxos f rv = classic_prepare f rv
 prepare_panics choose MultiPaxos3P f rv = classic_prepare f rv
@@ -302,9 +302,9 @@ classic_accept f committer v =
     -- "the accept fits³"
     asserts 9 true (fits_held f.held f.round v)
     -- "then at another than the leader, not from the delegate: oneself is the committer, in MultiPaxos3P or SwiftPaxos"
-    ∷ asserts 8 (not (leads f) && not (from_delegate f)) committer
+    ∷ asserts 8 (not (oneself_leads f) && not (from_delegate f)) committer
     -- "last the 6 of a commit"
-    ∷ gives 6 (not f.value_held && (leads f || committer) && accepts_enough f)
+    ∷ gives 6 (not f.value_held && (oneself_leads f || committer) && accepts_enough f)
     ∷ []
 
 abbrev pub swift_replica_accept_rows : Facts → ℕ → List Row
@@ -312,13 +312,13 @@ swift_replica_accept_rows f v =
     -- "the accept fits³"
     asserts 9 true (fits_held f.held f.round v)
     -- "then in SwiftPaxos, from the leader, at a committer that is not the leader" (the delegate of an Accept is the leader)
-    ∷ then (leader_answer_rows f (not (leads f) && from_delegate f && f.committer))
+    ∷ then (leader_answer_rows f (not (oneself_leads f) && from_delegate f && f.committer))
     -- "then at another than the leader, not from the delegate: oneself is the committer, in MultiPaxos3P or SwiftPaxos"
-    (asserts 8 (not (leads f) && not (from_delegate f)) f.committer
+    (asserts 8 (not (oneself_leads f) && not (from_delegate f)) f.committer
     -- "last the 6 of a commit"
     ∷ gives 6
     (not f.value_held
-    && ((not (leads f) && from_delegate f && f.committer && leader_answer_commits f) || ((leads f || f.committer) && accepts_enough f)))
+    && ((not (oneself_leads f) && from_delegate f && f.committer && leader_answer_commits f) || ((oneself_leads f || f.committer) && accepts_enough f)))
     ∷ [])
 
 -- "Accept at a SwiftPaxos client² that is the committer"

@@ -6,19 +6,19 @@
 ghost use Rattle.std.specs.Prelude.{◌≡◌, not};
 ghost use Rattle.fast_state.specs.Adopt.{lowest_best};
 ghost use Rattle.steps.specs.Steps.{on_rounds};
-ghost use Rattle.consensus.specs.Answers.{state_with_rounds, with_tracker, track, refused, sent, served, committed, finish};
+ghost use Rattle.consensus.specs.Answers.{state_with_rounds, with_tracker, track, refused, sent_answer, served_answer, committed, finish};
 ghost use Rattle.consensus.specs.Handle.{on_commit, on_read_request, on_read_response, after_insert, start_read, proposing, processed, process_message, handle, handle_call};
 ghost use Rattle.consensus.specs.Call.{new_core, new_state, new_shard, state_call, call_of};
 
+use calls::delivery::Delivery;
 use calls::{Call, CommittedSlot, Reply, Taken};
-use delivery::Delivery;
 use fast_state::{FastState, PaxosFamilyRoundState};
 use message::{ConsensusMsg, Outcome, ReadId, Refusal};
 use read_tracker::serving::Tracked;
 use read_tracker::{Inserted, ReadTable, ReadTracker};
 use settings::Settings;
 use steps::{
-    Asked, Core, CoreStep, Heard, Messages, Next, Rounds, RoundsStep, Step, no_messages,
+    Asked, Core, CoreStep, Heard, Next, Rounds, RoundsStep, SentMessages, Step, no_messages,
     one_message,
 };
 
@@ -109,8 +109,8 @@ fn refused(state: State, why: Refusal) -> StateAnswer
     }
 }
 
-fn sent(state: State, messages: Messages) -> StateAnswer
-    ensures { result ≡ sent state messages }
+fn sent_answer(state: State, messages: SentMessages) -> StateAnswer
+    ensures { result ≡ sent_answer state messages }
 {
     StateAnswer {
         state,
@@ -119,13 +119,13 @@ fn sent(state: State, messages: Messages) -> StateAnswer
 }
 
 // These rounds and what has become of the reads, with the number of those that are served.
-fn served(
+fn served_answer(
     rounds: Rounds,
     reads: Tracked,
-    messages: Messages,
+    messages: SentMessages,
     commit: Option<CommittedSlot>,
 ) -> StateAnswer
-    ensures { result ≡ served rounds reads messages commit }
+    ensures { result ≡ served_answer rounds reads messages commit }
 {
     StateAnswer {
         state: State {
@@ -143,7 +143,7 @@ fn served(
 
 // The commit of a value, and the reads that it has made ready.
 #[tactic(auto, unfolding(crate::specs::Answers::committed))]
-fn committed(state: State, a: Asked, v: u64, s: Rounds, messages: Messages) -> StateAnswer
+fn committed(state: State, a: Asked, v: u64, s: Rounds, messages: SentMessages) -> StateAnswer
     ensures { result ≡ committed state a v s messages }
 {
     let next = paxos_family::next_slot(a, v, s);
@@ -159,7 +159,7 @@ fn committed(state: State, a: Asked, v: u64, s: Rounds, messages: Messages) -> S
         v,
         fast: calls::is_fast(a, s.core),
     };
-    served(next, reads, messages, Some(commit))
+    served_answer(next, reads, messages, Some(commit))
 }
 
 // A step becomes an answer. What is refused leaves the old state, and a commit needs its value.
@@ -168,7 +168,7 @@ fn finish(state: State, a: Asked, held: bool, step: Result<RoundsStep, Refusal>)
 {
     match step {
         Ok(step) => match step.next {
-            Next::Stays | Next::Continues => sent(
+            Next::Stays | Next::Continues => sent_answer(
                 state_with_rounds(state, step.state),
                 step.messages,
             ),
@@ -185,7 +185,7 @@ fn on_commit(state: State, a: Asked, slot: u64, v: u64) -> StateAnswer
     ensures { result ≡ on_commit state a slot v }
 {
     if slot < state.rounds.core.slot {
-        return sent(state, no_messages());
+        return sent_answer(state, no_messages());
     }
     committed(state, a, v, state.rounds, no_messages())
 }
@@ -200,7 +200,7 @@ fn on_read_request(state: State, a: Asked, src: u64, id: ReadId) -> StateAnswer
         return refused(state, Refusal::Panic);
     }
     let core = state.rounds.core;
-    sent(state, one_message(calls::read_answer(own, src, id, core)))
+    sent_answer(state, one_message(calls::read_answer(own, src, id, core)))
 }
 
 // A response counts, of an older slot too.
@@ -218,7 +218,7 @@ fn on_read_response(state: State, a: Asked, id: ReadId, fast: bool) -> StateAnsw
         core.slot,
         fast,
     );
-    served(state.rounds, reads, no_messages(), None)
+    served_answer(state.rounds, reads, no_messages(), None)
 }
 
 fn after_insert(state: State, a: Asked, inserted: Result<Inserted, Refusal>) -> StateAnswer

@@ -12,23 +12,24 @@ use borrow.Author.Tests.{eqb-true, eqb-false, leb-true}
 use lib.Dec.{eqb, leb, ltb}
 use Rattle.basics.proofs.Tests.{either, not_both, and_left, and_right, or_cases}
 use Rattle.arrays.specs.Arrays.{core_of, core_numbers}
-use Rattle.arrays.specs.FastArrays.{FastArrays, fast_state_of}
+use Rattle.arrays.specs.FastArrays.{fast_state_of}
 use Rattle.arrays.specs.declared.Setup.{Setup}
 use Rattle.calls.specs.Decision.{decision_for, decision_of}
 use Rattle.calls.specs.declared.Call.{Call}
 use Rattle.calls.specs.declared.Call.TheVariants.{Propose, StartRead, Receive}
-use Rattle.consensus.specs.Answers.{refused, nothing, sent, committed, finish}
+use Rattle.consensus.specs.Answers.{refused, nothing, sent_answer, committed, finish}
 use Rattle.consensus.specs.Call.{state_call, in_shard, call_with}
 use Rattle.consensus.specs.Handle.{on_commit, on_read_request, on_read_response, after_insert, start_read, proposing, processed, handle_call}
 use Rattle.consensus.specs.declared.StateAnswer.{StateAnswer}
 use Rattle.calls.specs.Replies.{sent_reply, read_answer}
 use Rattle.questions.specs.counted.Counting.{only_counts_accept, only_counts_promise, only_counts, with_counted}
-use Rattle.direct.specs.Direct.{Direct, direct, opened_or_refused, start_flat_read, count_response, flat_read_response, served_after, left_after_reads, is_response, concerns_slot, fast_half_acts, names_slot, of_older_round, is_older_message, classic_message, slot_call, flat_call_taken, if_admitted, call_made, numbered, direct_call}
-use Rattle.direct.specs.Stands.{Memory, memory_with, HostAnswer, left_by, Stands, PassedOrMade, DirectStands, by_direct, DirectIsCall}
+use Rattle.direct.specs.Direct.{ArraysAfter, arrays_after, opened_or_refused, start_flat_read, count_response, flat_read_response, served_after, left_after_reads, is_response, concerns_slot, fast_half_acts, names_slot, of_older_round, is_older_message, classic_message, slot_call, flat_call_taken, if_admitted, call_made, with_host_number, direct_call}
+use Rattle.direct.specs.Stands.{Memory, HostAnswer, left_by, Stands, PassedOrMade, DirectStands, by_direct, DirectIsCall}
 use Rattle.direct.specs.handlers.CoreAnswers.{core_sends, core_committed, core_on_commit}
-use Rattle.direct.specs.handlers.Handled.{ReplyInArrays, CallOutcome, NoHalf, LeftInArrays, left_with, left_refused, put_reply, put_served, put_outcome, put_answer, asked_in, put_step, handled_in_arrays, answer_request}
+use Rattle.direct.specs.handlers.Handled.{CallOutcome, NoHalf, LeftInArrays, left_with, left_refused, put_reply, put_served, put_taken, asked_in, put_step, handled_in_arrays, answer_request}
+use Rattle.direct.specs.declared.handlers.ReplyInArrays.{ReplyInArrays}
 use Rattle.direct.specs.declared.handlers.NotTaken.TheVariants.{Refused, PassedOn}
-use Rattle.enter.specs.Enter.{is_older as enter_older}
+use Rattle.steps.specs.enter.Enter.{is_older as enter_older}
 use Rattle.fast_state.specs.Adopt.{lowest_best}
 use Rattle.fast_state.specs.declared.FastState.{FastState}
 use Rattle.message.specs.Modes.{has_fast_path, mode_of_number}
@@ -48,7 +49,7 @@ use Rattle.flat.specs.Decode.{is_yes, decoded_call, decoded_core, decoded_held, 
 use Rattle.flat.specs.declared.FlatCall.{FlatCall}
 use Rattle.flat.specs.declared.FlatHeld.{FlatHeld}
 use Rattle.direct.proofs.Reading.{made_by}
-use Rattle.direct.proofs.Common.{call_on, other_kind, by_kind, ForRounds, is_prepare, is_accept, is_forward, is_commit, rounds_handle, commit_handled, request_handled, response_handled}
+use Rattle.direct.proofs.Common.{call_on, other_kind, by_kind, ForRounds, prepare_of_kind, accept_of_kind, forward_of_kind, commit_of_kind, rounds_handle, commit_handled, request_handled, response_handled}
 use Rattle.direct.proofs.Counted.{accept_leaves, promise_leaves}
 use Rattle.direct.proofs.NoReads.{response_without_reads}
 use Rattle.direct.proofs.Proposed.{proposal_uncommitted}
@@ -73,23 +74,23 @@ module _ (m : Memory) (f : FlatCall) (w : ReplyInArrays) where
   abbrev fast : FastState
   fast = fast_state_of m.fast
 
-  abbrev result : Direct CallOutcome NoHalf
+  abbrev result : ArraysAfter CallOutcome NoHalf
   result = call_made s m.committers m.delegates core table f w
 
-  abbrev StandsFor : StateAnswer → Direct CallOutcome NoHalf → Type 0
+  abbrev StandsFor : StateAnswer → ArraysAfter CallOutcome NoHalf → Type 0
   StandsFor x d = ClassicStands m w x d
 
-  abbrev Passed : Direct CallOutcome NoHalf → Type 0
-  Passed d = (fast_half_acts s f ≡ true) × (d ≡ direct (Err PassedOn) core table w)
+  abbrev Passed : ArraysAfter CallOutcome NoHalf → Type 0
+  Passed d = (fast_half_acts s f ≡ true) × (d ≡ arrays_after (Err PassedOn) core table w)
 
   abbrev Classic : Type 0
   Classic = has_fast_path settings.mode ≡ false
 
-  stands_as : (d : Direct CallOutcome NoHalf) {x y : StateAnswer} → x ≡ y → StandsFor y d → StandsFor x d
+  stands_as : (d : ArraysAfter CallOutcome NoHalf) {x y : StateAnswer} → x ≡ y → StandsFor y d → StandsFor x d
   stands_as d {x} {y} e h = subst (λ (z : StateAnswer). StandsFor z d) (sym e) h
 
-  abbrev does_nothing : Direct CallOutcome NoHalf
-  does_nothing = direct (Ok tt) core table (put_served 0 w)
+  abbrev does_nothing : ArraysAfter CallOutcome NoHalf
+  does_nothing = arrays_after (Ok tt) core table (put_served 0 w)
 
   nothing_stands : {x : StateAnswer} → x ≡ nothing shard.state → StandsFor x does_nothing
   nothing_stands e = stands_as does_nothing e (refl, refl, refl)
@@ -129,18 +130,18 @@ module _ (m : Memory) (f : FlatCall) (w : ReplyInArrays) where
       (step_stands m w p held (process_classic asked heard msg decoded)))
 
   commit_stands_lem : Classic → StandsFor (on_commit shard.state asked f.message.slot f.message.v)
-      (left_after_reads s table (put_answer (core_on_commit asked f.message.slot f.message.v decoded) core w))
-  unfolding on_commit core_on_commit put_outcome served_after
+      (left_after_reads s table (put_taken (core_on_commit asked f.message.slot f.message.v decoded) w))
+  unfolding on_commit core_on_commit served_after
   commit_stands_lem p = go (ltb f.message.slot decoded.slot)
     where
       go : (t : Bool) → StandsFor (cond t (nothing shard.state) (committed shard.state asked f.message.v shard.state.rounds no_messages))
-          (left_after_reads s table (put_answer (cond t (core_sends decoded no_messages) (core_committed asked f.message.v decoded no_messages)) core w))
+          (left_after_reads s table (put_taken (cond t (core_sends decoded no_messages) (core_committed asked f.message.v decoded no_messages)) w))
       go true = sends_stand m NoHalf (λ (h : NoHalf). m.fast) tt w decoded fast no_messages tt refl
       go false = commit_stands m w p f.message.v decoded no_messages
 
   own_commit : Classic → eqb kind 1 ≡ false → eqb kind 2 ≡ false → eqb kind 3 ≡ false → eqb kind 4 ≡ true → StandsHandled
   unfolding handled_in_arrays
-  own_commit p k1 k2 k3 k4 = handled_as (simp (k4)) (stands_as _ (commit_handled m f (is_commit m f k1 k2 k3 k4)) (commit_stands_lem p))
+  own_commit p k1 k2 k3 k4 = handled_as (simp (k4)) (stands_as _ (commit_handled m f (commit_of_kind m f k1 k2 k3 k4)) (commit_stands_lem p))
 
   -- ---- messages of an older slot or round
 
@@ -161,12 +162,12 @@ module _ (m : Memory) (f : FlatCall) (w : ReplyInArrays) where
   older_answer o p n = go (either (eqb kind 1)) (either (eqb kind 2))
     where
       commit : eqb kind 1 ≡ false → eqb kind 2 ≡ false → eqb kind 4 ≡ true → is_before → answered (Receive delivered) ≡ nothing shard.state
-      commit k1 k2 k4 (inl o) = commit_handled m f (is_commit m f k1 k2 (other_kind kind 4 3 k4 refl) k4) ∙ simp (o)
+      commit k1 k2 k4 (inl o) = commit_handled m f (commit_of_kind m f k1 k2 (other_kind kind 4 3 k4 refl) k4) ∙ simp (o)
       commit k1 k2 k4 (inr o) = absurd (no_commit k4 o)
 
       go : (eqb kind 1 ≡ true) ⊎ (eqb kind 1 ≡ false) → (eqb kind 2 ≡ true) ⊎ (eqb kind 2 ≡ false) → answered (Receive delivered) ≡ nothing shard.state
-      go (inl k1) k2 = steps_to p (is_prepare m f k1) tt (older_prepare asked heard f.message.slot round (decoded_promise f.message.rv) decoded (by_round o))
-      go (inr k1) (inl k2) = steps_to p (is_accept m f k1 k2) tt (older_accept asked heard f.message.slot round f.message.v decoded (by_round o))
+      go (inl k1) k2 = steps_to p (prepare_of_kind m f k1) tt (older_prepare asked heard f.message.slot round (decoded_promise f.message.rv) decoded (by_round o))
+      go (inr k1) (inl k2) = steps_to p (accept_of_kind m f k1 k2) tt (older_accept asked heard f.message.slot round f.message.v decoded (by_round o))
       go (inr k1) (inr k2) = commit k1 k2 (sym (simp (k1, k2)) ∙ n) o
 
   older_stands : is_older_message (core_of core) f.message ≡ true → Classic → StandsFor (answered (Receive delivered)) does_nothing
@@ -201,7 +202,7 @@ module _ (m : Memory) (f : FlatCall) (w : ReplyInArrays) where
           let step : process_classic asked heard (Accept f.message.slot round f.message.v) decoded ≡ counted_step =
           accept_leaves s m.committers m.delegates (core_of core) f p (not_older names k4 o) k2 e ∙ simp (k2)
           in
-          steps_to p (is_accept m f k1 k2) tt step
+          steps_to p (accept_of_kind m f k1 k2) tt step
 
       promise : eqb kind 1 ≡ true → eqb kind 2 ≡ false → eqb kind 4 ≡ false → only_counts_promise s m.delegates (core_of core) f.message ≡ true
           → answered (Receive delivered) ≡ finish shard.state asked held (map_step (on_rounds fast) counted_step)
@@ -210,7 +211,7 @@ module _ (m : Memory) (f : FlatCall) (w : ReplyInArrays) where
           let step : process_classic asked heard (Prepare f.message.slot round (decoded_promise f.message.rv)) decoded ≡ counted_step =
           promise_leaves s m.committers m.delegates (core_of core) f (not_older names k4 o) k1 e ∙ simp (k2)
           in
-          steps_to p (is_prepare m f k1) tt step
+          steps_to p (prepare_of_kind m f k1) tt step
 
       go : (eqb kind 2 ≡ true) ⊎ (eqb kind 2 ≡ false) → answered (Receive delivered) ≡ finish shard.state asked held (map_step (on_rounds fast) counted_step)
       go (inl k2) = accept k2 (other_kind kind 2 1 k2 refl) (other_kind kind 2 4 k2 refl)
@@ -220,7 +221,7 @@ module _ (m : Memory) (f : FlatCall) (w : ReplyInArrays) where
           promise k1 k2 (other_kind kind 1 4 k1 refl) (and_right (eqb kind 1) _ both)
 
   counted_stands : Classic → is_older_message (core_of core) f.message ≡ false → only_counts s m.delegates (core_of core) f.message ≡ true
-      → StandsFor (answered (Receive delivered)) (direct (Ok tt) counted_core table (put_served 0 w))
+      → StandsFor (answered (Receive delivered)) (arrays_after (Ok tt) counted_core table (put_served 0 w))
   counted_stands p o n = stands_as _ (counted_answer p o n) (refl, refl, refl)
 
   -- ---- reads
@@ -230,7 +231,7 @@ module _ (m : Memory) (f : FlatCall) (w : ReplyInArrays) where
   unfolding on_read_request answer_request served_after
   requests = go (eqb source s.my_pid)
     where
-      go : (t : Bool) → StandsFor (cond t (refused Panic shard.state) (sent shard.state (one_message (read_answer s.my_pid source (record { 0 = f.message.id }) decoded))))
+      go : (t : Bool) → StandsFor (cond t (refused Panic shard.state) (sent_answer shard.state (one_message (read_answer s.my_pid source (record { 0 = f.message.id }) decoded))))
           (left_after_reads s table
           (cond t (left_refused Panic core w)
           (left_with (Ok false) core (put_reply (sent_reply (one_message (read_answer s.my_pid source (record { 0 = f.message.id }) decoded))) w))))
@@ -281,10 +282,10 @@ module _ (m : Memory) (f : FlatCall) (w : ReplyInArrays) where
   abbrev Done? : Type 0
   Done? = Passed result ⊎ StandsFor (answered called) result
 
-  done_as : (c : Call) (d : Direct CallOutcome NoHalf) → called ≡ c → result ≡ d → StandsFor (answered c) d → Done?
+  done_as : (c : Call) (d : ArraysAfter CallOutcome NoHalf) → called ≡ c → result ≡ d → StandsFor (answered c) d → Done?
   done_as c d p e h =
       inr (subst (λ (x : Call). StandsFor (answered x) result) (sym p)
-      (subst (λ (x : Direct CallOutcome NoHalf). StandsFor (answered c) x) (sym e) h))
+      (subst (λ (x : ArraysAfter CallOutcome NoHalf). StandsFor (answered c) x) (sym e) h))
 
   module _ (z : refusal_of s (core_of core) f ≡ Ok tt) where
     read_is : eqb f.kind 1 ≡ true → result ≡ start_flat_read s core table f w
@@ -318,7 +319,7 @@ module _ (m : Memory) (f : FlatCall) (w : ReplyInArrays) where
           older_is o = taken_is ∙ simp (r, p, h, k0, o)
 
           counted_is : is_older_message (core_of core) f.message ≡ false → only_counts s m.delegates (core_of core) f.message ≡ true
-              → result ≡ direct (Ok tt) counted_core table (put_served 0 w)
+              → result ≡ arrays_after (Ok tt) counted_core table (put_served 0 w)
           unfolding flat_call_taken slot_call classic_message
           counted_is o n = taken_is ∙ simp (r, p, h, k0, o, n)
 
@@ -394,9 +395,9 @@ module _ (m : Memory) (f : FlatCall) (w : ReplyInArrays) where
         message : Done?
         message =
             by_kind Done? kind
-            (λ k1. named 1 k1 refl refl refl (λ h. step_handled h (is_prepare m f k1) tt (other_kind kind 1 4 k1 refl)))
-            (λ k1 k2. named 2 k2 refl refl refl (λ h. step_handled h (is_accept m f k1 k2) tt (other_kind kind 2 4 k2 refl)))
-            (λ k1 k2 k3. named 3 k3 refl refl refl (λ h. step_handled h (is_forward m f k1 k2 k3) tt (other_kind kind 3 4 k3 refl)))
+            (λ k1. named 1 k1 refl refl refl (λ h. step_handled h (prepare_of_kind m f k1) tt (other_kind kind 1 4 k1 refl)))
+            (λ k1 k2. named 2 k2 refl refl refl (λ h. step_handled h (accept_of_kind m f k1 k2) tt (other_kind kind 2 4 k2 refl)))
+            (λ k1 k2 k3. named 3 k3 refl refl refl (λ h. step_handled h (forward_of_kind m f k1 k2 k3) tt (other_kind kind 3 4 k3 refl)))
             (λ k1 k2 k3 k4. named 4 k4 refl refl refl (λ h. own_commit h k1 k2 k3 k4))
             (λ k1 k2 k3 k4. read_message k1 k2 k3 k4 (either (eqb kind 6)))
           where
@@ -415,7 +416,7 @@ module _ (m : Memory) (f : FlatCall) (w : ReplyInArrays) where
         new (inl k) = read k
         new (inr k) = other_call k (either (eqb f.kind 0))
 
-  refused_is : (why : Refusal) → outcome ≡ Err why → result ≡ direct (Err (Refused why)) core table w
+  refused_is : (why : Refusal) → outcome ≡ Err why → result ≡ arrays_after (Err (Refused why)) core table w
   unfolding if_admitted
   refused_is why e = simp (e)
 
@@ -424,8 +425,8 @@ module _ (m : Memory) (f : FlatCall) (w : ReplyInArrays) where
   decided (Ok tt) e = taken_call e
   decided (Err why) e = inr (refused_is why e)
 
-  abbrev host : Direct CallOutcome NoHalf → HostAnswer
-  host d = left_by m m.fast (numbered d)
+  abbrev host : ArraysAfter CallOutcome NoHalf → HostAnswer
+  host d = left_by m m.fast (with_host_number d)
 
   together : (x : StateAnswer) (o : Outcome) → StandsBy m NoHalf (λ (h : NoHalf). m.fast) tt w x o result → Stands m w (in_shard shard x) o (host result)
   together x (Ok tt) h = in_memory m NoHalf (λ (h : NoHalf). m.fast) tt w x result h
@@ -446,9 +447,6 @@ pub direct_is_call : DirectIsCall
 direct_is_call m f w = claimed m f w
 
 -- so what equals it meets the contract of `chanbook_direct_call`
-pub direct_stands : (s : Setup) (committers delegates core : List ℕ) (table : ReadTable) (f : FlatCall) (w : ReplyInArrays) (d : Direct ℕ NoHalf)
-    → d ≡ direct_call s committers delegates core table f w → DirectStands s committers delegates core table f w d
+pub direct_stands : (m : Memory) (f : FlatCall) (w : ReplyInArrays) (x : HostAnswer) → x ≡ by_direct m f w → DirectStands m f w x
 unfolding DirectStands
-direct_stands s committers delegates core table f w d e = λ (fast : FastArrays).
-    let m = memory_with s committers delegates core fast table in
-    subst (λ (x : Direct ℕ NoHalf). PassedOrMade m f w (left_by m fast x)) (sym e) (direct_is_call m f w)
+direct_stands m f w x e = subst (PassedOrMade m f w) (sym e) (direct_is_call m f w)

@@ -12,7 +12,7 @@ use lib.Dec.{eqb}
 use Rattle.basics.proofs.Tests.{either}
 use Rattle.arrays.specs.Arrays.{settings_of, core_of}
 use Rattle.calls.specs.Asked.{asked_of, heard_in, heard_of}
-use Rattle.calls.specs.Decision.{if_made}
+use Rattle.calls.specs.Decision.{unless_unmade}
 use Rattle.calls.specs.declared.Call.{Call}
 use Rattle.calls.specs.declared.Call.TheVariants.{Receive}
 use Rattle.consensus.specs.Answers.{finish}
@@ -22,7 +22,7 @@ use Rattle.consensus.specs.declared.Shard.{Shard}
 use Rattle.consensus.specs.declared.State.{State}
 use Rattle.consensus.specs.declared.StateAnswer.{StateAnswer}
 use Rattle.questions.specs.counted.Counting.{round_in}
-use Rattle.delivery.specs.declared.Delivery.{Delivery}
+use Rattle.calls.specs.declared.delivery.Delivery.{Delivery}
 use Rattle.direct.specs.Stands.{Memory, shard_of, call_in}
 use Rattle.direct.specs.handlers.Handled.{passed_on}
 use Rattle.fast_state.specs.Adopt.{lowest_best}
@@ -67,7 +67,7 @@ call_on m f =
       settings = decoded_settings (settings_of m.setup m.committers m.delegates);
       shard = shard_of m;
       called = call_in m f;
-      outcome = if_made (decoded_made m.setup.made m.setup.mode) m.setup.process_count m.setup.my_pid (decoded_core (core_of m.core)) (call_in m f);
+      outcome = unless_unmade (decoded_made m.setup.made m.setup.mode) m.setup.process_count m.setup.my_pid (decoded_core (core_of m.core)) (call_in m f);
       delivered = decoded_delivery m.setup.process_count m.setup.my_pid f;
       msg = decoded_msg f.message;
       round = round_in f.message;
@@ -164,21 +164,21 @@ module _ (m : Memory) (f : FlatCall) where
   abbrev kind : ℕ
   kind = f.message.kind
 
-  pub is_prepare : eqb kind 1 ≡ true → msg ≡ Prepare f.message.slot round (decoded_promise f.message.rv)
+  pub prepare_of_kind : eqb kind 1 ≡ true → msg ≡ Prepare f.message.slot round (decoded_promise f.message.rv)
   unfolding decoded_msg
-  is_prepare k1 = simp (k1)
+  prepare_of_kind k1 = simp (k1)
 
-  pub is_accept : eqb kind 1 ≡ false → eqb kind 2 ≡ true → msg ≡ Accept f.message.slot round f.message.v
+  pub accept_of_kind : eqb kind 1 ≡ false → eqb kind 2 ≡ true → msg ≡ Accept f.message.slot round f.message.v
   unfolding decoded_msg
-  is_accept k1 k2 = simp (k1, k2)
+  accept_of_kind k1 k2 = simp (k1, k2)
 
-  pub is_forward : eqb kind 1 ≡ false → eqb kind 2 ≡ false → eqb kind 3 ≡ true → msg ≡ ForwardRequest f.message.v
+  pub forward_of_kind : eqb kind 1 ≡ false → eqb kind 2 ≡ false → eqb kind 3 ≡ true → msg ≡ ForwardRequest f.message.v
   unfolding decoded_msg
-  is_forward k1 k2 k3 = simp (k1, k2, k3)
+  forward_of_kind k1 k2 k3 = simp (k1, k2, k3)
 
-  pub is_commit : eqb kind 1 ≡ false → eqb kind 2 ≡ false → eqb kind 3 ≡ false → eqb kind 4 ≡ true → msg ≡ Commit f.message.slot f.message.v
+  pub commit_of_kind : eqb kind 1 ≡ false → eqb kind 2 ≡ false → eqb kind 3 ≡ false → eqb kind 4 ≡ true → msg ≡ Commit f.message.slot f.message.v
   unfolding decoded_msg
-  is_commit k1 k2 k3 k4 = simp (k1, k2, k3, k4)
+  commit_of_kind k1 k2 k3 k4 = simp (k1, k2, k3, k4)
 
   is_response : eqb kind 1 ≡ false → eqb kind 2 ≡ false → eqb kind 3 ≡ false → eqb kind 4 ≡ false → eqb kind 6 ≡ true
       → msg ≡ ReadResponse (record { 0 = f.message.id }) f.message.next_readable_slot

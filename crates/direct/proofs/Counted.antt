@@ -9,14 +9,14 @@ use Prim.Native.Nat.{ℕ}
 use borrow.Author.Tests.{eqb-true, not-true}
 use lib.Dec.{eqb, leb}
 use Rattle.basics.proofs.Tests.{not_both, and_left, and_right}
-use Rattle.classic.specs.accept.Accept.{accepting, accepted, try_commit}
+use Rattle.classic.specs.accept.Accept.{accepting, accept_taken, try_commit}
 use Rattle.arrays.specs.Arrays.{settings_of}
 use Rattle.arrays.specs.declared.Setup.{Setup}
 use Rattle.calls.specs.Asked.{asked_of, gatherer_of, gatherer_in}
-use Rattle.consensus.proofs.Entered.{not_swift}
-use Rattle.questions.specs.counted.Counting.{round_in, member_of, member_majority, in_own_round, repeats_held, accepted_set_with, only_counts_accept, keeps_held, prepared_set_with, completes_majority, gathers_promises, only_counts_promise, with_accepts, with_counted_promises}
+use Rattle.consensus.proofs.Entered.{not_swift_without_fast_path}
+use Rattle.questions.specs.counted.Counting.{round_in, member_of, setup_majority, in_own_round, repeats_held, accepted_set_with, only_counts_accept, keeps_held, prepared_set_with, completes_majority, gathers_promises, only_counts_promise, with_accepts, with_counted_promises}
 use Rattle.direct.specs.handlers.Handled.{flat_heard}
-use Rattle.enter.specs.Enter.{is_older, from_live, in_round, enter}
+use Rattle.steps.specs.enter.Enter.{is_older, from_live, in_round, enter}
 use Rattle.message.specs.Modes.{has_fast_path, is_swift_paxos, mode_of_number}
 use Rattle.message.specs.Promises.{accept_round_of}
 use Rattle.message.specs.Rounds.{before}
@@ -25,7 +25,7 @@ use Rattle.message.specs.declared.PaxosRound.{PaxosRound}
 use Rattle.message.specs.declared.RoundV.{RoundV}
 use Rattle.message.specs.declared.RoundV.TheVariants.{PaxosV}
 use Rattle.paxos_family.specs.Process.{process_classic, on_prepare, entered_prepare, on_accept}
-use Rattle.classic.specs.prepare.Prepare.{hold_first, preparing, prepared, becomes_prepared, gather}
+use Rattle.classic.specs.prepare.Prepare.{hold_first, preparing, prepare_answered, becomes_prepared, gather}
 use Rattle.round_state.proofs.Holding.{accept_fits_lem, promise_not_later}
 use Rattle.round_state.specs.Paxos.{get_last_accepted_round, is_prepared, counted, held_after_promise, receive_promise, accept_fits, after_accept, receive_accept}
 use Rattle.basics.specs.sets.Sets.{contains, size}
@@ -44,30 +44,30 @@ use Rattle.flat.specs.declared.FlatMessage.{FlatMessage}
 
 module _ (a : Asked) (h : Heard) (slot : ℕ) (round : PaxosRound) (core : Core) where
   -- a live replica hears a live one, in the round that it is in
-  pub record Meets : Type 0 where
+  pub record CountedMeets : Type 0 where
     pub replica : a.member.replica ≡ true
     pub live : h.source_live ≡ true
     pub not_older : is_older slot round core ≡ false
     pub not_later : before core.paxos.round (Some round) ≡ false
 
-  enters : Meets → enter a h slot round core ≡ Ok (continues core no_messages)
+  enters : CountedMeets → enter a h slot round core ≡ Ok (continues core no_messages)
   unfolding enter from_live in_round
   enters m = simp (m.replica, m.live, m.not_older, m.not_later)
 
   -- the leader counts an accept of what it holds
-  pub accept_counted : (v : ℕ) → Meets → is_swift_paxos a.mode ≡ false → eqb a.member.my_pid round.leader ≡ true
+  pub accept_counted : (v : ℕ) → CountedMeets → is_swift_paxos a.mode ≡ false → eqb a.member.my_pid round.leader ≡ true
       → accept_fits core.paxos.max_rv round v ≡ true
       → leb a.member.quorums.majority (size (counted a.member h.src core.paxos.accepted_set)) ≡ false
       → process_classic a h (Accept slot round v) core
       ≡ Ok (stays (left_fast_path (with_paxos (after_accept a.member h.src round v core.paxos) core)) no_messages)
-  unfolding process_classic on_accept accepting receive_accept accepted try_commit
+  unfolding process_classic on_accept accepting receive_accept accept_taken try_commit
   accept_counted v m swift own fits few = simp (enters m, fits, swift, own, few)
 
   -- who gathers the promises counts one that changes nothing that is held
-  pub promise_counted : (rv : RoundV) → Meets → is_some core.paxos.max_rv ≡ true → eqb h.delegate a.member.my_pid ≡ true
+  pub promise_counted : (rv : RoundV) → CountedMeets → is_some core.paxos.max_rv ≡ true → eqb h.delegate a.member.my_pid ≡ true
       → (not (is_prepared a.member core.paxos) && leb a.member.quorums.majority (size (counted a.member h.src core.paxos.prepared_set))) ≡ false
       → process_classic a h (Prepare slot round rv) core ≡ Ok (stays (with_paxos (receive_promise a.member h.src rv core.paxos) core) no_messages)
-  unfolding process_classic on_prepare entered_prepare prepared hold_first preparing gather becomes_prepared receive_promise
+  unfolding process_classic on_prepare entered_prepare prepare_answered hold_first preparing gather becomes_prepared receive_promise
   promise_counted rv m held own few = simp (enters m, held, own, few)
 
 kept : (held : Option RoundV) (rv : RoundV) → is_some held ≡ true → before (get_last_accepted_round held) (accept_round_of rv) ≡ false → held_after_promise held rv ≡ held
@@ -110,7 +110,7 @@ module _ (s : Setup) (committers delegates : List ℕ) (c : FlatCore) (f : FlatC
       simp (low, high)
 
   meets : is_older m.slot (round_in m) core ≡ false → in_own_round s c m ≡ true → decoded_source s.process_count s.my_pid m ≡ m.src
-      → Meets a h m.slot (round_in m) core
+      → CountedMeets a h m.slot (round_in m) core
   unfolding in_own_round
   meets o r e =
       let rest = and_right (contains s.alive_replicas s.my_pid) _ r in
@@ -132,19 +132,19 @@ module _ (s : Setup) (committers delegates : List ℕ) (c : FlatCore) (f : FlatC
       → process_classic a h (Accept m.slot (round_in m) m.v) core ≡ Ok (stays (decoded_core (with_accepts (accepted_set_with s c m) c)) no_messages)
   unfolding only_counts_accept repeats_held accepted_set_with
   accept_leaves p o k e =
-      accept_counted a h m.slot (round_in m) core m.v (meets o (and_left (in_own_round s c m) _ rest) src) (not_swift a.mode p)
+      accept_counted a h m.slot (round_in m) core m.v (meets o (and_left (in_own_round s c m) _ rest) src) (not_swift_without_fast_path a.mode p)
       (and_left (eqb s.my_pid m.leader) _ e)
       fits
-      (ap (λ (x : ℕ). leb (member_majority s) (size (counted (member_of s) x c.accepted_set))) src ∙ not-true _ (and_right (repeats_held c m) _ last))
+      (ap (λ (x : ℕ). leb (setup_majority s) (size (counted (member_of s) x c.accepted_set))) src ∙ not-true _ (and_right (repeats_held c m) _ last))
       ∙ ap₂ (λ (x : ℕ) (y : Option RoundV). Ok (stays (with_set x y) no_messages)) src (sym same)
     where
       src : decoded_source s.process_count s.my_pid m ≡ m.src
       src = source_is 2 k refl refl
 
-      rest : (in_own_round s c m && (repeats_held c m && not (leb (member_majority s) (size (accepted_set_with s c m))))) ≡ true
+      rest : (in_own_round s c m && (repeats_held c m && not (leb (setup_majority s) (size (accepted_set_with s c m))))) ≡ true
       rest = and_right (eqb s.my_pid m.leader) _ e
 
-      last : (repeats_held c m && not (leb (member_majority s) (size (accepted_set_with s c m)))) ≡ true
+      last : (repeats_held c m && not (leb (setup_majority s) (size (accepted_set_with s c m)))) ≡ true
       last = and_right (in_own_round s c m) _ rest
 
       is_later : Bool
@@ -181,7 +181,7 @@ module _ (s : Setup) (committers delegates : List ℕ) (c : FlatCore) (f : FlatC
       promise_counted a h m.slot (round_in m) core (decoded_promise m.rv) (meets o (and_left (in_own_round s c m) _ rest) src)
       (and_left (is_some (decoded_held c.max_rv)) _ keeps)
       (ap (λ (x : ℕ). eqb x s.my_pid) (gatherer_is k (and_left (eqb m.rv.fast 0) _ gathered)) ∙ and_right (eqb m.rv.fast 0) _ gathered)
-      (ap (λ (x : ℕ). not (is_prepared a.member core.paxos) && leb (member_majority s) (size (counted (member_of s) x c.prepared_set))) src ∙ not-true _ (and_right (keeps_held c m) _ last))
+      (ap (λ (x : ℕ). not (is_prepared a.member core.paxos) && leb (setup_majority s) (size (counted (member_of s) x c.prepared_set))) src ∙ not-true _ (and_right (keeps_held c m) _ last))
       ∙ ap₂ (λ (x : ℕ) (y : Option RoundV). Ok (stays (with_prepared x y) no_messages)) src
       (kept (decoded_held c.max_rv) (decoded_promise m.rv) (and_left (is_some (decoded_held c.max_rv)) _ keeps) (not-true _ (and_right (is_some (decoded_held c.max_rv)) _ keeps)))
     where

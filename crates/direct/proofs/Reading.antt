@@ -16,7 +16,7 @@ use Rattle.consensus.specs.declared.Answer.{Answer}
 use Rattle.consensus.specs.declared.Shard.{Shard}
 use Rattle.consensus.proofs.Refusals.{by_first_cause}
 use Rattle.direct.specs.Stands.{Memory, shard_of, call_in, HostAnswer, told_by, Stands, answer_to, CallIsMade}
-use Rattle.direct.specs.handlers.Handled.{ReplyInArrays}
+use Rattle.direct.specs.declared.handlers.ReplyInArrays.{ReplyInArrays}
 use Rattle.direct.proofs.handlers.Told.{reply_read}
 use Rattle.fast_state.specs.Adopt.{lowest_best}
 use Rattle.message.specs.declared.Refusal.{Refusal}

@@ -10,17 +10,19 @@ use native.Mathlib.Omega.{arith}
 use borrow.Author.Tests.{ltb-false}
 use lib.Dec.{ltb}
 use Rattle.arrays.specs.Arrays.{settings_of, core_of, core_numbers}
-use Rattle.arrays.specs.FastArrays.{FastArrays, fast_state_of}
+use Rattle.arrays.specs.FastArrays.{fast_state_of}
+use Rattle.arrays.specs.declared.FastArrays.{FastArrays}
 use Rattle.calls.specs.Asked.{asked_of}
 use Rattle.calls.specs.Replies.{sent_reply, committed_reply}
-use Rattle.consensus.specs.Answers.{state_with_rounds, with_tracker as track_core, sent, committed, finish_at, finish}
+use Rattle.consensus.specs.Answers.{state_with_rounds, with_tracker as track_core, sent_answer, committed, finish_at, finish}
 use Rattle.consensus.specs.Call.{with_state, in_shard}
 use Rattle.consensus.specs.declared.State.{State}
 use Rattle.consensus.specs.declared.StateAnswer.{StateAnswer}
-use Rattle.direct.specs.Direct.{Direct, flat_with_tracker, serve_ready, served_after, left_after_reads, numbered}
+use Rattle.direct.specs.Direct.{ArraysAfter, flat_with_tracker, serve_ready, served_after, left_after_reads, with_host_number}
 use Rattle.direct.specs.Stands.{Memory, shard_of, left_by, Stands}
 use Rattle.direct.specs.handlers.CoreAnswers.{core_committed}
-use Rattle.direct.specs.handlers.Handled.{ReplyInArrays, put_reply, CallOutcome, call_number, LeftInArrays, NoHalf, put_outcome, put_answer, put_step, put_next, put_processed}
+use Rattle.direct.specs.handlers.Handled.{put_reply, CallOutcome, call_number, LeftInArrays, NoHalf, put_taken, put_step, put_next, put_processed}
+use Rattle.direct.specs.declared.handlers.ReplyInArrays.{ReplyInArrays}
 use Rattle.direct.specs.declared.handlers.NotTaken.{NotTaken}
 use Rattle.direct.specs.declared.handlers.NotTaken.TheVariants.{Refused}
 use Rattle.fast_state.specs.Fast.{no_answers}
@@ -33,7 +35,7 @@ use Rattle.read_tracker.specs.declared.ReadTracker.{ReadTracker}
 use Rattle.steps.specs.Steps.{CoreStep, map_step, on_rounds}
 use Rattle.steps.specs.declared.Asked.{Asked}
 use Rattle.steps.specs.declared.Core.{Core}
-use Rattle.steps.specs.declared.Messages.{Messages}
+use Rattle.steps.specs.declared.SentMessages.{SentMessages}
 use Rattle.steps.specs.declared.Next.{Next}
 use Rattle.steps.specs.declared.Next.TheVariants.{Stays, Continues, Commits}
 use Rattle.steps.specs.declared.Rounds.{Rounds}
@@ -54,8 +56,8 @@ tracked : (t : ReadTracker) (c : Core) → decoded_core (flat_with_tracker t (en
 tracked t c = ap (track_core t) (core_encoded c)
 
 -- what the handlers ask
-abbrev pub asked_by : Memory → Asked
-asked_by m = asked_of (decoded_settings (settings_of m.setup m.committers m.delegates))
+abbrev pub asked_in_memory : Memory → Asked
+asked_in_memory m = asked_of (decoded_settings (settings_of m.setup m.committers m.delegates))
 
 -- `means` is what the fast half that is left stands for: of the classic modes, the one beside the arrays
 module _ (m : Memory) (Half : Type 0) (means : Half → FastArrays) (half : Half) (w : ReplyInArrays) where
@@ -63,38 +65,38 @@ module _ (m : Memory) (Half : Type 0) (means : Half → FastArrays) (half : Half
   state = (shard_of m).state
 
   abbrev asked : Asked
-  asked = asked_by m
+  asked = asked_in_memory m
 
   -- nothing is written
-  abbrev pub left_alone : NotTaken → Direct CallOutcome Half
-  left_alone why = record { told = Err why; core = m.core; half = half; table = m.table; reply = w }
+  abbrev pub left_alone : NotTaken → ArraysAfter CallOutcome Half
+  left_alone why = record { outcome = Err why; core = m.core; half = half; table = m.table; reply = w }
 
-  abbrev pub StandsBy : StateAnswer → Outcome → Direct CallOutcome Half → Type 0
+  abbrev pub StandsBy : StateAnswer → Outcome → ArraysAfter CallOutcome Half → Type 0
   StandsBy x (Ok tt) d =
-      (d.told ≡ Ok tt) × (state_with (decoded_core (core_of d.core)) (fast_state_of (means d.half)) d.table ≡ x.state) × (d.reply ≡ put_reply x.reply w)
+      (d.outcome ≡ Ok tt) × (state_with (decoded_core (core_of d.core)) (fast_state_of (means d.half)) d.table ≡ x.state) × (d.reply ≡ put_reply x.reply w)
   StandsBy x (Err why) d = d ≡ left_alone (Refused why)
 
-  abbrev pub StandsFor : StateAnswer → Direct CallOutcome Half → Type 0
+  abbrev pub StandsFor : StateAnswer → ArraysAfter CallOutcome Half → Type 0
   StandsFor x d = StandsBy x x.reply.outcome d
 
   -- so the arrays stand for the new shard
-  pub in_memory : (x : StateAnswer) (d : Direct CallOutcome Half) → StandsBy x (Ok tt) d
-      → Stands m w (in_shard (shard_of m) x) (Ok tt) (left_by m (means d.half) (numbered d))
+  pub in_memory : (x : StateAnswer) (d : ArraysAfter CallOutcome Half) → StandsBy x (Ok tt) d
+      → Stands m w (in_shard (shard_of m) x) (Ok tt) (left_by m (means d.half) (with_host_number d))
   in_memory x d (n, s, r) = (ap call_number n, ap (with_state (shard_of m)) s, r)
 
   -- ---- what is sent
 
-  abbrev pub sending : Core → Messages → Half → Direct CallOutcome Half
-  sending s ms after = record { told = Ok tt; core = core_numbers (encoded_core s); half = after; table = m.table; reply = put_reply (sent_reply ms) w }
+  abbrev pub left_sending : Core → SentMessages → Half → ArraysAfter CallOutcome Half
+  left_sending s ms after = record { outcome = Ok tt; core = core_numbers (encoded_core s); half = after; table = m.table; reply = put_reply (sent_reply ms) w }
 
-  pub sends_stand : (s : Core) (fast : FastState) (ms : Messages) (after : Half) → fast_state_of (means after) ≡ fast
-      → StandsFor (sent (state_with_rounds state (rounds_with s fast)) ms) (sending s ms after)
+  pub sends_stand : (s : Core) (fast : FastState) (ms : SentMessages) (after : Half) → fast_state_of (means after) ≡ fast
+      → StandsFor (sent_answer (state_with_rounds state (rounds_with s fast)) ms) (left_sending s ms after)
   sends_stand s fast ms after e = (refl, ap₂ (λ (c : Core) (h : FastState). state_with c h m.table) (core_encoded s) e, refl)
 
   -- ---- the commit of a value
 
   -- the answer of the core, and whether reads were open
-  abbrev pub committing : ℕ → Core → Messages → Half → Bool → LeftInArrays Half
+  abbrev pub committing : ℕ → Core → SentMessages → Half → Bool → LeftInArrays Half
   committing v s ms after reads_open =
       record {
         handled = Ok reads_open;
@@ -104,7 +106,7 @@ module _ (m : Memory) (Half : Type 0) (means : Half → FastArrays) (half : Half
       }
 
   -- where reads are open, those that became ready are served; else none is
-  pub commits_stand : (v : ℕ) (s : Core) (fast : FastState) (ms : Messages) (after : Half) → fast_state_of (means after) ≡ (next_slot asked v (rounds_with s fast)).fast
+  pub commits_stand : (v : ℕ) (s : Core) (fast : FastState) (ms : SentMessages) (after : Half) → fast_state_of (means after) ≡ (next_slot asked v (rounds_with s fast)).fast
       → (reads_open : Bool) → ltb 0 s.tracker.open_count ≡ reads_open
       → StandsFor (committed state asked v (rounds_with s fast) ms) (left_after_reads m.setup m.table (committing v s ms after reads_open))
   unfolding committed served_after serve_ready put_reply commit_slot
@@ -127,26 +129,26 @@ module _ (m : Memory) (w : ReplyInArrays) where
   abbrev fast : FastState
   fast = fast_state_of m.fast
 
-  abbrev pub ClassicStands : StateAnswer → Direct CallOutcome NoHalf → Type 0
+  abbrev pub ClassicStands : StateAnswer → ArraysAfter CallOutcome NoHalf → Type 0
   ClassicStands x d = StandsFor m NoHalf half_of tt w x d
 
   abbrev a : Asked
-  a = asked_by m
+  a = asked_in_memory m
 
   abbrev now : State
   now = (shard_of m).state
 
-  module _ (p : has_fast_path (asked_by m).mode ≡ false) where
+  module _ (p : has_fast_path (asked_in_memory m).mode ≡ false) where
     kept : (v : ℕ) (s : Core) → fast ≡ (next_slot a v (rounds_with s fast)).fast
     unfolding commit_slot
     kept v s = sym (ap (λ (t : Bool). cond t no_answers fast) p)
 
-    pub commit_stands : (v : ℕ) (s : Core) (ms : Messages)
-        → ClassicStands (committed now a v (rounds_with s fast) ms) (left_after_reads m.setup m.table (put_answer (core_committed a v s ms) m.core w))
-    unfolding put_outcome core_committed
+    pub commit_stands : (v : ℕ) (s : Core) (ms : SentMessages)
+        → ClassicStands (committed now a v (rounds_with s fast) ms) (left_after_reads m.setup m.table (put_taken (core_committed a v s ms) w))
+    unfolding core_committed
     commit_stands v s ms = commits_stand m NoHalf half_of tt w v s fast ms tt (kept v s) (ltb 0 s.tracker.open_count) refl
 
-    by_next : (held : Bool) (s : Core) (ms : Messages) (next : Next)
+    by_next : (held : Bool) (s : Core) (ms : SentMessages) (next : Next)
         → ClassicStands (finish_at now a held (rounds_with s fast) ms next)
         (left_after_reads m.setup m.table (put_next a held (record { state = s; messages = ms; next = next }) next m.core w))
     unfolding put_next served_after

@@ -2,17 +2,21 @@
 -- hosts say so.
 -- Assumes nothing.
 use Rattle.std.specs.Prelude.{true, List, ◌⊎◌, ◌≡◌, ℕ, Ok, Err}
-use Rattle.arrays.specs.Arrays.{settings_of, core_of}
-use Rattle.arrays.specs.FastArrays.{FastArrays, fast_state_of}
+use Rattle.arrays.specs.Arrays.{settings_of, setup_of, core_of}
+use Rattle.arrays.specs.FastArrays.{fast_state_of}
+use Rattle.arrays.specs.declared.FastArrays.{FastArrays}
 use Rattle.arrays.specs.Told.{decoded_reply}
 use Rattle.arrays.specs.declared.Setup.{Setup}
+use Rattle.arrays.specs.declared.ShardArrays.{ShardArrays}
+use Rattle.arrays.specs.reads.Rows.{reads_in}
 use Rattle.calls.specs.declared.Call.{Call}
 use Rattle.calls.specs.declared.Reply.{Reply}
 use Rattle.consensus.specs.Call.{call_of}
 use Rattle.consensus.specs.declared.Answer.{Answer}
 use Rattle.consensus.specs.declared.Shard.{Shard}
-use Rattle.direct.specs.Direct.{Direct, fast_half_acts, direct_call}
-use Rattle.direct.specs.handlers.Handled.{ReplyInArrays, put_reply, NoHalf, passed_on}
+use Rattle.direct.specs.Direct.{ArraysAfter, fast_half_acts, direct_call}
+use Rattle.direct.specs.handlers.Handled.{put_reply, passed_on}
+use Rattle.direct.specs.declared.handlers.ReplyInArrays.{ReplyInArrays}
 use Rattle.message.specs.Outcomes.{Outcome}
 use Rattle.message.specs.Refusals.{refusal_number}
 use Rattle.read_tracker.specs.declared.ReadTable.{ReadTable}
@@ -33,6 +37,10 @@ pub record Memory : Type 0 where
 abbrev pub memory_with : Setup → List ℕ → List ℕ → List ℕ → FastArrays → ReadTable → Memory
 memory_with s committers delegates core fast table =
     record { setup = s; committers = committers; delegates = delegates; core = core; fast = fast; table = table }
+
+-- of a shard that is lent
+abbrev pub memory_in : ShardArrays → Memory
+memory_in s = memory_with (setup_of s.settings.setup) s.settings.committers s.settings.delegates s.core s.fast (reads_in s.reads)
 
 -- the shard that it stands for
 abbrev pub shard_of : Memory → Shard
@@ -55,13 +63,17 @@ pub record HostAnswer : Type 0 where
   pub memory : Memory
   pub reply : ReplyInArrays
 
+-- of a shard and a reply that were lent
+abbrev pub host_has : ℕ → ShardArrays → ReplyInArrays → HostAnswer
+host_has number shard reply = record { number = number; memory = memory_in shard; reply = reply }
+
 -- the reply that a host reads, in the number that came back and in the arrays of the reply
 abbrev pub told_by : HostAnswer → Reply
 told_by x = decoded_reply x.number x.reply.first x.reply.second x.reply.third x.reply.rest
 
 -- of what a function leaves, with the fast half as it is afterwards
-abbrev pub left_by : {Half : Type 0} → Memory → FastArrays → Direct ℕ Half → HostAnswer
-left_by m fast d = record { number = d.told; memory = memory_with m.setup m.committers m.delegates d.core fast d.table; reply = d.reply }
+abbrev pub left_by : {Half : Type 0} → Memory → FastArrays → ArraysAfter ℕ Half → HostAnswer
+left_by m fast d = record { number = d.outcome; memory = memory_with m.setup m.committers m.delegates d.core fast d.table; reply = d.reply }
 
 -- nothing is written
 abbrev pub unwritten : Memory → ReplyInArrays → ℕ → HostAnswer
@@ -86,11 +98,9 @@ CallIsMade m f w x = Stands m w (answer_to m f) (answer_to m f).reply.outcome x 
 abbrev pub PassedOrMade : Memory → FlatCall → ReplyInArrays → HostAnswer → Type 0
 PassedOrMade m f w x = ((fast_half_acts m.setup f ≡ true) × (x ≡ unwritten m w passed_on)) ⊎ CallIsMade m f w x
 
--- whatever the fast half is that stands beside the arrays
-unfoldable pub DirectStands : Setup → List ℕ → List ℕ → List ℕ → ReadTable → FlatCall → ReplyInArrays → Direct ℕ NoHalf → Type 0
-DirectStands s committers delegates core table f w d =
-    (fast : FastArrays)
-    → PassedOrMade (memory_with s committers delegates core fast table) f w (left_by (memory_with s committers delegates core fast table) fast d)
+-- as the contract says it
+unfoldable pub DirectStands : Memory → FlatCall → ReplyInArrays → HostAnswer → Type 0
+DirectStands m f w x = PassedOrMade m f w x
 
 abbrev pub by_direct : Memory → FlatCall → ReplyInArrays → HostAnswer
 by_direct m f w = left_by m m.fast (direct_call m.setup m.committers m.delegates m.core m.table f w)

@@ -5,17 +5,14 @@
 pub mod handlers;
 
 ghost use Rattle.std.specs.Prelude.{◌≡◌, OnErr, Ok};
-ghost use Rattle.arrays.specs.reads.Rows.{reads_in, SameReads};
+ghost use Rattle.arrays.specs.reads.Rows.{reads_in};
 ghost use Rattle.arrays.specs.Arrays.{setup_of, core_of, flat_call_of};
-ghost use Rattle.direct.specs.handlers.Lent.{at_entry, at_exit};
-ghost use Rattle.direct.specs.handlers.Handled.{reply_at_entry, reply_at_exit, reply_in, SameReply};
-ghost use Rattle.direct.specs.Direct.{reads_at_entry, reads_at_exit, tracker_of, flat_with_tracker, direct, start_flat_read, count_response, flat_read_response, serving, serve_ready, is_response, concerns_slot, names_slot, of_older_round, is_older_message, classic_message, slot_call, flat_call_taken, call_made, direct_call, SameNumbers, LeftUnlessTaken};
-ghost use Rattle.direct.specs.Stands.{DirectStands};
+ghost use Rattle.direct.specs.Direct.{tracker_of, flat_with_tracker, arrays_after, start_flat_read, count_response, flat_read_response, serving, serve_ready, is_response, concerns_slot, names_slot, of_older_round, is_older_message, classic_message, slot_call, flat_call_taken, call_made, LeftUnlessTaken};
+ghost use Rattle.direct.specs.Stands.{memory_in, host_has, by_direct, DirectStands};
 
-use crate::handlers::{NotTaken, ReplyArrays};
-use arrays::reads::{OpenReadsArray, ReadArrays, ServedReadsArray};
-use arrays::{CallArray, CoreArray, MessageArray, RestArray, Setup, SetupArray, Tables};
-use basics::tables::PerProcess;
+use crate::handlers::{NotTaken, ReplyInArrays};
+use arrays::reads::ReadArrays;
+use arrays::{CallArray, CoreArray, RestArray, SettingsArrays, Setup, ShardArrays, Tables};
 use flat::{
     ACCEPT, COMMIT, FlatCall, FlatCore, FlatMessage, NEW_READ, PREPARE, PROPOSAL, READ_RESPONSE,
 };
@@ -34,14 +31,13 @@ use read_tracker::{Opening, ReadTracker};
 fn start_flat_read(
     setup: Setup,
     core: &mut CoreArray,
-    reads: &mut ReadArrays<'_>,
+    reads: &mut ReadArrays,
     f: FlatCall,
-    reply: &mut ReplyArrays<'_>,
+    reply: &mut ReplyInArrays,
 ) -> Result<(), NotTaken>
-    ensures same { SameReads reads.old reads.new × SameReply reply.old reply.new }
-    ensures written { direct result core.new (reads_in reads.new) (reply_in reply.new)
-        ≡ start_flat_read setup core.old (reads_in reads.old) f (reply_in reply.old) }
-    ensures refused { OnErr result (SameNumbers reads.old reads.new) }
+    ensures written { arrays_after result core.new (reads_in reads.new) reply.new
+        ≡ start_flat_read setup core.old (reads_in reads.old) f reply.old }
+    ensures refused { OnErr result (reads.new ≡ reads.old) }
 {
     let c = arrays::core_in(core);
     let local_ready = c.max_rv.given == 0;
@@ -50,7 +46,7 @@ fn start_flat_read(
     arrays::put_core(core, flat_with_tracker(c, tracker));
     let asked = questions::decided::asked_of(setup);
     let request = ConsensusMsg::ReadRequest { id: read.id };
-    reply.put_sent(asked.sends(flat::decode_core(c), steps::to_all(), request));
+    reply.put_sent(asked.sends(flat::decoded_core(c), steps::to_all(), request));
     Ok(())
 }
 
@@ -78,16 +74,15 @@ fn flat_with_tracker(mut c: FlatCore, tracker: ReadTracker) -> FlatCore
 fn count_response(
     setup: Setup,
     core: &mut CoreArray,
-    reads: &mut ReadArrays<'_>,
+    reads: &mut ReadArrays,
     f: FlatCall,
-    reply: &mut ReplyArrays<'_>,
+    reply: &mut ReplyInArrays,
 )
-    ensures same { SameReads reads.old reads.new × SameReply reply.old reply.new }
-    ensures written { direct (Ok tt) core.new (reads_in reads.new) (reply_in reply.new)
-        ≡ count_response setup core.old (reads_in reads.old) f (reply_in reply.old) }
+    ensures written { arrays_after (Ok tt) core.new (reads_in reads.new) reply.new
+        ≡ count_response setup core.old (reads_in reads.old) f reply.old }
 {
     let c = arrays::core_in(core);
-    let majority = quorum::row(setup.replica_count).majority;
+    let majority = questions::counted::setup_majority(setup);
     let id = ReadId(f.message.id);
     let fast = flat::is_yes(f.fast);
     let counted = reads.receive_ready(tracker_of(c), id, majority, c.slot, fast);
@@ -100,13 +95,12 @@ fn count_response(
 fn flat_read_response(
     setup: Setup,
     core: &mut CoreArray,
-    reads: &mut ReadArrays<'_>,
+    reads: &mut ReadArrays,
     f: FlatCall,
-    reply: &mut ReplyArrays<'_>,
+    reply: &mut ReplyInArrays,
 )
-    ensures same { SameReads reads.old reads.new × SameReply reply.old reply.new }
-    ensures written { direct (Ok tt) core.new (reads_in reads.new) (reply_in reply.new)
-        ≡ flat_read_response setup core.old (reads_in reads.old) f (reply_in reply.old) }
+    ensures written { arrays_after (Ok tt) core.new (reads_in reads.new) reply.new
+        ≡ flat_read_response setup core.old (reads_in reads.old) f reply.old }
 {
     let c = arrays::core_in(core);
     if c.open_count == 0 {
@@ -118,17 +112,11 @@ fn flat_read_response(
 
 // After a commit: the reads that it has made ready.
 #[tactic(auto, unfolding(crate::specs::Direct::serve_ready))]
-pub fn serve_ready(
-    setup: Setup,
-    core: &mut CoreArray,
-    reads: &mut ReadArrays<'_>,
-    rest: &mut RestArray,
-)
-    ensures same { SameReads reads.old reads.new }
+pub fn serve_ready(setup: Setup, core: &mut CoreArray, reads: &mut ReadArrays, rest: &mut RestArray)
     ensures written { serving core.new (reads_in reads.new) rest.new ≡ serve_ready setup core.old (reads_in reads.old) rest.old }
 {
     let c = arrays::core_in(core);
-    let majority = quorum::row(setup.replica_count).majority;
+    let majority = questions::counted::setup_majority(setup);
     let ready = reads.commit_slot(tracker_of(c), majority, c.slot);
     arrays::put_core(core, flat_with_tracker(c, ready.tracker));
     rest[4] = ready.served_count;
@@ -164,7 +152,7 @@ fn names_slot(kind: u64) -> bool
 fn of_older_round(c: FlatCore, m: FlatMessage) -> bool
     ensures { result ≡ of_older_round c m }
 {
-    m.kind != COMMIT && Some(questions::counted::round_in(m)) < flat::decode_round(c.round)
+    m.kind != COMMIT && Some(questions::counted::round_in(m)) < flat::decoded_round(c.round)
 }
 
 // Whether the message is a Prepare or an Accept of an older slot or round, or a Commit of an older slot, which does nothing.
@@ -196,14 +184,13 @@ fn classic_message(
     setup: Setup,
     tables: Tables<'_>,
     core: &mut CoreArray,
-    reads: &mut ReadArrays<'_>,
+    reads: &mut ReadArrays,
     f: FlatCall,
-    reply: &mut ReplyArrays<'_>,
+    reply: &mut ReplyInArrays,
 ) -> Result<(), NotTaken>
-    ensures same { SameReads reads.old reads.new × SameReply reply.old reply.new }
-    ensures written { direct result core.new (reads_in reads.new) (reply_in reply.new)
-        ≡ classic_message setup tables.entry.committers.now tables.entry.delegates.now core.old (reads_in reads.old) f (reply_in reply.old) }
-    ensures refused { OnErr result (SameNumbers reads.old reads.new) }
+    ensures written { arrays_after result core.new (reads_in reads.new) reply.new
+        ≡ classic_message setup tables.entry.committers.now tables.entry.delegates.now core.old (reads_in reads.old) f reply.old }
+    ensures refused { OnErr result (reads.new ≡ reads.old) }
 {
     let message = f.message;
     if is_older_in(core, message) {
@@ -216,8 +203,8 @@ fn classic_message(
         reply.put_served(0);
         return Ok(());
     }
-    if crate::handlers::handle(setup, tables, core, f, reply)? {
-        serve_ready(setup, core, reads, reply.rest);
+    if crate::handlers::handled_in_arrays(setup, tables, core, f, reply)? {
+        serve_ready(setup, core, reads, &mut reply.rest);
     }
     Ok(())
 }
@@ -228,20 +215,19 @@ fn slot_call(
     setup: Setup,
     tables: Tables<'_>,
     core: &mut CoreArray,
-    reads: &mut ReadArrays<'_>,
+    reads: &mut ReadArrays,
     f: FlatCall,
-    reply: &mut ReplyArrays<'_>,
+    reply: &mut ReplyInArrays,
 ) -> Result<(), NotTaken>
-    ensures same { SameReads reads.old reads.new × SameReply reply.old reply.new }
-    ensures written { direct result core.new (reads_in reads.new) (reply_in reply.new)
-        ≡ slot_call setup tables.entry.committers.now tables.entry.delegates.now core.old (reads_in reads.old) f (reply_in reply.old) }
-    ensures refused { OnErr result (SameNumbers reads.old reads.new) }
+    ensures written { arrays_after result core.new (reads_in reads.new) reply.new
+        ≡ slot_call setup tables.entry.committers.now tables.entry.delegates.now core.old (reads_in reads.old) f reply.old }
+    ensures refused { OnErr result (reads.new ≡ reads.old) }
 {
     if PFMode::of_number(setup.mode).has_fast_path() {
         return Err(NotTaken::PassedOn);
     }
     if f.kind == PROPOSAL {
-        crate::handlers::propose(setup, core, f.v, reply)?;
+        crate::handlers::propose_in_arrays(setup, core, f.v, reply)?;
         return Ok(());
     }
     classic_message(setup, tables, core, reads, f, reply)
@@ -253,14 +239,13 @@ fn flat_call_taken(
     setup: Setup,
     tables: Tables<'_>,
     core: &mut CoreArray,
-    reads: &mut ReadArrays<'_>,
+    reads: &mut ReadArrays,
     f: FlatCall,
-    reply: &mut ReplyArrays<'_>,
+    reply: &mut ReplyInArrays,
 ) -> Result<(), NotTaken>
-    ensures same { SameReads reads.old reads.new × SameReply reply.old reply.new }
-    ensures written { direct result core.new (reads_in reads.new) (reply_in reply.new)
-        ≡ flat_call_taken setup tables.entry.committers.now tables.entry.delegates.now core.old (reads_in reads.old) f (reply_in reply.old) }
-    ensures refused { OnErr result (SameNumbers reads.old reads.new) }
+    ensures written { arrays_after result core.new (reads_in reads.new) reply.new
+        ≡ flat_call_taken setup tables.entry.committers.now tables.entry.delegates.now core.old (reads_in reads.old) f reply.old }
+    ensures refused { OnErr result (reads.new ≡ reads.old) }
 {
     if is_response(f) {
         flat_read_response(setup, core, reads, f, reply);
@@ -276,61 +261,48 @@ fn flat_call_taken(
 // A call on the parts of a shard.
 #[tactic(auto, unfolding(crate::specs::Direct::if_admitted))]
 fn call_made(
-    setup: &SetupArray,
-    tables: Tables<'_>,
+    settings: &SettingsArrays,
     core: &mut CoreArray,
-    reads: &mut ReadArrays<'_>,
+    reads: &mut ReadArrays,
     call: &CallArray,
-    reply: &mut ReplyArrays<'_>,
+    reply: &mut ReplyInArrays,
 ) -> Result<(), NotTaken>
-    ensures same { SameReads reads.old reads.new × SameReply reply.old reply.new }
-    ensures written { direct result core.new (reads_in reads.new) (reply_in reply.new)
-        ≡ call_made (setup_of setup.now) tables.entry.committers.now tables.entry.delegates.now core.old (reads_in reads.old) (flat_call_of call.now) (reply_in reply.old) }
-    ensures refused { OnErr result (SameNumbers reads.old reads.new) }
+    ensures written { arrays_after result core.new (reads_in reads.new) reply.new
+        ≡ call_made (setup_of settings.now.setup) settings.now.committers settings.now.delegates core.old (reads_in reads.old) (flat_call_of call.now) reply.old }
+    ensures refused { OnErr result (reads.new ≡ reads.old) }
 {
-    questions::decided::refusal(setup, core, call)?;
-    let s = arrays::setup_in(setup);
-    let f = arrays::call_in(call);
+    questions::decided::refusal_of(&settings.setup, core, call)?;
+    let s = arrays::setup_in(&settings.setup);
+    let f = arrays::flat_call_of(call);
     if f.kind == NEW_READ {
         return start_flat_read(s, core, reads, f, reply);
     }
+    let tables = Tables {
+        committers: &settings.committers,
+        delegates: &settings.delegates,
+    };
     flat_call_taken(s, tables, core, reads, f, reply)
 }
 
-// A call on the parts of a shard: what is left in the arrays stands for the engine's call of the shard that they stood for (`stands`), and which numbers are left
-// is `direct_call` (`numbers`). 0: it was taken, and core, reads and reply are written. 1 to 12, or 17: it is refused with this number. 255: it has to go to
+// A call on a shard that is lent: what is left in its arrays stands for the engine's call of the shard that they stood for (`stands`), and which numbers are left
+// is `by_direct` (`numbers`). 0: it was taken, and core, reads and reply are written. 1 to 12, or 17: it is refused with this number. 255: it has to go to
 // the fast half, and nothing is written.
 #[tactic(auto, unfolding(crate::specs::Direct::direct_call))]
 pub fn chanbook_direct_call(
-    setup: &SetupArray,
-    committers: &PerProcess,
-    delegates: &PerProcess,
-    core: &mut CoreArray,
-    reads: &mut OpenReadsArray,
-    served: &mut ServedReadsArray,
+    shard: &mut ShardArrays,
     call: &CallArray,
-    first: &mut MessageArray,
-    second: &mut MessageArray,
-    third: &mut MessageArray,
-    rest: &mut RestArray,
+    reply: &mut ReplyInArrays,
 ) -> u64
-    ensures stands { DirectStands (setup_of setup.now) committers.now delegates.now (at_entry core) (reads_at_entry reads served) (flat_call_of call.now)
-        (reply_at_entry first second third rest) (direct result (at_exit core) (reads_at_exit reads served) (reply_at_exit first second third rest)) }
-    ensures numbers { direct result (at_exit core) (reads_at_exit reads served) (reply_at_exit first second third rest)
-        ≡ direct_call (setup_of setup.now) committers.now delegates.now (at_entry core) (reads_at_entry reads served) (flat_call_of call.now)
-        (reply_at_entry first second third rest) }
-    ensures left_unless_taken { LeftUnlessTaken result reads × LeftUnlessTaken result served }
+    ensures stands { DirectStands (memory_in shard.old) (flat_call_of call.now) reply.old (host_has result shard.new reply.new) }
+    ensures numbers { host_has result shard.new reply.new ≡ by_direct (memory_in shard.old) (flat_call_of call.now) reply.old }
+    ensures kept { (shard.new.settings ≡ shard.old.settings) × (shard.new.fast ≡ shard.old.fast) }
+    ensures left_unless_taken { LeftUnlessTaken result shard.old.reads shard.new.reads }
 {
-    let tables = Tables {
-        committers,
-        delegates,
-    };
-    let mut lent_reads = ReadArrays { reads, served };
-    let mut reply = ReplyArrays {
-        first,
-        second,
-        third,
-        rest,
-    };
-    crate::handlers::call_number(call_made(setup, tables, core, &mut lent_reads, call, &mut reply))
+    crate::handlers::call_number(call_made(
+        &shard.settings,
+        &mut shard.core,
+        &mut shard.reads,
+        call,
+        reply,
+    ))
 }

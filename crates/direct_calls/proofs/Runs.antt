@@ -17,7 +17,8 @@ use Rattle.consensus.specs.declared.Shard.{Shard}
 use Rattle.consensus.proofs.Refusals.{by_first_cause, unmade_refuses}
 use Rattle.direct.specs.Direct.{fast_half_acts}
 use Rattle.direct.specs.Stands.{Memory, shard_of, call_in, HostAnswer, told_by, unwritten, Stands, answer_to, CallIsMade, by_direct}
-use Rattle.direct.specs.handlers.Handled.{ReplyInArrays, passed_on}
+use Rattle.direct.specs.handlers.Handled.{passed_on}
+use Rattle.direct.specs.declared.handlers.ReplyInArrays.{ReplyInArrays}
 use Rattle.direct_fast.specs.FastStands.{by_fast}
 use Rattle.direct_fast.proofs.FastCalls.{one_of_both, declined_is_direct, classic_is_direct}
 use Rattle.fast_state.specs.Adopt.{lowest_best}
@@ -32,7 +33,7 @@ use Rattle.message.specs.Modes.{has_fast_path, mode_of_number}
 use Rattle.message.specs.Refusals.{refusal_number}
 use Rattle.message.specs.declared.Refusal.{Refusal}
 use Rattle.flat.specs.declared.FlatCall.{FlatCall}
-use Rattle.direct_calls.specs.Runs.{host_call}
+use Rattle.direct_calls.specs.Runs.{call_by_host}
 
 -- ---- refusals
 
@@ -91,8 +92,8 @@ module _ (m : Memory) (f : FlatCall) (w : ReplyInArrays) where
       go (inl acts) = is_made ((one_of_both m f w).0 acts)
       go (inr none) = absurd (not_both (ap (λ (x : HostAnswer). eqb x.number passed_on) ((one_of_both m f w).1 none).0) given)
 
-  pub host_is_call : IsCall (host_call m f w)
-  unfolding host_call
+  pub host_is_call : IsCall (call_by_host m f w)
+  unfolding call_by_host
   host_is_call = go (has_fast_path (mode_of_number m.setup.mode)) (eqb (by_fast m f w).number passed_on) refl refl
     where
       go : (t u : Bool) → has_fast_path (mode_of_number m.setup.mode) ≡ t → eqb (by_fast m f w).number passed_on ≡ u
@@ -111,21 +112,21 @@ host_begins g j t known e = new_stands t known ∙ ap begin_shard e
 -- Where it gives a number other than 0, which is 1 or 17, a call in place gives the same, writes nothing of a reply and leaves each number of the memory: so does
 -- every call after it.
 pub host_refuses : (t : FlatGroupSettings) → (flat_settings_number t ≡ 0 → ⊥) → (f : FlatCall) (w : ReplyInArrays)
-    → ((host_call (new_memory t) f w).number ≡ flat_settings_number t) × ((host_call (new_memory t) f w).reply ≡ w)
-    × ((host_call (new_memory t) f w).memory ≡ new_memory t)
+    → ((call_by_host (new_memory t) f w).number ≡ flat_settings_number t) × ((call_by_host (new_memory t) f w).reply ≡ w)
+    × ((call_by_host (new_memory t) f w).memory ≡ new_memory t)
 host_refuses t refused f w = go (marked_by_number t)
   where
     m : Memory
     m = new_memory t
 
-    is_call : IsCall m f w (host_call m f w)
+    is_call : IsCall m f w (call_by_host m f w)
     is_call = host_is_call m f w
 
     refused_with : (why : Refusal) → (shard_of m).made ≡ Err why → (made m f w).reply.outcome ≡ Err why
     refused_with why e = ap (λ (r : Answer). r.reply.outcome) (unmade_refuses lowest_best (shard_of m) (call_in m f) why e)
 
     go : MarkedBy (shard_of m).made (flat_settings_number t)
-        → ((host_call m f w).number ≡ flat_settings_number t) × ((host_call m f w).reply ≡ w) × ((host_call m f w).memory ≡ m)
+        → ((call_by_host m f w).number ≡ flat_settings_number t) × ((call_by_host m f w).reply ≡ w) × ((call_by_host m f w).memory ≡ m)
     go (inl (_, none)) = absurd (refused none)
     go (inr (why, (e, number))) =
         let left = is_call.left why (refused_with why e) in

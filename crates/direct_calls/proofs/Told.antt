@@ -10,22 +10,22 @@ use lib.Dec.{eqb}
 use Rattle.calls.specs.declared.Reply.{Reply}
 use Rattle.consensus.specs.Call.{call_of}
 use Rattle.consensus.specs.declared.Shard.{Shard}
-use Rattle.direct.specs.handlers.Handled.{ReplyInArrays}
+use Rattle.direct.specs.declared.handlers.ReplyInArrays.{ReplyInArrays}
 use Rattle.fast_state.specs.Adopt.{lowest_best}
-use Rattle.group.specs.Claim.{ours, MemberCall, Entry, after_call, entry_of, entries_from, LegalFrom, Claim}
+use Rattle.group.specs.Claim.{ours, MemberCall, Entry, after_call, entry_of, entries_from, LegalFrom, Claim, LegalMade, entries_made}
 use Rattle.group.proofs.Ties.{lowest_picks_best}
 use Rattle.group_settings.specs.declared.GroupSettings.{GroupSettings}
 use Rattle.group_settings_runs.specs.Groups.{begun_from, GroupLegal}
 use Rattle.group_settings_runs.proofs.Agreeing.{agreement_from}
 use Rattle.flat.specs.declared.FlatCall.{FlatCall}
-use Rattle.direct_calls.specs.Runs.{Memory, shard_of, call_in, host_call, HostCall, memories_after, calls_from}
-use Rattle.direct_calls.specs.Told.{told_by, told_entry, told_from, HostLegal, MemoriesBegin, HostAgreement}
+use Rattle.direct_calls.specs.Runs.{Memory, shard_of, call_in, told_by, call_by_host, HostCall, memories_after, calls_from}
+use Rattle.direct_calls.specs.Told.{told_entry, told_from, HostLegal, MemoriesBegin, HostAgreement}
 use Rattle.direct_calls.proofs.Runs.{host_is_call}
 
 -- ---- a call
 
 -- a host reads the reply of the call on the shard that its memory stood for
-pub host_is_told : (m : Memory) (f : FlatCall) (w : ReplyInArrays) → told_by (host_call m f w) ≡ (call_of (shard_of m) (call_in m f)).reply
+pub host_is_told : (m : Memory) (f : FlatCall) (w : ReplyInArrays) → told_by (call_by_host m f w) ≡ (call_of (shard_of m) (call_in m f)).reply
 host_is_told m f w = (host_is_call m f w).told
 
 -- ---- runs
@@ -36,20 +36,20 @@ MembersStand n memories shards = (j : ℕ) → j < n → shard_of (memories j) �
 
 module _ (n : ℕ) (shards : ℕ → Shard) (memories : ℕ → Memory) (same : MembersStand n memories shards) (c : HostCall) (member : c.member < n) where
   abbrev made_call : MemberCall
-  made_call = record { member = c.member; call = call_in (memories c.member) c.call }
+  made_call = record { member = c.member; call = call_in (memories c.member) c.call.call }
 
   told_is_entry : told_entry memories c ≡ entry_of lowest_best shards made_call
   told_is_entry =
       ap (λ (r : Reply). record { member = c.member; call = made_call.call; reply = r })
-      (host_is_told (memories c.member) c.call c.reply_before ∙ ap (λ (s : Shard). (call_of s made_call.call).reply) (same c.member member))
+      (host_is_told (memories c.member) c.call.call c.call.reply_before ∙ ap (λ (s : Shard). (call_of s made_call.call).reply) (same c.member member))
 
   next_same : MembersStand n (memories_after memories c) (after_call lowest_best shards made_call)
   next_same j inside = go (eqb j c.member)
     where
       go : (t : Bool)
-          → shard_of (cond t (host_call (memories c.member) c.call c.reply_before).memory (memories j))
+          → shard_of (cond t (call_by_host (memories c.member) c.call.call c.call.reply_before).memory (memories j))
           ≡ cond t (call_of (shards c.member) made_call.call).shard (shards j)
-      go true = (host_is_call (memories c.member) c.call c.reply_before).stands ∙ ap (λ (s : Shard). (call_of s made_call.call).shard) (same c.member member)
+      go true = (host_is_call (memories c.member) c.call.call c.call.reply_before).stands ∙ ap (λ (s : Shard). (call_of s made_call.call).shard) (same c.member member)
       go false = same j inside
 
 -- what the hosts are told, begun with some entries, is the run of the claim, begun with others, whose calls are legal
@@ -59,7 +59,7 @@ IsRun n shards memories told past cs =
 
 told_is_run : (n : ℕ) (shards : ℕ → Shard) (memories : ℕ → Memory) → MembersStand n memories shards → (past : List Entry) (cs : List HostCall)
     → HostLegal n memories past cs → IsRun n shards memories past past cs
-unfolding HostLegal LegalFrom told_from entries_from calls_from
+unfolding LegalMade entries_made calls_from
 told_is_run n shards memories same past [] legal = (refl, tt)
 told_is_run n shards memories same past (c ∷ cs) (member, stands, rest) =
     let call : MemberCall = made_call n shards memories same c member in
@@ -74,7 +74,7 @@ told_is_run n shards memories same past (c ∷ cs) (member, stands, rest) =
 -- and the other way round: where the list of the calls is legal, it is legal by what the hosts are told
 legal_by_told : (n : ℕ) (shards : ℕ → Shard) (memories : ℕ → Memory) → MembersStand n memories shards → (past : List Entry) (cs : List HostCall)
     → LegalFrom n ours shards past (calls_from memories cs) → HostLegal n memories past cs
-unfolding HostLegal LegalFrom calls_from
+unfolding LegalMade calls_from
 legal_by_told n shards memories same past [] legal = tt
 legal_by_told n shards memories same past (c ∷ cs) (member, stands, rest) =
     let call : MemberCall = made_call n shards memories same c member in (

@@ -13,7 +13,8 @@ use borrow.Author.Tests.{eqb-false, leb-true}
 use lib.Dec.{eqb, leb, ltb}
 use Rattle.basics.proofs.Tests.{either, not_both, fails, and_left, and_right}
 use Rattle.arrays.specs.Arrays.{core_of}
-use Rattle.arrays.specs.FastArrays.{FastArrays, fast_state_of}
+use Rattle.arrays.specs.FastArrays.{fast_state_of}
+use Rattle.arrays.specs.declared.FastArrays.{FastArrays}
 use Rattle.calls.specs.Decision.{decision_for, decision_of}
 use Rattle.calls.specs.declared.Call.{Call}
 use Rattle.calls.specs.declared.Call.TheVariants.{Propose, Receive}
@@ -22,22 +23,23 @@ use Rattle.consensus.specs.Call.{state_call, in_shard, call_with}
 use Rattle.consensus.specs.Handle.{on_commit, proposing, processed, handle_call}
 use Rattle.consensus.specs.declared.Answer.{Answer}
 use Rattle.consensus.specs.declared.StateAnswer.{StateAnswer}
-use Rattle.direct.specs.Direct.{Direct, served_after, left_after_reads, numbered, concerns_slot, fast_half_acts, names_slot, of_older_round, is_older_message}
+use Rattle.direct.specs.Direct.{ArraysAfter, served_after, left_after_reads, with_host_number, concerns_slot, fast_half_acts, names_slot, of_older_round, is_older_message}
 use Rattle.direct.specs.Stands.{Memory, HostAnswer, left_by, unwritten, Stands, answer_to, CallIsMade, PassedOrMade, by_direct}
 use Rattle.direct.proofs.Calls.{direct_is_call}
 use Rattle.direct.proofs.Reading.{made_by}
-use Rattle.direct.proofs.Common.{call_on, not_passed_on, other_kind, by_kind, ForRounds, is_prepare, is_accept, is_forward, is_commit, rounds_handle, commit_handled}
+use Rattle.direct.proofs.Common.{call_on, not_passed_on, other_kind, by_kind, ForRounds, prepare_of_kind, accept_of_kind, forward_of_kind, commit_of_kind, rounds_handle, commit_handled}
 use Rattle.direct.proofs.Steps.{rounds_with, StandsBy, StandsFor, in_memory, sends_stand, commits_stand}
 use Rattle.direct.specs.handlers.CoreAnswers.{core_committed}
-use Rattle.direct.specs.handlers.Handled.{ReplyInArrays, CallOutcome, passed_on, put_served}
+use Rattle.direct.specs.handlers.Handled.{CallOutcome, passed_on, put_served}
+use Rattle.direct.specs.declared.handlers.ReplyInArrays.{ReplyInArrays}
 use Rattle.direct.specs.declared.handlers.NotTaken.TheVariants.{Refused}
-use Rattle.direct_fast.specs.DirectFast.{fast_step, holds_value, fast_answer, put_answered, fast_direct, is_old, fast_handled, fast_unless_refused, fast_made, fast_call}
-use Rattle.direct_fast.specs.FastStands.{MadeOrDeclined, FastStands, fast_left, by_fast, OneOfBoth, DeclinedIsDirect, ClassicIsDirect}
+use Rattle.direct_fast.specs.DirectFast.{fast_step, holds_value, half_answer, put_answered, fast_direct, is_old, fast_handled, fast_unless_refused, fast_made, fast_call}
+use Rattle.direct_fast.specs.FastStands.{MadeOrDeclined, FastStands, by_fast, OneOfBoth, DeclinedIsDirect, ClassicIsDirect}
 use Rattle.direct_fast.specs.half.FastArrays.{answers_in, put_change, put_after}
 use Rattle.direct_fast.specs.finish.FastCall.{answers_with, fast_finish_at, fast_finish}
 use Rattle.direct_fast.specs.declared.finish.After.{After}
 use Rattle.direct_fast.specs.declared.finish.After.TheVariants.{Changed, Cleared}
-use Rattle.direct_fast.specs.declared.finish.FastAnswer.{FastAnswer}
+use Rattle.direct_fast.specs.declared.finish.HalfAnswer.{HalfAnswer}
 use Rattle.fast_state.specs.Adopt.{lowest_best}
 use Rattle.fast_state.specs.Fast.{changed, no_answers}
 use Rattle.fast_state.specs.declared.FastState.{FastState}
@@ -53,7 +55,7 @@ use Rattle.propose.specs.Propose.{propose_change, propose_classic, propose_fast}
 use Rattle.steps.specs.Steps.{RoundsStep, no_messages, stays, map_step, on_rounds, change_rounds}
 use Rattle.steps.specs.declared.ChangeStep.{ChangeStep}
 use Rattle.steps.specs.declared.Core.{Core}
-use Rattle.steps.specs.declared.Messages.{Messages}
+use Rattle.steps.specs.declared.SentMessages.{SentMessages}
 use Rattle.steps.specs.declared.Next.{Next}
 use Rattle.steps.specs.declared.Next.TheVariants.{Stays, Continues, Commits}
 use Rattle.steps.specs.declared.Rounds.{Rounds}
@@ -79,13 +81,13 @@ module _ (m : Memory) (f : FlatCall) (w : ReplyInArrays) where
   abbrev itself : FastArrays → FastArrays
   itself h = h
 
-  abbrev Stood : StateAnswer → Direct CallOutcome FastArrays → Type 0
+  abbrev Stood : StateAnswer → ArraysAfter CallOutcome FastArrays → Type 0
   Stood x d = StandsFor m FastArrays itself m.fast w x d
 
-  stands_as : (d : Direct CallOutcome FastArrays) {x y : StateAnswer} → x ≡ y → Stood y d → Stood x d
+  stands_as : (d : ArraysAfter CallOutcome FastArrays) {x y : StateAnswer} → x ≡ y → Stood y d → Stood x d
   stands_as d {x} {y} e h = subst (λ (z : StateAnswer). Stood z d) (sym e) h
 
-  abbrev does_nothing : Direct CallOutcome FastArrays
+  abbrev does_nothing : ArraysAfter CallOutcome FastArrays
   does_nothing = fast_direct (Ok tt) m.core m.fast m.table (put_served 0 w)
 
   nothing_stands : {x : StateAnswer} → x ≡ nothing shard.state → Stood x does_nothing
@@ -104,14 +106,14 @@ module _ (m : Memory) (f : FlatCall) (w : ReplyInArrays) where
   half_written Cleared = refl
 
   -- the answer, from the step
-  abbrev answer : Result FastAnswer Refusal
-  answer = fast_answer m.setup m.committers m.delegates decoded m.fast f
+  abbrev answer : Result HalfAnswer Refusal
+  answer = half_answer m.setup m.committers m.delegates decoded m.fast f
 
-  abbrev leaves_of : Result FastAnswer Refusal → Direct CallOutcome FastArrays
+  abbrev leaves_of : Result HalfAnswer Refusal → ArraysAfter CallOutcome FastArrays
   leaves_of x = left_after_reads m.setup m.table (put_answered x m.core m.fast w)
 
-  answers_by : (x : StateAnswer) {y : Result FastAnswer Refusal} → answer ≡ y → Stood x (leaves_of y) → Stood x (leaves_of answer)
-  answers_by x {y} e h = subst (λ (z : Result FastAnswer Refusal). Stood x (leaves_of z)) (sym e) h
+  answers_by : (x : StateAnswer) {y : Result HalfAnswer Refusal} → answer ≡ y → Stood x (leaves_of y) → Stood x (leaves_of answer)
+  answers_by x {y} e h = subst (λ (z : Result HalfAnswer Refusal). Stood x (leaves_of z)) (sym e) h
 
   -- ---- a mode with a fast path
 
@@ -120,7 +122,7 @@ module _ (m : Memory) (f : FlatCall) (w : ReplyInArrays) where
     unfolding commit_slot
     cleared v s fast = sym (ap (λ (t : Bool). cond t no_answers fast) p)
 
-    commit_stands : (v : ℕ) (s : Core) (fast : FastState) (ms : Messages)
+    commit_stands : (v : ℕ) (s : Core) (fast : FastState) (ms : SentMessages)
         → Stood (committed shard.state asked v (rounds_with s fast) ms) (leaves_of (Ok (answers_with (core_committed asked v s ms) Cleared)))
     unfolding core_committed put_answered
     commit_stands v s fast ms =
@@ -144,7 +146,7 @@ module _ (m : Memory) (f : FlatCall) (w : ReplyInArrays) where
     -- ---- proposals
 
     proposed : eqb f.kind 0 ≡ true → Stood (answered (Propose f.v)) (leaves_of answer)
-    unfolding fast_answer fast_step holds_value state_call handle_call proposing propose_fast
+    unfolding half_answer fast_step holds_value state_call handle_call proposing propose_fast
     proposed k =
         answers_by _ (simp (k))
         (stands_as _
@@ -168,7 +170,7 @@ module _ (m : Memory) (f : FlatCall) (w : ReplyInArrays) where
     step_of = process_change lowest_best asked heard msg decoded (answers_in m.fast.answers) m.fast.values m.fast.epaxos m.fast.swift
 
     step_handled : eqb f.kind 0 ≡ false → eqb kind 4 ≡ false → {x : ConsensusMsg} → msg ≡ x → ForRounds x → Stood (answered (Receive delivered)) (leaves_of answer)
-    unfolding fast_answer fast_step holds_value process_fast
+    unfolding half_answer fast_step holds_value process_fast
     step_handled k k4 e t =
         answers_by _ (simp (k, k4))
         (stands_as _ (steps_to e t (sym (ap (λ (y : ConsensusMsg). process_fast lowest_best asked heard y rounds) e))) (step_stands held step_of))
@@ -176,7 +178,7 @@ module _ (m : Memory) (f : FlatCall) (w : ReplyInArrays) where
     -- a Commit of the own slot
     own_commit : eqb f.kind 0 ≡ false → eqb kind 4 ≡ true → msg ≡ Commit f.message.slot f.message.v → ltb f.message.slot decoded.slot ≡ false
         → Stood (answered (Receive delivered)) (leaves_of answer)
-    unfolding fast_answer fast_step holds_value on_commit
+    unfolding half_answer fast_step holds_value on_commit
     own_commit k k4 e o =
         answers_by _ (simp (k, k4)) (stands_as _ (commit_handled m f e ∙ simp (o)) (commit_stands f.message.v decoded half no_messages))
 
@@ -196,7 +198,7 @@ module _ (m : Memory) (f : FlatCall) (w : ReplyInArrays) where
     abbrev is_before : Bool
     is_before = ltb f.message.slot decoded.slot
 
-    abbrev handled_as : Bool → Direct CallOutcome FastArrays
+    abbrev handled_as : Bool → ArraysAfter CallOutcome FastArrays
     handled_as older = cond older does_nothing (leaves_of answer)
 
     module _ (k : eqb f.kind 0 ≡ false) where
@@ -228,27 +230,27 @@ module _ (m : Memory) (f : FlatCall) (w : ReplyInArrays) where
       as_prepare k1 =
           let k4 : eqb kind 4 ≡ false = other_kind kind 1 4 k1 refl in
           by_age {old = is_before || before_round} (simp (k, k1, k4))
-          (λ o. idle (is_prepare m f k1) tt (older_fast_prepare asked heard f.message.slot round lowest_best (decoded_promise f.message.rv) rounds (too_old o)))
-          (λ o. step_handled k k4 (is_prepare m f k1) tt)
+          (λ o. idle (prepare_of_kind m f k1) tt (older_fast_prepare asked heard f.message.slot round lowest_best (decoded_promise f.message.rv) rounds (too_old o)))
+          (λ o. step_handled k k4 (prepare_of_kind m f k1) tt)
 
       as_accept : eqb kind 1 ≡ false → eqb kind 2 ≡ true → Handled
       unfolding is_old is_older_message of_older_round names_slot
       as_accept k1 k2 =
           let k4 : eqb kind 4 ≡ false = other_kind kind 2 4 k2 refl in
           by_age {old = is_before || before_round} (simp (k, k1, k2, k4))
-          (λ o. idle (is_accept m f k1 k2) tt (older_fast_accept asked heard f.message.slot round lowest_best f.message.v rounds (too_old o)))
-          (λ o. step_handled k k4 (is_accept m f k1 k2) tt)
+          (λ o. idle (accept_of_kind m f k1 k2) tt (older_fast_accept asked heard f.message.slot round lowest_best f.message.v rounds (too_old o)))
+          (λ o. step_handled k k4 (accept_of_kind m f k1 k2) tt)
 
       as_forward : eqb kind 1 ≡ false → eqb kind 2 ≡ false → eqb kind 3 ≡ true → Handled
       unfolding is_old is_older_message names_slot
       as_forward k1 k2 k3 =
           let k4 : eqb kind 4 ≡ false = other_kind kind 3 4 k3 refl in
-          by_age {old = false} (simp (k, k1, k2, k4)) (λ o. absurd (not_both o refl)) (λ o. step_handled k k4 (is_forward m f k1 k2 k3) tt)
+          by_age {old = false} (simp (k, k1, k2, k4)) (λ o. absurd (not_both o refl)) (λ o. step_handled k k4 (forward_of_kind m f k1 k2 k3) tt)
 
       as_commit : eqb kind 1 ≡ false → eqb kind 2 ≡ false → eqb kind 3 ≡ false → eqb kind 4 ≡ true → Handled
       unfolding is_old is_older_message of_older_round names_slot
       as_commit k1 k2 k3 k4 =
-          let e = is_commit m f k1 k2 k3 k4 in
+          let e = commit_of_kind m f k1 k2 k3 k4 in
           by_age {old = is_before} (simp (k, k1, k2, k4) (or-false is_before)) (idle_commit e) (own_commit k k4 e)
 
       message_handled : leb 1 kind ≡ true → leb kind 4 ≡ true → Handled
@@ -260,11 +262,11 @@ module _ (m : Memory) (f : FlatCall) (w : ReplyInArrays) where
 
   -- ---- together
 
-  abbrev result : Direct CallOutcome FastArrays
+  abbrev result : ArraysAfter CallOutcome FastArrays
   result = fast_made m.setup m.committers m.delegates m.core m.fast m.table f w
 
-  abbrev host : Direct CallOutcome FastArrays → HostAnswer
-  host d = left_by m d.half (numbered d)
+  abbrev host : ArraysAfter CallOutcome FastArrays → HostAnswer
+  host d = left_by m d.half (with_host_number d)
 
   together : (x : StateAnswer) (o : Outcome) → StandsBy m FastArrays itself m.fast w x o result → Stands m w (in_shard shard x) o (host result)
   together x (Ok tt) h = in_memory m FastArrays itself m.fast w x result h
@@ -291,10 +293,10 @@ module _ (m : Memory) (f : FlatCall) (w : ReplyInArrays) where
       unfolding fast_made fast_unless_refused fast_handled
       handled_is = simp (a, z)
 
-      made_as : (c : Call) (d : Direct CallOutcome FastArrays) → called ≡ c → result ≡ d → Stood (answered c) d → Stood (answered called) result
+      made_as : (c : Call) (d : ArraysAfter CallOutcome FastArrays) → called ≡ c → result ≡ d → Stood (answered c) d → Stood (answered called) result
       made_as c d p e h =
           subst (λ (x : Call). Stood (answered x) result) (sym p)
-          (subst (λ (x : Direct CallOutcome FastArrays). Stood (answered c) x) (sym e) h)
+          (subst (λ (x : ArraysAfter CallOutcome FastArrays). Stood (answered c) x) (sym e) h)
 
       proposal_stands : eqb f.kind 0 ≡ true → Stood (answered called) result
       unfolding decoded_call is_old
@@ -354,9 +356,9 @@ pub one_of_both : OneOfBoth
 one_of_both m f w = (made m f w, λ a. (declines m f w a, direct_makes m f w a))
 
 -- so what equals it meets the contract of `chanbook_fast_call`
-pub fast_stands : (m : Memory) (f : FlatCall) (w : ReplyInArrays) (d : Direct ℕ FastArrays) → d ≡ fast_left m f w → FastStands m f w d
+pub fast_stands : (m : Memory) (f : FlatCall) (w : ReplyInArrays) (x : HostAnswer) → x ≡ by_fast m f w → FastStands m f w x
 unfolding FastStands
-fast_stands m f w d e = subst (λ (x : Direct ℕ FastArrays). MadeOrDeclined m f w (left_by m x.half x)) (sym e) (made m f w, declines m f w)
+fast_stands m f w x e = subst (MadeOrDeclined m f w) (sym e) (made m f w, declines m f w)
 
 pub declined_is_direct : DeclinedIsDirect
 declined_is_direct m f w e = has_no_part m f w e

@@ -1,11 +1,12 @@
 -- What the contract of `chanbook_fast_call` says, and which of the two functions for hosts makes a call.
 -- Assumes nothing.
 use Rattle.std.specs.Prelude.{true, false, ◌≡◌, ℕ}
-use Rattle.arrays.specs.FastArrays.{FastArrays}
+use Rattle.arrays.specs.declared.FastArrays.{FastArrays}
 use Rattle.arrays.specs.declared.Setup.{Setup}
-use Rattle.direct.specs.Direct.{Direct, fast_half_acts}
+use Rattle.direct.specs.Direct.{ArraysAfter, fast_half_acts}
 use Rattle.direct.specs.Stands.{Memory, HostAnswer, left_by, unwritten, CallIsMade, by_direct}
-use Rattle.direct.specs.handlers.Handled.{ReplyInArrays, passed_on}
+use Rattle.direct.specs.handlers.Handled.{passed_on}
+use Rattle.direct.specs.declared.handlers.ReplyInArrays.{ReplyInArrays}
 use Rattle.direct_fast.specs.DirectFast.{fast_call}
 use Rattle.message.specs.Modes.{has_fast_path, mode_of_number}
 use Rattle.flat.specs.declared.FlatCall.{FlatCall}
@@ -14,10 +15,11 @@ use Rattle.flat.specs.declared.FlatCall.{FlatCall}
 abbrev pub MadeOrDeclined : Memory → FlatCall → ReplyInArrays → HostAnswer → Type 0
 MadeOrDeclined m f w x = (fast_half_acts m.setup f ≡ true → CallIsMade m f w x) × (fast_half_acts m.setup f ≡ false → x ≡ unwritten m w passed_on)
 
-unfoldable pub FastStands : Memory → FlatCall → ReplyInArrays → Direct ℕ FastArrays → Type 0
-FastStands m f w d = MadeOrDeclined m f w (left_by m d.half d)
+-- as the contract says it
+unfoldable pub FastStands : Memory → FlatCall → ReplyInArrays → HostAnswer → Type 0
+FastStands m f w x = MadeOrDeclined m f w x
 
-abbrev pub fast_left : Memory → FlatCall → ReplyInArrays → Direct ℕ FastArrays
+abbrev pub fast_left : Memory → FlatCall → ReplyInArrays → ArraysAfter ℕ FastArrays
 fast_left m f w = fast_call m.setup m.committers m.delegates m.core m.fast m.table f w
 
 abbrev pub by_fast : Memory → FlatCall → ReplyInArrays → HostAnswer

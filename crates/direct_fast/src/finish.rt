@@ -18,7 +18,7 @@ pub enum After {
 
 // What a call that is taken makes of the core and of the fast half.
 #[derive(Clone, Copy)]
-pub struct FastAnswer {
+pub struct HalfAnswer {
     pub answer: CoreAnswer,
     pub after: After,
 }
@@ -28,16 +28,16 @@ pub fn fast_finish(
     asked: Asked,
     held: bool,
     step: Result<ChangeStep, Refusal>,
-) -> Result<FastAnswer, Refusal>
+) -> Result<HalfAnswer, Refusal>
     ensures { result ≡ fast_finish asked held step }
 {
     let step = step?;
     match step.next {
-        Next::Stays | Next::Continues => Ok(FastAnswer {
+        Next::Stays | Next::Continues => Ok(HalfAnswer {
             answer: direct::handlers::core_sends(step.core, step.messages),
             after: After::Changed(step.change),
         }),
-        Next::Commits(v) if held => Ok(FastAnswer {
+        Next::Commits(v) if held => Ok(HalfAnswer {
             answer: direct::handlers::core_committed(asked, v, step.core, step.messages),
             after: After::Cleared,
         }),

@@ -2,24 +2,12 @@
 #![tactic(auto)]
 
 ghost use Rattle.std.specs.Prelude.{◌≡◌};
-ghost use Rattle.direct_fast.specs.half.FastArrays.{half_in, SameHalf, answers_in, answers_numbers, put_change, cleared, put_after};
+ghost use Rattle.direct_fast.specs.half.FastArrays.{answers_in, answers_numbers, put_change, cleared, put_after};
 
 use crate::finish::After;
-use basics::tables::PerProcess;
+use arrays::{AnswersArray, FastArrays};
 use fast_state::{FastAnswers, FastChange};
 use flat::FlatOption;
-
-// The answers on the fast path, without their tables.
-pub type AnswersArray = [u64; 5];
-
-// The arrays of a fast half, which are lent. Any numbers may stand in them. Three tables of numbers, as a host lends them (C interface), and none of structs.
-#[derive(Drop)]
-pub struct FastHalf<'a> {
-    pub answers: &'a mut AnswersArray,
-    pub values: &'a mut PerProcess,
-    pub epaxos: &'a mut PerProcess,
-    pub swift: &'a mut PerProcess,
-}
 
 // Functions with names and no From, as those of arrays: the numbers stand in an array that is lent.
 pub fn answers_in(a: &AnswersArray) -> FastAnswers
@@ -33,7 +21,7 @@ pub fn answers_in(a: &AnswersArray) -> FastAnswers
         fast_answer_set: a[0],
         fast_preaccepted: a[1],
         fast_proposers: a[2],
-        swift_leader_answer: flat::decode_option(leader_answer),
+        swift_leader_answer: flat::decoded_option(leader_answer),
     }
 }
 
@@ -41,7 +29,7 @@ fn put_answers(a: &mut AnswersArray, answers: FastAnswers)
     ensures { a.new ≡ answers_numbers answers }
 {
     let answer = answers.swift_leader_answer;
-    let f = flat::encode_option(answer);
+    let f = flat::encoded_option(answer);
     *a = [
         answers.fast_answer_set,
         answers.fast_preaccepted,
@@ -51,34 +39,31 @@ fn put_answers(a: &mut AnswersArray, answers: FastAnswers)
     ];
 }
 
-impl FastHalf<'_> {
-    fn put_change(&mut self, change: FastChange)
-        ensures same { SameHalf self.old self.new }
-        ensures changed { half_in self.new ≡ put_change change (half_in self.old) }
-    {
-        put_answers(self.answers, change.answers);
-        change.entry.put(self.values, self.epaxos, self.swift);
-    }
+fn put_change(half: &mut FastArrays, change: FastChange)
+    ensures { half.new ≡ put_change change half.old }
+{
+    put_answers(&mut half.answers, change.answers);
+    change
+        .entry
+        .put(&mut half.values, &mut half.epaxos, &mut half.swift);
+}
 
-    // No answer, as in a new shard and after a commit.
-    pub fn clear(&mut self)
-        ensures same { SameHalf self.old self.new }
-        ensures cleared { half_in self.new ≡ cleared }
-    {
-        *self.answers = [0; 5];
-        *self.values = [0; 64];
-        *self.epaxos = [2; 64];
-        *self.swift = [0; 64];
-    }
+// No answer, as in a new shard and after a commit.
+pub fn clear(half: &mut FastArrays)
+    ensures { half.new ≡ cleared }
+{
+    half.answers = [0; 5];
+    half.values = [0; 64];
+    half.epaxos = [2; 64];
+    half.swift = [0; 64];
+}
 
-    // What becomes of the fast half where a call is taken.
-    pub fn put_after(&mut self, after: After)
-        ensures same { SameHalf self.old self.new }
-        ensures after { half_in self.new ≡ put_after after (half_in self.old) }
-    {
-        match after {
-            After::Changed(change) => self.put_change(change),
-            After::Cleared => self.clear(),
-        }
+// What becomes of the fast half where a call is taken.
+pub fn put_after(half: &mut FastArrays, after: After)
+    ensures { half.new ≡ put_after after half.old }
+{
+    match after {
+        After::Changed(change) => put_change(half, change),
+        After::Cleared => clear(half),
     }
 }

@@ -6,22 +6,17 @@ pub mod finish;
 pub mod half;
 
 ghost use Rattle.std.specs.Prelude.{◌≡◌, Ok, OnErr};
-ghost use Rattle.arrays.specs.reads.Rows.{reads_in, SameReads};
+ghost use Rattle.arrays.specs.reads.Rows.{reads_in};
 ghost use Rattle.arrays.specs.Arrays.{setup_of, flat_call_of};
-ghost use Rattle.direct.specs.handlers.Lent.{at_entry, at_exit};
-ghost use Rattle.direct.specs.handlers.Handled.{reply_at_entry, reply_at_exit, reply_in, SameReply};
-ghost use Rattle.direct.specs.Direct.{reads_at_entry, reads_at_exit, fast_half_acts, SameNumbers, LeftUnlessTaken};
-ghost use Rattle.direct.specs.Stands.{memory_with};
-ghost use Rattle.direct_fast.specs.half.FastArrays.{half_in, SameHalf};
-ghost use Rattle.direct_fast.specs.DirectFast.{half_at_entry, half_at_exit, fast_step, holds_value, fast_answer, fast_leaves, put_fast, fast_written, fast_direct, fast_handled, is_old, fast_made, fast_call};
-ghost use Rattle.direct_fast.specs.FastStands.{FastStands};
+ghost use Rattle.direct.specs.Direct.{fast_half_acts, LeftUnlessTaken};
+ghost use Rattle.direct.specs.Stands.{memory_in, host_has};
+ghost use Rattle.direct_fast.specs.DirectFast.{fast_step, holds_value, half_answer, fast_leaves, put_fast, fast_written, fast_direct, fast_handled, is_old, fast_made};
+ghost use Rattle.direct_fast.specs.FastStands.{by_fast, FastStands};
 
-use crate::finish::FastAnswer;
-use crate::half::{AnswersArray, FastHalf};
-use arrays::reads::{OpenReadsArray, ReadArrays, ServedReadsArray};
-use arrays::{CallArray, CoreArray, MessageArray, RestArray, Setup, SetupArray, Tables};
-use basics::tables::PerProcess;
-use direct::handlers::{NotTaken, ReplyArrays};
+use crate::finish::HalfAnswer;
+use arrays::reads::ReadArrays;
+use arrays::{CallArray, CoreArray, FastArrays, SettingsArrays, Setup, ShardArrays, Tables};
+use direct::handlers::{NotTaken, ReplyInArrays};
 use fast_state::{FastAnswers, FastTables};
 use flat::{COMMIT, FlatCall, FlatCore, NEW_READ, PROPOSAL};
 use message::{PFMode, Refusal};
@@ -61,24 +56,24 @@ fn fast_step(
     tables: Tables<'_>,
     core: Core,
     answers: FastAnswers,
-    half: &FastHalf<'_>,
+    half: &FastArrays,
     f: FlatCall,
 ) -> Result<ChangeStep, Refusal>
-    ensures { result ≡ fast_step asked setup tables.entry.committers.now tables.entry.delegates.now core answers (half_in half.now) f }
+    ensures { result ≡ fast_step asked setup tables.entry.committers.now tables.entry.delegates.now core answers half.now f }
 {
     let message = f.message;
     if f.kind == PROPOSAL {
-        return propose::propose_change(asked, f.v, core, answers, half.epaxos, half.swift);
+        return propose::propose_change(asked, f.v, core, answers, &half.epaxos, &half.swift);
     }
     if message.kind == COMMIT {
         return Ok(core.commits_silent(message.v).unchanged(answers));
     }
     let heard = questions::decided::heard_of(setup, tables, f);
-    let msg = flat::decode_msg(message);
+    let msg = flat::decoded_msg(message);
     let scores = FastTables {
-        values: half.values,
-        epaxos_scores: half.epaxos,
-        swift_scores: half.swift,
+        values: &half.values,
+        epaxos_scores: &half.epaxos,
+        swift_scores: &half.swift,
     };
     paxos_family::process_change(asked, heard, msg, core, answers, scores)
 }
@@ -98,18 +93,18 @@ fn holds_value(f: FlatCall) -> bool
 }
 
 // All that is not refused ends here, so that the end has one caller.
-#[tactic(auto, unfolding(crate::specs::DirectFast::fast_answer))]
-fn fast_answer(
+#[tactic(auto, unfolding(crate::specs::DirectFast::half_answer))]
+fn half_answer(
     setup: Setup,
     tables: Tables<'_>,
     core: Core,
-    half: &FastHalf<'_>,
+    half: &FastArrays,
     f: FlatCall,
-) -> Result<FastAnswer, Refusal>
-    ensures { result ≡ fast_answer setup tables.entry.committers.now tables.entry.delegates.now core (half_in half.now) f }
+) -> Result<HalfAnswer, Refusal>
+    ensures { result ≡ half_answer setup tables.entry.committers.now tables.entry.delegates.now core half.now f }
 {
     let asked = questions::decided::asked_of(setup);
-    let answers = crate::half::answers_in(half.answers);
+    let answers = crate::half::answers_in(&half.answers);
     let step = fast_step(asked, setup, tables, core, answers, half, f);
     crate::finish::fast_finish(asked, holds_value(f), step)
 }
@@ -117,14 +112,13 @@ fn fast_answer(
 // What is answered to a call that is taken, written into the arrays. Hands back whether open reads may have become ready.
 fn put_fast(
     core: &mut CoreArray,
-    half: &mut FastHalf<'_>,
-    reply: &mut ReplyArrays<'_>,
-    x: FastAnswer,
+    half: &mut FastArrays,
+    reply: &mut ReplyInArrays,
+    x: HalfAnswer,
 ) -> bool
-    ensures same { SameHalf half.old half.new × SameReply reply.old reply.new }
-    ensures written { fast_leaves (Ok result) core.new (half_in half.new) (reply_in reply.new) ≡ put_fast x (half_in half.old) (reply_in reply.old) }
+    ensures written { fast_leaves (Ok result) core.new half.new reply.new ≡ put_fast x half.old reply.old }
 {
-    half.put_after(x.after);
+    crate::half::put_after(half, x.after);
     direct::handlers::put_taken(core, reply, x.answer)
 }
 
@@ -134,16 +128,15 @@ fn fast_written(
     setup: Setup,
     tables: Tables<'_>,
     core: &mut CoreArray,
-    half: &mut FastHalf<'_>,
+    half: &mut FastArrays,
     f: FlatCall,
-    reply: &mut ReplyArrays<'_>,
+    reply: &mut ReplyInArrays,
 ) -> Result<bool, Refusal>
-    ensures same { SameHalf half.old half.new × SameReply reply.old reply.new }
-    ensures written { fast_leaves result core.new (half_in half.new) (reply_in reply.new)
-        ≡ fast_written setup tables.entry.committers.now tables.entry.delegates.now core.old (half_in half.old) f (reply_in reply.old) }
+    ensures written { fast_leaves result core.new half.new reply.new
+        ≡ fast_written setup tables.entry.committers.now tables.entry.delegates.now core.old half.old f reply.old }
 {
-    let decoded = flat::decode_core(arrays::core_in(core));
-    let x = fast_answer(setup, tables, decoded, half, f)?;
+    let decoded = flat::decoded_core(arrays::core_in(core));
+    let x = half_answer(setup, tables, decoded, half, f)?;
     Ok(put_fast(core, half, reply, x))
 }
 
@@ -153,22 +146,21 @@ fn fast_handled(
     setup: Setup,
     tables: Tables<'_>,
     core: &mut CoreArray,
-    half: &mut FastHalf<'_>,
-    reads: &mut ReadArrays<'_>,
+    half: &mut FastArrays,
+    reads: &mut ReadArrays,
     f: FlatCall,
-    reply: &mut ReplyArrays<'_>,
+    reply: &mut ReplyInArrays,
 ) -> Result<(), NotTaken>
-    ensures same { SameHalf half.old half.new × SameReads reads.old reads.new × SameReply reply.old reply.new }
-    ensures written { fast_direct result core.new (half_in half.new) (reads_in reads.new) (reply_in reply.new)
-        ≡ fast_handled setup tables.entry.committers.now tables.entry.delegates.now core.old (half_in half.old) (reads_in reads.old) f (reply_in reply.old) }
-    ensures refused { OnErr result (SameNumbers reads.old reads.new) }
+    ensures written { fast_direct result core.new half.new (reads_in reads.new) reply.new
+        ≡ fast_handled setup tables.entry.committers.now tables.entry.delegates.now core.old half.old (reads_in reads.old) f reply.old }
+    ensures refused { OnErr result (reads.new ≡ reads.old) }
 {
     if is_old(arrays::core_in(core), f) {
         reply.put_served(0);
         return Ok(());
     }
     if fast_written(setup, tables, core, half, f, reply)? {
-        direct::serve_ready(setup, core, reads, reply.rest);
+        direct::serve_ready(setup, core, reads, &mut reply.rest);
     }
     Ok(())
 }
@@ -176,83 +168,50 @@ fn fast_handled(
 // A call on the parts of a shard. What the fast half has no part in is passed on.
 #[tactic(auto, unfolding(crate::specs::DirectFast::fast_made, crate::specs::DirectFast::fast_unless_refused))]
 fn fast_made(
-    setup: &SetupArray,
-    tables: Tables<'_>,
+    settings: &SettingsArrays,
     core: &mut CoreArray,
-    half: &mut FastHalf<'_>,
-    reads: &mut ReadArrays<'_>,
+    half: &mut FastArrays,
+    reads: &mut ReadArrays,
     call: &CallArray,
-    reply: &mut ReplyArrays<'_>,
+    reply: &mut ReplyInArrays,
 ) -> Result<(), NotTaken>
-    ensures same { SameHalf half.old half.new × SameReads reads.old reads.new × SameReply reply.old reply.new }
-    ensures written { fast_direct result core.new (half_in half.new) (reads_in reads.new) (reply_in reply.new)
-        ≡ fast_made (setup_of setup.now) tables.entry.committers.now tables.entry.delegates.now core.old (half_in half.old) (reads_in reads.old) (flat_call_of call.now)
-        (reply_in reply.old) }
-    ensures refused { OnErr result (SameNumbers reads.old reads.new) }
+    ensures written { fast_direct result core.new half.new (reads_in reads.new) reply.new
+        ≡ fast_made (setup_of settings.now.setup) settings.now.committers settings.now.delegates core.old half.old (reads_in reads.old) (flat_call_of call.now) reply.old }
+    ensures refused { OnErr result (reads.new ≡ reads.old) }
 {
-    let s = arrays::setup_in(setup);
-    let f = arrays::call_in(call);
+    let s = arrays::setup_in(&settings.setup);
+    let f = arrays::flat_call_of(call);
     if !fast_half_acts(s, f) {
         return Err(NotTaken::PassedOn);
     }
-    questions::decided::refusal(setup, core, call)?;
+    questions::decided::refusal_of(&settings.setup, core, call)?;
+    let tables = Tables {
+        committers: &settings.committers,
+        delegates: &settings.delegates,
+    };
     fast_handled(s, tables, core, half, reads, f, reply)
 }
 
-// A call on the parts of a shard: what is left in the arrays stands for the engine's call of the shard that they stood for (`stands`), and which numbers are left
-// is `fast_call` (`numbers`). 0: it was taken, and core, fast half, reads and reply are written. 1 to 12, or 17: it is refused with this number. 255: it goes
+// A call on a shard that is lent: what is left in its arrays stands for the engine's call of the shard that they stood for (`stands`), and which numbers are left
+// is `by_fast` (`numbers`). 0: it was taken, and core, fast half, reads and reply are written. 1 to 12, or 17: it is refused with this number. 255: it goes
 // to `chanbook_direct_call`, since the fast half has no part in it, and nothing is written.
 #[tactic(auto, unfolding(crate::specs::DirectFast::fast_call))]
 pub fn chanbook_fast_call(
-    setup: &SetupArray,
-    committers: &PerProcess,
-    delegates: &PerProcess,
-    core: &mut CoreArray,
-    answers: &mut AnswersArray,
-    values: &mut PerProcess,
-    epaxos: &mut PerProcess,
-    swift: &mut PerProcess,
-    reads: &mut OpenReadsArray,
-    served: &mut ServedReadsArray,
+    shard: &mut ShardArrays,
     call: &CallArray,
-    first: &mut MessageArray,
-    second: &mut MessageArray,
-    third: &mut MessageArray,
-    rest: &mut RestArray,
+    reply: &mut ReplyInArrays,
 ) -> u64
-    ensures stands { FastStands
-        (memory_with (setup_of setup.now) committers.now delegates.now (at_entry core) (half_at_entry answers values epaxos swift) (reads_at_entry reads served))
-        (flat_call_of call.now) (reply_at_entry first second third rest)
-        (fast_direct result (at_exit core) (half_at_exit answers values epaxos swift) (reads_at_exit reads served) (reply_at_exit first second third rest)) }
-    ensures numbers { fast_direct result (at_exit core) (half_at_exit answers values epaxos swift) (reads_at_exit reads served) (reply_at_exit first second third rest)
-        ≡ fast_call (setup_of setup.now) committers.now delegates.now (at_entry core) (half_at_entry answers values epaxos swift)
-        (reads_at_entry reads served) (flat_call_of call.now) (reply_at_entry first second third rest) }
-    ensures left_unless_taken { LeftUnlessTaken result reads × LeftUnlessTaken result served }
+    ensures stands { FastStands (memory_in shard.old) (flat_call_of call.now) reply.old (host_has result shard.new reply.new) }
+    ensures numbers { host_has result shard.new reply.new ≡ by_fast (memory_in shard.old) (flat_call_of call.now) reply.old }
+    ensures kept { shard.new.settings ≡ shard.old.settings }
+    ensures left_unless_taken { LeftUnlessTaken result shard.old.reads shard.new.reads }
 {
-    let tables = Tables {
-        committers,
-        delegates,
-    };
-    let mut half = FastHalf {
-        answers,
-        values,
-        epaxos,
-        swift,
-    };
-    let mut lent_reads = ReadArrays { reads, served };
-    let mut reply = ReplyArrays {
-        first,
-        second,
-        third,
-        rest,
-    };
     direct::handlers::call_number(fast_made(
-        setup,
-        tables,
-        core,
-        &mut half,
-        &mut lent_reads,
+        &shard.settings,
+        &mut shard.core,
+        &mut shard.fast,
+        &mut shard.reads,
         call,
-        &mut reply,
+        reply,
     ))
 }

@@ -19,7 +19,7 @@ use Rattle.message.specs.declared.ConsensusMsg.{ConsensusMsg}
 use Rattle.message.specs.declared.ConsensusMsg.TheVariants.{Prepare, Accept, ForwardRequest, Commit, ReadRequest, ReadResponse}
 use Rattle.steps.specs.declared.Destination.{Destination}
 use Rattle.steps.specs.declared.Destination.TheVariants.{One, All}
-use Rattle.delivery.specs.declared.Delivery.{Delivery}
+use Rattle.calls.specs.declared.delivery.Delivery.{Delivery}
 use Rattle.calls.specs.declared.Call.{Call}
 use Rattle.calls.specs.declared.Call.TheVariants.{Propose, StartRead, Receive}
 use Rattle.calls.specs.declared.Reply.{Reply}
@@ -28,7 +28,8 @@ use Rattle.enabled_runs.specs.declared.RunEvent.{RunEvent}
 use Rattle.enabled_runs.specs.declared.RunEvent.TheVariants.{Proposes, Delivers}
 use Rattle.enabled_runs.specs.declared.Sending.{Sending}
 use Rattle.enabled_runs.specs.Enabled.{RunSoFar, sent_in, StandsAt, WasSentTo, HasProposed, with_call, office_proposal, office_delivery, Enabled, ends, proposes, delivers}
-use Rattle.enabled_runs.specs.Listing.{at_place, is_reached, is_commit_message, goes_to, is_sent_to, call_proposes, has_proposed, some_if_done, all_sent, with_delivery, extended_by, runs_from}
+use Rattle.calls.specs.Decision.{is_proposal}
+use Rattle.enabled_runs.specs.Listing.{at_place, is_reached, is_commit_message, goes_to, is_sent_to, has_proposed, some_if_done, all_sent, with_delivery, extended_by, runs_from}
 use Rattle.enabled_runs.specs.Order.{RunsInOrder}
 use Rattle.enabled_runs.proofs.Listed.{Chain, listed_short, short_listed, listing_order}
 
@@ -54,7 +55,7 @@ module _ {A : Type 0} where
 
 -- ---- who proposed
 
-proposes_is : (c : Call) → call_proposes c ≡ true → (v : ℕ) × (c ≡ Propose v)
+proposes_is : (c : Call) → is_proposal c ≡ true → (v : ℕ) × (c ≡ Propose v)
 proposes_is (Propose v) e = (v, refl)
 proposes_is (StartRead tag arrival) e = absurd (not_both e refl)
 proposes_is (Receive d) e = absurd (not_both e refl)
@@ -62,13 +63,13 @@ proposes_is (Receive d) e = absurd (not_both e refl)
 has_proposed_lem : (past : List Entry) (member : ℕ) → has_proposed past member ≡ true → HasProposed past member
 unfolding has_proposed
 has_proposed_lem [] member e = absurd (not_both e refl)
-has_proposed_lem (x ∷ past) member e = go (λ k. has_proposed_lem past member k) (or_cases (eqb x.member member && call_proposes x.call) (has_proposed past member) e)
+has_proposed_lem (x ∷ past) member e = go (λ k. has_proposed_lem past member k) (or_cases (eqb x.member member && is_proposal x.call) (has_proposed past member) e)
   where
-    go : (has_proposed past member ≡ true → HasProposed past member) → ((eqb x.member member && call_proposes x.call) ≡ true) ⊎ (has_proposed past member ≡ true)
+    go : (has_proposed past member ≡ true → HasProposed past member) → ((eqb x.member member && is_proposal x.call) ≡ true) ⊎ (has_proposed past member ≡ true)
         → HasProposed (x ∷ past) member
     go earlier (inl k) =
-        let p = proposes_is x.call (and_right (eqb x.member member) (call_proposes x.call) k) in
-        (x, p.0, inl refl, eqb-true x.member member (and_left (eqb x.member member) (call_proposes x.call) k), p.1)
+        let p = proposes_is x.call (and_right (eqb x.member member) (is_proposal x.call) k) in
+        (x, p.0, inl refl, eqb-true x.member member (and_left (eqb x.member member) (is_proposal x.call) k), p.1)
     go earlier (inr k) = let p = earlier k in (p.0, p.1, inr p.2, p.3, p.4)
 
 proposed_is : (past : List Entry) (member : ℕ) (e : Entry) (v : ℕ) → In e past → e.member ≡ member → e.call ≡ Propose v → has_proposed past member ≡ true
@@ -76,9 +77,9 @@ unfolding has_proposed
 proposed_is [] member e v i m c = absurd i
 proposed_is (x ∷ past) member e v (inl p) m c =
     or_left (has_proposed past member)
-    (and_both (eq-eqb x.member member (ap (λ (y : Entry). y.member) (sym p) ∙ m)) (ap (λ (y : Entry). call_proposes y.call) (sym p) ∙ ap call_proposes c))
+    (and_both (eq-eqb x.member member (ap (λ (y : Entry). y.member) (sym p) ∙ m)) (ap (λ (y : Entry). is_proposal y.call) (sym p) ∙ ap is_proposal c))
 proposed_is (x ∷ past) member e v (inr i) m c =
-    or_right (eqb x.member member && call_proposes x.call) (proposed_is past member e v i m c)
+    or_right (eqb x.member member && is_proposal x.call) (proposed_is past member e v i m c)
 
 -- ---- who a message was sent to
 

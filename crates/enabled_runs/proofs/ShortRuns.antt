@@ -9,14 +9,14 @@ use lib.ListN.{length}
 use Rattle.basics.specs.Lists.{In}
 use Rattle.steps.specs.declared.Outgoing.{Outgoing}
 use Rattle.consensus.specs.declared.Shard.{Shard}
-use Rattle.group.specs.Claim.{Entry, messages_of, WasSent, ours, LegalFrom, Legal, entries_from, entries, Claim}
+use Rattle.group.specs.Claim.{Entry, messages_of, WasSent, ours, LegalFrom, Legal, entries_from, entries, Claim, LegalMade, entries_made}
 use Rattle.group.proofs.Agreement.{agreement}
 use Rattle.enabled_runs.specs.declared.RunEvent.{RunEvent}
 use Rattle.enabled_runs.specs.declared.Sending.{Sending}
 use Rattle.enabled_runs.specs.Enabled.{RunSoFar, sendings, sent_in, StandsAt, WasSentTo, Enabled, ends, proposes, delivers, calls_of_events}
 use Rattle.enabled_runs.specs.Listing.{all_sent, extended_by, after_run}
 use Rattle.enabled_runs.specs.Order.{RunsInOrder, Once, Extends}
-use Rattle.enabled_runs.specs.Offices.{three_offices, heard_by, engine_call, before_events, EnabledRun, short_runs, past_of}
+use Rattle.enabled_runs.specs.Offices.{three_offices, heard_by, engine_call, before_events, EnabledRun, short_runs, run_past}
 use Rattle.enabled_runs.proofs.Lists.{in_either}
 use Rattle.enabled_runs.proofs.Enabling.{listed_iff_enabled, listed_in_order, tried_proposal, tried_delivery}
 use Rattle.enabled_runs.proofs.Ordering.{order_once, followed_at_once}
@@ -30,13 +30,13 @@ listed_exactly run = listed_iff_enabled engine_call heard_by 5 before_events run
 pub listed_once : Once short_runs
 listed_once = order_once short_runs (listed_in_order engine_call heard_by 5 before_events)
 
-pub in_order : RunsInOrder short_runs
-in_order = listed_in_order engine_call heard_by 5 before_events
+pub runs_in_order : RunsInOrder short_runs
+runs_in_order = listed_in_order engine_call heard_by 5 before_events
 
 -- "Each run is followed at once by those that extend it": whatever stands between a run and one that extends it extends it too.
 pub extensions_at_once : (earlier runs later : List (List RunEvent)) (r y : List RunEvent) → short_runs ≡ earlier ++ (r ∷ (runs ++ (y ∷ later))) → Extends r y
     → (x : List RunEvent) → In x runs → Extends r x
-extensions_at_once earlier runs later r y e ext = followed_at_once earlier runs later r y (subst RunsInOrder e in_order) ext
+extensions_at_once earlier runs later r y e ext = followed_at_once earlier runs later r y (subst RunsInOrder e runs_in_order) ext
 
 -- ---- listed runs are runs of the claim
 
@@ -70,7 +70,7 @@ was_sent past place s member stands sent =
 
 legal_from : {w : RunSoFar Shard} {es : List RunEvent} (h : Enabled engine_call heard_by w es)
     → LegalFrom 3 ours w.shards w.past (calls_of_events engine_call heard_by h)
-unfolding LegalFrom calls_of_events
+unfolding LegalMade calls_of_events
 legal_from ends = tt
 legal_from {w} (proposes member below new done rest) = (below, tt, legal_from rest)
 legal_from {w} (delivers member place s below stands sent rest) = (below, was_sent w.past place s member stands sent, legal_from rest)
@@ -83,7 +83,7 @@ listed_legal run i = legal_from ((listed_exactly run).0 i).2
 
 past_from : {w : RunSoFar Shard} {es : List RunEvent} (h : Enabled engine_call heard_by w es)
     → (after_run (all_sent engine_call heard_by) (extended_by engine_call heard_by) w es).past ≡ entries_from ours w.shards w.past (calls_of_events engine_call heard_by h)
-unfolding after_run calls_of_events entries_from
+unfolding after_run calls_of_events entries_made
 past_from ends = refl
 past_from {w} (proposes {es = es} member below new done rest) =
     ap (λ (o : Option (RunSoFar Shard)). (after_run (all_sent engine_call heard_by) (extended_by engine_call heard_by) (get_or o w) es).past)
@@ -95,10 +95,10 @@ past_from {w} (delivers {es = es} member place s below stands sent rest) =
     ∙ past_from rest
 
 -- What the listing takes a run's commits from is what the claim says that the run's calls handed back.
-pub listed_past : (run : List RunEvent) (i : In run short_runs) → past_of run ≡ entries three_offices (calls_of_events engine_call heard_by ((listed_exactly run).0 i).2)
+pub listed_past : (run : List RunEvent) (i : In run short_runs) → run_past run ≡ entries three_offices (calls_of_events engine_call heard_by ((listed_exactly run).0 i).2)
 listed_past run i = past_from ((listed_exactly run).0 i).2
 
 -- So demand 3 holds of every line.
-pub listed_claim : (run : List RunEvent) → In run short_runs → Claim (past_of run)
+pub listed_claim : (run : List RunEvent) → In run short_runs → Claim (run_past run)
 listed_claim run i =
     subst Claim (sym (listed_past run i)) (agreement three_offices tt (calls_of_events engine_call heard_by ((listed_exactly run).0 i).2) (listed_legal run i))

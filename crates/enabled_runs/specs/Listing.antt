@@ -9,7 +9,8 @@ use Rattle.message.specs.declared.ConsensusMsg.{ConsensusMsg}
 use Rattle.message.specs.declared.ConsensusMsg.TheVariants.{Prepare, Accept, ForwardRequest, Commit, ReadRequest, ReadResponse}
 use Rattle.steps.specs.declared.Destination.{Destination}
 use Rattle.steps.specs.declared.Destination.TheVariants.{One, All}
-use Rattle.delivery.specs.declared.Delivery.{Delivery}
+use Rattle.calls.specs.Decision.{is_proposal}
+use Rattle.calls.specs.declared.delivery.Delivery.{Delivery}
 use Rattle.calls.specs.declared.Call.{Call}
 use Rattle.calls.specs.declared.Call.TheVariants.{Propose, StartRead, Receive}
 use Rattle.calls.specs.declared.Reply.{Reply}
@@ -77,14 +78,9 @@ is_sent_to s member =
     (goes_to s.outgoing.message.src s.outgoing.destination member s.outgoing.message.msg)
     false
 
-abbrev pub call_proposes : Call → Bool
-call_proposes (Propose v) = true
-call_proposes (StartRead tag arrival) = false
-call_proposes (Receive d) = false
-
 unfoldable pub has_proposed : List Entry → ℕ → Bool
 has_proposed [] member = false
-has_proposed (e ∷ past) member = (eqb e.member member && call_proposes e.call) || has_proposed past member
+has_proposed (e ∷ past) member = (eqb e.member member && is_proposal e.call) || has_proposed past member
 
 abbrev pub some_if_done : {A : Type 0} → Outcome → A → Option A
 some_if_done (Ok tt) x = some x

@@ -9,7 +9,7 @@ use Rattle.message.specs.declared.ConsensusMsg.{ConsensusMsg}
 use Rattle.message.specs.declared.ConsensusMsg.TheVariants.{Prepare, Accept, ForwardRequest, Commit, ReadRequest, ReadResponse}
 use Rattle.message.specs.declared.PFMode.TheVariants.{Paxos}
 use Rattle.settings.specs.declared.Settings.{Settings}
-use Rattle.delivery.specs.declared.Delivery.{Delivery}
+use Rattle.calls.specs.declared.delivery.Delivery.{Delivery}
 use Rattle.calls.specs.declared.Call.{Call}
 use Rattle.calls.specs.declared.Reply.{Reply}
 use Rattle.consensus.specs.Call.{call_of}
@@ -52,9 +52,9 @@ message_requester (Commit slot v) = requester_of_value v
 message_requester (ReadRequest id) = None
 message_requester (ReadResponse id next) = None
 
-unfoldable pub held_requester : Option RoundV → Option ℕ
-held_requester None = None
-held_requester (Some rv) = requester_of_value (value_of rv)
+unfoldable pub requester_of_held : Option RoundV → Option ℕ
+requester_of_held None = None
+requester_of_held (Some rv) = requester_of_value (value_of rv)
 
 -- "each host holds all values"
 abbrev pub heard_by : Shard → ConsensusMessage → Delivery
@@ -62,7 +62,7 @@ heard_by shard message =
     record {
       message = message;
       said = record { value_held = true; requester = message_requester message.msg; fast = false };
-      held_requester = held_requester shard.state.rounds.core.paxos.max_rv;
+      held_requester = requester_of_held shard.state.rounds.core.paxos.max_rv;
     }
 
 -- ---- the engine's call, and the runs
@@ -93,5 +93,5 @@ commits_in_order [] = []
 commits_in_order (e ∷ past) = commits_in_order past ++ member_commits e.member e.reply.commit
 
 -- what the calls of a run handed back
-abbrev pub past_of : List RunEvent → List Entry
-past_of run = (after_run (all_sent engine_call heard_by) (extended_by engine_call heard_by) before_events run).past
+abbrev pub run_past : List RunEvent → List Entry
+run_past run = (after_run (all_sent engine_call heard_by) (extended_by engine_call heard_by) before_events run).past

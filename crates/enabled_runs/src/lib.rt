@@ -1,5 +1,5 @@
 // The short runs of three offices (request E12): what an event is, which runs are enabled, how they are listed, and the theorems on the listing.
-// The code that lists them is in crates office_runs, run_lines and short_runs.
+// The code that lists them is in crates office_runs and short_runs.
 #![tactic(auto)]
 
 use steps::Outgoing;

@@ -26,19 +26,20 @@ use Rattle.steps.specs.declared.Outgoing.{Outgoing}
 use Rattle.agreement.proofs.Tests.{neqb→ne}
 use Rattle.calls.specs.declared.Call.TheVariants.{Receive}
 use Rattle.consensus.specs.declared.Shard.{Shard}
-use Rattle.group.specs.Claim.{begun, MemberCall, Entry, Legal, messages_of}
+use Rattle.group.specs.Claim.{begun, MemberCall, Entry, entries_made, Legal, messages_of}
+use Rattle.group.specs.Steps.{shards_made}
 use Rattle.group.proofs.Computed.{computed}
-use Rattle.group.proofs.Example.{three, proposes, hears, commits_of, none, commits, first}
-use Rattle.group.proofs.Invariants.{served_by}
+use Rattle.group.proofs.Example.{three, proposal_call, hears_message, commits_of_entries, none, member_commit, first}
+use Rattle.group.proofs.Invariants.{served_by_call}
 use Rattle.group.proofs.RunReads.{opens}
 use Rattle.wrong_engines.specs.Laws.{entries_by, shards_by}
 use Rattle.wrong_engines.proofs.Answers.{paxos_group, five, told_by_64}
-use Rattle.wrong_engines.proofs.Runs.{alone, told_once, two_reads, forwarded}
+use Rattle.wrong_engines.proofs.Runs.{alone_settings, told_once, two_reads, forwarded}
 use Rattle.engine_laws.specs.Engine.{engine}
 
 -- what a run computes with
 unfoldable in_runs : Unit {0}
-unfolding entries_by shards_by computed
+unfolding entries_made shards_made computed
 in_runs = tt
 
 -- ---- commits
@@ -46,13 +47,13 @@ in_runs = tt
 -- MultiPaxos: in slot 0 member 0, the leader, hears the accept of member 1 and commits 10, and member 2 hears it; in slot 1 it commits 20 with member 2's
 abbrev led : List MemberCall
 led =
-    proposes 0 10
-    ∷ hears 1 0 None (Accept 0 (round_of 0 0) 10)
-    ∷ hears 0 1 None (Accept 0 (round_of 0 0) 10)
-    ∷ hears 2 0 None (Commit 0 10)
-    ∷ proposes 0 20
-    ∷ hears 2 0 (Some 10) (Accept 1 (round_of 0 0) 20)
-    ∷ hears 0 2 (Some 10) (Accept 1 (round_of 0 0) 20)
+    proposal_call 0 10
+    ∷ hears_message 1 0 None (Accept 0 (round_of 0 0) 10)
+    ∷ hears_message 0 1 None (Accept 0 (round_of 0 0) 10)
+    ∷ hears_message 2 0 None (Commit 0 10)
+    ∷ proposal_call 0 20
+    ∷ hears_message 2 0 (Some 10) (Accept 1 (round_of 0 0) 20)
+    ∷ hears_message 0 2 (Some 10) (Accept 1 (round_of 0 0) 20)
     ∷ []
 
 pub led_legal : Legal (three MultiPaxos) led
@@ -66,32 +67,32 @@ led_legal =
     (first (lit< tt) (_, _, inl refl, refl, inl refl, refl, neqb→ne 0 2 tt)
     (first (lit< tt) (_, _, inl refl, refl, inl refl, refl, refl) tt))))))
 
-pub engine_commits_twice : commits_of (entries_by engine (begun (three MultiPaxos)) [] led)
-    ≡ (commits 0 1 20 false ∷ none 2 ∷ none 0 ∷ commits 2 0 10 false ∷ commits 0 0 10 false ∷ none 1 ∷ none 0 ∷ [])
+pub engine_commits_twice : commits_of_entries (entries_by engine (begun (three MultiPaxos)) [] led)
+    ≡ (member_commit 0 1 20 false ∷ none 2 ∷ none 0 ∷ member_commit 2 0 10 false ∷ member_commit 0 0 10 false ∷ none 1 ∷ none 0 ∷ [])
 unfolding in_runs
 engine_commits_twice = refl
 
 -- of five members 0 hears the promise of 1 twice, that of 2 once, and the accept of 1 twice: two have promised until 2 has, and two have accepted in the end
 abbrev heard_twice : List MemberCall
 heard_twice =
-    proposes 0 10
-    ∷ hears 1 0 None (Prepare 0 (round_of 0 0) (PaxosV None 10))
-    ∷ hears 0 1 None (Prepare 0 (round_of 0 0) (PaxosV None 10))
-    ∷ hears 0 1 None (Prepare 0 (round_of 0 0) (PaxosV None 10))
-    ∷ hears 2 0 None (Prepare 0 (round_of 0 0) (PaxosV None 10))
-    ∷ hears 0 2 None (Prepare 0 (round_of 0 0) (PaxosV None 10))
-    ∷ hears 1 0 None (Accept 0 (round_of 0 0) 10)
-    ∷ hears 0 1 None (Accept 0 (round_of 0 0) 10)
-    ∷ hears 0 1 None (Accept 0 (round_of 0 0) 10)
+    proposal_call 0 10
+    ∷ hears_message 1 0 None (Prepare 0 (round_of 0 0) (PaxosV None 10))
+    ∷ hears_message 0 1 None (Prepare 0 (round_of 0 0) (PaxosV None 10))
+    ∷ hears_message 0 1 None (Prepare 0 (round_of 0 0) (PaxosV None 10))
+    ∷ hears_message 2 0 None (Prepare 0 (round_of 0 0) (PaxosV None 10))
+    ∷ hears_message 0 2 None (Prepare 0 (round_of 0 0) (PaxosV None 10))
+    ∷ hears_message 1 0 None (Accept 0 (round_of 0 0) 10)
+    ∷ hears_message 0 1 None (Accept 0 (round_of 0 0) 10)
+    ∷ hears_message 0 1 None (Accept 0 (round_of 0 0) 10)
     ∷ []
 
-pub engine_commits_late : commits_of (entries_by engine (begun five) [] heard_twice)
+pub engine_commits_late : commits_of_entries (entries_by engine (begun five) [] heard_twice)
     ≡ (none 0 ∷ none 0 ∷ none 1 ∷ none 0 ∷ none 2 ∷ none 0 ∷ none 0 ∷ none 1 ∷ none 0 ∷ [])
 unfolding in_runs
 engine_commits_late = refl
 
 -- in SwiftPaxos member 1 hears of the commit of slot 0
-pub engine_commits_told : commits_of (entries_by engine (begun (three SwiftPaxos)) [] told_once) ≡ (commits 1 0 10 true ∷ [])
+pub engine_commits_told : commits_of_entries (entries_by engine (begun (three SwiftPaxos)) [] told_once) ≡ (member_commit 1 0 10 true ∷ [])
 unfolding in_runs
 engine_commits_told = refl
 
@@ -112,13 +113,13 @@ sends_one source destination msg = record { destination = destination; message =
 -- of three members 0 and 1 accept 10, which 0 commits; 1 holds it when it promises to 2
 abbrev promised : List MemberCall
 promised =
-    proposes 0 10
-    ∷ hears 1 0 None (Prepare 0 (round_of 0 0) (PaxosV None 10))
-    ∷ hears 0 1 None (Prepare 0 (round_of 0 0) (PaxosV None 10))
-    ∷ hears 1 0 None (Accept 0 (round_of 0 0) 10)
-    ∷ hears 0 1 None (Accept 0 (round_of 0 0) 10)
-    ∷ proposes 2 20
-    ∷ hears 1 2 None (Prepare 0 (round_of 0 2) (PaxosV None 20))
+    proposal_call 0 10
+    ∷ hears_message 1 0 None (Prepare 0 (round_of 0 0) (PaxosV None 10))
+    ∷ hears_message 0 1 None (Prepare 0 (round_of 0 0) (PaxosV None 10))
+    ∷ hears_message 1 0 None (Accept 0 (round_of 0 0) 10)
+    ∷ hears_message 0 1 None (Accept 0 (round_of 0 0) 10)
+    ∷ proposal_call 2 20
+    ∷ hears_message 1 2 None (Prepare 0 (round_of 0 2) (PaxosV None 20))
     ∷ []
 
 pub engine_sends : sent_of (entries_by engine (begun (three Paxos)) [] promised)
@@ -134,7 +135,7 @@ unfolding in_runs
 engine_sends = refl
 
 -- in MultiPaxos the first leader asks for accepts at once
-pub engine_proposes : sent_of (entries_by engine (begun (three MultiPaxos)) [] (proposes 0 10 ∷ [])) ≡ (sends_one 0 to_all (Accept 0 (round_of 0 0) 10) ∷ [])
+pub engine_proposes : sent_of (entries_by engine (begun (three MultiPaxos)) [] (proposal_call 0 10 ∷ [])) ≡ (sends_one 0 to_all (Accept 0 (round_of 0 0) 10) ∷ [])
 unfolding in_runs
 engine_proposes = refl
 
@@ -164,13 +165,13 @@ reads_left shard = open_reads shard.state.rounds.core.tracker shard.state.table
 
 -- with a new read a proposer holds what it held, and its fast half is as new
 abbrev proposed_and_read : List MemberCall
-proposed_and_read = proposes 0 10 ∷ opens 0 7 0 ∷ []
+proposed_and_read = proposal_call 0 10 ∷ opens 0 7 0 ∷ []
 
 pub engine_holds : (left_of proposed_and_read).state.rounds.core.paxos.max_rv ≡ Some (PaxosV None 10)
 unfolding in_runs
 engine_holds = refl
 
-pub engine_leaves_fast_half : (left_of (proposes 0 10 ∷ [])).state.rounds.fast ≡ no_answers
+pub engine_leaves_fast_half : (left_of (proposal_call 0 10 ∷ [])).state.rounds.fast ≡ no_answers
 unfolding in_runs
 engine_leaves_fast_half = refl
 
@@ -180,13 +181,13 @@ unfolding in_runs
 engine_opens = refl
 
 -- in a group of one a commit serves both in that order
-pub engine_serves : served_ids (served_by (engine (shards_by engine (begun alone) two_reads 0) (hears 0 0 None (Commit 0 10)).call)) ≡ (0 ∷ 1 ∷ [])
+pub engine_serves : served_ids (served_by_call (engine (shards_by engine (begun alone_settings) two_reads 0) (hears_message 0 0 None (Commit 0 10)).call)) ≡ (0 ∷ 1 ∷ [])
 unfolding in_runs
 engine_serves = refl
 
 -- of three processes 0 and 1 are live: 2 answers 0 all the same, and is not counted
 pub engine_counts_live :
-    (shards_by engine (begun (paxos_group 3 3)) (proposes 0 10 ∷ hears 0 2 None (Prepare 0 (round_of 0 0) (PaxosV None 10)) ∷ []) 0).state.rounds.core.paxos.prepared_set
+    (shards_by engine (begun (paxos_group 3 3)) (proposal_call 0 10 ∷ hears_message 0 2 None (Prepare 0 (round_of 0 0) (PaxosV None 10)) ∷ []) 0).state.rounds.core.paxos.prepared_set
     ≡ 1
 unfolding in_runs
 engine_counts_live = refl

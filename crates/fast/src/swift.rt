@@ -7,7 +7,7 @@ ghost use Rattle.fast.specs.swift.Swift.{swift_commits, after_swift_answer, swif
 use basics::tables::PerProcess;
 use fast_state::{FastAnswers, FastChange};
 use message::{PaxosRound, Refusal, RoundV};
-use steps::{Asked, ChangeStep, Core, CoreStep, Heard, Messages};
+use steps::{Asked, ChangeStep, Core, CoreStep, Heard, SentMessages};
 
 // asked, heard and round are parameters of their own, as in classic::accept and classic::prepare, whose functions are called with them: a struct of the three
 // would be taken apart in each contract (classic::accept tells of a trial).
@@ -207,7 +207,7 @@ fn after_replica_answer(
     round: PaxosRound,
     v: u64,
     core: Core,
-    messages: Messages,
+    messages: SentMessages,
     answers: FastAnswers,
 ) -> CoreStep
     ensures { result ≡ after_replica_answer asked heard round v core messages answers }
@@ -226,7 +226,7 @@ pub fn swift_answered_accept(
     round: PaxosRound,
     v: u64,
     core: Core,
-    messages: Messages,
+    messages: SentMessages,
     answers: FastAnswers,
     scores: &PerProcess,
 ) -> Result<ChangeStep, Refusal>

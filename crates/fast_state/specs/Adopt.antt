@@ -23,11 +23,11 @@ best_below proposers score zero = record { score = 0; proposer = None }
 best_below proposers score (suc p) = better (best_below proposers score p) (contains proposers p) (score p) p
 
 -- how one of the best proposers is chosen, by the answers and the score of each
-abbrev pub Choice : Type 0
-Choice = FastAnswers → (ℕ → ℕ) → Option ℕ
+abbrev pub ProposerChoice : Type 0
+ProposerChoice = FastAnswers → (ℕ → ℕ) → Option ℕ
 
 -- ours: the lowest of the best proposers
-abbrev pub lowest_best : Choice
+abbrev pub lowest_best : ProposerChoice
 lowest_best f score = (best_below f.fast_proposers score 64).proposer
 
 -- best_v: the value of the chosen proposer
@@ -51,7 +51,7 @@ score_in (SwiftScored proposer v score) table p = look_up table p
 
 -- `epaxos_try_adopt` "needs a majority of answers and two proposers"; it asserts that the own proposal is there. The choice among the best
 -- proposers is a parameter.
-unfoldable pub epaxos_try_adopt : Choice → Member → FastAnswers → (ℕ → ℕ) → (ℕ → ℕ) → Result (Option ℕ) Refusal
+unfoldable pub epaxos_try_adopt : ProposerChoice → Member → FastAnswers → (ℕ → ℕ) → (ℕ → ℕ) → Result (Option ℕ) Refusal
 epaxos_try_adopt choose me f value score =
     cond (contains f.fast_proposers me.my_pid)
     (cond (ltb (size f.fast_answer_set) me.quorums.majority) (Ok None)
@@ -59,6 +59,6 @@ epaxos_try_adopt choose me f value score =
     (Err Panic)
 
 -- epaxos_try_adopt of the state once the change is made
-abbrev pub epaxos_try_adopt_after : Choice → Member → FastChange → List ℕ → List ℕ → Result (Option ℕ) Refusal
+abbrev pub epaxos_try_adopt_after : ProposerChoice → Member → FastChange → List ℕ → List ℕ → Result (Option ℕ) Refusal
 epaxos_try_adopt_after choose me change values scores =
     epaxos_try_adopt choose me change.answers (value_in change.entry values) (score_in change.entry scores)

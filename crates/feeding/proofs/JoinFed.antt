@@ -3,41 +3,37 @@
 -- Assumes nothing.
 use Rattle.std.proofs.Common.{◌≡◌, sym, subst, inl, inr, ℕ, ◌≤◌, true, get_or, Option, Ok, arith}
 use Rattle.group_register.specs.Settings.{is_made}
-use Rattle.group_register.specs.declared.GroupRegister.{GroupRegister}
 use Rattle.catch_up.specs.Causes.{CommitList, ListTooLarge}
 use Rattle.catch_up.specs.Joining.{handed_back, Joins}
 use Rattle.catch_up.specs.declared.JoinRefusal.{JoinRefusal}
 use Rattle.catch_up.specs.declared.JoinRefusal.TheVariants.{NumberTooLarge, OutsideLimits, Gap, TwoValues}
 use Rattle.catch_up.proofs.Exact.{JoinOf}
 use Rattle.catch_up.proofs.Calls.{hands_join, hands_fitting}
-use Rattle.feeding.specs.Feeding.{FedList, SameLengths, fed_commits, feeding}
+use Rattle.feeding.specs.Feeding.{CommitRegister, SameLengths, feeding}
 use Rattle.feeding.specs.FeedCauses.{OutsideFed, FeedCause}
 use Rattle.feeding.specs.declared.FirstRefused.{FirstRefused}
 use Rattle.feeding.proofs.FeedNumbers.{fed_otherwise}
 
-module _ (a b places after : CommitList) (count : ℕ) (call : Joins a b places after (Ok count)) (l : FedList) (commits : fed_commits l ≡ handed_back count after)
-    (long : SameLengths l) where
-  join : JoinOf a b (fed_commits l)
+module _ {R L E W : Type 0} (k : CommitRegister R L E W) (a b places after : CommitList) (count : ℕ) (call : Joins a b places after (Ok count)) (l : L)
+    (commits : k.commits l ≡ handed_back count after) (long : SameLengths k l) where
+  join : JoinOf a b (k.commits l)
   join = subst (JoinOf a b) (sym commits) (hands_join a b places after count call)
 
-  fits : ListTooLarge (fed_commits l) → ⊥
+  fits : ListTooLarge (k.commits l) → ⊥
   fits t = hands_fitting a b places after count call (subst ListTooLarge commits t)
 
-  inside : OutsideFed l → ⊥
+  inside : OutsideFed k l → ⊥
   inside (inl many) = omega (arith, many, join.few)
   inside (inr (inl values)) = values join.same
-  inside (inr (inr (inl kinds))) = kinds (sym long.kinds)
-  inside (inr (inr (inr (inl cells)))) = cells (sym long.cells)
-  inside (inr (inr (inr (inr (inl carriers))))) = carriers (sym long.carriers)
-  inside (inr (inr (inr (inr (inr (inl widths)))))) = widths (sym long.widths)
-  inside (inr (inr (inr (inr (inr (inr slots)))))) = slots join.consecutive
+  inside (inr (inr (inl lengths))) = lengths long
+  inside (inr (inr (inr slots))) = slots join.consecutive
 
-  no_cause : (g : GroupRegister) → get_or l.slots 0 0 ≤ g.register.next_slot → (why : JoinRefusal) → FeedCause why g l → ⊥
-  no_cause g begins NumberTooLarge c = fits c
-  no_cause g begins OutsideLimits c = inside c
-  no_cause g begins Gap c = omega (arith, c.1)
-  no_cause g begins TwoValues c = c
+  no_cause : (r : R) → get_or (k.commits l).slots 0 0 ≤ (k.group r).register.next_slot → (why : JoinRefusal) → FeedCause k why r l → ⊥
+  no_cause r begins NumberTooLarge c = fits c
+  no_cause r begins OutsideLimits c = inside c
+  no_cause r begins Gap c = omega (arith, c.1)
+  no_cause r begins TwoValues c = c
 
-  pub join_fed : (g : GroupRegister) → is_made g.settings ≡ true → get_or l.slots 0 0 ≤ g.register.next_slot
-      → (first : Option FirstRefused) × ((feeding g l).answer ≡ Ok first)
-  join_fed g made begins = (fed_otherwise g l made).1 (no_cause g begins)
+  pub join_fed : (r : R) → is_made (k.group r).settings ≡ true → get_or (k.commits l).slots 0 0 ≤ (k.group r).register.next_slot
+      → (first : Option (FirstRefused W)) × ((feeding k r l).answer ≡ Ok first)
+  join_fed r made begins = (fed_otherwise k r l made).1 (no_cause r begins)

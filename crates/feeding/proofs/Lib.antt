@@ -3,4 +3,6 @@ pub mod FeedTurns
 pub mod FeedLaws
 pub mod FeedNumbers
 pub mod JoinFed
+pub mod FedBelow
 pub mod FeedExamples
+pub mod PlacedExample

@@ -2,33 +2,28 @@
 -- register that is made gives each number exactly here.
 -- Assumes nothing.
 use Rattle.std.specs.Prelude.{◌≡◌, ◌⊎◌, ◌<◌, length, get_or}
-use Rattle.group_register.specs.declared.GroupRegister.{GroupRegister}
 use Rattle.catch_up.specs.Causes.{Consecutive, ListTooLarge}
 use Rattle.catch_up.specs.declared.JoinRefusal.{JoinRefusal}
 use Rattle.catch_up.specs.declared.JoinRefusal.TheVariants.{NumberTooLarge, OutsideLimits, Gap, TwoValues}
-use Rattle.feeding.specs.Feeding.{FedList, fed_commits}
+use Rattle.feeding.specs.Feeding.{CommitRegister, SameLengths}
 
--- 18: "more than 4,096 entries in a list (8,192 in the one fed) or slots not consecutive within it"; slices of unequal length
-abbrev pub OutsideFed : FedList → Type 0
-OutsideFed l =
-    (8192 < length l.slots)
-    ⊎ ((length l.slots ≡ length l.values → ⊥)
-    ⊎ ((length l.slots ≡ length l.kinds → ⊥)
-    ⊎ ((length l.slots ≡ length l.cells → ⊥)
-    ⊎ ((length l.slots ≡ length l.carriers → ⊥)
-    ⊎ ((length l.slots ≡ length l.widths → ⊥)
-    ⊎ (Consecutive l.slots → ⊥))))))
+module _ {R L E W : Type 0} (k : CommitRegister R L E W) where
+  -- 18: "more than 4,096 entries in a list (8,192 in the one fed) or slots not consecutive within it"; slices of unequal length
+  abbrev pub OutsideFed : L → Type 0
+  OutsideFed l =
+      (8192 < length (k.commits l).slots)
+      ⊎ ((length (k.commits l).slots ≡ length (k.commits l).values → ⊥) ⊎ ((SameLengths k l → ⊥) ⊎ (Consecutive (k.commits l).slots → ⊥)))
 
--- 19: "where it begins past that", the slot after the last one seen. 20 is none of a single list's.
-abbrev pub FeedCause : JoinRefusal → GroupRegister → FedList → Type 0
-FeedCause NumberTooLarge g l = ListTooLarge (fed_commits l)
-FeedCause OutsideLimits g l = OutsideFed l
-FeedCause Gap g l = (0 < length l.slots) × (g.register.next_slot < get_or l.slots 0 0)
-FeedCause TwoValues g l = ⊥
+  -- 19: "where it begins past that", the slot after the last one seen. 20 is none of a single list's.
+  abbrev pub FeedCause : JoinRefusal → R → L → Type 0
+  FeedCause NumberTooLarge r l = ListTooLarge (k.commits l)
+  FeedCause OutsideLimits r l = OutsideFed l
+  FeedCause Gap r l = (0 < length (k.commits l).slots) × ((k.group r).register.next_slot < get_or (k.commits l).slots 0 0)
+  FeedCause TwoValues r l = ⊥
 
--- "in that order, after 2"
-abbrev pub NoneBeforeFeed : JoinRefusal → GroupRegister → FedList → Type 0
-NoneBeforeFeed NumberTooLarge g l = Unit {0}
-NoneBeforeFeed OutsideLimits g l = FeedCause NumberTooLarge g l → ⊥
-NoneBeforeFeed Gap g l = (FeedCause NumberTooLarge g l → ⊥) × (FeedCause OutsideLimits g l → ⊥)
-NoneBeforeFeed TwoValues g l = ⊥
+  -- "in that order, after 2"
+  abbrev pub NoneBeforeFeed : JoinRefusal → R → L → Type 0
+  NoneBeforeFeed NumberTooLarge r l = Unit {0}
+  NoneBeforeFeed OutsideLimits r l = FeedCause NumberTooLarge r l → ⊥
+  NoneBeforeFeed Gap r l = (FeedCause NumberTooLarge r l → ⊥) × (FeedCause OutsideLimits r l → ⊥)
+  NoneBeforeFeed TwoValues r l = ⊥

@@ -44,14 +44,14 @@ decoded_outcome n = cond (eqb n 0) (Ok tt) (Err (refusal_by_number n))
 abbrev pub sent_message : FlatMessage → ConsensusMessage
 sent_message f = record { msg = decoded_msg f; src = f.src; last_v = decoded_option f.last_v }
 
-abbrev pub sent_to : Destination → FlatOutgoing → Option Outgoing
-sent_to destination f = Some (record { destination = destination; message = sent_message f.message })
+abbrev pub outgoing_to : Destination → FlatOutgoing → Option Outgoing
+outgoing_to destination f = Some (record { destination = destination; message = sent_message f.message })
 
 -- "To the process `to`, or to every other process, with the one that is served first": CHANBOOK_TO_ONE is 1 and CHANBOOK_TO_ALL 2. CHANBOOK_NO_MESSAGE is 0,
 -- and a host sends nothing for a kind that the header does not name.
 unfoldable pub decoded_outgoing : FlatOutgoing → Option Outgoing
 decoded_outgoing f =
-    cond (eqb f.kind 1) (sent_to (One f.to) f) (cond (eqb f.kind 2) (sent_to (All (decoded_option f.first)) f) None)
+    cond (eqb f.kind 1) (outgoing_to (One f.to) f) (cond (eqb f.kind 2) (outgoing_to (All (decoded_option f.first)) f) None)
 
 -- ---- the commit
 

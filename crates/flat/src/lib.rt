@@ -9,7 +9,7 @@ ghost use Rattle.flat.specs.Encode.{encoded_bool, encoded_outcome, encoded_made,
 
 use basics::tables::PerProcess;
 use calls::CommittedSlot;
-use delivery::{Delivery, Said};
+use calls::delivery::{Delivery, Said};
 use message::{
     ConsensusMessage, ConsensusMsg, Outcome, PFMode, PaxosRound, ReadId, Refusal, RoundV,
 };
@@ -197,14 +197,14 @@ pub fn is_yes(n: u64) -> bool
 
 // A value, a process number or a set, if it is given.
 #[tactic(auto, unfolding(crate::specs::Decode::decoded_option))]
-pub fn decode_option(f: FlatOption) -> Option<u64>
+pub fn decoded_option(f: FlatOption) -> Option<u64>
     ensures { result ≡ decoded_option f }
 {
     if f.given == 0 { None } else { Some(f.n) }
 }
 
 #[tactic(auto, unfolding(crate::specs::Decode::decoded_round))]
-pub fn decode_round(f: FlatRound) -> Option<PaxosRound>
+pub fn decoded_round(f: FlatRound) -> Option<PaxosRound>
     ensures { result ≡ decoded_round f }
 {
     if f.given == 0 {
@@ -217,12 +217,12 @@ pub fn decode_round(f: FlatRound) -> Option<PaxosRound>
 }
 
 #[tactic(auto, unfolding(crate::specs::Decode::decoded_promise))]
-pub fn decode_promise(f: FlatPromise) -> RoundV
+pub fn decoded_promise(f: FlatPromise) -> RoundV
     ensures { result ≡ decoded_promise f }
 {
     if f.fast == 0 {
         return RoundV::PaxosV {
-            accept_round: decode_round(f.accept_round),
+            accept_round: decoded_round(f.accept_round),
             v: f.v,
         };
     }
@@ -233,18 +233,18 @@ pub fn decode_promise(f: FlatPromise) -> RoundV
 }
 
 #[tactic(auto, unfolding(crate::specs::Decode::decoded_held))]
-pub fn decode_held(f: FlatHeld) -> Option<RoundV>
+pub fn decoded_held(f: FlatHeld) -> Option<RoundV>
     ensures { result ≡ decoded_held f }
 {
     if f.given == 0 {
         return None;
     }
-    Some(decode_promise(f.promise))
+    Some(decoded_promise(f.promise))
 }
 
 // The mark of a shard: 0 is made, 17 is 17, and any other is 1, settings outside the limits. A mode that there is not is outside the limits, whatever the mark.
 #[tactic(auto, unfolding(crate::specs::Decode::decoded_made))]
-pub fn decode_made(made: u64, mode: u64) -> Outcome
+pub fn decoded_made(made: u64, mode: u64) -> Outcome
     ensures { result ≡ decoded_made made mode }
 {
     if mode > 5 {
@@ -257,7 +257,7 @@ pub fn decode_made(made: u64, mode: u64) -> Outcome
     }
 }
 
-pub fn decode_settings(f: FlatSettings) -> Settings
+pub fn decoded_settings(f: FlatSettings) -> Settings
     ensures { result ≡ decoded_settings f }
 {
     let delegates = f.delegates;
@@ -268,18 +268,18 @@ pub fn decode_settings(f: FlatSettings) -> Settings
         alive_replicas: f.alive_replicas,
         first_leader: f.first_leader,
         mode: PFMode::of_number(f.mode),
-        quorum: decode_option(f.quorum),
+        quorum: decoded_option(f.quorum),
         committers: is_yes(f.has_committers).then_some(f.committers),
         delegates,
     }
 }
 
-pub fn decode_core(f: FlatCore) -> Core
+pub fn decoded_core(f: FlatCore) -> Core
     ensures { result ≡ decoded_core f }
 {
     let paxos = PaxosState {
-        round: decode_round(f.round),
-        max_rv: decode_held(f.max_rv),
+        round: decoded_round(f.round),
+        max_rv: decoded_held(f.max_rv),
         prepared_set: f.prepared_set,
         accepted_set: f.accepted_set,
     };
@@ -289,7 +289,7 @@ pub fn decode_core(f: FlatCore) -> Core
     };
     Core {
         slot: f.slot,
-        last_v: decode_option(f.last_v),
+        last_v: decoded_option(f.last_v),
         slot_left_fast_path: is_yes(f.slot_left_fast_path),
         paxos,
         tracker,
@@ -297,7 +297,7 @@ pub fn decode_core(f: FlatCore) -> Core
 }
 
 // What texts has in `flag_number` for lines: neither crate stands on the other, and what both do is `as`.
-pub fn encode_bool(b: bool) -> u64
+pub fn encoded_bool(b: bool) -> u64
     ensures { result ≡ encoded_bool b }
 {
     b as u64
@@ -305,25 +305,25 @@ pub fn encode_bool(b: bool) -> u64
 
 // Done is 0, and a refusal its number. `refusal` of refusals at this type, under the name by which hosts read the flat forms.
 #[tactic(auto, unfolding(crate::specs::Encode::encoded_outcome))]
-pub fn encode_outcome(outcome: Outcome) -> u64
+pub fn encoded_outcome(outcome: Outcome) -> u64
     ensures { result ≡ encoded_outcome outcome }
 {
-    refusals::refusal(outcome)
+    basics::refusals::refusal(outcome)
 }
 
 // The number for which a shard, or the settings of a group, are not made, or 0. A mode that there is not is outside the limits.
 #[tactic(auto, unfolding(crate::specs::Encode::encoded_made))]
-pub fn encode_made(made: Outcome, mode: u64) -> u64
+pub fn encoded_made(made: Outcome, mode: u64) -> u64
     ensures { result ≡ encoded_made made mode }
 {
     if mode <= 5 {
-        return encode_outcome(made);
+        return encoded_outcome(made);
     }
     1
 }
 
 #[tactic(auto, unfolding(crate::specs::Encode::encoded_option))]
-pub fn encode_option(option: Option<u64>) -> FlatOption
+pub fn encoded_option(option: Option<u64>) -> FlatOption
     ensures { result ≡ encoded_option option }
 {
     match option {
@@ -401,14 +401,14 @@ fn encode_held(held: Option<RoundV>) -> FlatHeld
     }
 }
 
-pub fn encode_core(core: Core) -> FlatCore
+pub fn encoded_core(core: Core) -> FlatCore
     ensures { result ≡ encoded_core core }
 {
     let paxos = core.paxos;
     FlatCore {
         slot: core.slot,
-        last_v: encode_option(core.last_v),
-        slot_left_fast_path: encode_bool(core.slot_left_fast_path),
+        last_v: encoded_option(core.last_v),
+        slot_left_fast_path: encoded_bool(core.slot_left_fast_path),
         round: encode_round(paxos.round),
         max_rv: encode_held(paxos.max_rv),
         prepared_set: paxos.prepared_set,
@@ -418,9 +418,9 @@ pub fn encode_core(core: Core) -> FlatCore
     }
 }
 
-// A message of a kind that there is not is read as a ReadRequest, which `decode_source` makes the engine refuse.
+// A message of a kind that there is not is read as a ReadRequest, which `decoded_source` makes the engine refuse.
 #[tactic(auto, unfolding(crate::specs::Decode::decoded_msg))]
-pub fn decode_msg(f: FlatMessage) -> ConsensusMsg
+pub fn decoded_msg(f: FlatMessage) -> ConsensusMsg
     ensures { result ≡ decoded_msg f }
 {
     let round = PaxosRound {
@@ -431,7 +431,7 @@ pub fn decode_msg(f: FlatMessage) -> ConsensusMsg
         PREPARE => ConsensusMsg::Prepare {
             slot: f.slot,
             round,
-            rv: decode_promise(f.rv),
+            rv: decoded_promise(f.rv),
         },
         ACCEPT => ConsensusMsg::Accept {
             slot: f.slot,
@@ -460,7 +460,7 @@ pub fn is_known(kind: u64) -> bool
 
 // The source of a message. One of a kind that there is not counts as the member's own: a ReadRequest of its own is refused with 8, after 2 and 3.
 #[tactic(auto, unfolding(crate::specs::Decode::decoded_source))]
-pub fn decode_source(process_count: u64, own: u64, f: FlatMessage) -> u64
+pub fn decoded_source(process_count: u64, own: u64, f: FlatMessage) -> u64
     ensures { result ≡ decoded_source process_count own f }
 {
     if is_known(f.kind) {
@@ -476,24 +476,24 @@ fn decode_message(process_count: u64, own: u64, f: FlatMessage) -> ConsensusMess
     ensures { result ≡ decoded_message process_count own f }
 {
     ConsensusMessage {
-        msg: decode_msg(f),
-        src: decode_source(process_count, own, f),
-        last_v: decode_option(f.last_v),
+        msg: decoded_msg(f),
+        src: decoded_source(process_count, own, f),
+        last_v: decoded_option(f.last_v),
     }
 }
 
-pub fn decode_delivery(process_count: u64, own: u64, f: FlatCall) -> Delivery
+pub fn decoded_delivery(process_count: u64, own: u64, f: FlatCall) -> Delivery
     ensures { result ≡ decoded_delivery process_count own f }
 {
     let said = Said {
         value_held: is_yes(f.value_held),
-        requester: decode_option(f.requester),
+        requester: decoded_option(f.requester),
         fast: is_yes(f.fast),
     };
     Delivery {
         message: decode_message(process_count, own, f.message),
         said,
-        held_requester: decode_option(f.held_requester),
+        held_requester: decoded_option(f.held_requester),
     }
 }
 
@@ -570,7 +570,7 @@ fn encode_message(message: ConsensusMessage) -> FlatMessage
 {
     FlatMessage {
         src: message.src,
-        last_v: encode_option(message.last_v),
+        last_v: encoded_option(message.last_v),
         ..encode_msg(message.msg)
     }
 }
@@ -589,14 +589,14 @@ fn encode_to(destination: Destination, message: FlatMessage) -> FlatOutgoing
         Destination::All(first) => FlatOutgoing {
             kind: TO_ALL,
             to: 0,
-            first: encode_option(first),
+            first: encoded_option(first),
             message,
         },
     }
 }
 
 #[tactic(auto, unfolding(crate::specs::Encode::encoded_outgoing))]
-pub fn encode_outgoing(message: Option<Outgoing>) -> FlatOutgoing
+pub fn encoded_outgoing(message: Option<Outgoing>) -> FlatOutgoing
     ensures { result ≡ encoded_outgoing message }
 {
     match message {
@@ -611,7 +611,7 @@ pub fn encode_outgoing(message: Option<Outgoing>) -> FlatOutgoing
 }
 
 #[tactic(auto, unfolding(crate::specs::Encode::encoded_commit))]
-pub fn encode_commit(commit: Option<CommittedSlot>) -> FlatCommit
+pub fn encoded_commit(commit: Option<CommittedSlot>) -> FlatCommit
     ensures { result ≡ encoded_commit commit }
 {
     match commit {
@@ -625,7 +625,7 @@ pub fn encode_commit(commit: Option<CommittedSlot>) -> FlatCommit
             given: 1,
             slot,
             v,
-            fast: encode_bool(fast),
+            fast: encoded_bool(fast),
         },
     }
 }

@@ -40,7 +40,7 @@ use Rattle.calls.specs.declared.Call.TheVariants.{Propose, StartRead, Receive}
 use Rattle.consensus.specs.declared.Shard.{Shard}
 use Rattle.steps.specs.declared.Destination.{Destination}
 use Rattle.steps.specs.declared.Destination.TheVariants.{One, All}
-use Rattle.steps.specs.declared.Messages.{Messages}
+use Rattle.steps.specs.declared.SentMessages.{SentMessages}
 use Rattle.steps.specs.declared.Outgoing.{Outgoing}
 use Rattle.agreement.specs.Engine.{CallKind, LogEvent, EngineClaim, LegalCalls, SentInRun, log_with_commit, log_with_proposal, empty_run, run_of_calls, run_with_call}
 use Rattle.basics.specs.Lists.{In}
@@ -51,11 +51,11 @@ use Rattle.agreement.specs.Refinement.{SetupRules, Refines, AsModel}
 use Rattle.agreement.specs.Voting.{VotersRules}
 use Rattle.agreement.proofs.Refinement.{refines_claim}
 use Rattle.agreement.proofs.Tests.{is_true}
-use Rattle.group.specs.Claim.{member_settings, begun, PicksBest, Choices, later_choices, ours, MemberCall, Entry, entry_of, after_call, entries_from, entries_with, entries, listed, messages_of, Reaches, SentTo, WasSent, MayStand, LegalFrom, LegalWith, Legal, At, plus_commit, slot_at, Proposed, Claim, NotSwift}
-use Rattle.group.proofs.Calls.{is_done, decision_of, seen_answer, ChosenCall, engine_of, view_shard, refuse_as_model, kind_of, begins_seen, Valid, call_ok}
+use Rattle.group.specs.Claim.{member_settings, begun, PicksBest, ProposerChoices, later_choices, ours, MemberCall, Entry, entry_of, after_call, entries_from, entries_with, entries, listed, messages_of, Reaches, SentTo, WasSent, MayStand, LegalFrom, LegalWith, Legal, At, plus_commit, slot_at, Proposed, Claim, NotSwift, LegalMade, entries_made}
+use Rattle.group.proofs.Calls.{is_done, model_decision_of, seen_answer, ChosenCall, engine_of, view_shard, refuse_as_model, kind_of, begins_seen, Valid, call_ok}
 use Rattle.group.proofs.Invariants.{begun_lasts}
 use Rattle.group.proofs.Ties.{lowest_picks_best}
-use Rattle.group.proofs.View.{round_number, leader_of, is_e_paxos, no_member, meaning_of, reached, destination_of, envelope, envelopes_of, envelopes, setup_of}
+use Rattle.group.proofs.View.{round_number, leader_of, is_e_paxos, no_member, meaning_of, reached, destination_of, envelope, envelopes_of, envelopes, model_setup_of}
 
 -- ---- the setup of a group
 
@@ -108,7 +108,7 @@ no_fast_quorum : (f : ℕ → Bool) (b : Bool) (q : ℕ) → T (not b) → count
 no_fast_quorum f true q t = absurd t
 no_fast_quorum f false q t = let le = count_le f 64 in omega arith
 
-voters_rules : (s : Settings) → within_limits (member_settings s 0) ≡ true → VotersRules (setup_of s).voters
+voters_rules : (s : Settings) → within_limits (member_settings s 0) ≡ true → VotersRules (model_setup_of s).voters
 unfolding size
 voters_rules s limits =
     let counts = within_counts (member_settings s 0) limits in
@@ -126,7 +126,7 @@ voters_rules s limits =
       no_fast = no_fast_quorum (contains s.alive_replicas) (is_e_paxos s.mode) (quorums_of s).epaxos;
     }
 
-pub setup_rules : (s : Settings) → within_limits (member_settings s 0) ≡ true → SetupRules (setup_of s)
+pub setup_rules : (s : Settings) → within_limits (member_settings s 0) ≡ true → SetupRules (model_setup_of s)
 setup_rules s limits =
     record {
       starts_in_round = starts_in_round_lem s.mode s.first_leader;
@@ -139,12 +139,12 @@ setup_rules s limits =
 abbrev unmade_setup : Settings → ModelSetup
 unmade_setup s =
     record {
-      voters = record { count = 64; quorum = 65; fast_path = false; fast_quorum = 65; start = (setup_of s).voters.start; live = model.empty; delegate = (setup_of s).voters.delegate };
-      leader = (setup_of s).leader;
-      own_round = (setup_of s).own_round;
-      starts_led = (setup_of s).starts_led;
-      three_phases = (setup_of s).three_phases;
-      committer = (setup_of s).committer;
+      voters = record { count = 64; quorum = 65; fast_path = false; fast_quorum = 65; start = (model_setup_of s).voters.start; live = model.empty; delegate = (model_setup_of s).voters.delegate };
+      leader = (model_setup_of s).leader;
+      own_round = (model_setup_of s).own_round;
+      starts_led = (model_setup_of s).starts_led;
+      three_phases = (model_setup_of s).three_phases;
+      committer = (model_setup_of s).committer;
     }
 
 unmade_rules : (s : Settings) → SetupRules (unmade_setup s)
@@ -194,11 +194,11 @@ limits_same s i l =
 
 -- ---- the engine refines the model
 
-begun_view : (s : Settings) (i : ℕ) → view_shard (begun s i) ≡ model.initial (setup_of s).voters.start
+begun_view : (s : Settings) (i : ℕ) → view_shard (begun s i) ≡ model.model_initial (model_setup_of s).voters.start
 unfolding new_shard
 begun_view s i = λ z. record {
   slot = 0;
-  round = (setup_of s).voters.start;
+  round = (model_setup_of s).voters.start;
   holds = false;
   held_round = 0;
   held_proposer = 0;
@@ -212,7 +212,7 @@ pub begun_valid : (s : Settings) (i : ℕ) → Valid s i (begun s i)
 unfolding new_shard
 begun_valid s i = record { own_settings = refl; lasting = begun_lasts (member_settings s i) }
 
-made_refines : (s : Settings) → NotSwift s.mode → Refines (setup_of s) (engine_of s)
+made_refines : (s : Settings) → NotSwift s.mode → Refines (model_setup_of s) (engine_of s)
 made_refines s claimed =
     record {
       view = view_shard;
@@ -252,7 +252,7 @@ log_claim s claimed cs legal = go (either (within_limits (member_settings s 0)))
   where
     go : (within_limits (member_settings s 0) ≡ true) ⊎ (within_limits (member_settings s 0) ≡ false)
         → EngineClaim (run_of_calls (engine_of s) (empty_run (engine_of s)) cs).log
-    go (inl e) = refines_claim (setup_of s) (setup_rules s e) (engine_of s) (made_refines s claimed) cs legal
+    go (inl e) = refines_claim (model_setup_of s) (setup_rules s e) (engine_of s) (made_refines s claimed) cs legal
     go (inr e) = refines_claim (unmade_setup s) (unmade_rules s) (engine_of s) (unmade_refines s e) cs legal
 
 -- ---- from the entries of a run to the engine's log
@@ -264,25 +264,25 @@ sent_of (e ∷ past) = engine.sent_with e.member (envelopes e.reply.messages) (s
 
 abbrev log_of : List Entry → List LogEvent
 log_of [] = []
-log_of (e ∷ past) = log_with_commit e.member (decision_of e.reply.commit) (log_with_proposal e.member (kind_of e.call) (is_done e.reply.outcome) (log_of past))
+log_of (e ∷ past) = log_with_commit e.member (model_decision_of e.reply.commit) (log_with_proposal e.member (kind_of e.call) (is_done e.reply.outcome) (log_of past))
 
 abbrev run_at : (ℕ → Shard) → List Entry → engine.Run Shard ConsensusMessage
 run_at shards past = record { shards = shards; sent = sent_of past; log = log_of past }
 
 -- the calls of a list, each with the choice for its place
-abbrev chosen : (choices : Choices) → ((place : ℕ) → PicksBest (choices place)) → List MemberCall → List ChosenCall
+abbrev chosen : (choices : ProposerChoices) → ((place : ℕ) → PicksBest (choices place)) → List MemberCall → List ChosenCall
 chosen choices best [] = []
 chosen choices best (c ∷ cs) = record { of_member = c; choose = choices 0; picks_best = best 0 } ∷ chosen (later_choices choices) (λ place. best (suc place)) cs
 
-run_log : (s : Settings) (choices : Choices) (best : (place : ℕ) → PicksBest (choices place)) (shards : ℕ → Shard) (past : List Entry) (cs : List MemberCall)
+run_log : (s : Settings) (choices : ProposerChoices) (best : (place : ℕ) → PicksBest (choices place)) (shards : ℕ → Shard) (past : List Entry) (cs : List MemberCall)
     → (run_of_calls (engine_of s) (run_at shards past) (chosen choices best cs)).log ≡ log_of (entries_from choices shards past cs)
-unfolding entries_from run_of_calls run_with_call
+unfolding entries_made run_of_calls run_with_call
 run_log s choices best shards past [] = refl
 run_log s choices best shards past (c ∷ cs) =
     run_log s (later_choices choices) (λ place. best (suc place)) (after_call (choices 0) shards c) (entry_of (choices 0) shards c ∷ past) cs
 
 -- a message that an entry handed back was sent
-in_envelopes : (o : Outgoing) (ms : Messages) → In o (messages_of ms) → In (envelope o) (envelopes ms)
+in_envelopes : (o : Outgoing) (ms : SentMessages) → In o (messages_of ms) → In (envelope o) (envelopes ms)
 in_envelopes o ms m = first ms.first ms.second ms.third m
   where
     third : (c : Option Outgoing) → In o (listed c []) → In (envelope o) (envelopes_of c [])
@@ -343,9 +343,9 @@ was_sent past message member w = by_kind message.msg sent w.6
     by_kind (ReadResponse id next) h t = by_destination w.1.destination h t
 
 -- a legal list is one of the engine's
-legal_run : (s : Settings) (choices : Choices) (best : (place : ℕ) → PicksBest (choices place)) (shards : ℕ → Shard) (past : List Entry) (cs : List MemberCall)
+legal_run : (s : Settings) (choices : ProposerChoices) (best : (place : ℕ) → PicksBest (choices place)) (shards : ℕ → Shard) (past : List Entry) (cs : List MemberCall)
     → LegalFrom s.process_count choices shards past cs → LegalCalls (engine_of s) (run_at shards past) (chosen choices best cs)
-unfolding LegalFrom LegalCalls run_with_call
+unfolding LegalMade LegalCalls run_with_call
 legal_run s choices best shards past [] l = tt
 legal_run s choices best shards past (c ∷ cs) l = (
   l.0,
@@ -377,7 +377,7 @@ slots_same member (e ∷ past) = commit e.reply.commit (slots_same member past �
 
     commit : (c : Option CommittedSlot) → slot_at member past ≡ engine.commits_by member (log_with_proposal e.member (kind_of e.call) (is_done e.reply.outcome) (log_of past))
         → cond (eqb member e.member) (plus_commit c (slot_at member past)) (slot_at member past)
-        ≡ engine.commits_by member (log_with_commit e.member (decision_of c) (log_with_proposal e.member (kind_of e.call) (is_done e.reply.outcome) (log_of past)))
+        ≡ engine.commits_by member (log_with_commit e.member (model_decision_of c) (log_with_proposal e.member (kind_of e.call) (is_done e.reply.outcome) (log_of past)))
     commit None rest = same (eqb member e.member) ∙ rest
     commit (Some c) rest = ap (λ (n : ℕ). cond (eqb member e.member) (suc n) n) rest
 
@@ -395,7 +395,7 @@ claim_before_commit i (model.decided s v) l c = c.3
 claim_before : (e : Entry) (past : List Entry) → EngineClaim (log_of (e ∷ past)) → EngineClaim (log_of past)
 claim_before e past c =
     claim_before_proposal e.member (kind_of e.call) (is_done e.reply.outcome) (log_of past)
-    (claim_before_commit e.member (decision_of e.reply.commit) (log_with_proposal e.member (kind_of e.call) (is_done e.reply.outcome) (log_of past)) c)
+    (claim_before_commit e.member (model_decision_of e.reply.commit) (log_with_proposal e.member (kind_of e.call) (is_done e.reply.outcome) (log_of past)) c)
 
 -- so the claim holds of the log up to each entry
 claim_at : (e : Entry) (earlier run : List Entry) → At e earlier run → EngineClaim (log_of run) → EngineClaim (log_of (e ∷ earlier))
@@ -421,11 +421,11 @@ in_log e earlier (x ∷ xs) slot v fast (inl d) c =
     subst (λ (y : Entry). In (engine.committed e.member slot v) (log_of (y ∷ xs))) d.0
     (subst
     (λ (o : Option CommittedSlot).
-    In (engine.committed e.member slot v) (log_with_commit e.member (decision_of o) (log_with_proposal e.member (kind_of e.call) (is_done e.reply.outcome) (log_of xs))))
+    In (engine.committed e.member slot v) (log_with_commit e.member (model_decision_of o) (log_with_proposal e.member (kind_of e.call) (is_done e.reply.outcome) (log_of xs))))
     (sym c)
     (inl refl))
 in_log e earlier (x ∷ xs) slot v fast (inr h) c =
-    in_commit (engine.committed e.member slot v) x.member (decision_of x.reply.commit) (log_with_proposal x.member (kind_of x.call) (is_done x.reply.outcome) (log_of xs))
+    in_commit (engine.committed e.member slot v) x.member (model_decision_of x.reply.commit) (log_with_proposal x.member (kind_of x.call) (is_done x.reply.outcome) (log_of xs))
     (in_proposal (engine.committed e.member slot v) x.member (kind_of x.call) (is_done x.reply.outcome) (log_of xs) (in_log e earlier xs slot v fast h c))
 
 -- two commits of one slot in a log have one value
@@ -462,7 +462,7 @@ proposal_entry (e ∷ past) j s v h = commit e.reply.commit (λ (k : In (engine.
     proposed (Receive d) ec o eo rest k = later (rest k)
 
     commit : (c : Option CommittedSlot) → (In (engine.proposal j s v) (log_of past) → Proposed s v past)
-        → In (engine.proposal j s v) (log_with_commit e.member (decision_of c) (log_with_proposal e.member (kind_of e.call) (is_done e.reply.outcome) (log_of past))) → Proposed s v (e ∷ past)
+        → In (engine.proposal j s v) (log_with_commit e.member (model_decision_of c) (log_with_proposal e.member (kind_of e.call) (is_done e.reply.outcome) (log_of past))) → Proposed s v (e ∷ past)
     commit None rest k = proposed e.call refl e.reply.outcome refl rest k
     commit (Some c) rest (inl d) = absurd (let z : ◌≡◌ {A = ℕ} 0 1 = cc in omega arith)
     commit (Some c) rest (inr k) = proposed e.call refl e.reply.outcome refl rest k
@@ -471,14 +471,14 @@ proposal_entry (e ∷ past) j s v h = commit e.reply.commit (λ (k : In (engine.
 commit_proposed : (e : Entry) (earlier : List Entry) (slot v : ℕ) (fast : Bool) → e.reply.commit ≡ committed_slot slot v fast → EngineClaim (log_of (e ∷ earlier)) → Proposed slot v (e ∷ earlier)
 commit_proposed e earlier slot v fast c claim =
     let l = log_with_proposal e.member (kind_of e.call) (is_done e.reply.outcome) (log_of earlier) in
-    let k = subst (λ (o : Option CommittedSlot). EngineClaim (log_with_commit e.member (decision_of o) l)) c claim in
-    proposal_entry (e ∷ earlier) k.1.0 slot v (in_commit (engine.proposal k.1.0 slot v) e.member (decision_of e.reply.commit) l k.1.1)
+    let k = subst (λ (o : Option CommittedSlot). EngineClaim (log_with_commit e.member (model_decision_of o) l)) c claim in
+    proposal_entry (e ∷ earlier) k.1.0 slot v (in_commit (engine.proposal k.1.0 slot v) e.member (model_decision_of e.reply.commit) l k.1.1)
 
 -- a commit is of its member's slot
 commit_slot_lem : (e : Entry) (earlier : List Entry) (slot v : ℕ) (fast : Bool) → e.reply.commit ≡ committed_slot slot v fast → EngineClaim (log_of (e ∷ earlier)) → slot ≡ slot_at e.member earlier
 commit_slot_lem e earlier slot v fast c claim =
     let l = log_with_proposal e.member (kind_of e.call) (is_done e.reply.outcome) (log_of earlier) in
-    let k = subst (λ (o : Option CommittedSlot). EngineClaim (log_with_commit e.member (decision_of o) l)) c claim in
+    let k = subst (λ (o : Option CommittedSlot). EngineClaim (log_with_commit e.member (model_decision_of o) l)) c claim in
     k.0 ∙ proposal_slots e.member e.member (kind_of e.call) (is_done e.reply.outcome) (log_of earlier) ∙ sym (slots_same e.member earlier)
 
 claim_of : (run : List Entry) → EngineClaim (log_of run) → Claim run
@@ -496,7 +496,7 @@ claim_of run claim =
 -- ---- the theorem
 
 -- In every mode but SwiftPaxos, with every settings, every legal list of calls meets the claim, whichever of the best each adoption takes.
-pub agreement_ties : (s : Settings) → NotSwift s.mode → (choices : Choices) → ((place : ℕ) → PicksBest (choices place)) → (cs : List MemberCall)
+pub agreement_ties : (s : Settings) → NotSwift s.mode → (choices : ProposerChoices) → ((place : ℕ) → PicksBest (choices place)) → (cs : List MemberCall)
     → LegalWith choices s cs → Claim (entries_with choices s cs)
 agreement_ties s claimed choices best cs legal =
     claim_of (entries_with choices s cs)

@@ -13,7 +13,7 @@ use native.Mathlib.Numerals.{add-one}
 use native.Mathlib.Omega.{arith}
 use lib.Dec.{eqb, ltb}
 use borrow.Author.Tests.{ltb-true, ltb-false, eq-eqb}
-use Rattle.basics.proofs.Tests.{either, of-both, not_both}
+use Rattle.basics.proofs.Tests.{of-both, not_both}
 use Rattle.message.specs.Messages.{msg_slot}
 use Rattle.message.specs.Modes.{has_fast_path, is_multi_paxos, is_swift_paxos}
 use Rattle.message.specs.Promises.{value_of, accept_round_of}
@@ -30,7 +30,7 @@ use Rattle.message.specs.declared.Refusal.TheVariants.{NumberTooLarge, NoSuchPro
 use Rattle.message.specs.declared.RoundV.{RoundV}
 use Rattle.message.specs.declared.RoundV.TheVariants.{FastV, PaxosV}
 use Rattle.round_state.specs.Paxos.{get_last_accepted_round}
-use Rattle.fast_state.specs.Adopt.{Choice}
+use Rattle.fast_state.specs.Adopt.{ProposerChoice}
 use Rattle.fast_state.specs.Fast.{answers_of, unchanged, changed, no_answers}
 use Rattle.fast_state.specs.declared.FastState.{FastState}
 use Rattle.settings.specs.Questions.{delegate_of, starting_round_of, delegate_in}
@@ -40,38 +40,39 @@ use Rattle.settings.proofs.Limits.{within_counts, within_members}
 use Rattle.paxos_family.specs.Commit.{commit_slot}
 use Rattle.read_tracker.specs.declared.Inserted.{Inserted}
 use Rattle.classic.specs.accept.Accept.{accepting}
-use Rattle.paxos_family.specs.Process.{on_accept, process_classic, on_fast_prepare, on_fast_accept, process_change, process_fast}
+use Rattle.paxos_family.specs.Process.{on_prepare, on_accept, process_classic, on_fast_prepare, on_fast_accept, process_change, process_fast}
 use Rattle.propose.specs.Propose.{propose_classic, propose_change, propose_fast}
 use Rattle.steps.specs.Steps.{RoundsStep, CoreStep, no_messages, stays, map_step, with_change, on_rounds, change_rounds}
 use Rattle.steps.specs.declared.ChangeStep.{ChangeStep}
 use Rattle.steps.specs.declared.Core.{Core}
 use Rattle.steps.specs.declared.Heard.{Heard}
-use Rattle.steps.specs.declared.Messages.{Messages}
+use Rattle.steps.specs.declared.SentMessages.{SentMessages}
 use Rattle.steps.specs.declared.Next.{Next}
 use Rattle.steps.specs.declared.Next.TheVariants.{Stays, Continues, Commits}
 use Rattle.steps.specs.declared.Rounds.{Rounds}
-use Rattle.delivery.specs.Admit.{is_ahead, other_last_value, value_awaited, ready, admit}
+use Rattle.calls.specs.delivery.Admit.{is_ahead, other_last_value, value_awaited, ready, admit}
 use Rattle.consensus.proofs.Decided.{admission, handled, by_decision, settings_kept}
-use Rattle.consensus.specs.Answers.{nothing, committed, finish_at, finish}
+use Rattle.consensus.specs.Answers.{committed, finish_at, finish}
 use Rattle.consensus.specs.Call.{in_shard, call_with}
 use Rattle.calls.specs.Asked.{gatherer_of, heard_of, gatherer_in}
 use Rattle.calls.specs.Decision.{admission_of}
 use Rattle.consensus.specs.Handle.{on_commit, on_read_request, on_read_response, after_insert, read_inserted, start_read, proposing, processed, process_message, handle, handle_call}
-use Rattle.delivery.specs.Limits.{numbers_fit, processes_fit}
+use Rattle.calls.specs.delivery.Limits.{numbers_fit, processes_fit}
 use Rattle.consensus.specs.declared.Answer.{Answer}
 use Rattle.calls.specs.declared.Call.{Call}
 use Rattle.calls.specs.declared.Call.TheVariants.{Propose, StartRead, Receive}
-use Rattle.delivery.specs.declared.Delivery.{Delivery}
+use Rattle.calls.specs.declared.delivery.Delivery.{Delivery}
 use Rattle.consensus.specs.declared.Shard.{Shard}
 use Rattle.consensus.specs.declared.State.{State}
 use Rattle.consensus.specs.declared.StateAnswer.{StateAnswer}
+use Rattle.agreement.proofs.Tests.{by_both}
 use Rattle.agreement.specs.Engine.{CallKind, proposes, delivers, reads, Engine, EngineAnswer}
-use Rattle.agreement.specs.Model.{View, Answers, quiet, refuse, advanced, ModelSetup, ModelOutcome, model_no_answers, model_on_prepare, model_on_accept, model_on_commit, model_on_propose, model_on_message}
+use Rattle.agreement.specs.Model.{View, ModelAnswers, quiet, model_refused, advanced, ModelSetup, ModelOutcome, model_no_answers, model_on_prepare, model_on_accept, model_on_commit, model_on_propose, model_on_message}
 use Rattle.agreement.specs.Model as model
 use Rattle.agreement.specs.Refinement.{meanings, seen_as_model, AsModel, model_outcome, deliver}
 use Rattle.group.specs.Claim.{member_settings, begun, PicksBest, MemberCall, NotSwift}
 pub use Rattle.group.specs.Steps.{is_done}
-use Rattle.group.proofs.View.{round_number, LeaderIn, LeaderFits, process_number, no_member, meaning_of, meaning_is, proposer_of, is_e_paxos, answers_in, envelopes, view_of, Leaders, setup_of, SeenAs, Follows}
+use Rattle.group.proofs.View.{round_number, LeaderIn, LeaderFits, process_number, no_member, meaning_of, meaning_is, proposer_of, is_e_paxos, model_answers_of, envelopes, view_of, Leaders, model_setup_of, SeenAs, Follows}
 use Rattle.group.proofs.Preparing.{asked_by, same_steps, on_prepare_follows}
 use Rattle.group.proofs.Accepting.{committer_same, on_accept_follows}
 use Rattle.group.proofs.Proposing.{propose_follows}
@@ -87,23 +88,23 @@ kind_of (Propose v) = proposes v
 kind_of (StartRead tag arrival) = reads
 kind_of (Receive d) = delivers d.message.src d.message
 
-abbrev pub decision_of : Option CommittedSlot → model.Decision
-decision_of None = model.undecided
-decision_of (Some commit) = model.decided commit.slot commit.v
+abbrev pub model_decision_of : Option CommittedSlot → model.Decision
+model_decision_of None = model.undecided
+model_decision_of (Some commit) = model.decided commit.slot commit.v
 
 abbrev pub answer_from : Answer → EngineAnswer Shard ConsensusMessage
 answer_from r =
     record {
       shard = r.shard;
       outgoing = envelopes r.reply.messages;
-      decision = decision_of r.reply.commit;
+      decision = model_decision_of r.reply.commit;
       taken = is_done r.reply.outcome;
     }
 
 -- a call of a list, with a choice that takes one of the best
 pub record ChosenCall : Type 0 where
   pub of_member : MemberCall
-  pub choose : Choice
+  pub choose : ProposerChoice
   pub picks_best : PicksBest choose
 
 abbrev pub engine_of : Settings → Engine
@@ -119,15 +120,15 @@ engine_of s =
       initial = begun s;
     }
 
-abbrev pub core_of : Shard → Core
-core_of shard = shard.state.rounds.core
+abbrev pub core_of_shard : Shard → Core
+core_of_shard shard = shard.state.rounds.core
 
 -- the fast half as the model sees it: only EPaxos has one there
-abbrev pub answers_for : PFMode → FastState → Answers
-answers_for mode fast = cond (is_e_paxos mode) (answers_in fast) model_no_answers
+abbrev pub answers_for : PFMode → FastState → ModelAnswers
+answers_for mode fast = cond (is_e_paxos mode) (model_answers_of fast) model_no_answers
 
 abbrev pub view_shard : Shard → View
-view_shard shard = view_of (answers_for shard.settings.mode shard.state.rounds.fast) (core_of shard)
+view_shard shard = view_of (answers_for shard.settings.mode shard.state.rounds.fast) (core_of_shard shard)
 
 abbrev pub seen_answer : Answer → ModelOutcome
 seen_answer r = seen_as_model view_shard meaning_of (answer_from r)
@@ -159,7 +160,7 @@ not_swift EPaxos c = refl
 not_swift Pando c = refl
 not_swift SwiftPaxos c = absurd c
 
-pub no_answers_seen : answers_in no_answers ≡ model_no_answers
+pub no_answers_seen : model_answers_of no_answers ≡ model_no_answers
 no_answers_seen = λ z. record {
   answered = no_member z;
   preaccepted = 0;
@@ -178,15 +179,11 @@ cleared_seen Pando f = refl
 cleared_seen SwiftPaxos f = refl
 
 pub begins_seen : (m : PFMode) → answers_for m no_answers ≡ model_no_answers
-begins_seen m = go (is_e_paxos m)
-  where
-    go : (t : Bool) → cond t (answers_in no_answers) model_no_answers ≡ model_no_answers
-    go true = no_answers_seen
-    go false = refl
+begins_seen m = of-both (λ (a : ModelAnswers). a ≡ model_no_answers) (is_e_paxos m) no_answers_seen refl
 
 -- ---- refusals
 
-pub refuse_as_model : (S : ModelSetup) (i : ℕ) (x : View) (k : CallKind ConsensusMessage) → AsModel meaning_of S i x k (refuse x)
+pub refuse_as_model : (S : ModelSetup) (i : ℕ) (x : View) (k : CallKind ConsensusMessage) → AsModel meaning_of S i x k (model_refused x)
 unfolding model_outcome
 refuse_as_model S i x (proposes v) = (record { allows = false; requester = 0; adoptee = 0 }, refl)
 refuse_as_model S i x (delivers source c) = inl (record { allows = false; requester = 0; adoptee = 0 }, refl)
@@ -196,16 +193,16 @@ refuse_as_model S i x reads = (refl, refl, tt)
 
 -- a step on the rounds is the model's
 record StepFollows (s : Settings) (step : Result RoundsStep Refusal) (r : ModelOutcome) : Type 0 where
-  seen_as : IfOk step (λ x. SeenAs (setup_of s) (answers_for s.mode x.state.fast) x.state.core x.messages x.next r)
+  seen_as : IfOk step (λ x. SeenAs (model_setup_of s) (answers_for s.mode x.state.fast) x.state.core x.messages x.next r)
 
 module _ (s : Settings) (i : ℕ) (made : Outcome) (state : State) where
   -- what is seen of an answer of the member's shard
   abbrev seen_of : StateAnswer → ModelOutcome
   seen_of r = seen_answer (in_shard (shard_of s i made state) r)
 
-  commit_seen : (v : ℕ) (rounds : Rounds) (ms : Messages) → rounds.core.slot < 9223372036854775807
+  commit_seen : (v : ℕ) (rounds : Rounds) (ms : SentMessages) → rounds.core.slot < 9223372036854775807
       → seen_of (committed state (asked_by s i) v rounds ms)
-      ≡ record { view = advanced (setup_of s).voters.start (view_of (answers_for s.mode rounds.fast) rounds.core); outgoing = meanings meaning_of (envelopes ms); decision = model.decided rounds.core.slot v; taken = true }
+      ≡ record { view = advanced (model_setup_of s).voters.start (view_of (answers_for s.mode rounds.fast) rounds.core); outgoing = meanings meaning_of (envelopes ms); decision = model.decided rounds.core.slot v; taken = true }
   unfolding committed commit_slot
   commit_seen v rounds ms l = λ z. record {
     view = record {
@@ -225,13 +222,13 @@ module _ (s : Settings) (i : ℕ) (made : Outcome) (state : State) where
   }
 
   finish_seen : (held : Bool) (step : Result RoundsStep Refusal) (r : ModelOutcome) → StepFollows s step r → IfOk step (λ x. x.state.core.slot < 9223372036854775807)
-      → (seen_of (finish state (asked_by s i) held step) ≡ r) ⊎ (seen_of (finish state (asked_by s i) held step) ≡ refuse (view_shard (shard_of s i made state)))
+      → (seen_of (finish state (asked_by s i) held step) ≡ r) ⊎ (seen_of (finish state (asked_by s i) held step) ≡ model_refused (view_shard (shard_of s i made state)))
   finish_seen held (Err why) r f l = inr refl
   finish_seen held (Ok step) r f l = go step.next held f.seen_as
     where
-      go : (n : Next) (held : Bool) → SeenAs (setup_of s) (answers_for s.mode step.state.fast) step.state.core step.messages n r
+      go : (n : Next) (held : Bool) → SeenAs (model_setup_of s) (answers_for s.mode step.state.fast) step.state.core step.messages n r
           → (seen_of (finish_at state (asked_by s i) held step.state step.messages n) ≡ r)
-          ⊎ (seen_of (finish_at state (asked_by s i) held step.state step.messages n) ≡ refuse (view_shard (shard_of s i made state)))
+          ⊎ (seen_of (finish_at state (asked_by s i) held step.state step.messages n) ≡ model_refused (view_shard (shard_of s i made state)))
       go Stays held e = inl e
       go Continues held e = absurd e
       go (Commits v) true e = inl (commit_seen v step.state step.messages l ∙ e)
@@ -240,11 +237,8 @@ module _ (s : Settings) (i : ℕ) (made : Outcome) (state : State) where
 -- ---- what is known of an admitted message
 
 ready_cond : (b : Bool) (o : Outcome) (why : Refusal) → cond b (Err why) o ≡ Ok tt → b ≡ false
-ready_cond b o why e = go b refl e
-  where
-    go : (t : Bool) → b ≡ t → cond t (Err why) o ≡ Ok tt → b ≡ false
-    go true d f = let z : ◌≡◌ {A = Bool} true false = ap is_done (sym f) in absurd (not_both refl z)
-    go false d f = d
+ready_cond true o why e = let z : ◌≡◌ {A = Bool} true false = ap is_done (sym e) in absurd (not_both refl z)
+ready_cond false o why e = refl
 
 pub record Admitted (n : ℕ) (core : Core) (d : Delivery) : Type 0 where
   pub numbers : numbers_fit d ≡ true
@@ -279,7 +273,7 @@ leaders_small shard lasts done =
     led_fits None led = tt
     led_fits (Some r) led = led done
 
-module _ (s : Settings) (i : ℕ) (claimed : NotSwift s.mode) (choose : Choice) (picks_best : PicksBest choose) (limits : within_limits (member_settings s i) ≡ true) where
+module _ (s : Settings) (i : ℕ) (claimed : NotSwift s.mode) (choose : ProposerChoice) (picks_best : PicksBest choose) (limits : within_limits (member_settings s i) ≡ true) where
   few : s.process_count ≤ 64
   few = (within_counts (member_settings s i) limits).most_processes
 
@@ -330,7 +324,7 @@ module _ (s : Settings) (i : ℕ) (claimed : NotSwift s.mode) (choose : Choice) 
     fits = lasts.fast_fits
 
     abbrev as_model : CallKind ConsensusMessage → StateAnswer → Type 0
-    as_model k r = AsModel meaning_of (setup_of s) i (view_shard shard) k (seen_of s i made state r)
+    as_model k r = AsModel meaning_of (model_setup_of s) i (view_shard shard) k (seen_of s i made state r)
 
     -- the slot of a step is that of the shard, which has one after it
     has_room : (step : Result RoundsStep Refusal) → IfOk step (λ x. x.state.core.slot ≡ core.slot) → IfOk step (λ x. x.state.core.slot < 9223372036854775807)
@@ -338,48 +332,51 @@ module _ (s : Settings) (i : ℕ) (claimed : NotSwift s.mode) (choose : Choice) 
 
     -- a step that is the model's ends as the model's call, or is refused
     deliver_ends : (held : Bool) (source : ℕ) (message : ConsensusMessage) (host : model.Host) (step : Result RoundsStep Refusal)
-        → StepFollows s step (model_outcome (setup_of s) (view_shard shard) (deliver i source (meaning_of message) host)) → IfOk step (λ x. x.state.core.slot ≡ core.slot)
+        → StepFollows s step (model_outcome (model_setup_of s) (view_shard shard) (deliver i source (meaning_of message) host)) → IfOk step (λ x. x.state.core.slot ≡ core.slot)
         → as_model (delivers source message) (finish state (asked_by s i) held step)
     deliver_ends held source message host step f same =
-        go (finish_seen s i made state held step (model_outcome (setup_of s) (view_shard shard) (deliver i source (meaning_of message) host)) f (has_room step same))
+        go (finish_seen s i made state held step (model_outcome (model_setup_of s) (view_shard shard) (deliver i source (meaning_of message) host)) f (has_room step same))
       where
         result : ModelOutcome
         result = seen_of s i made state (finish state (asked_by s i) held step)
 
-        go : (result ≡ model_outcome (setup_of s) (view_shard shard) (deliver i source (meaning_of message) host)) ⊎ (result ≡ refuse (view_shard shard))
-            → AsModel meaning_of (setup_of s) i (view_shard shard) (delivers source message) result
+        go : (result ≡ model_outcome (model_setup_of s) (view_shard shard) (deliver i source (meaning_of message) host)) ⊎ (result ≡ model_refused (view_shard shard))
+            → AsModel meaning_of (model_setup_of s) i (view_shard shard) (delivers source message) result
         go (inl r) = inl (host, r)
-        go (inr r) = subst (AsModel meaning_of (setup_of s) i (view_shard shard) (delivers source message)) (sym r) (refuse_as_model (setup_of s) i (view_shard shard) (delivers source message))
+        go (inr r) = subst (AsModel meaning_of (model_setup_of s) i (view_shard shard) (delivers source message)) (sym r) (refuse_as_model (model_setup_of s) i (view_shard shard) (delivers source message))
 
-    -- the step of the mode
-    processed_slow : (h : Heard) (m : ConsensusMsg) → has_fast_path s.mode ≡ false → processed choose (asked_by s i) h m state.rounds ≡ map_step (on_rounds fast_state) (process_classic (asked_by s i) h m core)
-    unfolding processed
-    processed_slow h m e = simp e
-
-    processed_fast : (h : Heard) (m : ConsensusMsg) → has_fast_path s.mode ≡ true
-        → processed choose (asked_by s i) h m state.rounds
-        ≡ map_step (change_rounds fast_state) (process_change choose (asked_by s i) h m core (answers_of fast_state) fast_state.fast_proposer_to_v fast_state.epaxos_proposer_scores fast_state.swift_proposer_scores)
-    unfolding processed process_fast
-    processed_fast h m e = simp e
-
-    fast_view : is_e_paxos s.mode ≡ true → (f : FastState) → answers_for s.mode f ≡ answers_in f
-    fast_view e f = ap (λ (t : Bool). cond t (answers_in f) model_no_answers) e
+    fast_view : is_e_paxos s.mode ≡ true → (f : FastState) → answers_for s.mode f ≡ model_answers_of f
+    fast_view e f = ap (λ (t : Bool). cond t (model_answers_of f) model_no_answers) e
 
     -- a step of the core alone
-    classic_step_lem : (step : Result CoreStep Refusal) (r : ModelOutcome) → Follows (setup_of s) (answers_for s.mode fast_state) step r → StepFollows s (map_step (on_rounds fast_state) step) r
+    classic_step_lem : (step : Result CoreStep Refusal) (r : ModelOutcome) → Follows (model_setup_of s) (answers_for s.mode fast_state) step r → StepFollows s (map_step (on_rounds fast_state) step) r
     classic_step_lem (Ok step) r f = record { seen_as = f.seen_as }
     classic_step_lem (Err why) r f = record { seen_as = tt }
 
     -- a step of EPaxos
-    fast_step_lem : is_e_paxos s.mode ≡ true → (step : Result ChangeStep Refusal) (r : View → ModelOutcome) → FollowsChange (setup_of s) fast_state step (r (view_of (answers_in fast_state) core))
+    fast_step_lem : is_e_paxos s.mode ≡ true → (step : Result ChangeStep Refusal) (r : View → ModelOutcome) → FollowsChange (model_setup_of s) fast_state step (r (view_of (model_answers_of fast_state) core))
         → StepFollows s (map_step (change_rounds fast_state) step) (r (view_shard shard))
     fast_step_lem e (Err why) r f = record { seen_as = tt }
     fast_step_lem e (Ok step) r f =
         record {
           seen_as =
-              subst (λ (a : Answers). SeenAs (setup_of s) a step.core step.messages step.next (r (view_shard shard))) (sym (fast_view e (changed step.change fast_state)))
-              (subst (λ (a : Answers). SeenAs (setup_of s) (answers_in (changed step.change fast_state)) step.core step.messages step.next (r (view_of a core))) (sym (fast_view e fast_state)) f.seen_as);
+              subst (λ (a : ModelAnswers). SeenAs (model_setup_of s) a step.core step.messages step.next (r (view_shard shard))) (sym (fast_view e (changed step.change fast_state)))
+              (subst (λ (a : ModelAnswers). SeenAs (model_setup_of s) (model_answers_of (changed step.change fast_state)) step.core step.messages step.next (r (view_of a core))) (sym (fast_view e fast_state)) f.seen_as);
         }
+
+    -- a step of the classic modes or of EPaxos
+    mode_step_lem : (classic : Result CoreStep Refusal) (fast : Result ChangeStep Refusal) (r : View → ModelOutcome)
+        → (is_e_paxos s.mode ≡ false → Follows (model_setup_of s) (answers_for s.mode fast_state) classic (r (view_shard shard)))
+        → (is_e_paxos s.mode ≡ true → is_multi_paxos s.mode ≡ false → FollowsChange (model_setup_of s) fast_state fast (r (view_of (model_answers_of fast_state) core)))
+        → StepFollows s (cond (has_fast_path s.mode) (map_step (change_rounds fast_state) fast) (map_step (on_rounds fast_state) classic)) (r (view_shard shard))
+    mode_step_lem classic fast r in_classic in_fast = go (mode_is s.mode claimed)
+      where
+        FollowsWhere : Bool → Type 0
+        FollowsWhere t = StepFollows s (cond t (map_step (change_rounds fast_state) fast) (map_step (on_rounds fast_state) classic)) (r (view_shard shard))
+
+        go : ModeIs s.mode → FollowsWhere (has_fast_path s.mode)
+        go (is_classic no-fast no-epaxos) = subst FollowsWhere (sym no-fast) (classic_step_lem classic (r (view_shard shard)) (in_classic no-epaxos))
+        go (is_fast has-fast epaxos single) = subst FollowsWhere (sym has-fast) (fast_step_lem epaxos fast r (in_fast epaxos single))
 
     module _ (d : Delivery) (adm : Admitted s.process_count core d) where
       abbrev h : Heard
@@ -390,16 +387,31 @@ module _ (s : Settings) (i : ℕ) (claimed : NotSwift s.mode) (choose : Choice) 
           subst (λ (m : ConsensusMsg). IfOk (processed choose (asked_by s i) h m state.rounds) (λ x. x.state.core.slot ≡ core.slot)) e
           (processed_slot choose shard lasts limits room d adm.numbers adm.processes)
 
+      -- the host of an Accept
+      abbrev host : model.Host
+      host = record { allows = true; requester = process_number d.said.requester; adoptee = 0 }
+
       not_ahead_of : (m : ConsensusMsg) → d.message.msg ≡ m → is_ahead core (msg_slot m) ≡ false
       not_ahead_of m e = sym (ap (λ (x : ConsensusMsg). is_ahead core (msg_slot x)) e) ∙ adm.not_ahead
 
       prepare_ok : (slot : ℕ) (round : PaxosRound) (rv : RoundV) → d.message.msg ≡ Prepare slot round rv
-          → (host : model.Host)
-          × StepFollows s (processed choose (asked_by s i) h (Prepare slot round rv) state.rounds)
-          (model_outcome (setup_of s) (view_shard shard) (deliver i d.message.src (model.prepare slot (round_number (Some round)) (round_number (accept_round_of rv)) (proposer_of rv) (value_of rv)) host))
-      unfolding process_classic process_change model_outcome model_on_message
-      prepare_ok slot round rv e = go (mode_is s.mode claimed)
+          → StepFollows s (processed choose (asked_by s i) h (Prepare slot round rv) state.rounds)
+          (model_outcome (model_setup_of s) (view_shard shard)
+          (deliver i d.message.src (model.prepare slot (round_number (Some round)) (round_number (accept_round_of rv)) (proposer_of rv) (value_of rv)) (host_for choose s i d.message.src fast_state rv)))
+      unfolding processed process_fast process_classic process_change model_outcome model_on_message
+      prepare_ok slot round rv e =
+          host-allows choose s i d.message.src fast_state rv
+          (λ (b : Bool). StepFollows s (processed choose (asked_by s i) h (Prepare slot round rv) state.rounds) (cond b (outcome (view_shard shard)) (model_refused (view_shard shard))))
+          (mode_step_lem (on_prepare (asked_by s i) h slot round rv core)
+          (on_fast_prepare choose (asked_by s i) h slot round rv core (answers_of fast_state) fast_state.fast_proposer_to_v fast_state.epaxos_proposer_scores fast_state.swift_proposer_scores) outcome
+          (λ slow. on_prepare_follows (answers_for s.mode fast_state) s i (not_swift s.mode claimed) slow own_small h (source_small d adm.processes) slot round parts.0.1 rv parts.1 refl delegate_of_lem core ok le
+          (host_for choose s i d.message.src fast_state rv))
+          (λ epaxos single. fast_prepare_follows choose picks_best s i (not_swift s.mode claimed) epaxos own_small fast_state fits h (source_small d adm.processes) round parts.0.1 slot rv parts.1 parts.2 refl delegate_of_lem core ok le))
         where
+          outcome : View → ModelOutcome
+          outcome x =
+              model_on_prepare (model_setup_of s) i x d.message.src slot (round_number (Some round)) (round_number (accept_round_of rv)) (proposer_of rv) (value_of rv) (host_for choose s i d.message.src fast_state rv)
+
           parts : MessageFits (λ p. p < 64) (Prepare slot round rv)
           parts = subst (MessageFits (λ p. p < 64)) e (numbers_small core d adm)
 
@@ -409,38 +421,17 @@ module _ (s : Settings) (i : ℕ) (claimed : NotSwift s.mode) (choose : Choice) 
           le : slot ≤ core.slot
           le = slot_of core slot (not_ahead_of (Prepare slot round rv) e)
 
-          slow_host : model.Host
-          slow_host = record { allows = true; requester = 0; adoptee = 0 }
-
-          goal : model.Host → Result RoundsStep Refusal → Type 0
-          goal host step = StepFollows s step (model_on_prepare (setup_of s) i (view_shard shard) d.message.src slot (round_number (Some round)) (round_number (accept_round_of rv)) (proposer_of rv) (value_of rv) host)
-
-          go : ModeIs s.mode
-              → (host : model.Host) × StepFollows s (processed choose (asked_by s i) h (Prepare slot round rv) state.rounds)
-              (cond host.allows (model_on_prepare (setup_of s) i (view_shard shard) d.message.src slot (round_number (Some round)) (round_number (accept_round_of rv)) (proposer_of rv) (value_of rv) host) (refuse (view_shard shard)))
-          go (is_classic no-fast no-epaxos) = (
-            slow_host,
-            subst (goal slow_host) (sym (processed_slow h (Prepare slot round rv) no-fast))
-                (classic_step_lem _ _ (on_prepare_follows (answers_for s.mode fast_state) s i (not_swift s.mode claimed) no-epaxos own_small h (source_small d adm.processes) slot round parts.0.1 rv parts.1 refl delegate_of_lem core ok le slow_host)),
-          )
-          go (is_fast has-fast epaxos single) = (
-            host_for choose s i d.message.src fast_state rv,
-            host-allows choose s i d.message.src fast_state rv
-                (λ (b : Bool).
-                StepFollows s (processed choose (asked_by s i) h (Prepare slot round rv) state.rounds)
-                (cond b (model_on_prepare (setup_of s) i (view_shard shard) d.message.src slot (round_number (Some round)) (round_number (accept_round_of rv)) (proposer_of rv) (value_of rv) (host_for choose s i d.message.src fast_state rv)) (refuse (view_shard shard))))
-                (subst (goal (host_for choose s i d.message.src fast_state rv)) (sym (processed_fast h (Prepare slot round rv) has-fast))
-                (fast_step_lem epaxos
-                (on_fast_prepare choose (asked_by s i) h slot round rv core (answers_of fast_state) fast_state.fast_proposer_to_v fast_state.epaxos_proposer_scores fast_state.swift_proposer_scores)
-                (λ x. model_on_prepare (setup_of s) i x d.message.src slot (round_number (Some round)) (round_number (accept_round_of rv)) (proposer_of rv) (value_of rv) (host_for choose s i d.message.src fast_state rv))
-                (fast_prepare_follows choose picks_best s i (not_swift s.mode claimed) epaxos own_small fast_state fits h (source_small d adm.processes) round parts.0.1 slot rv parts.1 parts.2 refl delegate_of_lem core ok le))),
-          )
-
       accept_ok : (slot : ℕ) (round : PaxosRound) (v : ℕ) → d.message.msg ≡ Accept slot round v
           → StepFollows s (processed choose (asked_by s i) h (Accept slot round v) state.rounds)
-          (model_outcome (setup_of s) (view_shard shard) (deliver i d.message.src (model.accept slot (round_number (Some round)) v) (record { allows = true; requester = process_number d.said.requester; adoptee = 0 })))
-      unfolding process_classic process_change model_outcome model_on_message on_accept
-      accept_ok slot round v e = go (mode_is s.mode claimed)
+          (model_outcome (model_setup_of s) (view_shard shard) (deliver i d.message.src (model.accept slot (round_number (Some round)) v) host))
+      unfolding processed process_fast process_classic process_change model_outcome model_on_message on_accept
+      accept_ok slot round v e =
+          mode_step_lem (on_accept (asked_by s i) h slot round v core) (on_fast_accept (asked_by s i) h slot round v core (answers_of fast_state) fast_state.swift_proposer_scores)
+          (λ x. model_on_accept (model_setup_of s) i x d.message.src slot (round_number (Some round)) v host)
+          (λ slow. on_accept_follows (answers_for s.mode fast_state) s i (not_swift s.mode claimed) own_small h (source_small d adm.processes) slot round leader v refl delegate_of_lem (committer_same s i d.said.requester)
+          CoreStep (λ t. t) (Follows (model_setup_of s) (answers_for s.mode fast_state)) (same_steps (model_setup_of s) (answers_for s.mode fast_state)) (accepting (asked_by s i) h round v) (λ alive c r f. f) core ok le)
+          (λ epaxos single.
+          fast_accept_follows choose picks_best s i (not_swift s.mode claimed) epaxos own_small fast_state fits h (source_small d adm.processes) round leader slot v refl delegate_of_lem (committer_same s i d.said.requester) core ok le)
         where
           leader : round.leader < 64
           leader = (subst (MessageFits (λ p. p < 64)) e (numbers_small core d adm)).1
@@ -451,38 +442,12 @@ module _ (s : Settings) (i : ℕ) (claimed : NotSwift s.mode) (choose : Choice) 
           le : slot ≤ core.slot
           le = slot_of core slot (not_ahead_of (Accept slot round v) e)
 
-          host : model.Host
-          host = record { allows = true; requester = process_number d.said.requester; adoptee = 0 }
-
-          goal : Result RoundsStep Refusal → Type 0
-          goal step = StepFollows s step (model_on_accept (setup_of s) i (view_shard shard) d.message.src slot (round_number (Some round)) v host)
-
-          go : ModeIs s.mode → goal (processed choose (asked_by s i) h (Accept slot round v) state.rounds)
-          go (is_classic no-fast no-epaxos) =
-              subst goal (sym (processed_slow h (Accept slot round v) no-fast))
-              (classic_step_lem _ _
-              (on_accept_follows (answers_for s.mode fast_state) s i (not_swift s.mode claimed) own_small h (source_small d adm.processes) slot round leader v refl delegate_of_lem (committer_same s i d.said.requester)
-              CoreStep (λ t. t) (Follows (setup_of s) (answers_for s.mode fast_state)) (same_steps (setup_of s) (answers_for s.mode fast_state)) (accepting (asked_by s i) h round v) (λ alive c r f. f) core ok le))
-          go (is_fast has-fast epaxos single) =
-              subst goal (sym (processed_fast h (Accept slot round v) has-fast))
-              (fast_step_lem epaxos (on_fast_accept (asked_by s i) h slot round v core (answers_of fast_state) fast_state.swift_proposer_scores)
-              (λ x. model_on_accept (setup_of s) i x d.message.src slot (round_number (Some round)) v host)
-              (fast_accept_follows choose picks_best s i (not_swift s.mode claimed) epaxos own_small fast_state fits h (source_small d adm.processes) round leader slot v refl delegate_of_lem (committer_same s i d.said.requester) core ok le))
-
       -- a ForwardRequest does nothing
       forward_ok : (v : ℕ) → StepFollows s (processed choose (asked_by s i) h (ForwardRequest v) state.rounds) (quiet (view_shard shard))
-      unfolding process_classic process_change
-      forward_ok v = go (mode_is s.mode claimed)
-        where
-          goal : Result RoundsStep Refusal → Type 0
-          goal step = StepFollows s step (quiet (view_shard shard))
-
-          go : ModeIs s.mode → goal (processed choose (asked_by s i) h (ForwardRequest v) state.rounds)
-          go (is_classic no-fast no-epaxos) = subst goal (sym (processed_slow h (ForwardRequest v) no-fast)) (record { seen_as = refl })
-          go (is_fast has-fast epaxos single) =
-              subst goal (sym (processed_fast h (ForwardRequest v) has-fast))
-              (fast_step_lem epaxos (Ok (with_change (unchanged (answers_of fast_state)) (stays core no_messages))) quiet
-              (lifted (setup_of s) fast_state (Ok (stays core no_messages)) (quiet (view_of (answers_in fast_state) core)) (record { seen_as = refl })))
+      unfolding processed process_fast process_classic process_change
+      forward_ok v =
+          mode_step_lem (Ok (stays core no_messages)) (Ok (with_change (unchanged (answers_of fast_state)) (stays core no_messages))) quiet (λ slow. record { seen_as = refl })
+          (λ epaxos single. lifted (model_setup_of s) fast_state (Ok (stays core no_messages)) (quiet (view_of (model_answers_of fast_state) core)) (record { seen_as = refl }))
 
       processed_step : (m : ConsensusMsg) → d.message.msg ≡ m
           → process_message choose state (asked_by s i) h d ≡ finish state (asked_by s i) d.said.value_held (processed choose (asked_by s i) h m state.rounds)
@@ -492,7 +457,7 @@ module _ (s : Settings) (i : ℕ) (claimed : NotSwift s.mode) (choose : Choice) 
       -- a message whose step is the model's, with some host, is handled as the model's call
       processed_ok : (m : ConsensusMsg) → d.message.msg ≡ m → (host : model.Host)
           → StepFollows s (processed choose (asked_by s i) h m state.rounds)
-          (model_outcome (setup_of s) (view_shard shard) (deliver i d.message.src (meaning_of (record { msg = m; src = d.message.src; last_v = d.message.last_v })) host))
+          (model_outcome (model_setup_of s) (view_shard shard) (deliver i d.message.src (meaning_of (record { msg = m; src = d.message.src; last_v = d.message.last_v })) host))
           → as_model (kind_of (Receive d)) (process_message choose state (asked_by s i) h d)
       processed_ok m e host f =
           subst (as_model (delivers d.message.src d.message)) (sym (processed_step m e))
@@ -500,39 +465,27 @@ module _ (s : Settings) (i : ℕ) (claimed : NotSwift s.mode) (choose : Choice) 
           (deliver_ends d.said.value_held d.message.src (record { msg = m; src = d.message.src; last_v = d.message.last_v }) host (processed choose (asked_by s i) h m state.rounds) f (same_slot m e)))
 
       on_prepare_lem : (slot : ℕ) (round : PaxosRound) (rv : RoundV) → d.message.msg ≡ Prepare slot round rv → as_model (kind_of (Receive d)) (process_message choose state (asked_by s i) h d)
-      on_prepare_lem slot round rv e = let k = prepare_ok slot round rv e in processed_ok (Prepare slot round rv) e k.0 k.1
+      on_prepare_lem slot round rv e = processed_ok (Prepare slot round rv) e (host_for choose s i d.message.src fast_state rv) (prepare_ok slot round rv e)
 
       on_accept_lem : (slot : ℕ) (round : PaxosRound) (v : ℕ) → d.message.msg ≡ Accept slot round v → as_model (kind_of (Receive d)) (process_message choose state (asked_by s i) h d)
-      on_accept_lem slot round v e = processed_ok (Accept slot round v) e (record { allows = true; requester = process_number d.said.requester; adoptee = 0 }) (accept_ok slot round v e)
+      on_accept_lem slot round v e = processed_ok (Accept slot round v) e host (accept_ok slot round v e)
 
       on_forward : (v : ℕ) → d.message.msg ≡ ForwardRequest v → as_model (kind_of (Receive d)) (process_message choose state (asked_by s i) h d)
       unfolding model_outcome model_on_message
       on_forward v e = processed_ok (ForwardRequest v) e (record { allows = true; requester = 0; adoptee = 0 }) (forward_ok v)
 
-    commit_older : (slot v : ℕ) → ltb slot core.slot ≡ true → on_commit state (asked_by s i) slot v ≡ nothing state
-    unfolding on_commit
-    commit_older slot v e = simp e
-
-    commit_own : (slot v : ℕ) → ltb slot core.slot ≡ false → on_commit state (asked_by s i) slot v ≡ committed state (asked_by s i) v state.rounds no_messages
-    unfolding on_commit
-    commit_own slot v e = simp e
-
     on_commit_lem : (source : ℕ) (last : Option ℕ) (slot v : ℕ) → slot ≤ core.slot
         → as_model (delivers source (record { msg = Commit slot v; src = source; last_v = last })) (on_commit state (asked_by s i) slot v)
-    unfolding model_outcome model_on_message model_on_commit
-    on_commit_lem source last slot v le = go (either (ltb slot core.slot))
-      where
-        host : model.Host
-        host = record { allows = true; requester = 0; adoptee = 0 }
-
-        go : (ltb slot core.slot ≡ true) ⊎ (ltb slot core.slot ≡ false)
-            → as_model (delivers source (record { msg = Commit slot v; src = source; last_v = last })) (on_commit state (asked_by s i) slot v)
-        go (inl e) = inl (host, ap (seen_of s i made state) (commit_older slot v e) ∙ simp e)
-        go (inr e) =
-            let ge : core.slot ≤ slot = ltb-false slot core.slot e in
-            let same : slot ≡ core.slot = omega arith in
-            let q : eqb slot core.slot ≡ true = eq-eqb slot core.slot same in
-            inl (host, ap (seen_of s i made state) (commit_own slot v e) ∙ commit_seen s i made state v state.rounds no_messages room ∙ simp (e, q))
+    unfolding on_commit model_outcome model_on_message model_on_commit
+    on_commit_lem source last slot v le =
+        inl (
+          record { allows = true; requester = 0; adoptee = 0 },
+          by_both (λ (r : StateAnswer) (o : ModelOutcome). seen_of s i made state r ≡ o) (ltb slot core.slot) (ltb slot core.slot) refl (λ e. refl)
+              (λ e. let ge : core.slot ≤ slot = ltb-false slot core.slot e in
+              let same : slot ≡ core.slot = omega arith in
+              let q : eqb slot core.slot ≡ true = eq-eqb slot core.slot same in
+              commit_seen s i made state v state.rounds no_messages room ∙ simp q),
+        )
 
     on_read_request_lem : (source : ℕ) (message : ConsensusMessage) (id : ReadId) → meaning_of message ≡ model.other
         → as_model (delivers source message) (on_read_request state (asked_by s i) source id)
@@ -559,39 +512,21 @@ module _ (s : Settings) (i : ℕ) (claimed : NotSwift s.mode) (choose : Choice) 
 
     -- ---- proposals
 
-    proposing_slow : (v : ℕ) → has_fast_path s.mode ≡ false → proposing (asked_by s i) v state.rounds ≡ map_step (on_rounds fast_state) (propose_classic (asked_by s i) v core)
-    unfolding proposing
-    proposing_slow v e = simp e
-
-    proposing_fast : (v : ℕ) → has_fast_path s.mode ≡ true
-        → proposing (asked_by s i) v state.rounds ≡ map_step (change_rounds fast_state) (propose_change (asked_by s i) v core (answers_of fast_state) fast_state.epaxos_proposer_scores fast_state.swift_proposer_scores)
+    propose_ok : (v : ℕ) → StepFollows s (proposing (asked_by s i) v state.rounds) (model_on_propose (model_setup_of s) i (view_shard shard) v)
     unfolding proposing propose_fast
-    proposing_fast v e = simp e
-
-    propose_ok : (v : ℕ) → StepFollows s (proposing (asked_by s i) v state.rounds) (model_on_propose (setup_of s) i (view_shard shard) v)
-    propose_ok v = go (mode_is s.mode claimed)
-      where
-        goal : Result RoundsStep Refusal → Type 0
-        goal step = StepFollows s step (model_on_propose (setup_of s) i (view_shard shard) v)
-
-        go : ModeIs s.mode → goal (proposing (asked_by s i) v state.rounds)
-        go (is_classic no-fast no-epaxos) =
-            subst goal (sym (proposing_slow v no-fast))
-            (classic_step_lem _ _ (propose_follows (answers_for s.mode fast_state) s i (not_swift s.mode claimed) own_small leader_small v core ok no-epaxos))
-        go (is_fast has-fast epaxos single) =
-            subst goal (sym (proposing_fast v has-fast))
-            (fast_step_lem epaxos (propose_change (asked_by s i) v core (answers_of fast_state) fast_state.epaxos_proposer_scores fast_state.swift_proposer_scores)
-            (λ x. model_on_propose (setup_of s) i x v)
-            (fast_propose_follows choose picks_best s i (not_swift s.mode claimed) epaxos own_small fast_state fits leader_small v core ok single))
+    propose_ok v =
+        mode_step_lem (propose_classic (asked_by s i) v core) (propose_change (asked_by s i) v core (answers_of fast_state) fast_state.epaxos_proposer_scores fast_state.swift_proposer_scores)
+        (λ x. model_on_propose (model_setup_of s) i x v) (λ slow. propose_follows (answers_for s.mode fast_state) s i (not_swift s.mode claimed) own_small leader_small v core ok slow)
+        (λ epaxos single. fast_propose_follows choose picks_best s i (not_swift s.mode claimed) epaxos own_small fast_state fits leader_small v core ok single)
 
     propose_ends : (v : ℕ) → as_model (proposes v) (finish state (asked_by s i) true (proposing (asked_by s i) v state.rounds))
     unfolding model_outcome
-    propose_ends v = go (finish_seen s i made state true (proposing (asked_by s i) v state.rounds) (model_on_propose (setup_of s) i (view_shard shard) v) (propose_ok v) (has_room _ (proposed_slot choose shard lasts limits room v)))
+    propose_ends v = go (finish_seen s i made state true (proposing (asked_by s i) v state.rounds) (model_on_propose (model_setup_of s) i (view_shard shard) v) (propose_ok v) (has_room _ (proposed_slot choose shard lasts limits room v)))
       where
         result : ModelOutcome
         result = seen_of s i made state (finish state (asked_by s i) true (proposing (asked_by s i) v state.rounds))
 
-        go : (result ≡ model_on_propose (setup_of s) i (view_shard shard) v) ⊎ (result ≡ refuse (view_shard shard)) → AsModel meaning_of (setup_of s) i (view_shard shard) (proposes v) result
+        go : (result ≡ model_on_propose (model_setup_of s) i (view_shard shard) v) ⊎ (result ≡ model_refused (view_shard shard)) → AsModel meaning_of (model_setup_of s) i (view_shard shard) (proposes v) result
         go (inl r) = (record { allows = true; requester = 0; adoptee = 0 }, r)
         go (inr r) = (record { allows = false; requester = 0; adoptee = 0 }, r)
 
@@ -601,7 +536,7 @@ module _ (s : Settings) (i : ℕ) (claimed : NotSwift s.mode) (choose : Choice) 
     read_opened (Err why) = (refl, refl, tt)
     read_opened (Ok ins) = (refl, refl, (refl, tt))
 
-    call_handled : (c : Call) → admission shard c ≡ Ok tt → AsModel meaning_of (setup_of s) i (view_shard shard) (kind_of c) (seen_answer (handled choose shard c))
+    call_handled : (c : Call) → admission shard c ≡ Ok tt → AsModel meaning_of (model_setup_of s) i (view_shard shard) (kind_of c) (seen_answer (handled choose shard c))
     unfolding admission_of handle_call start_read
     call_handled (Propose v) e = propose_ends v
     call_handled (StartRead tag arrival) e = read_opened (read_inserted state tag arrival)
@@ -619,18 +554,18 @@ valid_within s i _ valid e = subst (λ (x : Settings). within_limits x ≡ true)
 
 -- what is shown of each call on a shard: it is the model's, and the shard stays valid
 pub record CallOk (s : Settings) (i : ℕ) (shard : Shard) (k : CallKind ConsensusMessage) (r : Answer) : Type 0 where
-  pub as_model_lem : AsModel meaning_of (setup_of s) i (view_shard shard) k (seen_answer r)
+  pub as_model_lem : AsModel meaning_of (model_setup_of s) i (view_shard shard) k (seen_answer r)
   pub valid : Valid s i r.shard
 
-member_call : (s : Settings) (i : ℕ) → NotSwift s.mode → (choose : Choice) → PicksBest choose → (made : Outcome) (state : State) (c : Call) → Lasts (shard_of s i made state)
-    → AsModel meaning_of (setup_of s) i (view_shard (shard_of s i made state)) (kind_of c) (seen_answer (call_with choose (shard_of s i made state) c))
+member_call : (s : Settings) (i : ℕ) → NotSwift s.mode → (choose : ProposerChoice) → PicksBest choose → (made : Outcome) (state : State) (c : Call) → Lasts (shard_of s i made state)
+    → AsModel meaning_of (model_setup_of s) i (view_shard (shard_of s i made state)) (kind_of c) (seen_answer (call_with choose (shard_of s i made state) c))
 member_call s i claimed choose picks_best made state c lasts =
-    by_decision choose (shard_of s i made state) (λ r. AsModel meaning_of (setup_of s) i (view_shard (shard_of s i made state)) (kind_of c) (seen_answer r)) c
-    (λ why. refuse_as_model (setup_of s) i (view_shard (shard_of s i made state)) (kind_of c))
+    by_decision choose (shard_of s i made state) (λ r. AsModel meaning_of (model_setup_of s) i (view_shard (shard_of s i made state)) (kind_of c) (seen_answer r)) c
+    (λ why. refuse_as_model (model_setup_of s) i (view_shard (shard_of s i made state)) (kind_of c))
     (λ done room e. call_handled s i claimed choose picks_best (lasts.made_within done) made state lasts done room c e)
 
 -- Each call is the model's, and the shard stays valid.
-pub call_ok : (s : Settings) (i : ℕ) → NotSwift s.mode → (choose : Choice) → PicksBest choose → (shard : Shard) → Valid s i shard → (c : Call) → CallOk s i shard (kind_of c) (call_with choose shard c)
+pub call_ok : (s : Settings) (i : ℕ) → NotSwift s.mode → (choose : ProposerChoice) → PicksBest choose → (shard : Shard) → Valid s i shard → (c : Call) → CallOk s i shard (kind_of c) (call_with choose shard c)
 call_ok s i claimed choose picks_best shard valid c =
     record { as_model_lem = seen_as; valid = record { own_settings = settings_kept choose shard c ∙ valid.own_settings; lasting = left.lasts } }
   where
@@ -640,9 +575,9 @@ call_ok s i claimed choose picks_best shard valid c =
     with_settings : Settings → Shard
     with_settings x = record { made = shard.made; settings = x; state = shard.state }
 
-    seen_as : AsModel meaning_of (setup_of s) i (view_shard shard) (kind_of c) (seen_answer (call_with choose shard c))
+    seen_as : AsModel meaning_of (model_setup_of s) i (view_shard shard) (kind_of c) (seen_answer (call_with choose shard c))
     seen_as =
-        subst (λ (x : Settings). (y : Lasts (with_settings x)) → AsModel meaning_of (setup_of s) i (view_shard (with_settings x)) (kind_of c) (seen_answer (call_with choose (with_settings x) c)))
+        subst (λ (x : Settings). (y : Lasts (with_settings x)) → AsModel meaning_of (model_setup_of s) i (view_shard (with_settings x)) (kind_of c) (seen_answer (call_with choose (with_settings x) c)))
         (sym valid.own_settings)
         (member_call s i claimed choose picks_best shard.made shard.state c)
         valid.lasting

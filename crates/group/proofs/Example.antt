@@ -48,8 +48,8 @@ abbrev pub three : PFMode → Settings
 three mode = three_with mode false 0
 
 -- the calls: a proposal, and a message from a member, with the last value that this one has committed; the host names a requester or none
-abbrev pub proposes : ℕ → ℕ → MemberCall
-proposes member v = record { member = member; call = Propose v }
+abbrev pub proposal_call : ℕ → ℕ → MemberCall
+proposal_call member v = record { member = member; call = Propose v }
 
 abbrev pub hears_for : Option ℕ → ℕ → ℕ → Option ℕ → ConsensusMsg → MemberCall
 hears_for requester member source last msg =
@@ -64,27 +64,27 @@ hears_for requester member source last msg =
           });
     }
 
-abbrev pub hears : ℕ → ℕ → Option ℕ → ConsensusMsg → MemberCall
-hears = hears_for None
+abbrev pub hears_message : ℕ → ℕ → Option ℕ → ConsensusMsg → MemberCall
+hears_message = hears_for None
 
 -- slot 0: member 0 proposes 10, members 0 and 1 prepare and accept it, and all commit it
 -- slot 1: member 1 proposes 20, members 1 and 2 prepare and accept it, and all commit it
 abbrev calls : List MemberCall
 calls =
-    proposes 0 10
-    ∷ hears 1 0 None (Prepare 0 (round_of 0 0) (PaxosV None 10))
-    ∷ hears 0 1 None (Prepare 0 (round_of 0 0) (PaxosV None 10))
-    ∷ hears 1 0 None (Accept 0 (round_of 0 0) 10)
-    ∷ hears 0 1 None (Accept 0 (round_of 0 0) 10)
-    ∷ hears 1 0 None (Commit 0 10)
-    ∷ hears 2 0 None (Commit 0 10)
-    ∷ proposes 1 20
-    ∷ hears 2 1 (Some 10) (Prepare 1 (round_of 0 1) (PaxosV None 20))
-    ∷ hears 1 2 (Some 10) (Prepare 1 (round_of 0 1) (PaxosV None 20))
-    ∷ hears 2 1 (Some 10) (Accept 1 (round_of 0 1) 20)
-    ∷ hears 1 2 (Some 10) (Accept 1 (round_of 0 1) 20)
-    ∷ hears 0 1 (Some 10) (Commit 1 20)
-    ∷ hears 2 1 (Some 10) (Commit 1 20)
+    proposal_call 0 10
+    ∷ hears_message 1 0 None (Prepare 0 (round_of 0 0) (PaxosV None 10))
+    ∷ hears_message 0 1 None (Prepare 0 (round_of 0 0) (PaxosV None 10))
+    ∷ hears_message 1 0 None (Accept 0 (round_of 0 0) 10)
+    ∷ hears_message 0 1 None (Accept 0 (round_of 0 0) 10)
+    ∷ hears_message 1 0 None (Commit 0 10)
+    ∷ hears_message 2 0 None (Commit 0 10)
+    ∷ proposal_call 1 20
+    ∷ hears_message 2 1 (Some 10) (Prepare 1 (round_of 0 1) (PaxosV None 20))
+    ∷ hears_message 1 2 (Some 10) (Prepare 1 (round_of 0 1) (PaxosV None 20))
+    ∷ hears_message 2 1 (Some 10) (Accept 1 (round_of 0 1) 20)
+    ∷ hears_message 1 2 (Some 10) (Accept 1 (round_of 0 1) 20)
+    ∷ hears_message 0 1 (Some 10) (Commit 1 20)
+    ∷ hears_message 2 1 (Some 10) (Commit 1 20)
     ∷ []
 
 -- the member and the commit of each entry
@@ -92,19 +92,19 @@ pub record MemberCommit : Type 0 where
   pub member : ℕ
   pub commit : Option CommittedSlot
 
-abbrev pub commits_of : List Entry → List MemberCommit
-commits_of [] = []
-commits_of (e ∷ es) = record { member = e.member; commit = e.reply.commit } ∷ commits_of es
+abbrev pub commits_of_entries : List Entry → List MemberCommit
+commits_of_entries [] = []
+commits_of_entries (e ∷ es) = record { member = e.member; commit = e.reply.commit } ∷ commits_of_entries es
 
 abbrev pub none : ℕ → MemberCommit
 none i = record { member = i; commit = None }
 
 -- with the mark of the fast path
-abbrev pub commits : ℕ → ℕ → ℕ → Bool → MemberCommit
-commits i slot v fast = record { member = i; commit = committed_slot slot v fast }
+abbrev pub member_commit : ℕ → ℕ → ℕ → Bool → MemberCommit
+member_commit i slot v fast = record { member = i; commit = committed_slot slot v fast }
 
-pub example_commits : commits_of (entries (three Paxos) calls)
-    ≡ (commits 2 1 20 false ∷ commits 0 1 20 false ∷ commits 1 1 20 false ∷ none 2 ∷ none 1 ∷ none 2 ∷ none 1 ∷ commits 2 0 10 false ∷ commits 1 0 10 false ∷ commits 0 0 10 false ∷ none 1 ∷ none 0 ∷ none 1 ∷ none 0 ∷ [])
+pub example_commits : commits_of_entries (entries (three Paxos) calls)
+    ≡ (member_commit 2 1 20 false ∷ member_commit 0 1 20 false ∷ member_commit 1 1 20 false ∷ none 2 ∷ none 1 ∷ none 2 ∷ none 1 ∷ member_commit 2 0 10 false ∷ member_commit 1 0 10 false ∷ member_commit 0 0 10 false ∷ none 1 ∷ none 0 ∷ none 1 ∷ none 0 ∷ [])
 unfolding computed
 example_commits = refl
 

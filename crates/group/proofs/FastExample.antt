@@ -15,43 +15,43 @@ use Rattle.message.specs.declared.PFMode.TheVariants.{EPaxos}
 use Rattle.message.specs.declared.RoundV.TheVariants.{FastV}
 use Rattle.read_tracker.specs.Reads.{read_id}
 use Rattle.agreement.proofs.Tests.{neqb→ne}
-use Rattle.group.specs.Claim.{begun, Choices, ours, MemberCall, entries_with, entries, LegalWith, Claim}
+use Rattle.group.specs.Claim.{begun, ProposerChoices, ours, MemberCall, entries_with, entries, LegalWith, Claim}
 use Rattle.group.proofs.Agreement.{agreement, agreement_ties}
 use Rattle.group.proofs.Ties.{prefer, prefer_picks_best}
 use Rattle.group.proofs.Computed.{computed}
-use Rattle.group.proofs.Example.{three, proposes, hears, commits_of, none, commits, first}
+use Rattle.group.proofs.Example.{three, proposal_call, hears_message, commits_of_entries, none, member_commit, first}
 use Rattle.group.proofs.RunReads.{opens, served_from, serves}
 
 -- slot 0: member 0 proposes 10, member 1 answers for it, and that is a fast quorum; then member 2 opens a read, and member 0's response serves it
 -- slot 1: members 0 and 1 propose 20 and 21; member 1 hears that 0 holds 20: one answer for each, a tie; it adopts one of them, and 2 accepts that
 abbrev calls : ℕ → List MemberCall
 calls adopts =
-    proposes 0 10
-    ∷ hears 1 0 None (Prepare 0 (round_of 0 0) (FastV 0 10))
-    ∷ hears 0 1 None (Prepare 0 (round_of 0 0) (FastV 0 10))
-    ∷ hears 1 0 None (Commit 0 10)
-    ∷ hears 2 0 None (Commit 0 10)
+    proposal_call 0 10
+    ∷ hears_message 1 0 None (Prepare 0 (round_of 0 0) (FastV 0 10))
+    ∷ hears_message 0 1 None (Prepare 0 (round_of 0 0) (FastV 0 10))
+    ∷ hears_message 1 0 None (Commit 0 10)
+    ∷ hears_message 2 0 None (Commit 0 10)
     ∷ opens 2 7 0
-    ∷ hears 0 2 (Some 10) (ReadRequest (read_id 0))
-    ∷ hears 2 0 None (ReadResponse (read_id 0) 1)
-    ∷ proposes 0 20
-    ∷ proposes 1 21
-    ∷ hears 0 1 (Some 10) (Prepare 1 (round_of 0 1) (FastV 1 21))
-    ∷ hears 1 0 (Some 10) (Prepare 1 (round_of 0 1) (FastV 0 20))
-    ∷ hears 2 1 (Some 10) (Accept 1 (round_of 0 1) adopts)
-    ∷ hears 1 2 (Some 10) (Accept 1 (round_of 0 1) adopts)
+    ∷ hears_message 0 2 (Some 10) (ReadRequest (read_id 0))
+    ∷ hears_message 2 0 None (ReadResponse (read_id 0) 1)
+    ∷ proposal_call 0 20
+    ∷ proposal_call 1 21
+    ∷ hears_message 0 1 (Some 10) (Prepare 1 (round_of 0 1) (FastV 1 21))
+    ∷ hears_message 1 0 (Some 10) (Prepare 1 (round_of 0 1) (FastV 0 20))
+    ∷ hears_message 2 1 (Some 10) (Accept 1 (round_of 0 1) adopts)
+    ∷ hears_message 1 2 (Some 10) (Accept 1 (round_of 0 1) adopts)
     ∷ []
 
 -- member 1 adopts its own value
-abbrev prefer_one : Choices
+abbrev prefer_one : ProposerChoices
 prefer_one place = prefer 1
 
 -- what is shown of the run with some choices, where member 1 adopts a value
-pub record FastShown (choices : Choices) (adopts : ℕ) : Type 0 where
+pub record FastShown (choices : ProposerChoices) (adopts : ℕ) : Type 0 where
   pub legal : LegalWith choices (three EPaxos) (calls adopts)
-  pub commits_listed : commits_of (entries_with choices (three EPaxos) (calls adopts))
-      ≡ (commits 1 1 adopts false ∷ none 2 ∷ none 1 ∷ none 0 ∷ none 1 ∷ none 0
-      ∷ none 2 ∷ none 0 ∷ none 2 ∷ commits 2 0 10 true ∷ commits 1 0 10 true ∷ commits 0 0 10 true ∷ none 1 ∷ none 0 ∷ [])
+  pub commits_listed : commits_of_entries (entries_with choices (three EPaxos) (calls adopts))
+      ≡ (member_commit 1 1 adopts false ∷ none 2 ∷ none 1 ∷ none 0 ∷ none 1 ∷ none 0
+      ∷ none 2 ∷ none 0 ∷ none 2 ∷ member_commit 2 0 10 true ∷ member_commit 1 0 10 true ∷ member_commit 0 0 10 true ∷ none 1 ∷ none 0 ∷ [])
   pub reads_served : served_from choices (begun (three EPaxos)) (calls adopts) ≡ (serves 2 7 1 ∷ [])
 
 -- The two lists of legality read the same and are proofs about other states; to part the run at the adoption takes as many lines for the types as it saves.

@@ -17,7 +17,7 @@ use Rattle.fast_state.specs.Adopt.{lowest_best}
 use Rattle.steps.specs.declared.Asked.{Asked}
 use Rattle.steps.specs.declared.Destination.{Destination}
 use Rattle.steps.specs.declared.Destination.TheVariants.{One, All}
-use Rattle.steps.specs.declared.Messages.{Messages}
+use Rattle.steps.specs.declared.SentMessages.{SentMessages}
 use Rattle.steps.specs.declared.Next.{Next}
 use Rattle.steps.specs.declared.Next.TheVariants.{Stays, Continues, Commits}
 use Rattle.steps.specs.declared.Outgoing.{Outgoing}
@@ -31,17 +31,17 @@ use Rattle.calls.specs.declared.Reply.{Reply}
 use Rattle.consensus.specs.declared.Shard.{Shard}
 use Rattle.consensus.specs.declared.State.{State}
 use Rattle.basics.specs.Lists.{In}
-use Rattle.group.specs.Claim.{begun, ours, MemberCall, Entry, entry_of, after_call, entries_from, entries, Reaches, SentTo, WasSent, MayStand, LegalFrom, Legal}
+use Rattle.group.specs.Claim.{begun, ours, MemberCall, Entry, entry_of, after_call, entries_from, entries, Reaches, SentTo, WasSent, MayStand, LegalFrom, Legal, LegalMade, entries_made}
 use Rattle.group.proofs.Sending.{ToAll}
 use Rattle.group.proofs.Handlers.{Any, any_holds, TwoAtMost, each_in, EndsUncommitted, Keeps, proposing_holds, call_holds, finish_holds}
 
 -- ---- proposals and new reads, on any shard
 
-abbrev MessageToAll : Outgoing → Type 0
+abbrev pub MessageToAll : Outgoing → Type 0
 MessageToAll o = ToAll o.destination
 
 -- a call that sends to all others and commits nothing
-abbrev CallToAll : Reply → Type 0
+abbrev pub CallToAll : Reply → Type 0
 CallToAll reply = TwoAtMost MessageToAll reply.messages × (reply.commit ≡ None)
 
 -- no message comes, and so nothing is asked of one
@@ -63,13 +63,13 @@ keeps a =
       propose_accept_lem = λ v core t p k. tt;
     }
 
-propose_to_all : (state : State) (a : Asked) (v : ℕ) → CallToAll (finish state a true (proposing a v state.rounds)).reply
+pub propose_to_all : (state : State) (a : Asked) (v : ℕ) → CallToAll (finish state a true (proposing a v state.rounds)).reply
 propose_to_all state a v =
     finish_holds (λ r. CallToAll r.reply) state a true (proposing a v state.rounds) (λ why. ((tt, tt), refl))
-    (proposing_holds a Any Any Any (λ round. ⊥) (λ round v. ⊥) Any MessageToAll (keeps a) (λ step. CallToAll (finish_at state a true step.state step.messages step.next).reply) (λ core t. tt) v tt state.rounds Any tt (any_holds _)
+    (proposing_holds (keeps a) (λ step. CallToAll (finish_at state a true step.state step.messages step.next).reply) (λ core t. tt) v tt state.rounds Any tt (any_holds _)
     (λ step t q. go _ step.messages _ step.next q.0.1) (λ step t q. go _ step.messages _ step.next q.1) tt)
   where
-    go : (s : Rounds) (ms : Messages) (held : Option RoundV) (n : Next) → EndsUncommitted MessageToAll ms held n → CallToAll (finish_at state a true s ms n).reply
+    go : (s : Rounds) (ms : SentMessages) (held : Option RoundV) (n : Next) → EndsUncommitted MessageToAll ms held n → CallToAll (finish_at state a true s ms n).reply
     go s ms held Stays q = (q.0, refl)
     go s ms held Continues q = absurd q
     go s ms held (Commits v) q = absurd q
@@ -118,7 +118,7 @@ call_to_all past q shard member z =
     (λ d m. absurd (nothing_sent past q d.message member z m))
 
 run_to_all : (shards : ℕ → Shard) (past : List Entry) → RunToAll past → (cs : List MemberCall) → LegalFrom 1 ours shards past cs → RunToAll (entries_from ours shards past cs)
-unfolding LegalFrom entries_from
+unfolding LegalMade entries_made
 run_to_all shards past q [] l = q
 run_to_all shards past q (c ∷ cs) l =
     let only : c.member < 1 = l.0 in let z : c.member ≡ 0 = omega arith in

@@ -39,7 +39,7 @@ use Rattle.settings.specs.Settings.{within_limits}
 use Rattle.settings.specs.declared.Settings.{Settings}
 use Rattle.settings.proofs.Limits.{within_counts, within_members}
 use Rattle.round_state.specs.Paxos.{get_last_accepted_round}
-use Rattle.fast_state.specs.Adopt.{Choice}
+use Rattle.fast_state.specs.Adopt.{ProposerChoice}
 use Rattle.fast_state.specs.Fast.{no_answers}
 use Rattle.fast_state.specs.declared.FastState.{FastState}
 use Rattle.read_tracker.specs.Reads.{read_id, new_read, open_places, open_reads, opening, inserted, insert_opened, open_next, insert_read, after_response, after_commit, has_quorum}
@@ -52,40 +52,41 @@ use Rattle.read_tracker.specs.declared.ServedRead.{ServedRead}
 use Rattle.basics.specs.elements.Places.{at_front}
 use Rattle.read_tracker.specs.serving.Serving.{has_id, kept_by_ready, served_by_ready, kept_by_commit, served_by_commit, tracked, receive_ready, serve_at_commit}
 use Rattle.read_tracker.specs.declared.serving.Tracked.{Tracked}
-use Rattle.read_tracker.proofs.serving.IdOrder.{Rising, served_ids, InOrder, new_in_order, commit_slot_in_order, receive_ready_in_order, insert_in_order}
+use Rattle.read_tracker.proofs.serving.IdOrder.{RisingIds, served_ids, InOrder, new_in_order, commit_slot_in_order, receive_ready_in_order, insert_in_order}
 use Rattle.read_tracker.proofs.serving.NothingLost.{parted_length, commit_loses_nothing, ready_loses_nothing}
-use Rattle.enter.specs.Enter.{can_propose, source_taken}
+use Rattle.steps.specs.enter.Enter.{can_propose, source_taken}
 use Rattle.paxos_family.specs.Commit.{commit_slot}
 use Rattle.propose.specs.Propose.{electing, proposal_round, may_propose}
 use Rattle.steps.specs.declared.Asked.{Asked}
 use Rattle.steps.specs.declared.Core.{Core}
 use Rattle.steps.specs.declared.Heard.{Heard}
-use Rattle.steps.specs.declared.Messages.{Messages}
+use Rattle.steps.specs.declared.SentMessages.{SentMessages}
 use Rattle.steps.specs.declared.Next.{Next}
 use Rattle.steps.specs.declared.Next.TheVariants.{Stays, Continues, Commits}
 use Rattle.steps.specs.declared.Rounds.{Rounds}
 use Rattle.steps.specs.Steps.{RoundsStep}
-use Rattle.delivery.specs.Admit.{ready, admit}
-use Rattle.delivery.specs.Limits.{is_number, is_slot, round_numbers, rv_numbers, msg_numbers, number_given, numbers_fit, rv_processes, msg_processes, requester_below, processes_fit}
-use Rattle.delivery.specs.declared.Delivery.{Delivery}
+use Rattle.calls.specs.delivery.Admit.{ready, admit}
+use Rattle.calls.specs.delivery.Limits.{is_number, is_slot, round_numbers, rv_numbers, msg_numbers, number_given, numbers_fit, rv_processes, msg_processes, requester_below, processes_fit}
+use Rattle.calls.specs.declared.delivery.Delivery.{Delivery}
 use Rattle.calls.specs.Asked.{asked_of, heard_of}
 use Rattle.calls.specs.Decision.{admission_of}
 use Rattle.calls.specs.declared.Call.{Call}
 use Rattle.calls.specs.declared.Call.TheVariants.{Propose, StartRead, Receive}
 use Rattle.consensus.proofs.Decided.{admission, handled, by_decision, settings_kept}
-use Rattle.consensus.specs.Answers.{state_with_rounds, track, sent, committed, finish_at, finish}
+use Rattle.consensus.specs.Answers.{state_with_rounds, track, sent_answer, committed, finish_at, finish}
 use Rattle.consensus.specs.Call.{new_core, new_shard, with_state, in_shard, call_with}
-use Rattle.consensus.specs.Handle.{on_commit, on_read_request, on_read_response, after_insert, read_inserted, start_read, proposing, processed, process_message, handle, handle_call}
+use Rattle.consensus.specs.Handle.{on_read_response, after_insert, read_inserted, start_read, proposing, processed, process_message, handle, handle_call}
 use Rattle.consensus.specs.declared.Answer.{Answer}
 use Rattle.consensus.specs.declared.Shard.{Shard}
 use Rattle.consensus.specs.declared.State.{State}
 use Rattle.consensus.specs.declared.StateAnswer.{StateAnswer}
 use Rattle.basics.specs.Lists.{In}
-use Rattle.agreement.proofs.Tests.{by_test, and_both, is_true}
-use Rattle.group.specs.Claim.{member_settings, begun, Choices, later_choices, MemberCall, after_call, plus_commit}
-use Rattle.group.specs.Steps.{is_done}
+use Rattle.agreement.proofs.Tests.{by_test, both_hold, is_true}
+use Rattle.group.specs.Claim.{member_settings, begun, ProposerChoices, later_choices, MemberCall, call_by_value, after_call, plus_commit}
+use Rattle.group.specs.Steps.{is_done, shards_made}
 use Rattle.group.proofs.View.{LeaderIn}
 use Rattle.group.proofs.Answering.{FastFits, size_bound, no_answers_fit, ProposerFits}
+use Rattle.group.proofs.Handlers.{handle_holds}
 use Rattle.group.proofs.StepBounds.{GroupFits, RoundFits, StateFits, none_counted, only_empty, CoreFits, MessageFits, RoundsFit, processed_fits, proposing_fits}
 
 -- ---- the counts of the open reads
@@ -223,8 +224,8 @@ start_group : (r : Option PaxosRound) (mode : PFMode) (l : ℕ) → T (equal r (
 unfolding round_equal
 start_group None mode l t = refl
 start_group (Some r) Paxos l t = absurd t
-start_group (Some r) MultiPaxos l t = eqb→eq _ _ (and_both (eqb r.round_group (next_leader_round (record { round_group = 0; leader = 0 }) l).round_group) _ t).0 ∙ group_of_start l
-start_group (Some r) MultiPaxos3P l t = eqb→eq _ _ (and_both (eqb r.round_group (next_leader_round (record { round_group = 0; leader = 0 }) l).round_group) _ t).0 ∙ group_of_start l
+start_group (Some r) MultiPaxos l t = eqb→eq _ _ (both_hold (eqb r.round_group (next_leader_round (record { round_group = 0; leader = 0 }) l).round_group) _ t).0 ∙ group_of_start l
+start_group (Some r) MultiPaxos3P l t = eqb→eq _ _ (both_hold (eqb r.round_group (next_leader_round (record { round_group = 0; leader = 0 }) l).round_group) _ t).0 ∙ group_of_start l
 start_group (Some r) EPaxos l t = absurd t
 start_group (Some r) Pando l t = absurd t
 start_group (Some r) SwiftPaxos l t = absurd t
@@ -232,7 +233,7 @@ start_group (Some r) SwiftPaxos l t = absurd t
 proposal_group : (s : Settings) (core : Core) → T (may_propose (asked_of s) core) → (proposal_round (asked_of s) core).round_group ≤ 1
 unfolding may_propose next_leader_round
 proposal_group s core t =
-    let zero = start_group core.paxos.round s.mode s.first_leader (and_both (can_propose (asked_of s)) _ (and_both (can_propose (asked_of s) && equal core.paxos.round (starting_round_of s)) _ (free (is_some core.paxos.max_rv) _ t)).0).1 in
+    let zero = start_group core.paxos.round s.mode s.first_leader (both_hold (can_propose (asked_of s)) _ (both_hold (can_propose (asked_of s) && equal core.paxos.round (starting_round_of s)) _ (free (is_some core.paxos.max_rv) _ t)).0).1 in
     let next = increment_next (unwrap_or_default core.paxos.round).round_group (omega arith) in
     of-both (λ (n : ℕ). n ≤ 1) (leb (unwrap_or_default core.paxos.round).leader (electing (asked_of s))) (omega arith) (omega arith)
   where
@@ -249,15 +250,12 @@ proposal_leader s limits core =
 
 -- the numbers of an admitted message
 pub admit_cond : (b : Bool) (o : Outcome) (why : Refusal) → cond b o (Err why) ≡ Ok tt → (b ≡ true) × (o ≡ Ok tt)
-admit_cond b o why e = go b refl e
-  where
-    go : (t : Bool) → b ≡ t → cond t o (Err why) ≡ Ok tt → (b ≡ true) × (o ≡ Ok tt)
-    go true d f = (d, f)
-    go false d f = let z : ◌≡◌ {A = Bool} true false = ap is_done (sym f) in absurd (not_both refl z)
+admit_cond true o why e = (refl, e)
+admit_cond false o why e = let z : ◌≡◌ {A = Bool} true false = ap is_done (sym e) in absurd (not_both refl z)
 
-pub numbers_of : (count own : ℕ) (core : Core) (d : Delivery) → admit count own core d ≡ Ok tt → (numbers_fit d ≡ true) × (processes_fit count d ≡ true)
+pub admitted_numbers : (count own : ℕ) (core : Core) (d : Delivery) → admit count own core d ≡ Ok tt → (numbers_fit d ≡ true) × (processes_fit count d ≡ true)
 unfolding admit
-numbers_of count own core d e =
+admitted_numbers count own core d e =
     let n = admit_cond (numbers_fit d) (cond (processes_fit count d) (ready own core d) (Err NoSuchProcess)) NumberTooLarge e in
     (n.0, (admit_cond (processes_fit count d) (ready own core d) NoSuchProcess n.1).0)
 
@@ -336,21 +334,21 @@ abbrev pub ClearedBy : Option CommittedSlot → Shard → Type 0
 ClearedBy None shard = Unit {0}
 ClearedBy (Some commit) shard = Cleared shard
 
-abbrev pub OfSlot : ℕ → Option CommittedSlot → Type 0
-OfSlot own None = Unit {0}
-OfSlot own (Some commit) = commit.slot ≡ own
+abbrev pub CommitOfSlot : ℕ → Option CommittedSlot → Type 0
+CommitOfSlot own None = Unit {0}
+CommitOfSlot own (Some commit) = commit.slot ≡ own
 
 -- the reads that a call serves stand first in the table of served reads, as many as its reply says
-abbrev pub served_by : Answer → List ServedRead
-served_by r = take r.reply.served_count r.shard.state.table.served
+abbrev pub served_by_call : Answer → List ServedRead
+served_by_call r = take r.reply.served_count r.shard.state.table.served
 
 -- what a call leaves; a commit is of the own slot and moves it on, and nothing else does
 pub record CallLasts (old : Shard) (r : Answer) : Type 0 where
   pub lasts : Lasts r.shard
   pub cleared : ClearedBy r.reply.commit r.shard
   pub slot_moves : r.shard.state.rounds.core.slot ≡ plus_commit r.reply.commit old.state.rounds.core.slot
-  pub of_own_slot : OfSlot old.state.rounds.core.slot r.reply.commit
-  pub served_rising : Rising 0 (served_ids (served_by r)) old.state.rounds.core.tracker.next_id
+  pub of_own_slot : CommitOfSlot old.state.rounds.core.slot r.reply.commit
+  pub served_rising : RisingIds 0 (served_ids (served_by_call r)) old.state.rounds.core.tracker.next_id
 
 leader_below : (s : Settings) → within_limits s ≡ true → s.first_leader < 64
 leader_below s limits = let few = few_processes s limits in let first = (within_members s limits).leader_below in omega arith
@@ -383,7 +381,7 @@ begun_lasts s =
     made : (t : Bool) → within_limits s ≡ t → ◌≡◌ {A = Outcome} (cond t (Ok tt) (Err SettingsOutsideLimits)) (Ok tt) → within_limits s ≡ true
     made t w e = w ∙ (admit_cond t (Ok tt) SettingsOutsideLimits e).0
 
-module _ (choose : Choice) (shard : Shard) (k : Lasts shard) where
+module _ (choose : ProposerChoice) (shard : Shard) (k : Lasts shard) where
   abbrev s : Settings
   s = shard.settings
 
@@ -397,7 +395,7 @@ module _ (choose : Choice) (shard : Shard) (k : Lasts shard) where
   StateLasts r = CallLasts shard (in_shard shard r)
 
   -- where the state stays
-  same_lasts : (outcome : Outcome) (ms : Messages)
+  same_lasts : (outcome : Outcome) (ms : SentMessages)
       → StateLasts (record { state = state; reply = record { outcome = outcome; messages = ms; commit = None; served_count = 0 } })
   same_lasts outcome ms = record { lasts = k; cleared = tt; slot_moves = refl; of_own_slot = tt; served_rising = omega arith }
 
@@ -414,7 +412,7 @@ module _ (choose : Choice) (shard : Shard) (k : Lasts shard) where
     as_it_is : CoreFits (CountedIn s) (LeadsIn shard.made) asked own_counts own_small state.rounds.core state.rounds.core
     as_it_is = record { same_slot = refl; same_tracker = refl; state_fits = k.sets_fit }
 
-    stays_lasts : (rounds : Rounds) (ms : Messages) → Fits rounds → StateLasts (sent (state_with_rounds state rounds) ms)
+    stays_lasts : (rounds : Rounds) (ms : SentMessages) → Fits rounds → StateLasts (sent_answer (state_with_rounds state rounds) ms)
     stays_lasts rounds ms f =
         record {
           lasts =
@@ -438,7 +436,7 @@ module _ (choose : Choice) (shard : Shard) (k : Lasts shard) where
     reads_last tracker table f =
         record { made_within = k.made_within; slot_fits = k.slot_fits; sets_fit = k.sets_fit; fast_fits = k.fast_fits; fast_as_new = k.fast_as_new; reads_fit = f }
 
-    commit_lasts : (v : ℕ) (rounds : Rounds) (ms : Messages) → Fits rounds → StateLasts (committed state asked v rounds ms)
+    commit_lasts : (v : ℕ) (rounds : Rounds) (ms : SentMessages) → Fits rounds → StateLasts (committed state asked v rounds ms)
     unfolding committed commit_slot
     commit_lasts v rounds ms f =
         record {
@@ -455,7 +453,7 @@ module _ (choose : Choice) (shard : Shard) (k : Lasts shard) where
           slot_moves = let e = f.core_fits.same_slot in let n = increment_next rounds.core.slot (omega arith) in omega arith;
           of_own_slot = f.core_fits.same_slot;
           served_rising =
-              subst (λ (t : ReadTracker). Rising 0 (served_ids (served_by (in_shard shard (committed state asked v rounds ms)))) t.next_id) f.core_fits.same_tracker
+              subst (λ (t : ReadTracker). RisingIds 0 (served_ids (served_by_call (in_shard shard (committed state asked v rounds ms)))) t.next_id) f.core_fits.same_tracker
               (commit_slot_in_order rounds.core.tracker state.table (quorums_of s).majority _ reads.in_order).1;
         }
       where
@@ -530,16 +528,11 @@ module _ (choose : Choice) (shard : Shard) (k : Lasts shard) where
       process_lasts = finish_lasts d.said.value_held (processed choose asked heard d.message.msg state.rounds) message_processed_fits
 
       handle_lasts : (m : ConsensusMsg) → StateLasts (handle choose state asked heard d m)
-      unfolding handle on_commit on_read_request on_read_response
-      handle_lasts (Prepare slot round rv) = process_lasts
-      handle_lasts (Accept slot round v) = process_lasts
-      handle_lasts (ForwardRequest v) = process_lasts
-      handle_lasts (Commit slot v) =
-          of-both StateLasts (ltb slot state.rounds.core.slot) (same_lasts _ _)
-          (commit_lasts v state.rounds _ (record { core_fits = as_it_is; fast_fits = k.fast_fits; same_fast = λ e. refl }))
-      handle_lasts (ReadRequest id) = of-both StateLasts (eqb d.message.src s.my_pid) (same_lasts _ _) (same_lasts _ _)
-      handle_lasts (ReadResponse id next) =
-          record {
+      unfolding on_read_response
+      handle_lasts =
+          handle_holds choose state asked heard d StateLasts process_lasts (same_lasts _ _) (same_lasts _ _)
+          (λ v. commit_lasts v state.rounds _ (record { core_fits = as_it_is; fast_fits = k.fast_fits; same_fast = λ e. refl })) (λ id t. same_lasts _ _)
+          (λ id. record {
             lasts =
                 reads_last _ _
                 (ready_reads_fit state.rounds.core.tracker state.table id (quorums_of s).majority state.rounds.core.slot d.said.fast (low_majority s limits) k.reads_fit);
@@ -548,13 +541,13 @@ module _ (choose : Choice) (shard : Shard) (k : Lasts shard) where
             of_own_slot = tt;
             served_rising =
                 (receive_ready_in_order state.rounds.core.tracker state.table id (quorums_of s).majority state.rounds.core.slot d.said.fast k.reads_fit.in_order).1;
-          }
+          })
 
     handled_lasts : (c : Call) → admission shard c ≡ Ok tt → CallLasts shard (handled choose shard c)
     unfolding admission_of handle_call
     handled_lasts (Propose v) e = finish_lasts true (proposing asked v state.rounds) (proposed_fits v)
     handled_lasts (StartRead tag arrival) e = read_lasts tag arrival
-    handled_lasts (Receive d) e = let n = numbers_of s.process_count s.my_pid state.rounds.core d e in handle_lasts d n.0 n.1 d.message.msg
+    handled_lasts (Receive d) e = let n = admitted_numbers s.process_count s.my_pid state.rounds.core d e in handle_lasts d n.0 n.1 d.message.msg
 
   pub call_lasts : (c : Call) → CallLasts shard (call_with choose shard c)
   call_lasts c = by_decision choose shard (CallLasts shard) c (λ why. same_lasts _ _) (λ made room e. handled_lasts (k.made_within made) room c e)
@@ -662,20 +655,19 @@ module _ (shard : Shard) (k : Lasts shard) where
   pub lies_in_tables : (d : Delivery) → shard.made ≡ Ok tt → admit shard.settings.process_count shard.settings.my_pid shard.state.rounds.core d ≡ Ok tt → InTables shard.settings.my_pid d
   lies_in_tables d made e =
       in_tables shard.settings.process_count (few_processes shard.settings (k.made_within made)) shard.settings.my_pid (own_below shard.settings (k.made_within made)) d
-      (numbers_of shard.settings.process_count shard.settings.my_pid shard.state.rounds.core d e).1
+      (admitted_numbers shard.settings.process_count shard.settings.my_pid shard.state.rounds.core d e).1
 
 -- ---- lists of calls, legal or not
 
 -- the shards after the calls of a list, with a choice for each place in it
-unfoldable pub shards_after : Choices → (ℕ → Shard) → List MemberCall → ℕ → Shard
-shards_after choices shards [] = shards
-shards_after choices shards (c ∷ cs) = shards_after (later_choices choices) (after_call (choices 0) shards c) cs
+abbrev pub shards_after : ProposerChoices → (ℕ → Shard) → List MemberCall → ℕ → Shard
+shards_after choices shards cs = shards_made (λ place. call_by_value (call_with (choices place))) shards cs
 
 record RunLasts (s : Settings) (shards : ℕ → Shard) : Type 0 where
   lasting : (i : ℕ) → Lasts (shards i)
   settings_stay : (i : ℕ) → (shards i).settings ≡ member_settings s i
 
-call_keeps : (choose : Choice) (s : Settings) (shards : ℕ → Shard) → RunLasts s shards → (c : MemberCall) → RunLasts s (after_call choose shards c)
+call_keeps : (choose : ProposerChoice) (s : Settings) (shards : ℕ → Shard) → RunLasts s shards → (c : MemberCall) → RunLasts s (after_call choose shards c)
 call_keeps choose s shards k c =
     record {
       lasting = λ j. of-both Lasts (eqb j c.member) left.lasts (k.lasting j);
@@ -688,12 +680,12 @@ call_keeps choose s shards k c =
     left : CallLasts (shards c.member) (call_with choose (shards c.member) c.call)
     left = call_lasts choose (shards c.member) (k.lasting c.member) c.call
 
-run_keeps : (choices : Choices) (s : Settings) (shards : ℕ → Shard) → RunLasts s shards → (cs : List MemberCall) → RunLasts s (shards_after choices shards cs)
-unfolding shards_after
+run_keeps : (choices : ProposerChoices) (s : Settings) (shards : ℕ → Shard) → RunLasts s shards → (cs : List MemberCall) → RunLasts s (shards_after choices shards cs)
+unfolding shards_made
 run_keeps choices s shards k [] = k
 run_keeps choices s shards k (c ∷ cs) = run_keeps (later_choices choices) s (after_call (choices 0) shards c) (call_keeps (choices 0) s shards k c) cs
 
-module _ (choices : Choices) (s : Settings) (cs : List MemberCall) (i : ℕ) where
+module _ (choices : ProposerChoices) (s : Settings) (cs : List MemberCall) (i : ℕ) where
   -- the shard of member i after the calls
   abbrev left : Shard
   left = shards_after choices (begun s) cs i
@@ -719,7 +711,7 @@ module _ (choices : Choices) (s : Settings) (cs : List MemberCall) (i : ℕ) whe
   fast_half_as_new classic = ok.fast_as_new (ap (λ (x : Settings). has_fast_path x.mode) same ∙ classic)
 
   -- "A commit clears everything", in every mode.
-  pub commit_clears : (choose : Choice) (c : Call) (slot v : ℕ) (mark : Bool) → (call_with choose left c).reply.commit ≡ committed_slot slot v mark → Cleared (call_with choose left c).shard
+  pub commit_clears : (choose : ProposerChoice) (c : Call) (slot v : ℕ) (mark : Bool) → (call_with choose left c).reply.commit ≡ committed_slot slot v mark → Cleared (call_with choose left c).shard
   commit_clears choose c slot v mark e = subst (λ (x : Option CommittedSlot). ClearedBy x (call_with choose left c).shard) e (call_lasts choose left ok c).cleared
 
   -- The open reads stand in id order, at most 128, each id above the one before it and all below the next one.
@@ -727,7 +719,7 @@ module _ (choices : Choices) (s : Settings) (cs : List MemberCall) (i : ℕ) whe
   reads_in_order = ok.reads_fit.in_order
 
   -- "Served reads come in id order."
-  pub served_in_order : (choose : Choice) (c : Call) → Rising 0 (served_ids (served_by (call_with choose left c))) left.state.rounds.core.tracker.next_id
+  pub served_in_order : (choose : ProposerChoice) (c : Call) → RisingIds 0 (served_ids (served_by_call (call_with choose left c))) left.state.rounds.core.tracker.next_id
   served_in_order choose c = (call_lasts choose left ok c).served_rising
 
   counted : StateFits (CountedIn s) (LeadsIn left.made) core.paxos

@@ -22,3 +22,4 @@ pub mod SwiftSets
 pub mod SwiftDisagrees
 pub mod GroupOfOne
 pub mod Steps
+pub mod Beside

@@ -20,13 +20,13 @@ use Rattle.agreement.proofs.Tests.{neqb→ne}
 use Rattle.group.specs.Claim.{begun, ours, MemberCall, entries, Legal, Claim}
 use Rattle.group.proofs.Agreement.{agreement}
 use Rattle.group.proofs.Computed.{computed}
-use Rattle.group.proofs.Example.{three_with, three, proposes, hears_for, hears, MemberCommit, commits_of, none, commits, first}
+use Rattle.group.proofs.Example.{three_with, three, proposal_call, hears_for, hears_message, MemberCommit, commits_of_entries, none, member_commit, first}
 use Rattle.group.proofs.RunReads.{opens, MemberRead, served_from, serves}
 
 -- what is shown of a run
 pub record Shown (s : Settings) (calls : List MemberCall) (listed : List MemberCommit) (reads : List MemberRead) : Type 0 where
   pub legal : Legal s calls
-  pub commits_listed : commits_of (entries s calls) ≡ listed
+  pub commits_listed : commits_of_entries (entries s calls) ≡ listed
   pub reads_served : served_from ours (begun s) calls ≡ reads
 
 -- ---- MultiPaxos: member 0 leads, and needs no promises
@@ -35,24 +35,24 @@ pub record Shown (s : Settings) (calls : List MemberCall) (listed : List MemberC
 -- slot 1: member 0 proposes 20, member 2 accepts it, and all commit it
 abbrev led : List MemberCall
 led =
-    proposes 0 10
-    ∷ hears 1 0 None (Accept 0 (round_of 0 0) 10)
-    ∷ hears 0 1 None (Accept 0 (round_of 0 0) 10)
-    ∷ hears 1 0 None (Commit 0 10)
-    ∷ hears 2 0 None (Commit 0 10)
+    proposal_call 0 10
+    ∷ hears_message 1 0 None (Accept 0 (round_of 0 0) 10)
+    ∷ hears_message 0 1 None (Accept 0 (round_of 0 0) 10)
+    ∷ hears_message 1 0 None (Commit 0 10)
+    ∷ hears_message 2 0 None (Commit 0 10)
     ∷ opens 2 7 0
-    ∷ hears 0 2 (Some 10) (ReadRequest (read_id 0))
-    ∷ hears 2 0 None (ReadResponse (read_id 0) 1)
-    ∷ proposes 0 20
-    ∷ hears 2 0 (Some 10) (Accept 1 (round_of 0 0) 20)
-    ∷ hears 0 2 (Some 10) (Accept 1 (round_of 0 0) 20)
-    ∷ hears 1 0 (Some 10) (Commit 1 20)
-    ∷ hears 2 0 (Some 10) (Commit 1 20)
+    ∷ hears_message 0 2 (Some 10) (ReadRequest (read_id 0))
+    ∷ hears_message 2 0 None (ReadResponse (read_id 0) 1)
+    ∷ proposal_call 0 20
+    ∷ hears_message 2 0 (Some 10) (Accept 1 (round_of 0 0) 20)
+    ∷ hears_message 0 2 (Some 10) (Accept 1 (round_of 0 0) 20)
+    ∷ hears_message 1 0 (Some 10) (Commit 1 20)
+    ∷ hears_message 2 0 (Some 10) (Commit 1 20)
     ∷ []
 
 abbrev led_commits : List MemberCommit
 led_commits =
-    commits 2 1 20 false ∷ commits 1 1 20 false ∷ commits 0 1 20 false ∷ none 2 ∷ none 0 ∷ none 2 ∷ none 0 ∷ none 2 ∷ commits 2 0 10 false ∷ commits 1 0 10 false ∷ commits 0 0 10 false ∷ none 1 ∷ none 0 ∷ []
+    member_commit 2 1 20 false ∷ member_commit 1 1 20 false ∷ member_commit 0 1 20 false ∷ none 2 ∷ none 0 ∷ none 2 ∷ none 0 ∷ none 2 ∷ member_commit 2 0 10 false ∷ member_commit 1 0 10 false ∷ member_commit 0 0 10 false ∷ none 1 ∷ none 0 ∷ []
 
 -- ---- MultiPaxos3P: member 0 leads, and member 2 is the committer of all; the values are member 1's
 
@@ -67,12 +67,12 @@ hears1 = hears_for (Some 1)
 -- hears the leader's accept, answers it and commits; the commit is member 1's own answer and serves the read
 abbrev committed_by_third : List MemberCall
 committed_by_third =
-    proposes 0 10
+    proposal_call 0 10
     ∷ hears1 1 0 None (Accept 0 (round_of 0 0) 10)
     ∷ hears1 2 1 None (Accept 0 (round_of 0 0) 10)
     ∷ hears1 0 2 None (Commit 0 10)
     ∷ hears1 1 2 None (Commit 0 10)
-    ∷ proposes 0 20
+    ∷ proposal_call 0 20
     ∷ hears1 1 0 (Some 10) (Accept 1 (round_of 0 0) 20)
     ∷ opens 1 8 1
     ∷ hears1 2 1 (Some 10) (ReadRequest (read_id 0))
@@ -84,7 +84,7 @@ committed_by_third =
 
 abbrev committed_by_third_commits : List MemberCommit
 committed_by_third_commits =
-    commits 1 1 20 false ∷ commits 0 1 20 false ∷ commits 2 1 20 false ∷ none 1 ∷ none 2 ∷ none 1 ∷ none 1 ∷ none 0 ∷ commits 1 0 10 false ∷ commits 0 0 10 false ∷ commits 2 0 10 false ∷ none 1 ∷ none 0 ∷ []
+    member_commit 1 1 20 false ∷ member_commit 0 1 20 false ∷ member_commit 2 1 20 false ∷ none 1 ∷ none 2 ∷ none 1 ∷ none 1 ∷ none 0 ∷ member_commit 1 0 10 false ∷ member_commit 0 0 10 false ∷ member_commit 2 0 10 false ∷ none 1 ∷ none 0 ∷ []
 
 -- ---- Pando: member 1 is the delegate of all
 
@@ -97,25 +97,25 @@ with_delegate = three_with Pando false 1
 -- slot 2, since it holds 20; all commit 20, and then member 0 hears the response, which serves the read
 abbrev delegated : List MemberCall
 delegated =
-    proposes 0 10
-    ∷ hears 2 0 None (Prepare 0 (round_of 0 0) (PaxosV None 10))
-    ∷ hears 1 2 None (Prepare 0 (round_of 0 0) (PaxosV None 10))
-    ∷ hears 0 1 None (Accept 0 (round_of 0 0) 10)
-    ∷ hears 1 0 None (Commit 0 10)
-    ∷ hears 2 0 None (Commit 0 10)
-    ∷ proposes 2 20
-    ∷ hears 1 2 (Some 10) (Prepare 1 (round_of 0 2) (PaxosV None 20))
+    proposal_call 0 10
+    ∷ hears_message 2 0 None (Prepare 0 (round_of 0 0) (PaxosV None 10))
+    ∷ hears_message 1 2 None (Prepare 0 (round_of 0 0) (PaxosV None 10))
+    ∷ hears_message 0 1 None (Accept 0 (round_of 0 0) 10)
+    ∷ hears_message 1 0 None (Commit 0 10)
+    ∷ hears_message 2 0 None (Commit 0 10)
+    ∷ proposal_call 2 20
+    ∷ hears_message 1 2 (Some 10) (Prepare 1 (round_of 0 2) (PaxosV None 20))
     ∷ opens 0 9 1
-    ∷ hears 1 0 (Some 10) (ReadRequest (read_id 0))
-    ∷ hears 2 1 (Some 10) (Accept 1 (round_of 0 2) 20)
-    ∷ hears 0 2 (Some 10) (Commit 1 20)
-    ∷ hears 1 2 (Some 10) (Commit 1 20)
-    ∷ hears 0 1 None (ReadResponse (read_id 0) 2)
+    ∷ hears_message 1 0 (Some 10) (ReadRequest (read_id 0))
+    ∷ hears_message 2 1 (Some 10) (Accept 1 (round_of 0 2) 20)
+    ∷ hears_message 0 2 (Some 10) (Commit 1 20)
+    ∷ hears_message 1 2 (Some 10) (Commit 1 20)
+    ∷ hears_message 0 1 None (ReadResponse (read_id 0) 2)
     ∷ []
 
 abbrev delegated_commits : List MemberCommit
 delegated_commits =
-    none 0 ∷ commits 1 1 20 false ∷ commits 0 1 20 false ∷ commits 2 1 20 false ∷ none 1 ∷ none 0 ∷ none 1 ∷ none 2 ∷ commits 2 0 10 false ∷ commits 1 0 10 false ∷ commits 0 0 10 false ∷ none 1 ∷ none 2 ∷ none 0 ∷ []
+    none 0 ∷ member_commit 1 1 20 false ∷ member_commit 0 1 20 false ∷ member_commit 2 1 20 false ∷ none 1 ∷ none 0 ∷ none 1 ∷ none 2 ∷ member_commit 2 0 10 false ∷ member_commit 1 0 10 false ∷ member_commit 0 0 10 false ∷ none 1 ∷ none 2 ∷ none 0 ∷ []
 
 -- ---- all three
 

@@ -1,6 +1,6 @@
 -- A proposal in the classic modes is the model's `model_on_propose`.
 -- Assumes nothing.
-use Rattle.std.specs.Prelude.{Option, None, Some, is_some, Ok, Err}
+use Rattle.std.specs.Prelude.{Option, None, Some, is_some, Result, Ok}
 use mathlib.Core.Path.{◌≡◌, refl, sym, ap, ap₂, subst, ◌∙◌}
 use mathlib.Core.Logic.{◌⊎◌, inl, inr}
 use mathlib.Core.Bool.{Bool, true, false, cond, not, ◌&&◌, ◌||◌}
@@ -9,7 +9,7 @@ use Prim.Native.Nat.{ℕ, suc, ◌+◌, ◌*◌, ◌<◌}
 use native.Mathlib.Omega.{arith}
 use lib.Dec.{eqb, leb-zero}
 use borrow.Author.Tests.{eq-eqb}
-use Rattle.basics.proofs.Tests.{either, not_both, and_left, and_right, and_both, or_cases}
+use Rattle.basics.proofs.Tests.{not_both, and_left, and_right, and_both, or_cases}
 use Rattle.basics.specs.sets.Sets.{contains}
 use Rattle.message.specs.Promises.{value_of, accept_round_of}
 use Rattle.message.specs.Modes.{is_multi_paxos, is_swift_paxos}
@@ -19,18 +19,20 @@ use Rattle.message.specs.declared.ConsensusMsg.TheVariants.{Prepare, Accept}
 use Rattle.message.specs.declared.PFMode.{PFMode}
 use Rattle.message.specs.declared.PFMode.TheVariants.{Paxos, MultiPaxos, MultiPaxos3P, EPaxos, Pando, SwiftPaxos}
 use Rattle.message.specs.declared.PaxosRound.{PaxosRound}
+use Rattle.message.specs.declared.Refusal.{Refusal}
 use Rattle.message.specs.declared.RoundV.{RoundV}
 use Rattle.message.specs.declared.RoundV.TheVariants.{PaxosV}
 use Rattle.round_state.specs.Paxos.{goto_round, held_after_promise, receive_promise, paxos_propose_v, accept_fits, after_accept, receive_accept, accept_own, self_accept}
 use Rattle.round_state.specs.declared.PaxosState.{PaxosState}
 use Rattle.settings.specs.Questions.{delegate_of, starting_round_of, delegate_in}
 use Rattle.settings.specs.declared.Settings.{Settings}
-use Rattle.propose.specs.Propose.{not_allowed, electing, proposal_round, may_propose, broadcast_own, propose_prepare, after_own_promise, propose_accept, propose_classic}
-use Rattle.steps.specs.Steps.{one_message, sends, to_all, with_paxos, stays}
+use Rattle.propose.specs.Propose.{electing, proposal_round, may_propose, broadcast_own, propose_prepare, after_own_promise, propose_accept, propose_classic}
+use Rattle.steps.specs.Steps.{CoreStep, one_message, sends, to_all, with_paxos, stays}
 use Rattle.steps.specs.declared.Core.{Core}
-use Rattle.agreement.specs.Model.{View, Answers, in_later_round, holding_other_value, prepared_by, voted, say, model_on_propose}
+use Rattle.agreement.proofs.Tests.{by_choice}
+use Rattle.agreement.specs.Model.{View, ModelAnswers, in_later_round, holding_other_value, prepared_by, model_voted, model_sends, model_on_propose}
 use Rattle.agreement.specs.Model as model
-use Rattle.group.proofs.View.{round_number, leader_of, leader_of_lem, proposer_of, is_e_paxos, view_of, Leaders, setup_of, Follows}
+use Rattle.group.proofs.View.{round_number, leader_of, leader_of_lem, proposer_of, is_e_paxos, view_of, Leaders, model_setup_of, Follows}
 use Rattle.group.proofs.Entering.{goto_view}
 use Rattle.group.proofs.Preparing.{asked_by, nothing_held_lem, follows_both, first_view, own_accept_view}
 
@@ -64,7 +66,7 @@ next_leader : (r : PaxosRound) (p : ℕ) → (next_leader_round r p).leader ≡ 
 unfolding next_leader_round
 next_leader r p = refl
 
-module _ (ans : Answers) (s : Settings) (i : ℕ) (no-swift : is_swift_paxos s.mode ≡ false) (small : i < 64) (first_small : s.first_leader < 64) (v : ℕ) (core : Core) (ok : Leaders core) where
+module _ (ans : ModelAnswers) (s : Settings) (i : ℕ) (no-swift : is_swift_paxos s.mode ≡ false) (small : i < 64) (first_small : s.first_leader < 64) (v : ℕ) (core : Core) (ok : Leaders core) where
   electing_own : electing (asked_by s i) ≡ i
   unfolding electing
   electing_own = simp no-swift
@@ -78,7 +80,15 @@ module _ (ans : Answers) (s : Settings) (i : ℕ) (no-swift : is_swift_paxos s.m
 
   pub allowed : may_propose (asked_by s i) core ≡ true → Allowed
   unfolding may_propose
-  allowed e = go (is_some core.paxos.max_rv) refl e
+  allowed e =
+      by_choice (λ (t : Bool). t ≡ true → Allowed) (is_some core.paxos.max_rv) (λ h t. absurd (not_both t refl))
+      (λ h t. record {
+        nothing = h;
+        alive = live (and_left A B (and_left (A && B) C t));
+        starts = equal_rounds core.paxos.round (starting_round_of s) (and_right A B (and_left (A && B) C t));
+        led = leads (and_right (A && B) C t);
+      })
+      e
     where
       A : Bool
       A = contains s.alive_replicas i || is_swift_paxos s.mode
@@ -103,16 +113,6 @@ module _ (ans : Answers) (s : Settings) (i : ℕ) (no-swift : is_swift_paxos s.m
               → Some (proposal_round (asked_by s i) core) ≡ starting_round_of s
           pick (inl l) = absurd (not_both l (ap not m))
           pick (inr l) = equal_rounds (Some (proposal_round (asked_by s i) core)) (starting_round_of s) l
-
-      go : (t : Bool) → is_some core.paxos.max_rv ≡ t → cond t false (A && B && C) ≡ true → Allowed
-      go true h t = absurd (not_both t refl)
-      go false h t =
-          record {
-            nothing = h;
-            alive = live (and_left A B (and_left (A && B) C t));
-            starts = equal_rounds core.paxos.round (starting_round_of s) (and_right A B (and_left (A && B) C t));
-            led = leads (and_right (A && B) C t);
-          }
 
   -- ---- the two proposals
 
@@ -159,27 +159,27 @@ module _ (ans : Answers) (s : Settings) (i : ℕ) (no-swift : is_swift_paxos s.m
 
     accepted_view_lem : (r : PaxosRound)
         → view_of ans (with_paxos (after_accept (asked_by s i).member i r v (promised r (PaxosV None v))) core)
-        ≡ voted i v (prepared_by i (holding_other_value 0 0 v (in_later_round (round_number (Some r)) (view_of ans core))))
+        ≡ model_voted i v (prepared_by i (holding_other_value 0 0 v (in_later_round (round_number (Some r)) (view_of ans core))))
     accepted_view_lem r =
-        own_accept_view ans s i may.alive small r (with_paxos (promised r (PaxosV None v)) core) v (promised_round r) ∙ ap (voted i v) (promised_view r (PaxosV None v))
+        own_accept_view ans s i may.alive small r (with_paxos (promised r (PaxosV None v)) core) v (promised_round r) ∙ ap (model_voted i v) (promised_view r (PaxosV None v))
 
     -- ---- the model's proposal
 
-    started : eqb (view_of ans core).round (setup_of s).voters.start ≡ true
-    started = eq-eqb (view_of ans core).round (setup_of s).voters.start (ap round_number may.starts)
+    started : eqb (view_of ans core).round (model_setup_of s).voters.start ≡ true
+    started = eq-eqb (view_of ans core).round (model_setup_of s).voters.start (ap round_number may.starts)
 
-    pub may_model : (contains s.alive_replicas i && (eqb (view_of ans core).round (setup_of s).voters.start && not (view_of ans core).holds)) ≡ true
+    pub may_model : (contains s.alive_replicas i && (eqb (view_of ans core).round (model_setup_of s).voters.start && not (view_of ans core).holds)) ≡ true
     may_model = and_both may.alive (and_both started (ap not may.nothing))
 
-    model_led : is_multi_paxos s.mode ≡ true → eqb i ((setup_of s).voters.delegate (view_of ans core).round) ≡ true
-        → model_on_propose (setup_of s) i (view_of ans core) v
-        ≡ say (voted i v (prepared_by i (holding_other_value 0 0 v (in_later_round (view_of ans core).round (view_of ans core))))) (record { destination = model.all; message = model.accept core.slot (view_of ans core).round v } ∷ [])
+    model_led : is_multi_paxos s.mode ≡ true → eqb i ((model_setup_of s).voters.delegate (view_of ans core).round) ≡ true
+        → model_on_propose (model_setup_of s) i (view_of ans core) v
+        ≡ model_sends (model_voted i v (prepared_by i (holding_other_value 0 0 v (in_later_round (view_of ans core).round (view_of ans core))))) (record { destination = model.all; message = model.accept core.slot (view_of ans core).round v } ∷ [])
     unfolding model_on_propose
     model_led m d = simp (may_model, m, d)
 
     model_own : is_multi_paxos s.mode ≡ false → is_e_paxos s.mode ≡ false
-        → model_on_propose (setup_of s) i (view_of ans core) v
-        ≡ say (prepared_by i (holding_other_value 0 0 v (in_later_round (suc i) (view_of ans core)))) (record { destination = model.all; message = model.prepare core.slot (suc i) 0 0 v } ∷ [])
+        → model_on_propose (model_setup_of s) i (view_of ans core) v
+        ≡ model_sends (prepared_by i (holding_other_value 0 0 v (in_later_round (suc i) (view_of ans core)))) (record { destination = model.all; message = model.prepare core.slot (suc i) 0 0 v } ∷ [])
     unfolding model_on_propose
     model_own m slow = simp (may_model, m, slow)
 
@@ -190,7 +190,7 @@ module _ (ans : Answers) (s : Settings) (i : ℕ) (no-swift : is_swift_paxos s.m
     led_round : is_multi_paxos s.mode ≡ true → (view_of ans core).round ≡ round_number (Some round)
     led_round m = ap round_number (may.starts ∙ sym (may.led m))
 
-    led_own : is_multi_paxos s.mode ≡ true → eqb i ((setup_of s).voters.delegate (view_of ans core).round) ≡ true
+    led_own : is_multi_paxos s.mode ≡ true → eqb i ((model_setup_of s).voters.delegate (view_of ans core).round) ≡ true
     led_own m =
         eq-eqb i (delegate_of s s.mode (leader_of (view_of ans core).round))
         (sym (leader_gathers s s.mode (leader_of (view_of ans core).round) m ∙ ap leader_of (led_round m) ∙ leader_of_lem round (subst (λ (p : ℕ). p < 64) (sym own) small) ∙ own))
@@ -204,50 +204,32 @@ module _ (ans : Answers) (s : Settings) (i : ℕ) (no-swift : is_swift_paxos s.m
         ap₂ (λ (r : Option PaxosRound) (p : ℕ). round_number (Some (next_leader_round (unwrap_or_default r) p))) (may.starts ∙ no_start_lem s.mode s.first_leader m) electing_own
         ∙ own_round_lem i
 
-    allowed_follows : is_e_paxos s.mode ≡ false → Follows (setup_of s) ans (cond (is_multi_paxos s.mode) (propose_accept (asked_by s i) round v core) (propose_prepare (asked_by s i) round (PaxosV None v) core))
-        (model_on_propose (setup_of s) i (view_of ans core) v)
-    allowed_follows slow = go (either (is_multi_paxos s.mode))
-      where
-        go : (is_multi_paxos s.mode ≡ true) ⊎ (is_multi_paxos s.mode ≡ false)
-            → Follows (setup_of s) ans (cond (is_multi_paxos s.mode) (propose_accept (asked_by s i) round v core) (propose_prepare (asked_by s i) round (PaxosV None v) core))
-            (model_on_propose (setup_of s) i (view_of ans core) v)
-        go (inl m) =
-            follows_both (ap (λ (t : Bool). cond t (propose_accept (asked_by s i) round v core) (propose_prepare (asked_by s i) round (PaxosV None v) core)) m ∙ accept_step round)
-            (model_led m (led_own m))
-            (record {
-              seen_as =
-                  ap (λ (x : View). say x (record { destination = model.all; message = model.accept core.slot (round_number (Some round)) v } ∷ [])) (accepted_view_lem round)
-                  ∙ ap
-                  (λ (r : ℕ).
-                  say (voted i v (prepared_by i (holding_other_value 0 0 v (in_later_round r (view_of ans core))))) (record { destination = model.all; message = model.accept core.slot r v } ∷ []))
-                  (sym (led_round m));
-            })
-        go (inr m) =
-            follows_both (ap (λ (t : Bool). cond t (propose_accept (asked_by s i) round v core) (propose_prepare (asked_by s i) round (PaxosV None v) core)) m ∙ prepare_step round (PaxosV None v))
-            (model_own m slow)
-            (record {
-              seen_as =
-                  ap (λ (x : View). say x (record { destination = model.all; message = model.prepare core.slot (round_number (Some round)) 0 0 v } ∷ [])) (promised_view round (PaxosV None v))
-                  ∙ ap
-                  (λ (r : ℕ).
-                  say (prepared_by i (holding_other_value 0 0 v (in_later_round r (view_of ans core)))) (record { destination = model.all; message = model.prepare core.slot r 0 0 v } ∷ []))
-                  (first_own m);
-            })
-
-  propose_allowed : may_propose (asked_by s i) core ≡ true
-      → propose_classic (asked_by s i) v core
-      ≡ cond (is_multi_paxos s.mode) (propose_accept (asked_by s i) (proposal_round (asked_by s i) core) v core) (propose_prepare (asked_by s i) (proposal_round (asked_by s i) core) (PaxosV None v) core)
-  unfolding propose_classic
-  propose_allowed e = simp e
-
-  propose_refused : may_propose (asked_by s i) core ≡ false → propose_classic (asked_by s i) v core ≡ Err not_allowed
-  unfolding propose_classic
-  propose_refused e = simp e
+    allowed_follows : is_e_paxos s.mode ≡ false → Follows (model_setup_of s) ans (cond (is_multi_paxos s.mode) (propose_accept (asked_by s i) round v core) (propose_prepare (asked_by s i) round (PaxosV None v) core))
+        (model_on_propose (model_setup_of s) i (view_of ans core) v)
+    allowed_follows slow =
+        by_choice (λ (step : Result CoreStep Refusal). Follows (model_setup_of s) ans step (model_on_propose (model_setup_of s) i (view_of ans core) v)) (is_multi_paxos s.mode)
+        (λ m. follows_both (accept_step round) (model_led m (led_own m))
+        (record {
+          seen_as =
+              ap (λ (x : View). model_sends x (record { destination = model.all; message = model.accept core.slot (round_number (Some round)) v } ∷ [])) (accepted_view_lem round)
+              ∙ ap
+              (λ (r : ℕ).
+              model_sends (model_voted i v (prepared_by i (holding_other_value 0 0 v (in_later_round r (view_of ans core))))) (record { destination = model.all; message = model.accept core.slot r v } ∷ []))
+              (sym (led_round m));
+        }))
+        (λ m. follows_both (prepare_step round (PaxosV None v)) (model_own m slow)
+        (record {
+          seen_as =
+              ap (λ (x : View). model_sends x (record { destination = model.all; message = model.prepare core.slot (round_number (Some round)) 0 0 v } ∷ [])) (promised_view round (PaxosV None v))
+              ∙ ap
+              (λ (r : ℕ).
+              model_sends (prepared_by i (holding_other_value 0 0 v (in_later_round r (view_of ans core)))) (record { destination = model.all; message = model.prepare core.slot r 0 0 v } ∷ []))
+              (first_own m);
+        }))
 
   -- A proposal is the model's.
-  pub propose_follows : is_e_paxos s.mode ≡ false → Follows (setup_of s) ans (propose_classic (asked_by s i) v core) (model_on_propose (setup_of s) i (view_of ans core) v)
-  propose_follows slow = go (either (may_propose (asked_by s i) core))
-    where
-      go : (may_propose (asked_by s i) core ≡ true) ⊎ (may_propose (asked_by s i) core ≡ false) → Follows (setup_of s) ans (propose_classic (asked_by s i) v core) (model_on_propose (setup_of s) i (view_of ans core) v)
-      go (inl e) = follows_both (propose_allowed e) refl (allowed_follows (allowed e) slow)
-      go (inr e) = follows_both (propose_refused e) refl (record { seen_as = tt })
+  pub propose_follows : is_e_paxos s.mode ≡ false → Follows (model_setup_of s) ans (propose_classic (asked_by s i) v core) (model_on_propose (model_setup_of s) i (view_of ans core) v)
+  unfolding propose_classic
+  propose_follows slow =
+      by_choice (λ (step : Result CoreStep Refusal). Follows (model_setup_of s) ans step (model_on_propose (model_setup_of s) i (view_of ans core) v)) (may_propose (asked_by s i) core)
+      (λ e. allowed_follows (allowed e) slow) (λ e. record { seen_as = tt })

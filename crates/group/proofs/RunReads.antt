@@ -8,8 +8,8 @@ use Rattle.read_tracker.specs.declared.ServedRead.{ServedRead}
 use Rattle.calls.specs.declared.Call.TheVariants.{StartRead}
 use Rattle.consensus.specs.Call.{call_with}
 use Rattle.consensus.specs.declared.Shard.{Shard}
-use Rattle.group.specs.Claim.{Choices, later_choices, MemberCall, after_call}
-use Rattle.group.proofs.Invariants.{served_by}
+use Rattle.group.specs.Claim.{ProposerChoices, later_choices, MemberCall, after_call}
+use Rattle.group.proofs.Invariants.{served_by_call}
 
 -- a member opens a read, with a tag and an arrival slot
 abbrev pub opens : ℕ → ℕ → ℕ → MemberCall
@@ -25,10 +25,10 @@ reads_of member [] = []
 reads_of member (r ∷ rs) = record { member = member; served = r } ∷ reads_of member rs
 
 -- all reads that a run serves, in the order of the calls
-unfoldable pub served_from : Choices → (ℕ → Shard) → List MemberCall → List MemberRead
+unfoldable pub served_from : ProposerChoices → (ℕ → Shard) → List MemberCall → List MemberRead
 served_from choices shards [] = []
 served_from choices shards (c ∷ cs) =
-    reads_of c.member (served_by (call_with (choices 0) (shards c.member) c.call))
+    reads_of c.member (served_by_call (call_with (choices 0) (shards c.member) c.call))
     ++ served_from (later_choices choices) (after_call (choices 0) shards c) cs
 
 -- a read with the first id of its member

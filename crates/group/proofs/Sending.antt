@@ -8,29 +8,29 @@ use mathlib.Core.List.{[]}
 use Prim.Native.Nat.{ℕ, ◌≤◌}
 use native.Mathlib.Omega.{arith}
 use lib.ListN.{length}
-use lib.Dec.{eqb, ltb}
+use lib.Dec.{eqb}
 use Rattle.message.specs.declared.ConsensusMsg.{ConsensusMsg}
 use Rattle.message.specs.declared.ConsensusMsg.TheVariants.{Prepare, Accept, ForwardRequest, Commit, ReadRequest, ReadResponse}
 use Rattle.message.specs.declared.Refusal.{Refusal}
-use Rattle.fast_state.specs.Adopt.{Choice}
+use Rattle.fast_state.specs.Adopt.{ProposerChoice}
 use Rattle.steps.specs.Steps.{RoundsStep, first_served}
 use Rattle.steps.specs.declared.Asked.{Asked}
 use Rattle.steps.specs.declared.Core.{Core}
 use Rattle.steps.specs.declared.Destination.{Destination}
 use Rattle.steps.specs.declared.Destination.TheVariants.{One, All}
 use Rattle.steps.specs.declared.Heard.{Heard}
-use Rattle.steps.specs.declared.Messages.{Messages}
+use Rattle.steps.specs.declared.SentMessages.{SentMessages}
 use Rattle.steps.specs.declared.Next.{Next}
 use Rattle.steps.specs.declared.Next.TheVariants.{Stays, Continues, Commits}
 use Rattle.steps.specs.declared.Outgoing.{Outgoing}
 use Rattle.steps.specs.declared.Rounds.{Rounds}
-use Rattle.delivery.specs.declared.Delivery.{Delivery}
+use Rattle.calls.specs.declared.delivery.Delivery.{Delivery}
 use Rattle.calls.specs.Asked.{asked_of, heard_of}
 use Rattle.calls.specs.declared.Call.{Call}
 use Rattle.calls.specs.declared.Reply.{Reply}
 use Rattle.consensus.specs.Answers.{committed, finish_at, finish}
 use Rattle.consensus.specs.Call.{call_with}
-use Rattle.consensus.specs.Handle.{proposing, on_commit, on_read_request, on_read_response, processed, process_message, handle}
+use Rattle.consensus.specs.Handle.{proposing, on_read_response, processed, process_message, handle}
 use Rattle.consensus.specs.declared.Shard.{Shard}
 use Rattle.consensus.specs.declared.State.{State}
 use Rattle.consensus.specs.declared.StateAnswer.{StateAnswer}
@@ -38,7 +38,7 @@ use Rattle.basics.specs.Lists.{In}
 use Rattle.basics.proofs.Tests.{of-both}
 use Rattle.agreement.proofs.Tests.{by_test, neqb→ne}
 use Rattle.group.specs.Claim.{listed, messages_of, Reaches, SentTo}
-use Rattle.group.proofs.Handlers.{Any, any_holds, UpToTwo, TwoAtMost, each_in, Ends, ends, Keeps, Comes, processed_holds, proposing_holds, call_holds}
+use Rattle.group.proofs.Handlers.{Any, any_holds, UpToTwo, TwoAtMost, each_in, Ends, ends, Keeps, Comes, processed_holds, proposing_holds, handle_holds, call_holds}
 
 -- ---- a message that a member may send
 
@@ -116,7 +116,7 @@ module _ (a : Asked) where
         propose_accept_lem = λ v core t p k. record { source = refl; to_others = tt; commit_to_all = tt };
       }
 
-  comes : (h : Heard) (core : Core) (m : ConsensusMsg) → Comes a Any Any Any Any (λ round. Any) Any (FromOwn own) keeps h (λ t. tt) core m
+  comes : (h : Heard) (core : Core) (m : ConsensusMsg) → Comes keeps h (λ t. tt) core m
   comes h core (Prepare slot round rv) = (tt, tt, tt)
   comes h core (Accept slot round v) = (tt, λ t. tt)
   comes h core (ForwardRequest v) = tt
@@ -125,15 +125,15 @@ module _ (a : Asked) where
   comes h core (ReadResponse id next) = tt
 
   -- Handling a message is refused or ends; what it sends, it sends with something held.
-  pub processed_ends : (choose : Choice) (h : Heard) (m : ConsensusMsg) (s : Rounds) → IfOk (processed choose a h m s) (RoundsEnd own)
+  pub processed_ends : (choose : ProposerChoice) (h : Heard) (m : ConsensusMsg) (s : Rounds) → IfOk (processed choose a h m s) (RoundsEnd own)
   processed_ends choose h m s =
-      processed_holds a Any Any Any Any (λ round. Any) Any (FromOwn own) keeps h (λ t. tt) (RoundsEnd own) choose s Any tt (λ p v w. any_holds _) (λ p v l w. any_holds _) (λ step t q. q.0.1) (λ step t q. q.1) m
+      processed_holds keeps h (λ t. tt) (RoundsEnd own) choose s Any tt (λ p v w. any_holds _) (λ p v l w. any_holds _) (λ step t q. q.0.1) (λ step t q. q.1) m
       (comes h s.core m) tt
 
   -- So does a proposal.
   pub proposing_ends : (v : ℕ) (s : Rounds) → IfOk (proposing a v s) (RoundsEnd own)
   proposing_ends v s =
-      proposing_holds a Any Any Any Any (λ round. Any) Any (FromOwn own) keeps (RoundsEnd own) (λ core t. tt) v tt s Any tt (any_holds _) (λ step t q. ends (FromOwn own) _ _ step.next q.0.1)
+      proposing_holds keeps (RoundsEnd own) (λ core t. tt) v tt s Any tt (any_holds _) (λ step t q. ends (FromOwn own) _ _ step.next q.0.1)
       (λ step t q. ends (FromOwn own) _ _ step.next q.1) tt
 
 -- ---- calls
@@ -155,23 +155,18 @@ module _ (state : State) (a : Asked) where
       go Continues q = absurd q
       go (Commits v) q = of-both (λ (r : StateAnswer). Sent r.reply) held q.0 (tt, tt)
 
-  module _ (choose : Choice) (h : Heard) (d : Delivery) where
+  module _ (choose : ProposerChoice) (h : Heard) (d : Delivery) where
     process_sends : Sent (process_message choose state a h d).reply
     unfolding process_message
     process_sends = finish_sends d.said.value_held (processed choose a h d.message.msg state.rounds) (processed_ends a choose h d.message.msg state.rounds)
 
     handle_sends : (m : ConsensusMsg) → Sent (handle choose state a h d m).reply
-    unfolding handle on_commit committed on_read_request on_read_response
-    handle_sends (Prepare slot round rv) = process_sends
-    handle_sends (Accept slot round v) = process_sends
-    handle_sends (ForwardRequest v) = process_sends
-    handle_sends (Commit slot v) = of-both (λ (r : StateAnswer). Sent r.reply) (ltb slot state.rounds.core.slot) (tt, tt) (tt, tt)
-    handle_sends (ReadRequest id) =
-        by_test (λ (r : StateAnswer). Sent r.reply) (eqb d.message.src a.member.my_pid) _ _ (λ t. (tt, tt))
-        (λ t. (record { source = refl; to_others = neqb→ne d.message.src a.member.my_pid t; commit_to_all = tt }, tt))
-    handle_sends (ReadResponse id next) = (tt, tt)
+    unfolding committed on_read_response
+    handle_sends =
+        handle_holds choose state a h d (λ (r : StateAnswer). Sent r.reply) process_sends (tt, tt) (tt, tt) (λ v. (tt, tt))
+        (λ id t. (record { source = refl; to_others = neqb→ne d.message.src a.member.my_pid t; commit_to_all = tt }, tt)) (λ id. (tt, tt))
 
-module _ (choose : Choice) (shard : Shard) where
+module _ (choose : ProposerChoice) (shard : Shard) where
   abbrev number : ℕ
   number = shard.settings.my_pid
 
@@ -190,7 +185,7 @@ module _ (choose : Choice) (shard : Shard) where
   pub two_messages_at_most : (c : Call) → length (messages_of (call_with choose shard c).reply.messages) ≤ 2
   two_messages_at_most c = go ms.first ms.second ms.third (call_sends c)
     where
-      ms : Messages
+      ms : SentMessages
       ms = (call_with choose shard c).reply.messages
 
       go : (x y z : Option Outgoing) → UpToTwo (FromOwn number) x y z → length (listed x (listed y (listed z []))) ≤ 2

@@ -11,11 +11,12 @@ use Prim.Native.Nat.{ℕ}
 use lib.Dec.{T, eqb, eqb→eq}
 use Rattle.basics.proofs.Tests.{of-both}
 use Rattle.settings.specs.declared.Settings.{Settings}
-use Rattle.fast_state.specs.Adopt.{Choice}
+use Rattle.fast_state.specs.Adopt.{ProposerChoice}
 use Rattle.consensus.specs.Call.{new_shard, call_with}
 use Rattle.consensus.specs.declared.Shard.{Shard}
-use Rattle.group.specs.Claim.{member_settings, begun, Choices, later_choices, MemberCall, Entry, entry_of, after_call, entries_from, entries_with, At, plus_commit, slot_at, CommitAt}
-use Rattle.group.proofs.Invariants.{Lasts, OfSlot, CallLasts, begun_lasts, call_lasts, shards_after}
+use Rattle.group.specs.Claim.{member_settings, begun, ProposerChoices, later_choices, MemberCall, Entry, entry_of, after_call, entries_from, entries_with, At, plus_commit, slot_at, CommitAt, entries_made}
+use Rattle.group.specs.Steps.{shards_made}
+use Rattle.group.proofs.Invariants.{Lasts, CommitOfSlot, CallLasts, begun_lasts, call_lasts, shards_after}
 
 abbrev slot_of : Shard → ℕ
 slot_of shard = shard.state.rounds.core.slot
@@ -30,7 +31,7 @@ record Counted (shards : ℕ → Shard) (past : List Entry) : Type 0 where
   slots : (i : ℕ) → slot_of (shards i) ≡ slot_at i past
   own_slots : OwnSlots past
 
-call_counted : (choose : Choice) (shards : ℕ → Shard) (past : List Entry) → Counted shards past → (c : MemberCall) → Counted (after_call choose shards c) (entry_of choose shards c ∷ past)
+call_counted : (choose : ProposerChoice) (shards : ℕ → Shard) (past : List Entry) → Counted shards past → (c : MemberCall) → Counted (after_call choose shards c) (entry_of choose shards c ∷ past)
 call_counted choose shards past k c =
     record {
       lasting = λ j. of-both Lasts (eqb j c.member) left.lasts (k.lasting j);
@@ -57,18 +58,18 @@ call_counted choose shards past k c =
       where
         at : At m.entry m.earlier (entry_of choose shards c ∷ past) → slot ≡ slot_at m.entry.member m.earlier
         at (inl e) =
-            subst (OfSlot (slot_of old)) (sym (ap (λ (x : Entry). x.reply.commit) e.0) ∙ m.commit) left.of_own_slot
+            subst (CommitOfSlot (slot_of old)) (sym (ap (λ (x : Entry). x.reply.commit) e.0) ∙ m.commit) left.of_own_slot
             ∙ k.slots c.member ∙ sym (ap (λ (x : Entry). slot_at x.member past) e.0) ∙ ap (slot_at m.entry.member) (sym e.1)
         at (inr h) = k.own_slots slot v (record { entry = m.entry; earlier = m.earlier; stands = h; fast = m.fast; commit = m.commit })
 
-run_counted : (choices : Choices) (shards : ℕ → Shard) (past : List Entry) → Counted shards past → (cs : List MemberCall)
+run_counted : (choices : ProposerChoices) (shards : ℕ → Shard) (past : List Entry) → Counted shards past → (cs : List MemberCall)
     → Counted (shards_after choices shards cs) (entries_from choices shards past cs)
-unfolding shards_after entries_from
+unfolding shards_made entries_made
 run_counted choices shards past k [] = k
 run_counted choices shards past k (c ∷ cs) =
     run_counted (later_choices choices) (after_call (choices 0) shards c) (entry_of (choices 0) shards c ∷ past) (call_counted (choices 0) shards past k c) cs
 
-module _ (choices : Choices) (s : Settings) (cs : List MemberCall) where
+module _ (choices : ProposerChoices) (s : Settings) (cs : List MemberCall) where
   counted : Counted (shards_after choices (begun s) cs) (entries_with choices s cs)
   unfolding new_shard
   counted = run_counted choices (begun s) [] (record { lasting = λ i. begun_lasts (member_settings s i); slots = λ i. refl; own_slots = λ slot v c. absurd c.stands }) cs

@@ -1,7 +1,7 @@
 -- What every step of every mode keeps, for any shard within its limits: slot and open reads, whom the prepared and accepted sets hold, who leads
 -- rounds, and the bounds of the numbers that a call adds to or subtracts from.
 -- Assumes nothing.
-use Rattle.std.specs.Prelude.{Option, None, Some, Result, Ok, is_some, IfOk}
+use Rattle.std.specs.Prelude.{Option, None, Some, Result, is_some, IfOk}
 use mathlib.Core.Path.{◌≡◌, refl, sym, ap, subst, ◌∙◌}
 use mathlib.Core.Logic.{◌⊎◌, inl, inr}
 use mathlib.Core.Bool.{Bool, true, false, cond, not, ◌&&◌}
@@ -26,11 +26,11 @@ use Rattle.message.specs.Promises.{accept_round_of}
 use Rattle.round_state.specs.Paxos.{get_last_accepted_round, held_after_promise, with_sender, with_own, counted, with_held, goto_round, receive_promise, after_accept}
 use Rattle.round_state.specs.declared.Member.{Member}
 use Rattle.round_state.specs.declared.PaxosState.{PaxosState}
-use Rattle.fast_state.specs.Adopt.{Choice}
+use Rattle.fast_state.specs.Adopt.{ProposerChoice}
 use Rattle.fast_state.specs.Fast.{answers_of, changed, unchanged, to_v_after, epaxos_scores_after, swift_scores_after, preaccepted_after, second_answer, is_unanswered, score_after, epaxos_counted, epaxos_answered, epaxos_propose_v, in_quorum, swift_counted, swift_recorded, swift_uncounted, swift_first, swift_answered, swift_own, swift_unanswered, swift_propose_v}
 use Rattle.fast_state.specs.declared.FastState.{FastState}
 use Rattle.fast_state.specs.declared.FastChange.{FastChange}
-use Rattle.enter.specs.Enter.{source_taken}
+use Rattle.steps.specs.enter.Enter.{source_taken}
 use Rattle.propose.specs.Propose.{proposal_round, may_propose, own_answer}
 use Rattle.steps.specs.Steps.{CoreStep, with_paxos, on_rounds, change_rounds}
 use Rattle.steps.specs.declared.Asked.{Asked}
@@ -39,9 +39,9 @@ use Rattle.steps.specs.declared.Core.{Core}
 use Rattle.steps.specs.declared.Heard.{Heard}
 use Rattle.steps.specs.declared.Rounds.{Rounds}
 use Rattle.consensus.specs.Handle.{proposing, processed}
-use Rattle.agreement.proofs.Tests.{by_test, neqb→ne}
+use Rattle.agreement.proofs.Tests.{by_test, by_choice, neqb→ne}
 use Rattle.group.proofs.View.{LeaderIn}
-use Rattle.group.proofs.Answering.{FastFits, size_bound, stored, stored_length, ProposerFits}
+use Rattle.group.proofs.Answering.{FastFits, size_bound, looked_up_after_store, stored_length, ProposerFits}
 use Rattle.group.proofs.Handlers.{Any, Holds, promise_held, Keeps, Comes, processed_holds, proposing_holds}
 
 -- ---- rounds
@@ -241,7 +241,7 @@ module _ (me : Member) (src p v : ℕ) (src-small : src < 64) (p-small : p < 64)
     where
       at : (q : ℕ) (P : ℕ → Type 0) → (q ≡ p → P new_score) → ((q ≡ p → ⊥) → P (look_up f.epaxos_proposer_scores q)) → P (look_up (store f.epaxos_proposer_scores p new_score) q)
       at q P x y =
-          subst P (sym (stored f.epaxos_proposer_scores ok.long_epaxos p new_score p-small q))
+          subst P (sym (looked_up_after_store f.epaxos_proposer_scores ok.long_epaxos p new_score p-small q))
           (by_test P (eqb q p) new_score (look_up f.epaxos_proposer_scores q) (λ t. x (eqb→eq q p t)) (λ t. y (neqb→ne q p t)))
 
   abbrev swift_score : ℕ
@@ -258,7 +258,7 @@ module _ (me : Member) (src p v : ℕ) (src-small : src < 64) (p-small : p < 64)
         epaxos_high = λ q. let m = one_more in let h = ok.epaxos_high q in omega arith;
         swift_high = λ q.
             let m = one_more in let h = ok.swift_high q in let old = ok.swift_high p in let r = room (look_up f.swift_proposer_scores p) (omega arith) in
-            subst (λ (n : ℕ). n ≤ size (insert answers src)) (sym (stored f.swift_proposer_scores ok.long_swift p swift_score p-small q))
+            subst (λ (n : ℕ). n ≤ size (insert answers src)) (sym (looked_up_after_store f.swift_proposer_scores ok.long_swift p swift_score p-small q))
             (of-both (λ (n : ℕ). n ≤ size (insert answers src)) (eqb q p) (omega arith) (omega arith));
         epaxos_low = ok.epaxos_low;
         epaxos_first = λ q l e. ok.epaxos_first q l (before_it q e);
@@ -288,23 +288,14 @@ module _ (me : Member) (f : FastState) (ok : FastFits f) where
 
   epaxos_answered_fits : (src p v : ℕ) → src < 64 → p < 64 → FastStepFits f (epaxos_answered me src p v (answers_of f) f.epaxos_proposer_scores)
   unfolding epaxos_answered
-  epaxos_answered_fits src p v l m = go (contains f.fast_answer_set src) refl
-    where
-      go : (t : Bool) → contains f.fast_answer_set src ≡ t
-          → FastStepFits f (cond t (second_answer me src (answers_of f)) (Ok (epaxos_counted me src p v (answers_of f) f.epaxos_proposer_scores)))
-      go true e = second_fits src
-      go false e = epaxos_counted_fits me src p v l m f ok e
+  epaxos_answered_fits src p v l m = by_choice (FastStepFits f) (contains f.fast_answer_set src) (λ e. second_fits src) (epaxos_counted_fits me src p v l m f ok)
 
   swift_answered_fits : (src p v : ℕ) → src < 64 → p < 64 → (quorum : Option ℕ) (leader : Bool) → FastStepFits f (swift_answered me src p v quorum leader (answers_of f) f.swift_proposer_scores)
   unfolding swift_answered swift_first swift_uncounted
-  swift_answered_fits src p v l m quorum leader = go (contains f.fast_answer_set src) refl
-    where
-      go : (t : Bool) → contains f.fast_answer_set src ≡ t
-          → FastStepFits f (cond t (second_answer me src (answers_of f)) (swift_first me src p v quorum leader (answers_of f) f.swift_proposer_scores))
-      go true e = second_fits src
-      go false e =
-          of-both (FastStepFits f) (in_quorum quorum src) (swift_counted_fits me src p v l m f ok e leader)
-          (of-both (FastStepFits f) leader tt (swift_recorded_fits me src p v l m f ok e))
+  swift_answered_fits src p v l m quorum leader =
+      by_choice (FastStepFits f) (contains f.fast_answer_set src) (λ e. second_fits src)
+      (λ e. of-both (FastStepFits f) (in_quorum quorum src) (swift_counted_fits me src p v l m f ok e leader)
+      (of-both (FastStepFits f) leader tt (swift_recorded_fits me src p v l m f ok e)))
 
 -- ---- the handlers of every mode
 
@@ -368,7 +359,7 @@ module _ (Counts Leads : ℕ → Type 0) (a : Asked) (own_counts : T a.member.re
   classic_fit f ok step k = record { core_fits = k; fast_fits = ok; same_fast = λ e. refl }
 
   module _ (h : Heard) (src-small : h.src < 64) (src-counts : T (source_taken a h) → Counts h.src) where
-    comes : (core : Core) (m : ConsensusMsg) → MessageFits Leads m → Comes a Source (RoundFits Leads) PromiseFits Any (λ round. Any) CoreFits Any keeps h (λ t other. src-counts t) core m
+    comes : (core : Core) (m : ConsensusMsg) → MessageFits Leads m → Comes keeps h (λ t other. src-counts t) core m
     comes core (Prepare slot round rv) fit = (fit.0, (fit.1, fit.2), tt)
     comes core (Accept slot round v) fit = (fit, λ t. tt)
     comes core (ForwardRequest v) fit = tt
@@ -376,11 +367,10 @@ module _ (Counts Leads : ℕ → Type 0) (a : Asked) (own_counts : T a.member.re
     comes core (ReadRequest id) fit = tt
     comes core (ReadResponse id next) fit = tt
 
-  pub processed_fits : (choose : Choice) (h : Heard) → h.src < 64 → (T (source_taken a h) → Counts h.src) → (m : ConsensusMsg) → MessageFits Leads m → (s : Rounds) → FastFits s.fast → CoreFits s.core
+  pub processed_fits : (choose : ProposerChoice) (h : Heard) → h.src < 64 → (T (source_taken a h) → Counts h.src) → (m : ConsensusMsg) → MessageFits Leads m → (s : Rounds) → FastFits s.fast → CoreFits s.core
       → IfOk (processed choose a h m s) (λ step. RoundsFit s.fast step.state)
   processed_fits choose h small c m fit s ok k =
-      processed_holds a Source (RoundFits Leads) PromiseFits Any (λ round. Any) CoreFits Any keeps h (λ t other. c t) (λ step. RoundsFit s.fast step.state) choose s
-      (λ change. FastFits (changed change s.fast)) (unchanged_fits s.fast ok)
+      processed_holds keeps h (λ t other. c t) (λ step. RoundsFit s.fast step.state) choose s (λ change. FastFits (changed change s.fast)) (unchanged_fits s.fast ok)
       (λ p v w. epaxos_answered_fits me s.fast ok h.src p v small w.1)
       (λ p v leader w. swift_answered_fits me s.fast ok h.src p v small w.1 a.quorum leader)
       (λ step t q. fast_fit s.fast step t q.0.0 q.1) (λ step t q. classic_fit s.fast ok step q.0) m (comes h small c s.core m fit) k
@@ -398,5 +388,5 @@ module _ (Counts Leads : ℕ → Type 0) (a : Asked) (own_counts : T a.member.re
   pub proposing_fits : ((core : Core) → T (may_propose a core) → RoundFits Leads (proposal_round a core)) → (v : ℕ) (s : Rounds) → FastFits s.fast → CoreFits s.core
       → IfOk (proposing a v s) (λ step. RoundsFit s.fast step.state)
   proposing_fits r v s ok k =
-      proposing_holds a Source (RoundFits Leads) PromiseFits Any (λ round. Any) CoreFits Any keeps (λ step. RoundsFit s.fast step.state) r v (tt, tt) s (λ change. FastFits (changed change s.fast))
-      (unchanged_fits s.fast ok) (own_answer_fits s.fast ok v) (λ step t q. fast_fit s.fast step t q.0.0 q.1) (λ step t q. classic_fit s.fast ok step q.0) k
+      proposing_holds keeps (λ step. RoundsFit s.fast step.state) r v (tt, tt) s (λ change. FastFits (changed change s.fast)) (unchanged_fits s.fast ok) (own_answer_fits s.fast ok v)
+      (λ step t q. fast_fit s.fast step t q.0.0 q.1) (λ step t q. classic_fit s.fast ok step q.0) k

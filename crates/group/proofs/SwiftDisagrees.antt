@@ -15,7 +15,7 @@ use Rattle.message.specs.declared.RoundV.TheVariants.{FastV}
 use Rattle.settings.specs.declared.Settings.{Settings}
 use Rattle.agreement.proofs.Tests.{neqb→ne}
 use Rattle.group.specs.Claim.{MemberCall, entries, Legal, CommitAt, Claim}
-use Rattle.group.proofs.Example.{proposes, hears_for, commits_of, none, commits, first}
+use Rattle.group.proofs.Example.{proposal_call, hears_for, commits_of_entries, none, member_commit, first}
 use Rattle.group.proofs.Computed.{computed}
 use Rattle.group.proofs.SwiftSets.{with_client}
 
@@ -32,8 +32,8 @@ hears6 member source = hears_for (Some 0) member source None
 -- member 2 counts the leader's Accept of 6 as an answer to its own proposal of 10, and commits 10 with member 1's answer; then member 1 accepts 6 too
 abbrev calls : List MemberCall
 calls =
-    proposes 2 10
-    ∷ proposes 0 6
+    proposal_call 2 10
+    ∷ proposal_call 0 6
     ∷ hears6 2 0 (Accept 0 (round_of 0 0) 6)
     ∷ hears10 1 2 (Prepare 0 (round_of 0 0) (FastV 2 10))
     ∷ hears10 2 1 (Prepare 0 (round_of 0 0) (FastV 2 10))
@@ -44,7 +44,7 @@ calls =
 -- what is shown of the run
 pub record SwiftShown : Type 0 where
   pub legal : Legal with_committer calls
-  pub commits_listed : commits_of (entries with_committer calls) ≡ (commits 0 0 6 false ∷ none 1 ∷ commits 2 0 10 true ∷ none 1 ∷ none 2 ∷ none 0 ∷ none 2 ∷ [])
+  pub commits_listed : commits_of_entries (entries with_committer calls) ≡ (member_commit 0 0 6 false ∷ none 1 ∷ member_commit 2 0 10 true ∷ none 1 ∷ none 2 ∷ none 0 ∷ none 2 ∷ [])
   pub commits_10 : CommitAt 0 10 (entries with_committer calls)
   pub commits_6 : CommitAt 0 6 (entries with_committer calls)
 

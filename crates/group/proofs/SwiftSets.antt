@@ -15,7 +15,7 @@ use Rattle.message.specs.declared.RoundV.TheVariants.{FastV}
 use Rattle.settings.specs.declared.Settings.{Settings}
 use Rattle.agreement.proofs.Tests.{neqb→ne}
 use Rattle.group.specs.Claim.{begun, ours, MemberCall, Legal}
-use Rattle.group.proofs.Example.{three_members, proposes, hears, first}
+use Rattle.group.proofs.Example.{three_members, proposal_call, hears_message, first}
 use Rattle.group.proofs.Computed.{computed}
 use Rattle.group.proofs.Invariants.{shards_after}
 
@@ -24,9 +24,9 @@ abbrev pub with_client : Bool → ℕ → Settings
 with_client given committer = three_members SwiftPaxos 2 3 given committer 0
 
 abbrev calls : List MemberCall
-calls = proposes 2 10 ∷ hears 0 2 None (Prepare 0 (round_of 0 0) (FastV 2 10)) ∷ []
+calls = proposal_call 2 10 ∷ hears_message 0 2 None (Prepare 0 (round_of 0 0) (FastV 2 10)) ∷ []
 
 -- 5 is the set of 0 and 2
 pub client_counted : Legal (with_client false 0) calls × ((shards_after ours (begun (with_client false 0)) calls 0).state.rounds.core.paxos.prepared_set ≡ 5)
-unfolding shards_after computed
+unfolding computed
 client_counted = (first (lit< tt) tt (first (lit< tt) (_, _, inl refl, refl, inl refl, refl, neqb→ne 2 0 tt) tt), refl)

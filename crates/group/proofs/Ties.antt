@@ -9,7 +9,7 @@ use lib.Dec.{eqb, ltb}
 use borrow.Author.Tests.{lt-ltb, ltb-true, eq-eqb, eqb-true}
 use Rattle.basics.proofs.Tests.{and_left, and_right, and_both}
 use Rattle.basics.specs.sets.Sets.{contains}
-use Rattle.fast_state.specs.Adopt.{Choice, best_below, lowest_best}
+use Rattle.fast_state.specs.Adopt.{ProposerChoice, best_below, lowest_best}
 use Rattle.fast_state.proofs.Adopting.{best_below_lem}
 use Rattle.fast_state.specs.declared.FastAnswers.{FastAnswers}
 use Rattle.group.specs.Claim.{PicksBest}
@@ -24,7 +24,7 @@ lowest_picks_best = record {
 }
 
 -- p where it is among the best proposers, and else the lowest of these
-unfoldable pub prefer : ℕ → Choice
+unfoldable pub prefer : ℕ → ProposerChoice
 prefer p f score =
     cond (ltb p 64 && contains f.fast_proposers p && eqb (score p) (best_below f.fast_proposers score 64).score) (Some p) (lowest_best f score)
 

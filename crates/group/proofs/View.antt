@@ -17,7 +17,7 @@ use Rattle.basics.specs.sets.Sets.{contains, insert}
 use Rattle.basics.proofs.sets.Laws.{contains_empty, contains_insert}
 use Rattle.message.specs.Promises.{value_of, accept_round_of}
 use Rattle.message.specs.Rounds.{before, equal}
-use Rattle.message.proofs.Order.{Earlier, round_before_lem, before_round_lem, equal_rounds, rounds_equal}
+use Rattle.message.proofs.Order.{EarlierRound, round_before_lem, before_round_lem, equal_rounds, round_equals_itself}
 use Rattle.message.specs.declared.ConsensusMessage.{ConsensusMessage}
 use Rattle.message.specs.declared.ConsensusMsg.{ConsensusMsg}
 use Rattle.message.specs.declared.ConsensusMsg.TheVariants.{Prepare, Accept, ForwardRequest, Commit, ReadRequest, ReadResponse}
@@ -38,13 +38,13 @@ use Rattle.steps.specs.Steps.{CoreStep, held_rv, held_value}
 use Rattle.steps.specs.declared.Core.{Core}
 use Rattle.steps.specs.declared.Destination.{Destination}
 use Rattle.steps.specs.declared.Destination.TheVariants.{One, All}
-use Rattle.steps.specs.declared.Messages.{Messages}
+use Rattle.steps.specs.declared.SentMessages.{SentMessages}
 use Rattle.steps.specs.declared.Next.{Next}
 use Rattle.steps.specs.declared.Next.TheVariants.{Stays, Continues, Commits}
 use Rattle.steps.specs.declared.Outgoing.{Outgoing}
 use Rattle.consensus.proofs.Handled.{eqb_sym}
 use Rattle.agreement.specs.Engine.{Envelope}
-use Rattle.agreement.specs.Model.{View, Answers, ModelSetup, ModelMessage, prepare, accept, commit, other, undecided, decided, ModelOutcome, empty, add, advanced, ModelDestination}
+use Rattle.agreement.specs.Model.{View, ModelAnswers, ModelSetup, ModelMessage, prepare, accept, commit, other, undecided, decided, ModelOutcome, empty, add, advanced, ModelDestination}
 use Rattle.agreement.specs.Model as model
 use Rattle.agreement.specs.Refinement.{meanings}
 
@@ -76,14 +76,14 @@ before_number (Some a) (Some b) h k =
     same_test (λ e. lt-ltb (round_number (Some a)) (round_number (Some b)) (up (round_before_lem a b e)))
     (λ e. before_round_lem a b (down (ltb-true (round_number (Some a)) (round_number (Some b)) e)))
   where
-    up : Earlier a b → round_number (Some a) < round_number (Some b)
+    up : EarlierRound a b → round_number (Some a) < round_number (Some b)
     up (inl l) = omega arith
     up (inr l) = omega arith
 
-    down : round_number (Some a) < round_number (Some b) → Earlier a b
+    down : round_number (Some a) < round_number (Some b) → EarlierRound a b
     down l = go (dec_lt a.round_group b.round_group)
       where
-        go : Dec (a.round_group < b.round_group) → Earlier a b
+        go : Dec (a.round_group < b.round_group) → EarlierRound a b
         go (yes e) = inl e
         go (no e) = inr (omega arith, omega arith)
 
@@ -98,7 +98,7 @@ same_number (Some a) (Some b) h k e =
 pub equal_number : (a b : Option PaxosRound) → LeaderFits a → LeaderFits b → equal a b ≡ eqb (round_number a) (round_number b)
 equal_number a b h k =
     same_test (λ e. eq-eqb (round_number a) (round_number b) (ap round_number (equal_rounds a b e)))
-    (λ e. subst (λ (x : Option PaxosRound). equal a x ≡ true) (same_number a b h k (eqb-true (round_number a) (round_number b) e)) (rounds_equal a))
+    (λ e. subst (λ (x : Option PaxosRound). equal a x ≡ true) (same_number a b h k (eqb-true (round_number a) (round_number b) e)) (round_equals_itself a))
 
 -- ---- optional processes as numbers, from 1
 
@@ -165,14 +165,14 @@ envelopes_of None rest = rest
 envelopes_of (Some o) rest = envelope o ∷ rest
 
 -- the messages of a step, in order
-abbrev pub envelopes : Messages → List (Envelope ConsensusMessage)
+abbrev pub envelopes : SentMessages → List (Envelope ConsensusMessage)
 envelopes ms = envelopes_of ms.first (envelopes_of ms.second (envelopes_of ms.third []))
 
 -- ---- the core as a view
 
 -- the fast half as the model's answers; a process above 63 has the score of the beginning
-abbrev pub answers_in : FastState → Answers
-answers_in fast =
+abbrev pub model_answers_of : FastState → ModelAnswers
+model_answers_of fast =
     record {
       answered = contains fast.fast_answer_set;
       preaccepted = fast.fast_preaccepted;
@@ -181,7 +181,7 @@ answers_in fast =
       scores = λ p. cond (ltb p 64) (look_up fast.epaxos_proposer_scores p) 2;
     }
 
-abbrev pub view_of : Answers → Core → View
+abbrev pub view_of : ModelAnswers → Core → View
 view_of ans core =
     record {
       slot = core.slot;
@@ -210,8 +210,8 @@ is_e_paxos EPaxos = true
 is_e_paxos Pando = false
 is_e_paxos SwiftPaxos = false
 
-abbrev pub setup_of : Settings → ModelSetup
-setup_of s =
+abbrev pub model_setup_of : Settings → ModelSetup
+model_setup_of s =
     record {
       voters =
           record {
@@ -233,11 +233,11 @@ setup_of s =
 -- ---- a step as the model's outcome
 
 -- what a step leaves is the outcome r; ans is the fast half behind it
-abbrev pub SeenAs : ModelSetup → Answers → Core → Messages → Next → ModelOutcome → Type 0
+abbrev pub SeenAs : ModelSetup → ModelAnswers → Core → SentMessages → Next → ModelOutcome → Type 0
 SeenAs S ans core ms Stays r = record { view = view_of ans core; outgoing = meanings meaning_of (envelopes ms); decision = undecided; taken = true } ≡ r
 SeenAs S ans core ms Continues r = ⊥
 SeenAs S ans core ms (Commits v) r =
     record { view = advanced S.voters.start (view_of ans core); outgoing = meanings meaning_of (envelopes ms); decision = decided core.slot v; taken = true } ≡ r
 
-pub record Follows (S : ModelSetup) (ans : Answers) (step : Result CoreStep Refusal) (r : ModelOutcome) : Type 0 where
+pub record Follows (S : ModelSetup) (ans : ModelAnswers) (step : Result CoreStep Refusal) (r : ModelOutcome) : Type 0 where
   pub seen_as : IfOk step (λ x. SeenAs S ans x.state x.messages x.next r)

@@ -1,17 +1,17 @@
 -- The steps of a run: each call of the list with the member's shard before it, from which all that the call did can be read. The entries of
 -- Claim.antt are the steps seen from outside (proofs/Steps.antt). Lists have the latest first.
 -- Assumes nothing.
-use Rattle.std.specs.Prelude.{Bool, true, false, List, [], ◌∷◌, ℕ, Ok, Err, Option, None, Some}
+use Rattle.std.specs.Prelude.{Bool, true, false, List, [], ◌∷◌, ℕ, suc, Ok, Err, Option, None, Some}
 use Rattle.message.specs.Outcomes.{Outcome}
 use Rattle.settings.specs.declared.Settings.{Settings}
 use Rattle.fast_state.specs.Adopt.{lowest_best}
-use Rattle.delivery.specs.declared.Delivery.{Delivery}
+use Rattle.calls.specs.declared.delivery.Delivery.{Delivery}
 use Rattle.calls.specs.declared.Call.{Call}
 use Rattle.calls.specs.declared.Call.TheVariants.{Propose, StartRead, Receive}
 use Rattle.calls.specs.declared.Reply.{Reply}
 use Rattle.consensus.specs.Call.{call_of}
 use Rattle.consensus.specs.declared.Shard.{Shard}
-use Rattle.group.specs.Claim.{begun, MemberCall, Entry, after_call}
+use Rattle.group.specs.Claim.{begun, CallTypes, CallMade, MemberCallOf, MemberCall, Entry, after_made, after_call}
 
 pub record RunStep : Type 0 where
   pub member : ℕ
@@ -49,6 +49,12 @@ steps_from shards past (c ∷ cs) = steps_from (after_call lowest_best shards c)
 
 abbrev pub run_steps : Settings → List MemberCall → List RunStep
 run_steps s cs = steps_from (begun s) [] cs
+
+-- ---- the shards after a run, of whichever calls, that goes on from some shards
+
+unfoldable pub shards_made : {T : CallTypes} {S C : Type 0} → (ℕ → S → C → CallMade T S) → (ℕ → S) → List (MemberCallOf C) → ℕ → S
+shards_made makes shards [] = shards
+shards_made makes shards (c ∷ cs) = shards_made (λ place. makes (suc place)) (after_made (makes 0) shards c) cs
 
 -- ---- seen from outside
 

@@ -17,7 +17,7 @@ use Rattle.fast_state.specs.Adopt.{lowest_best}
 use Rattle.consensus.specs.Call.{call_of}
 use Rattle.calls.specs.declared.Call.{Call}
 use Rattle.consensus.specs.declared.Shard.{Shard}
-use Rattle.group.specs.Claim.{begun, ours, MemberCall, Entry, entry_of, after_call, entries_from, entries, LegalFrom, Legal, Claim, NotSwift}
+use Rattle.group.specs.Claim.{begun, ours, MemberCall, Entry, entry_of, after_call, entries_from, entries, LegalFrom, Legal, Claim, NotSwift, LegalMade, entries_made}
 use Rattle.group_by_value.specs.Group.{new_members, new_group, shard_at, replaced, called, log_from, log_of}
 use Rattle.group_by_value.specs.declared.Group.{Group}
 use Rattle.group_by_value.specs.declared.GroupAnswer.{GroupAnswer}
@@ -77,7 +77,7 @@ module _ (d : Shard) where
 
   run_same : (n : ℕ) → n ≤ 64 → (g : Group) (shards : ℕ → Shard) → Same g shards → (past : List Entry) (cs : List MemberCall) → LegalFrom n ours shards past cs
       → log_from d g past cs ≡ entries_from ours shards past cs
-  unfolding log_from entries_from LegalFrom
+  unfolding log_from entries_made LegalMade
   run_same n few g shards k past [] l = refl
   run_same n few g shards k past (c ∷ cs) l =
       let h : c.member < 64 = lt_of_lt_of_le l.0 few in

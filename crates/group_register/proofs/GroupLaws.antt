@@ -29,8 +29,8 @@ use Rattle.register.specs.declared.EntryRefusal.TheVariants.{NumberTooLarge, Not
 use Rattle.register.specs.declared.Register.{Register}
 use Rattle.register.proofs.Agreement.{within_limits_lem}
 use Rattle.register.proofs.Laws as E6
-use Rattle.report.specs.Report.{refusal_text, page_holding, page_with}
-use Rattle.report.proofs.Counted.{report_counted}
+use Rattle.register.specs.report.Report.{refusal_text, page_holding, page_with}
+use Rattle.register.proofs.report.Counted.{report_counted}
 use Rattle.group_register.specs.Settings.{unmade_number, unmade_by, settings_refusal, is_made}
 use Rattle.group_register.specs.WholeMhz.{in_whole_mhz, is_odd}
 use Rattle.group_register.specs.GroupRegister.{group_register, new_group_register, group_applied, group_outcome_number, in_group, change_assignable, gives_odd_width, as_register, apply_made, apply_in_group, group_page}
@@ -200,7 +200,7 @@ module _ (s : RegisterSettings) (made : is_made s ≡ true) where
       r = register_after mapped
 
       news : not (above e.slot before) ≡ ltb e.slot r.next_slot
-      news = ap not (sym (above_bound slot e.slot before) ∙ (E6.agrees mapped).slots e.slot ∙ leb_ltb r.next_slot e.slot) ∙ twice (ltb e.slot r.next_slot)
+      news = ap not (sym (above_bound slot e.slot before) ∙ (E6.register_agrees mapped).slots e.slot ∙ leb_ltb r.next_slot e.slot) ∙ twice (ltb e.slot r.next_slot)
         where
           twice : (t : Bool) → not (not t) ≡ t
           twice true = refl

@@ -7,7 +7,7 @@ use mathlib.Core.List.{List, [], ◌∷◌, map}
 use Prim.Native.Nat.{ℕ}
 use lib.Dec.{eqb}
 use Rattle.basics.proofs.Tests.{not_both, fails, and_left, and_right}
-use Rattle.register.specs.Taken.{Latest, is, is_assigned, slot_within_limit, above, is_later, later_entries, change_within_limits, is_assignment, is_release, named_cells, count_in, entry_number_given, is_taken_given, latest, is_taken, tally, makes, supersedes, is_taken_release, figures_of, live_count}
+use Rattle.register.specs.Taken.{Latest, is, is_assigned, slot_within_limit, above, is_later, later_entries, change_within_limits, is_assignment, is_release, named_cells, count_in, entry_number_given, is_taken_given, latest, is_taken, tally, makes, supersedes, is_taken_release, figures_of, live_cell_count}
 use Rattle.register.specs.declared.CellEntry.{CellEntry}
 use Rattle.register.specs.declared.Change.TheVariants.{Assign}
 use Rattle.register.specs.declared.Figures.{Figures}
@@ -173,7 +173,7 @@ module _ (from : ℕ) where
       figures : ℕ → ℕ → ℕ → Figures
       figures m s r = record { made = m; superseded = s; released = r }
 
-  pub live_count_bound : (es : List CellEntry) → live_count (bound_entries from es) ≡ group_live_count from es
+  pub live_count_bound : (es : List CellEntry) → live_cell_count (bound_entries from es) ≡ group_live_count from es
   live_count_bound es = ap₂ (λ (l : ℕ → Latest) (ns : List ℕ). count_in (λ n. is_assigned (l n)) ns) (latest_bound es) (named_bound es)
 
   -- ---- slot order

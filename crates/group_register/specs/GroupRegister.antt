@@ -11,8 +11,8 @@ use Rattle.register.specs.declared.Entered.{Entered}
 use Rattle.register.specs.declared.Entered.TheVariants.{Done}
 use Rattle.register.specs.declared.EntryRefusal.{EntryRefusal}
 use Rattle.register.specs.declared.Register.{Register}
-use Rattle.report.specs.Report.{refusal_text, page_holding, register_page}
-use Rattle.report.specs.declared.ReportPage.{ReportPage}
+use Rattle.register.specs.report.Report.{refusal_text, page_holding, register_page}
+use Rattle.register.specs.declared.report.ReportPage.{ReportPage}
 use Rattle.group_register.specs.Settings.{unmade_number, unmade_by, settings_refusal, is_made}
 use Rattle.group_register.specs.WholeMhz.{is_odd}
 use Rattle.group_register.specs.declared.GroupApplied.{GroupApplied}

@@ -7,9 +7,9 @@ ghost use Rattle.group_register.specs.Settings.{settings_from, unmade_number, un
 ghost use Rattle.group_register.specs.WholeMhz.{is_odd};
 ghost use Rattle.group_register.specs.GroupRegister.{group_register, new_group_register, group_applied, group_done, group_refusal_number, change_assignable, gives_odd_width, apply_in_group, group_page};
 
-use refusals::Refused;
+use basics::refusals::Refused;
+use register::report::ReportPage;
 use register::{CellEntry, Change, Entered, EntryRefusal, Register, RegisterPlaces};
-use report::ReportPage;
 
 // What a register keeps of the group settings that it was begun from: their number, 0 where it is made of them, and the slot from which widths are in
 // whole MHz. The number stays one (C interface): a host's arrays hold it, and any number may stand there.
@@ -185,7 +185,7 @@ pub fn apply_in<R: RegisterPlaces>(
 }
 
 // Nothing is refused, or nothing has become of an entry: the register is as it is.
-pub fn done(group: GroupRegister) -> GroupApplied
+pub fn group_done(group: GroupRegister) -> GroupApplied
     ensures { result ≡ group_done group }
 {
     GroupApplied {
@@ -195,7 +195,7 @@ pub fn done(group: GroupRegister) -> GroupApplied
 }
 
 // The register after an entry.
-pub fn apply(mut group: GroupRegister, entry: CellEntry) -> GroupApplied
+pub fn apply_in_group(mut group: GroupRegister, entry: CellEntry) -> GroupApplied
     ensures { result ≡ apply_in_group group entry }
 {
     let outcome = apply_in(group.settings, &mut group.register, entry);
@@ -204,11 +204,11 @@ pub fn apply(mut group: GroupRegister, entry: CellEntry) -> GroupApplied
 
 // The report, or the one line `refused,1` or `refused,17` of a register that is not made.
 #[tactic(auto, unfolding(crate::specs::GroupRegister::group_page))]
-pub fn page(group: GroupRegister) -> ReportPage
+pub fn group_page(group: GroupRegister) -> ReportPage
     ensures { result ≡ group_page group }
 {
     if group.settings.is_made() {
-        return report::report(group.register);
+        return register::report::report(group.register);
     }
-    report::refusal(group.settings.refusal())
+    register::report::refusal_page(group.settings.refusal())
 }

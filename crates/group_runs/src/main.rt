@@ -8,15 +8,15 @@ mod run_checks;
 
 use crate::network::{Network, Parcel};
 use crate::run_checks::{Log, next_random};
+use basics::refusals::Refused;
 use basics::tables::PerProcess;
+use calls::delivery::{Delivery, Said};
 use calls::{Call, CommittedSlot, Reply};
-use delivery::{Delivery, Said};
 use group_by_value::Group;
 use message::{ConsensusMessage, ConsensusMsg, Outcome, PFMode};
-use refusals::Refused;
 use settings::Settings;
 use std::{fmt, io};
-use steps::Messages;
+use steps::SentMessages;
 
 const RUNS: u64 = 1000;
 
@@ -81,7 +81,7 @@ fn remainder(x: u64, n: u64) -> u64 {
 }
 
 // One more in the place n of a table, where it has that place.
-fn count_in(table: &mut PerProcess, n: u64) {
+fn prefix_count(table: &mut PerProcess, n: u64) {
     if let Some(count) = table.get_mut(n as usize) {
         *count = count.saturating_add(1);
     }
@@ -204,7 +204,7 @@ impl Counts {
     fn add_call(&mut self, outcome: Outcome, commit: Option<CommittedSlot>) {
         self.calls = self.calls.saturating_add(1);
         if let Err(why) = outcome {
-            count_in(&mut self.refusals, why.number());
+            prefix_count(&mut self.refusals, why.number());
         }
         if commit.is_some() {
             self.commits = self.commits.saturating_add(1);
@@ -213,7 +213,7 @@ impl Counts {
 
     // A commit of the leader that has heard so many answers.
     fn add_leader_commit(&mut self, majority: u64, answers: u64) {
-        count_in(&mut self.on_answers, answers);
+        prefix_count(&mut self.on_answers, answers);
         if answers.saturating_add(1) != majority {
             self.otherwise = self.otherwise.saturating_add(1);
         }
@@ -227,7 +227,7 @@ impl Counts {
     }
 }
 
-fn all_sent(mut network: Network, n: u64, messages: Messages) -> Network {
+fn post_all(mut network: Network, n: u64, messages: SentMessages) -> Network {
     for message in [messages.first, messages.second, messages.third] {
         if let Some(outgoing) = message {
             network = network.sent(n, outgoing);
@@ -245,7 +245,7 @@ fn has_terms(settings: &Settings) -> bool {
 }
 
 // Those whose answers were heard, with the one that a message brings: an Accept of the slot from a live replica other than the leader.
-fn with_answer(settings: &Settings, heard: u64, slot: u64, message: ConsensusMessage) -> u64 {
+fn with_heard(settings: &Settings, heard: u64, slot: u64, message: ConsensusMessage) -> u64 {
     let source = message.src;
     match message.msg {
         ConsensusMsg::Accept { slot: named, .. }
@@ -257,9 +257,9 @@ fn with_answer(settings: &Settings, heard: u64, slot: u64, message: ConsensusMes
 }
 
 // The same after a call of the leader that was not refused.
-fn heard_in(settings: &Settings, heard: u64, slot: u64, call: Call) -> u64 {
+fn heard_after(settings: &Settings, heard: u64, slot: u64, call: Call) -> u64 {
     match call {
-        Call::Receive(delivery) => with_answer(settings, heard, slot, delivery.message),
+        Call::Receive(delivery) => with_heard(settings, heard, slot, delivery.message),
         _ => heard,
     }
 }
@@ -413,7 +413,7 @@ impl World {
             return;
         }
         let slot = self.log.slot_of(self.settings.first_leader);
-        self.heard = heard_in(&self.settings, self.heard, slot, call);
+        self.heard = heard_after(&self.settings, self.heard, slot, call);
         if commit.is_some() {
             self.counts.add_leader_commit(
                 self.settings.quorums().majority,
@@ -433,7 +433,7 @@ impl World {
         if let Some(CommittedSlot { slot, v, .. }) = reply.commit {
             self.log.committed(member, slot, v);
         }
-        self.network = all_sent(self.network, n, reply.messages);
+        self.network = post_all(self.network, n, reply.messages);
         self.counts.add_call(reply.outcome, reply.commit);
         self.last_called = member;
     }

@@ -4,7 +4,7 @@
 ghost use Rattle.std.specs.Prelude.{◌≡◌, length};
 ghost use Rattle.std.specs.List.{list_all, list_any};
 ghost use Rattle.group_runs.specs.run_checks.Random.{next_random};
-ghost use Rattle.group_runs.specs.run_checks.Log.{proposal_event, commit_of, is_commit, is_commit_of, agrees, is_proposal_of, slot_of, allows, passes, new_log, logged, slot_in};
+ghost use Rattle.group_runs.specs.run_checks.Log.{proposal_event, commit_event, is_commit, is_commit_of, agrees_with_commit, is_proposal_of, slot_of, events_allow, passes, new_log, logged, slot_in};
 
 use arrayvec::ArrayVec;
 
@@ -47,9 +47,9 @@ impl Event {
     }
 
     // Where an earlier event is a commit of the slot, it has the value.
-    #[tactic(auto, unfolding(crate::specs::run_checks::Log::agrees))]
+    #[tactic(auto, unfolding(crate::specs::run_checks::Log::agrees_with_commit))]
     fn agrees(&self, earlier: &Event) -> bool
-        ensures { result ≡ agrees self.now earlier.now }
+        ensures { result ≡ agrees_with_commit self.now earlier.now }
     {
         !earlier.is_commit() || earlier.slot != self.slot || earlier.v == self.v
     }
@@ -63,7 +63,7 @@ impl Event {
     }
 
     fn all_agree(&self, earlier: &[Event]) -> bool
-        ensures { result ≡ list_all (agrees self.now) earlier.now }
+        ensures { result ≡ list_all (agrees_with_commit self.now) earlier.now }
     {
         earlier.iter().all(|x| self.agrees(x))
     }
@@ -76,9 +76,9 @@ impl Event {
 
     // Each proposal may come after the earlier events, and a commit that agrees with them, has a value that was
     // proposed in its slot, and is of its member's slot.
-    #[tactic(auto, using(crate::proofs::run_checks::Counted::all_listed, crate::proofs::run_checks::Counted::any_listed), unfolding(crate::specs::run_checks::Log::allows))]
+    #[tactic(auto, using(crate::proofs::run_checks::Counted::all_listed, crate::proofs::run_checks::Counted::any_listed), unfolding(crate::specs::run_checks::Log::events_allow))]
     fn may_follow(&self, earlier: &[Event]) -> bool
-        ensures { result ≡ allows self.now earlier.now (length earlier.now) }
+        ensures { result ≡ events_allow self.now earlier.now (length earlier.now) }
     {
         !self.is_commit()
             || self.all_agree(earlier)
@@ -139,7 +139,7 @@ impl Log {
     }
 
     pub fn committed(&mut self, member: u64, slot: u64, v: u64)
-        ensures { self.new ≡ logged self.old (commit_of member slot v) }
+        ensures { self.new ≡ logged self.old (commit_event member slot v) }
     {
         self.add(Event {
             kind: Kind::Commit,

@@ -4,7 +4,7 @@ use Rattle.std.specs.Prelude.{◌≡◌, true, false, cond, ◌&&◌, ◌⊎◌,
 use Rattle.message.specs.Outcomes.{Outcome}
 use Rattle.message.specs.declared.Refusal.TheVariants.{SettingsOutsideLimits, NotInCalendar}
 use Rattle.settings.specs.Settings.{within_limits}
-use Rattle.windows.specs.Windows.{agreed, check_windows, AllFitting, SomeUnfitting}
+use Rattle.windows.specs.Windows.{agreed_windows, check_windows, AllFitting, SomeUnfitting}
 use Rattle.windows.specs.declared.WindowRefusal.{WindowRefusal}
 use Rattle.windows.specs.declared.WindowRefusal.TheVariants.{TooManyWindows, NotInCalendar as OutsideCalendar}
 use Rattle.flat.specs.Encode.{encoded_made, encoded_outcome}
@@ -40,8 +40,8 @@ InsideLimits g = (within_limits g.settings ≡ true) × ((g.whole_mhz_from ≤ 9
 -- some window is not so
 abbrev pub NumberBySettings : GroupSettings → ℕ → Type 0
 NumberBySettings g n =
-    ((n ≡ 0) × (InsideLimits g × AllFitting (agreed g.windows)))
-    ⊎ (((n ≡ 1) × OutsideLimits g) ⊎ ((n ≡ 17) × (InsideLimits g × SomeUnfitting (agreed g.windows))))
+    ((n ≡ 0) × (InsideLimits g × AllFitting (agreed_windows g.windows)))
+    ⊎ (((n ≡ 1) × OutsideLimits g) ⊎ ((n ≡ 17) × (InsideLimits g × SomeUnfitting (agreed_windows g.windows))))
 
 -- ---- in numbers only
 

@@ -60,17 +60,17 @@ impl GroupSettings {
     pub fn number(self) -> u64
         ensures { result ≡ settings_number self }
     {
-        flat::encode_outcome(self.outcome())
+        flat::encoded_outcome(self.outcome())
     }
 }
 
 // A function with a name and no From, as those of flat: hosts read their definitions by these names.
-pub fn decode_group_settings(f: FlatGroupSettings) -> GroupSettings
+pub fn decoded_group_settings(f: FlatGroupSettings) -> GroupSettings
     ensures { result ≡ decoded_group_settings f }
 {
     let settings = f.settings;
     GroupSettings {
-        settings: flat::decode_settings(settings),
+        settings: flat::decoded_settings(settings),
         whole_mhz_from: f.whole_mhz_from,
         windows: f.windows,
     }
@@ -78,10 +78,10 @@ pub fn decode_group_settings(f: FlatGroupSettings) -> GroupSettings
 
 // The number of settings in numbers, which a host gets as a number (C interface). A mode that there is not is outside the limits too.
 #[tactic(auto, unfolding(crate::specs::GroupSettings::flat_settings_number))]
-pub fn flat_number(f: FlatGroupSettings) -> u64
+pub fn flat_settings_number(f: FlatGroupSettings) -> u64
     ensures { result ≡ flat_settings_number f }
 {
     let settings = f.settings;
-    let decoded = decode_group_settings(f);
-    flat::encode_made(decoded.outcome(), settings.mode)
+    let decoded = decoded_group_settings(f);
+    flat::encoded_made(decoded.outcome(), settings.mode)
 }

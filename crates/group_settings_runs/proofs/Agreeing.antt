@@ -13,13 +13,13 @@ use lib.Dec.{eqb, leb}
 use Rattle.basics.proofs.Tests.{either, of-both}
 use Rattle.message.specs.declared.Refusal.{Refusal}
 use Rattle.message.specs.declared.Refusal.TheVariants.{SettingsOutsideLimits}
-use Rattle.fast_state.specs.Adopt.{Choice}
+use Rattle.fast_state.specs.Adopt.{ProposerChoice}
 use Rattle.settings.specs.Settings.{within_limits}
 use Rattle.consensus.specs.Call.{new_shard, new_state}
 use Rattle.consensus.specs.declared.Answer.{Answer}
 use Rattle.consensus.specs.declared.Shard.{Shard}
 use Rattle.consensus.proofs.Refusals.{unmade_refuses}
-use Rattle.group.specs.Claim.{member_settings, begun, Choices, later_choices, MemberCall, Entry, entry_of, after_call, entries_from, LegalFrom, At, plus_commit, CommitAt, Claim, NotSwift, PicksBest}
+use Rattle.group.specs.Claim.{member_settings, begun, ProposerChoices, later_choices, MemberCall, Entry, entry_of, after_call, entries_from, LegalFrom, At, plus_commit, CommitAt, Claim, NotSwift, PicksBest, entries_made}
 use Rattle.group.proofs.Agreement.{agreement_ties}
 use Rattle.windows.specs.Windows.{check_windows}
 use Rattle.group_settings.specs.GroupSettings.{windows_outcome, settings_outcome}
@@ -89,14 +89,14 @@ abbrev NoCommits : List Entry → Type 0
 NoCommits [] = Unit {0}
 NoCommits (e ∷ es) = (e.reply.commit ≡ None) × NoCommits es
 
-unmade_after : (choose : Choice) (shards : ℕ → Shard) → ((i : ℕ) → Unmade (shards i)) → (c : MemberCall) (j : ℕ) → Unmade (after_call choose shards c j)
+unmade_after : (choose : ProposerChoice) (shards : ℕ → Shard) → ((i : ℕ) → Unmade (shards i)) → (c : MemberCall) (j : ℕ) → Unmade (after_call choose shards c j)
 unmade_after choose shards all c j =
     let (why, e) = all c.member in
     of-both Unmade (eqb j c.member) (subst (λ (r : Answer). Unmade r.shard) (sym (unmade_refuses choose (shards c.member) c.call why e)) (why, e)) (all j)
 
-no_commits : (choices : Choices) (shards : ℕ → Shard) → ((i : ℕ) → Unmade (shards i)) → (past : List Entry) → NoCommits past → (cs : List MemberCall)
+no_commits : (choices : ProposerChoices) (shards : ℕ → Shard) → ((i : ℕ) → Unmade (shards i)) → (past : List Entry) → NoCommits past → (cs : List MemberCall)
     → NoCommits (entries_from choices shards past cs)
-unfolding entries_from
+unfolding entries_made
 no_commits choices shards all past none [] = none
 no_commits choices shards all past none (c ∷ cs) =
     let (why, e) = all c.member in
@@ -123,7 +123,7 @@ none_claim run none =
 -- ---- the law
 
 -- In every mode but SwiftPaxos, every legal list of calls on a group that is begun from group settings meets the claim, whichever of the best each adoption takes.
-pub agreement_from : (g : GroupSettings) → NotSwift g.settings.mode → (choices : Choices) → ((place : ℕ) → PicksBest (choices place)) → (cs : List MemberCall)
+pub agreement_from : (g : GroupSettings) → NotSwift g.settings.mode → (choices : ProposerChoices) → ((place : ℕ) → PicksBest (choices place)) → (cs : List MemberCall)
     → GroupLegal choices g cs → Claim (group_entries choices g cs)
 agreement_from g claimed choices best cs legal = go (begun_or_unmade g)
   where

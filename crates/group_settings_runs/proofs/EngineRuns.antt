@@ -8,7 +8,7 @@ use mathlib.Core.List.{List, []}
 use Prim.Native.Nat.{ℕ, ◌≤◌}
 use borrow.Author.Tests.{le-leb}
 use Rattle.consensus.specs.declared.Shard.{Shard}
-use Rattle.group.specs.Claim.{begun, Choices, MemberCall, entries_from, entries_with, LegalFrom, LegalWith}
+use Rattle.group.specs.Claim.{begun, ProposerChoices, MemberCall, entries_from, entries_with, LegalFrom, LegalWith}
 use Rattle.group.specs.Steps.{steps_from, run_steps}
 use Rattle.windows.specs.Windows.{check_windows}
 use Rattle.group_settings.specs.GroupSettings.{windows_outcome}
@@ -24,7 +24,7 @@ module _ (g : GroupSettings) (in_time : g.whole_mhz_from ≤ 9223372036854775806
     pub engine_steps : group_steps g cs ≡ run_steps g.settings cs
     engine_steps = ap (λ (shards : ℕ → Shard). steps_from shards [] cs) engine_shards
 
-    module _ (choices : Choices) where
+    module _ (choices : ProposerChoices) where
       pub engine_entries : group_entries choices g cs ≡ entries_with choices g.settings cs
       engine_entries = ap (λ (shards : ℕ → Shard). entries_from choices shards [] cs) engine_shards
 

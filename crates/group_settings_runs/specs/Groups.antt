@@ -3,7 +3,7 @@
 -- Assumes nothing.
 use Rattle.std.specs.Prelude.{List, [], ℕ}
 use Rattle.consensus.specs.declared.Shard.{Shard}
-use Rattle.group.specs.Claim.{member_settings, Choices, MemberCall, Entry, entries_from, LegalFrom}
+use Rattle.group.specs.Claim.{member_settings, ProposerChoices, MemberCall, Entry, entries_from, LegalFrom}
 use Rattle.group.specs.Steps.{RunStep, steps_from}
 use Rattle.group_settings.specs.declared.GroupSettings.{GroupSettings}
 use Rattle.group_shard.specs.Begin.{begin_shard}
@@ -15,10 +15,10 @@ member_group_settings g i = record { settings = member_settings g.settings i; wh
 abbrev pub begun_from : GroupSettings → ℕ → Shard
 begun_from g i = begin_shard (member_group_settings g i)
 
-abbrev pub group_entries : Choices → GroupSettings → List MemberCall → List Entry
+abbrev pub group_entries : ProposerChoices → GroupSettings → List MemberCall → List Entry
 group_entries choices g cs = entries_from choices (begun_from g) [] cs
 
-abbrev pub GroupLegal : Choices → GroupSettings → List MemberCall → Type 0
+abbrev pub GroupLegal : ProposerChoices → GroupSettings → List MemberCall → Type 0
 GroupLegal choices g cs = LegalFrom g.settings.process_count choices (begun_from g) [] cs
 
 -- its steps, at our choice, as E14 sees a run

@@ -1,1 +1,3 @@
 pub mod Groups
+pub mod registers
+pub mod catching_up

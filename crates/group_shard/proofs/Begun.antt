@@ -17,13 +17,13 @@ use Rattle.message.specs.declared.Refusal.TheVariants.{SettingsOutsideLimits, No
 use Rattle.fast_state.specs.Adopt.{lowest_best}
 use Rattle.settings.specs.Settings.{within_limits}
 use Rattle.calls.specs.declared.Call.{Call}
-use Rattle.consensus.specs.Call.{new_shard, after_calls}
+use Rattle.consensus.specs.Call.{new_shard, shard_after_calls}
 use Rattle.consensus.specs.FirstCause.{settings_causes, number_of_outcome, MadeBySettings}
 use Rattle.consensus.specs.Rows.{Row, gives, NoneHolds, FirstHolds, then}
 use Rattle.consensus.specs.declared.Answer.{Answer}
 use Rattle.consensus.specs.declared.Shard.{Shard}
 use Rattle.consensus.proofs.Refusals.{new_by_settings, marked_once, unmade_refuses}
-use Rattle.windows.specs.Windows.{all_fit, agreed, check_windows}
+use Rattle.windows.specs.Windows.{all_fit, agreed_windows, check_windows}
 use Rattle.windows.specs.declared.WindowRefusal.{WindowRefusal}
 use Rattle.windows.specs.declared.WindowRefusal.TheVariants.{TooManyWindows, NotInCalendar as OutsideCalendar}
 use Rattle.group_settings.specs.GroupSettings.{windows_outcome, settings_outcome}
@@ -56,7 +56,7 @@ Marked g made = ((made ≡ Ok tt) × NoneHolds (group_causes g)) ⊎ ((why : Ref
 marked : (g : GroupSettings) → Marked g (settings_outcome g)
 unfolding settings_outcome new_shard check_windows
 marked g =
-    go (within_limits g.settings) (leb slot 9223372036854775806) (ltb 128 g.windows.count) (all_fit (agreed g.windows)) refl refl refl
+    go (within_limits g.settings) (leb slot 9223372036854775806) (ltb 128 g.windows.count) (all_fit (agreed_windows g.windows)) refl refl refl
     (new_by_settings g.settings)
   where
     slot : ℕ
@@ -66,7 +66,7 @@ marked g =
     rows = settings_causes g.settings
 
     of_group : List Row
-    of_group = gives 1 (ltb 9223372036854775806 g.whole_mhz_from) ∷ gives 1 (ltb 128 g.windows.count) ∷ gives 17 (not (all_fit (agreed g.windows))) ∷ []
+    of_group = gives 1 (ltb 9223372036854775806 g.whole_mhz_from) ∷ gives 1 (ltb 128 g.windows.count) ∷ gives 17 (not (all_fit (agreed_windows g.windows))) ∷ []
 
     checked : Bool → Bool → Result (Unit {0}) WindowRefusal
     checked many fit = cond many (Err TooManyWindows) (cond fit (Ok tt) (Err OutsideCalendar))
@@ -77,7 +77,7 @@ marked g =
     late : leb slot 9223372036854775806 ≡ false → ltb 9223372036854775806 slot ≡ true
     late e = lt-ltb 9223372036854775806 slot (leb-false slot 9223372036854775806 e)
 
-    go : (t u many fit : Bool) → leb slot 9223372036854775806 ≡ u → ltb 128 g.windows.count ≡ many → all_fit (agreed g.windows) ≡ fit
+    go : (t u many fit : Bool) → leb slot 9223372036854775806 ≡ u → ltb 128 g.windows.count ≡ many → all_fit (agreed_windows g.windows) ≡ fit
         → MadeBySettings g.settings (cond t (Ok tt) (Err SettingsOutsideLimits))
         → Marked g (cond (t && u) (windows_outcome (checked many fit)) (Err SettingsOutsideLimits))
     go true true false true e f h (inl (_, none)) = inl (refl, none_behind rows of_group none (early e, (f, (ap not h, tt))))
@@ -91,17 +91,17 @@ marked g =
 
 -- ---- through any list of calls
 
-unmade_stays : (shard : Shard) (why : Refusal) → shard.made ≡ Err why → (cs : List Call) → after_calls shard cs ≡ shard
-unfolding after_calls
+unmade_stays : (shard : Shard) (why : Refusal) → shard.made ≡ Err why → (cs : List Call) → shard_after_calls shard cs ≡ shard
+unfolding shard_after_calls
 unmade_stays shard why e [] = refl
 unmade_stays shard why e (c ∷ cs) =
-    ap (λ (r : Answer). after_calls r.shard cs) (unmade_refuses lowest_best shard c why e) ∙ unmade_stays shard why e cs
+    ap (λ (r : Answer). shard_after_calls r.shard cs) (unmade_refuses lowest_best shard c why e) ∙ unmade_stays shard why e cs
 
-pub begun_stays : (g : GroupSettings) (cs : List Call) → OfGroupSettings g (after_calls (begin_shard g) cs)
+pub begun_stays : (g : GroupSettings) (cs : List Call) → OfGroupSettings g (shard_after_calls (begin_shard g) cs)
 unfolding begin_shard
 begun_stays g cs = go (marked g)
   where
-    go : Marked g (settings_outcome g) → OfGroupSettings g (after_calls (begin_shard g) cs)
+    go : Marked g (settings_outcome g) → OfGroupSettings g (shard_after_calls (begin_shard g) cs)
     go (inl (e, none)) = inl (none, marked_once (begin_shard g) cs ∙ e)
     go (inr (why, e, first)) =
         subst (OfGroupSettings g) (sym (unmade_stays (begin_shard g) why e cs)) (inr (why, first, refl, λ c. unmade_refuses lowest_best (begin_shard g) c why e))

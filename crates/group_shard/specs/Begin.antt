@@ -9,7 +9,7 @@ use Rattle.consensus.specs.Call.{new_state, call_of}
 use Rattle.consensus.specs.FirstCause.{settings_causes, number_alone}
 use Rattle.consensus.specs.Rows.{Row, gives, NoneHolds, FirstHolds, then}
 use Rattle.consensus.specs.declared.Shard.{Shard}
-use Rattle.windows.specs.Windows.{all_fit, agreed}
+use Rattle.windows.specs.Windows.{all_fit, agreed_windows}
 use Rattle.group_settings.specs.GroupSettings.{settings_outcome}
 use Rattle.group_settings.specs.declared.GroupSettings.{GroupSettings}
 
@@ -22,7 +22,7 @@ begin_shard g = record { made = settings_outcome g; settings = g.settings; state
 abbrev pub group_causes : GroupSettings → List Row
 group_causes g =
     then (settings_causes g.settings)
-    (gives 1 (ltb 9223372036854775806 g.whole_mhz_from) ∷ gives 1 (ltb 128 g.windows.count) ∷ gives 17 (not (all_fit (agreed g.windows))) ∷ [])
+    (gives 1 (ltb 9223372036854775806 g.whole_mhz_from) ∷ gives 1 (ltb 128 g.windows.count) ∷ gives 17 (not (all_fit (agreed_windows g.windows))) ∷ [])
 
 -- A shard begun from these settings, at any later time: it is made, and no cause holds in them; or it is as it began, and all its calls give the number of
 -- the first cause.

@@ -1,7 +1,7 @@
 /* Chanbook's shard engine for a host in C, C++ or Rust. Link libhost.a, libdirect.a and libdirect_fast.a, which
    tools/static_libraries.sh writes to target/staticlib.
    A host keeps a shard in a struct of its own, begins it with chanbook_begin and makes its calls with chanbook_call. Both lend the struct to the libraries,
-   part by part, and nothing of it is copied.
+   and nothing of it is copied.
 
    Every field is a number. 0 is no and any other number yes: a host tests such a field for 0, never for 1. A field that is not given is 0 where the
    engine writes it.
@@ -11,7 +11,6 @@
 #ifndef CHANBOOK_SHARD_H
 #define CHANBOOK_SHARD_H
 
-#include <stddef.h>
 #include <stdint.h>
 
 #ifdef __cplusplus
@@ -229,78 +228,40 @@ struct chanbook_reply {
     uint64_t served_count;
 };
 
-/* A shard as it begins from the settings of its group, of which it keeps the engine's alone, in rows of numbers that are parts of the shard: `setup` is the
-   shard from its start up to has_committers, `answers` the fast half up to its tables, and `values`, `epaxos` and `swift` are these. Every number of the
-   rows is written, whatever stood there. No row may overlap another.
+/* A shard as it begins from the settings of its group, of which it keeps the engine's alone. Every number of it is written, whatever stood there.
    Gives the shard's `made`: 0; 1 where the settings are outside the limits, more than 128 windows among them; or else 17 where a window has a date or a
    time that there is not, or an end that is not after its start. */
-uint64_t chanbook_shard_new(
-    struct chanbook_group_settings group, uint64_t setup[10], uint64_t committers[64], uint64_t delegates[64], uint64_t core[18],
-    uint64_t answers[5], uint64_t values[64], uint64_t epaxos[64], uint64_t swift[64], uint64_t reads[640], uint64_t served[512]);
+uint64_t chanbook_shard_new(struct chanbook_group_settings group, struct chanbook_shard *shard);
 
 enum { CHANBOOK_PASSED_ON = 255 };
 
-/* A call in place, on the same rows of a shard, and on those of a call and of a reply: `rest` is the reply's commit and served_count. No row that is written
-   may overlap another.
+/* A call in place. Neither the call nor the reply may overlap the shard, nor one the other. `made`, the settings and the fast half are left, and so is the
+   reply's outcome, which is for the caller to write.
    0: the call is taken. Core, reads and reply are written; of a message that is not sent only the kind is written.
    A refusal's number: nothing at all is written.
    CHANBOOK_PASSED_ON: nothing is written, and the call is one of those that chanbook_fast_call takes. */
-uint64_t chanbook_direct_call(
-    const uint64_t setup[10], const uint64_t committers[64], const uint64_t delegates[64], uint64_t core[18], uint64_t reads[640],
-    uint64_t served[512], const uint64_t call[25], uint64_t first[20], uint64_t second[20], uint64_t third[20], uint64_t rest[5]);
+uint64_t chanbook_direct_call(struct chanbook_shard *shard, const struct chanbook_call *call, struct chanbook_reply *reply);
 
-/* The same for EPaxos and SwiftPaxos: proposals, Prepare, Accept, ForwardRequest and Commit. The fast half is lent besides, and written where the
-   call is taken.
+/* The same for EPaxos and SwiftPaxos: proposals, Prepare, Accept, ForwardRequest and Commit. The fast half is written besides, where the call is taken.
    CHANBOOK_PASSED_ON: nothing is written, and the call is one of those that chanbook_direct_call takes: a new read, a message of a read or of an
    unknown kind, and all of the other modes. */
-uint64_t chanbook_fast_call(
-    const uint64_t setup[10], const uint64_t committers[64], const uint64_t delegates[64], uint64_t core[18], uint64_t answers[5],
-    uint64_t values[64], uint64_t epaxos[64], uint64_t swift[64], uint64_t reads[640], uint64_t served[512], const uint64_t call[25],
-    uint64_t first[20], uint64_t second[20], uint64_t third[20], uint64_t rest[5]);
+uint64_t chanbook_fast_call(struct chanbook_shard *shard, const struct chanbook_call *call, struct chanbook_reply *reply);
 
-/* Rows that go over more than one field begin at the struct that they are in. */
-static inline uint64_t *chanbook_rest(struct chanbook_reply *reply)
-{
-    return (uint64_t *)reply + offsetof(struct chanbook_reply, commit) / sizeof(uint64_t);
-}
-
-/* A shard as it begins, in place, whatever stood there; gives its `made`. */
+/* A shard as it begins, in place; gives its `made`. */
 static inline uint64_t chanbook_begin(struct chanbook_shard *s, struct chanbook_group_settings group)
 {
-    struct chanbook_fast *fast = &s->state.rounds.fast;
-    return chanbook_shard_new(
-        group, (uint64_t *)s, s->settings.committers, s->settings.delegates, (uint64_t *)&s->state.rounds.core, (uint64_t *)fast,
-        fast->fast_proposer_to_v, fast->epaxos_proposer_scores, fast->swift_proposer_scores, (uint64_t *)s->state.table.reads,
-        (uint64_t *)s->state.table.served);
-}
-
-static inline uint64_t chanbook_direct_on(struct chanbook_shard *s, const struct chanbook_call *call, struct chanbook_reply *reply)
-{
-    return chanbook_direct_call(
-        (const uint64_t *)s, s->settings.committers, s->settings.delegates, (uint64_t *)&s->state.rounds.core, (uint64_t *)s->state.table.reads,
-        (uint64_t *)s->state.table.served, (const uint64_t *)call, (uint64_t *)&reply->first, (uint64_t *)&reply->second,
-        (uint64_t *)&reply->third, chanbook_rest(reply));
-}
-
-static inline uint64_t chanbook_fast_on(struct chanbook_shard *s, const struct chanbook_call *call, struct chanbook_reply *reply)
-{
-    struct chanbook_fast *fast = &s->state.rounds.fast;
-    return chanbook_fast_call(
-        (const uint64_t *)s, s->settings.committers, s->settings.delegates, (uint64_t *)&s->state.rounds.core, (uint64_t *)fast,
-        fast->fast_proposer_to_v, fast->epaxos_proposer_scores, fast->swift_proposer_scores, (uint64_t *)s->state.table.reads,
-        (uint64_t *)s->state.table.served, (const uint64_t *)call, (uint64_t *)&reply->first, (uint64_t *)&reply->second,
-        (uint64_t *)&reply->third, chanbook_rest(reply));
+    return chanbook_shard_new(group, s);
 }
 
 /* By the function that takes the call. In this order chanbook_direct_call never passes on. */
 static inline uint64_t chanbook_outcome(struct chanbook_shard *s, const struct chanbook_call *call, struct chanbook_reply *reply)
 {
     if (s->settings.mode == CHANBOOK_EPAXOS || s->settings.mode == CHANBOOK_SWIFT_PAXOS) {
-        uint64_t number = chanbook_fast_on(s, call, reply);
+        uint64_t number = chanbook_fast_call(s, call, reply);
         if (number != CHANBOOK_PASSED_ON)
             return number;
     }
-    return chanbook_direct_on(s, call, reply);
+    return chanbook_direct_call(s, call, reply);
 }
 
 /* A call as a host makes it, in place in every mode. The reply may be one that an earlier call has filled. Of a message whose kind is

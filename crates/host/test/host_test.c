@@ -2,23 +2,31 @@
    libdirect_fast.a: two slots are committed by all, a read is served, refusals leave every byte. What calls should answer is in recorded_test.c.
    Build: cc -I crates/host/include crates/host/test/host_test.c target/staticlib/libhost.a target/staticlib/libdirect.a \
      target/staticlib/libdirect_fast.a -o host_test */
+#include <stddef.h>
 #include <stdio.h>
 #include <stdlib.h>
 #include <string.h>
 
 #include "chanbook_shard.h"
 
-/* The rows of chanbook_direct_call and of chanbook_fast_call are parts of the structs. */
-#define IS_A_ROW(bytes, numbers) _Static_assert((bytes) == sizeof(uint64_t[numbers]), "a row of another length")
-IS_A_ROW(offsetof(struct chanbook_shard, settings.committers), 10);
-IS_A_ROW(sizeof(struct chanbook_core), 18);
-IS_A_ROW(offsetof(struct chanbook_fast, fast_proposer_to_v), 5);
-IS_A_ROW(sizeof(struct chanbook_fast), 5 + 3 * 64);
-IS_A_ROW(sizeof(struct chanbook_open_read[128]), 640);
-IS_A_ROW(sizeof(struct chanbook_served_read[128]), 512);
-IS_A_ROW(sizeof(struct chanbook_call), 25);
-IS_A_ROW(sizeof(struct chanbook_outgoing), 20);
-IS_A_ROW(sizeof(struct chanbook_reply) - offsetof(struct chanbook_reply, commit), 5);
+/* The engine has rows of numbers in place of the structs that are lent to it. Each begins where a part of the struct does. */
+#define BEGINS_AT(place, numbers) _Static_assert((place) == sizeof(uint64_t[numbers]), "a row at another place")
+BEGINS_AT(offsetof(struct chanbook_shard, settings.committers), 10);
+BEGINS_AT(offsetof(struct chanbook_shard, settings.delegates), 74);
+BEGINS_AT(offsetof(struct chanbook_shard, state.rounds.core), 138);
+BEGINS_AT(offsetof(struct chanbook_shard, state.rounds.fast), 156);
+BEGINS_AT(offsetof(struct chanbook_shard, state.rounds.fast.fast_proposer_to_v), 161);
+BEGINS_AT(offsetof(struct chanbook_shard, state.rounds.fast.epaxos_proposer_scores), 225);
+BEGINS_AT(offsetof(struct chanbook_shard, state.rounds.fast.swift_proposer_scores), 289);
+BEGINS_AT(offsetof(struct chanbook_shard, state.table.reads), 353);
+BEGINS_AT(offsetof(struct chanbook_shard, state.table.served), 993);
+BEGINS_AT(sizeof(struct chanbook_shard), 1505);
+BEGINS_AT(sizeof(struct chanbook_call), 25);
+BEGINS_AT(offsetof(struct chanbook_reply, first), 1);
+BEGINS_AT(offsetof(struct chanbook_reply, second), 21);
+BEGINS_AT(offsetof(struct chanbook_reply, third), 41);
+BEGINS_AT(offsetof(struct chanbook_reply, commit), 61);
+BEGINS_AT(sizeof(struct chanbook_reply), 66);
 
 enum { MEMBERS = 3, WAITING = 4096 };
 

@@ -12,12 +12,12 @@ use Rattle.basics.specs.elements.Places.{at_front}
 use Rattle.read_tracker.specs.serving.Serving.{kept_by_ready, served_by_ready, kept_by_commit, served_by_commit, receive_ready, serve_at_commit}
 use Rattle.settings.specs.Settings.{counts_fit, members_fit, committers_fit, mode_fits, within_limits}
 use Rattle.propose.specs.Propose.{electing, may_propose, propose_prepare, propose_classic}
-use Rattle.delivery.specs.Admit.{other_last_value, value_awaited, ready, admit}
+use Rattle.calls.specs.delivery.Admit.{other_last_value, value_awaited, ready, admit}
 use Rattle.calls.specs.Decision.{admission_of, unless_spent, decision_of}
 use Rattle.consensus.specs.Answers.{committed}
 use Rattle.consensus.specs.Call.{new_shard, state_call, call_with}
 use Rattle.consensus.specs.Handle.{on_commit, on_read_response, start_read, proposing, handle, handle_call}
-use Rattle.delivery.specs.Limits.{msg_numbers, number_given, numbers_fit, msg_processes, requester_below, processes_fit}
+use Rattle.calls.specs.delivery.Limits.{msg_numbers, number_given, numbers_fit, msg_processes, requester_below, processes_fit}
 use Rattle.instances.specs.Starred.{AllHold, starred}
 
 pub every_row_holds : AllHold starred

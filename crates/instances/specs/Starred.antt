@@ -38,8 +38,8 @@ pub record StarredRow : Type 1 where
   pub given : Answer
   pub expected : Answer
 
-abbrev pub row : {A : Type 0} → A → A → StarredRow
-row a b = record { Answer = _; given = a; expected = b }
+abbrev pub starred_row : {A : Type 0} → A → A → StarredRow
+starred_row a b = record { Answer = _; given = a; expected = b }
 
 abbrev pub AllHold : List StarredRow → Type 0
 AllHold [] = Unit {0}
@@ -49,44 +49,44 @@ AllHold (r ∷ rs) = (r.given ≡ r.expected) × AllHold rs
 
 -- 5 replicas give 3, 3, 4
 abbrev pub five_replicas : StarredRow
-five_replicas = row (row_of 5) (record { majority = 3; epaxos = 3; fast = 4 })
+five_replicas = starred_row (row_of 5) (record { majority = 3; epaxos = 3; fast = 4 })
 
 -- ---- rounds
 
 -- none < (0,4) < (1,0)
 abbrev pub none_first : StarredRow
-none_first = row (before None (Some (round_of 0 4))) true
+none_first = starred_row (before None (Some (round_of 0 4))) true
 
 abbrev pub group_first : StarredRow
-group_first = row (before (Some (round_of 0 4)) (Some (round_of 1 0))) true
+group_first = starred_row (before (Some (round_of 0 4)) (Some (round_of 1 0))) true
 
 -- (2,3) next for 3 is (2,3), for 1 is (3,1)
 abbrev pub next_for_leader : StarredRow
-next_for_leader = row (next_leader_round (round_of 2 3) 3) (round_of 2 3)
+next_for_leader = starred_row (next_leader_round (round_of 2 3) 3) (round_of 2 3)
 
 abbrev pub next_for_lower : StarredRow
-next_for_lower = row (next_leader_round (round_of 2 3) 1) (round_of 3 1)
+next_for_lower = starred_row (next_leader_round (round_of 2 3) 1) (round_of 3 1)
 
 -- ---- the round state of a replica of five
 
-abbrev pub replica : ℕ → Member
-replica p = record { my_pid = p; replica = true; quorums = row_of 5 }
+abbrev pub replica_member : ℕ → Member
+replica_member p = record { my_pid = p; replica = true; quorums = row_of 5 }
 
 abbrev pub fresh_paxos : PaxosState
 fresh_paxos = (new_round_state None).paxos
 
-abbrev pub after_promises : ℕ → RoundV → PaxosState → PaxosState
-after_promises src rv s = receive_promise (replica 0) src rv s
+abbrev pub after_received_promise : ℕ → RoundV → PaxosState → PaxosState
+after_received_promise src rv s = receive_promise (replica_member 0) src rv s
 
 -- Promises value 7 no round, then 9 of (0,1), then 5 no round: 9 is held
 abbrev pub highest_held : StarredRow
 highest_held =
-    row (after_promises 3 (PaxosV None 5) (after_promises 2 (PaxosV (Some (round_of 0 1)) 9) (after_promises 1 (PaxosV None 7) fresh_paxos))).max_rv
+    starred_row (after_received_promise 3 (PaxosV None 5) (after_received_promise 2 (PaxosV (Some (round_of 0 1)) 9) (after_received_promise 1 (PaxosV None 7) fresh_paxos))).max_rv
     (Some (PaxosV (Some (round_of 0 1)) 9))
 
 -- Replica 0 hears accept (0,2) value 9 twice from 1: count 2
 abbrev pub heard_accept : ℕ → PaxosState → Result PaxosState Refusal
-heard_accept v s = receive_accept (replica 0) 1 (round_of 0 2) v s
+heard_accept v s = receive_accept (replica_member 0) 1 (round_of 0 2) v s
 
 abbrev pub after_heard : ℕ → PaxosState → PaxosState
 after_heard v s = state_left s (heard_accept v s)
@@ -95,55 +95,55 @@ abbrev pub accepted_twice : PaxosState
 accepted_twice = after_heard 9 (after_heard 9 fresh_paxos)
 
 abbrev pub counted_once : StarredRow
-counted_once = row (size accepted_twice.accepted_set) 2
+counted_once = starred_row (size accepted_twice.accepted_set) 2
 
 -- Then value 8: refusal 9
 abbrev pub other_value : StarredRow
-other_value = row (heard_accept 8 accepted_twice) (Err AcceptUnlikeHeld)
+other_value = starred_row (heard_accept 8 accepted_twice) (Err AcceptUnlikeHeld)
 
 abbrev pub other_value_number : StarredRow
-other_value_number = row (refusal_number AcceptUnlikeHeld) 9
+other_value_number = starred_row (refusal_number AcceptUnlikeHeld) 9
 
 -- EPaxos, five: 4 proposes 40; 1 answers proposer 0, value 10
 abbrev pub change_left : FastState → Result FastChange Refusal → FastChange
 change_left f (Ok change) = change
 change_left f (Err why) = unchanged (answers_of f)
 
-abbrev pub answers : ℕ → ℕ → ℕ → FastState → FastChange
-answers src proposer v f = change_left f (epaxos_answered (replica 4) src proposer v (answers_of f) f.epaxos_proposer_scores)
+abbrev pub starred_epaxos_answer : ℕ → ℕ → ℕ → FastState → FastChange
+starred_epaxos_answer src proposer v f = change_left f (epaxos_answered (replica_member 4) src proposer v (answers_of f) f.epaxos_proposer_scores)
 
 abbrev pub after_fast_answer : ℕ → ℕ → ℕ → FastState → FastState
-after_fast_answer src proposer v f = changed (answers src proposer v f) f
+after_fast_answer src proposer v f = changed (starred_epaxos_answer src proposer v f) f
 
 abbrev pub proposed_and_answered : FastState
 proposed_and_answered =
     after_fast_answer 1 0 10
-    (changed (change_left no_answers (epaxos_propose_v (replica 4) 40 (answers_of no_answers) no_answers.epaxos_proposer_scores)) no_answers)
+    (changed (change_left no_answers (epaxos_propose_v (replica_member 4) 40 (answers_of no_answers) no_answers.epaxos_proposer_scores)) no_answers)
 
 -- what is adopted when one more answer comes
 abbrev pub adopted_after : ℕ → ℕ → ℕ → Result (Option ℕ) Refusal
 adopted_after src proposer v =
-    epaxos_try_adopt_after lowest_best (replica 4) (answers src proposer v proposed_and_answered) proposed_and_answered.fast_proposer_to_v proposed_and_answered.epaxos_proposer_scores
+    epaxos_try_adopt_after lowest_best (replica_member 4) (starred_epaxos_answer src proposer v proposed_and_answered) proposed_and_answered.fast_proposer_to_v proposed_and_answered.epaxos_proposer_scores
 
 -- 2 answers proposer 4: adopt 10 (scores 3 and 2)
 abbrev pub adopts_best : StarredRow
-adopts_best = row (adopted_after 2 4 40) (Ok (Some 10))
+adopts_best = starred_row (adopted_after 2 4 40) (Ok (Some 10))
 
 abbrev pub other_score : StarredRow
-other_score = row (look_up (after_fast_answer 2 4 40 proposed_and_answered).epaxos_proposer_scores 0) 3
+other_score = starred_row (look_up (after_fast_answer 2 4 40 proposed_and_answered).epaxos_proposer_scores 0) 3
 
 abbrev pub own_score : StarredRow
-own_score = row (look_up (after_fast_answer 2 4 40 proposed_and_answered).epaxos_proposer_scores 4) 2
+own_score = starred_row (look_up (after_fast_answer 2 4 40 proposed_and_answered).epaxos_proposer_scores 4) 2
 
 -- If instead of 2, 3 answers proposer 2 value 20: a tie, adopt 10
 abbrev pub tied_score : StarredRow
-tied_score = row (look_up (after_fast_answer 3 2 20 proposed_and_answered).epaxos_proposer_scores 0) 3
+tied_score = starred_row (look_up (after_fast_answer 3 2 20 proposed_and_answered).epaxos_proposer_scores 0) 3
 
 abbrev pub tied_other_score : StarredRow
-tied_other_score = row (look_up (after_fast_answer 3 2 20 proposed_and_answered).epaxos_proposer_scores 2) 3
+tied_other_score = starred_row (look_up (after_fast_answer 3 2 20 proposed_and_answered).epaxos_proposer_scores 2) 3
 
 abbrev pub adopts_lowest : StarredRow
-adopts_lowest = row (adopted_after 3 2 20) (Ok (Some 10))
+adopts_lowest = starred_row (adopted_after 3 2 20) (Ok (Some 10))
 
 -- ---- reads
 
@@ -152,22 +152,22 @@ abbrev pub read_opened : Inserted
 read_opened = inserted new_tracker new_table (opening new_tracker 7 0 true)
 
 abbrev pub read_taken : StarredRow
-read_taken = row (insert_read new_tracker new_table 7 0 true) (Ok read_opened)
+read_taken = starred_row (insert_read new_tracker new_table 7 0 true) (Ok read_opened)
 
 abbrev pub read_waits : StarredRow
-read_waits = row read_opened.tracker.open_count 1
+read_waits = starred_row read_opened.tracker.open_count 1
 
 abbrev pub response_serves : StarredRow
-response_serves = row (receive_ready read_opened.tracker read_opened.table (read_id 0) 1 0 true).served_count 1
+response_serves = starred_row (receive_ready read_opened.tracker read_opened.table (read_id 0) 1 0 true).served_count 1
 
 abbrev pub commit_serves : StarredRow
-commit_serves = row (serve_at_commit read_opened.tracker read_opened.table 1 1).served_count 1
+commit_serves = starred_row (serve_at_commit read_opened.tracker read_opened.table 1 1).served_count 1
 
 -- ---- a group of one, in Paxos
 
 -- a group in Paxos, with its processes, its replica count, its live set and its first leader; own number 0
-abbrev pub group : ℕ → ℕ → ℕ → ℕ → Settings
-group processes replicas live leader =
+abbrev pub paxos_settings : ℕ → ℕ → ℕ → ℕ → Settings
+paxos_settings processes replicas live leader =
     record {
       process_count = processes;
       replica_count = replicas;
@@ -181,7 +181,7 @@ group processes replicas live leader =
     }
 
 abbrev pub alone : Shard
-alone = new_shard (group 1 1 1 0)
+alone = new_shard (paxos_settings 1 1 1 0)
 
 -- what a call hands back that sends one message to all others, commits nothing and serves no read
 abbrev pub sends_to_all : ConsensusMsg → Reply
@@ -196,19 +196,19 @@ sends_to_all msg =
 -- The first half of the instance: the proposal sends Prepare. The second half, "never commits", is `group_of_one` (crates/group/proofs/GroupOfOne.antt),
 -- since no finite row can say it.
 abbrev pub alone_proposes : StarredRow
-alone_proposes = row (call_of alone (Propose 10)).reply (sends_to_all (Prepare 0 (round_of 0 0) (PaxosV None 10)))
+alone_proposes = starred_row (call_of alone (Propose 10)).reply (sends_to_all (Prepare 0 (round_of 0 0) (PaxosV None 10)))
 
 -- a new read is asked of all others, and waits
 abbrev pub alone_reads : StarredRow
-alone_reads = row (call_of alone (StartRead 7 0)).reply (sends_to_all (ReadRequest (read_id 0)))
+alone_reads = starred_row (call_of alone (StartRead 7 0)).reply (sends_to_all (ReadRequest (read_id 0)))
 
 abbrev pub alone_waits : StarredRow
-alone_waits = row (call_of alone (StartRead 7 0)).shard.state.rounds.core.tracker.open_count 1
+alone_waits = starred_row (call_of alone (StartRead 7 0)).shard.state.rounds.core.tracker.open_count 1
 
 -- with a process more, which is no replica, the quorum is 1 still, and the next response or commit from there serves the read
 abbrev pub after_read : ConsensusMsg → Reply
 after_read msg =
-    (call_of (call_of (new_shard (group 2 1 1 0)) (StartRead 7 0)).shard
+    (call_of (call_of (new_shard (paxos_settings 2 1 1 0)) (StartRead 7 0)).shard
     (Receive
     (record {
       message = record { msg = msg; src = 1; last_v = None };
@@ -219,11 +219,11 @@ after_read msg =
 
 abbrev pub response_after_read : StarredRow
 response_after_read =
-    row (after_read (ReadResponse (read_id 0) 0)) (record { outcome = Ok tt; messages = no_messages; commit = None; served_count = 1 })
+    starred_row (after_read (ReadResponse (read_id 0) 0)) (record { outcome = Ok tt; messages = no_messages; commit = None; served_count = 1 })
 
 abbrev pub commit_after_read : StarredRow
 commit_after_read =
-    row (after_read (Commit 0 10)) (record { outcome = Ok tt; messages = no_messages; commit = committed_slot 0 10 false; served_count = 1 })
+    starred_row (after_read (Commit 0 10)) (record { outcome = Ok tt; messages = no_messages; commit = committed_slot 0 10 false; served_count = 1 })
 
 -- ---- the table
 

@@ -26,21 +26,21 @@ use Rattle.settings.specs.Settings.{within_limits}
 use Rattle.settings.specs.declared.Settings.{Settings}
 use Rattle.settings.proofs.Limits.{within_counts, within_members}
 use Rattle.fast_state.specs.Adopt.{lowest_best}
-use Rattle.delivery.specs.declared.Delivery.{Delivery}
+use Rattle.calls.specs.declared.delivery.Delivery.{Delivery}
 use Rattle.calls.specs.declared.Call.{Call}
 use Rattle.calls.specs.declared.Call.TheVariants.{Propose, StartRead, Receive}
 use Rattle.consensus.proofs.Decided.{by_decision}
 use Rattle.consensus.specs.Call.{call_of}
 use Rattle.consensus.specs.FirstCause.{number_alone}
 use Rattle.consensus.specs.declared.Shard.{Shard}
-use Rattle.agreement.specs.Model.{View, ModelMessage, prepare, accept, commit, other, Host, undecided, refuse, quiet, model_on_accept, model_on_propose, model_on_message, ModelOutcome}
+use Rattle.agreement.specs.Model.{View, ModelMessage, prepare, accept, commit, other, Host, undecided, model_refused, quiet, model_on_accept, model_on_propose, model_on_message, ModelOutcome}
 use Rattle.agreement.specs.Refinement.{model_outcome, AsModel}
 use Rattle.group.specs.Claim.{member_settings, NotSwift}
 use Rattle.group.specs.Steps.{RunStep, reply_of, is_done, delivery_in, delivered}
 use Rattle.group.proofs.Calls.{kind_of, not_swift, seen_answer, view_shard, Valid, valid_within, call_ok}
 use Rattle.group.proofs.Proposing.{leader_gathers}
 use Rattle.group.proofs.Ties.{lowest_picks_best}
-use Rattle.group.proofs.View.{round_number, leader_of, leader_of_lem, process_number, process_of, meaning_of, meaning_is, setup_of}
+use Rattle.group.proofs.View.{round_number, leader_of, leader_of_lem, process_number, process_of, meaning_of, meaning_is, model_setup_of}
 use Rattle.leader_commits.specs.Answers.{is_accept_of, is_answer, leader_hears}
 use Rattle.leader_commits.proofs.Led.{Led, FromLed, Expected, Proposing, Accepting, propose_leader, accept_leader}
 
@@ -65,7 +65,7 @@ claimed_mode EPaxos e = tt
 claimed_mode Pando e = tt
 claimed_mode SwiftPaxos e = absurd (not_both e refl)
 
-pub led_setup : (s : Settings) → is_multi_paxos s.mode ≡ true → s.committers ≡ None → s.first_leader < 64 → Led (setup_of s) s.first_leader
+pub led_setup : (s : Settings) → is_multi_paxos s.mode ≡ true → s.committers ≡ None → s.first_leader < 64 → Led (model_setup_of s) s.first_leader
 unfolding committer_in
 led_setup s multi none small =
     record {
@@ -79,11 +79,11 @@ led_setup s multi none small =
     none_for q = simp (none, not_swift s.mode (claimed_mode s.mode multi))
 
 -- the leader and the live replicas are processes
-pub record Numbers (s : Settings) : Type 0 where
+pub record NumbersInRun (s : Settings) : Type 0 where
   pub leader_small : s.first_leader < 64
   pub live_small : (p : ℕ) → is_live_replica s p ≡ true → p < 64
 
-pub numbers_within : (s : Settings) (i : ℕ) → within_limits (member_settings s i) ≡ true → Numbers s
+pub numbers_within : (s : Settings) (i : ℕ) → within_limits (member_settings s i) ≡ true → NumbersInRun s
 numbers_within s i limits =
     let few : s.process_count ≤ 64 = (within_counts (member_settings s i) limits).most_processes in
     let members = within_members (member_settings s i) limits in
@@ -114,7 +114,7 @@ pub data Does (s : Settings) (x : RunStep) : Type 0 where
       → ((v : ℕ) → x.call ≡ Propose v → (reply_of x).outcome ≡ Ok tt → ⊥) → Does s x
   proposes : (v : ℕ) → x.call ≡ Propose v → Proposing s.first_leader (view_before x) v (seen_in x) → Does s x
   accepts : (d : Delivery) (slot : ℕ) (round : PaxosRound) (v : ℕ) → delivered x ≡ Some d → d.message.msg ≡ Accept slot round v
-      → Accepting (setup_of s) s.first_leader (view_before x) d.message.src slot v (seen_in x) → Numbers s → Does s x
+      → Accepting (model_setup_of s) s.first_leader (view_before x) d.message.src slot v (seen_in x) → NumbersInRun s → Does s x
 
 -- ---- tests
 
@@ -135,7 +135,7 @@ module _ (s : Settings) (x : RunStep) where
   unheard t c e f =
       ap (λ (b : Bool). (b && eqb x.member s.first_leader) && is_done (reply_of x).outcome) (ap (λ (c : Call). is_answer s t (delivery_in c)) e ∙ f)
 
-  pub when_refused : seen_in x ≡ refuse (view_before x) → Does s x
+  pub when_refused : seen_in x ≡ model_refused (view_before x) → Does s x
   when_refused r =
       rests (ap (λ (o : ModelOutcome). o.view) r) (ap (λ (o : ModelOutcome). o.decision) r)
       (λ t le. right_fails (is_answer s t (delivered x) && eqb x.member s.first_leader) _ not_done)
@@ -149,8 +149,8 @@ module _ (s : Settings) (x : RunStep) where
   when_quiet c e no-proposal same no_commit no_answer =
       rests same no_commit (λ t le. unheard t c e (no_answer t le)) (λ v f done. not_both (ap is_propose (sym e ∙ f)) no-proposal)
 
-module _ (s : Settings) (multi : is_multi_paxos s.mode ≡ true) (none : s.committers ≡ None) (live : is_live_replica s s.first_leader ≡ true) (numbers : Numbers s)
-    (x : RunStep) (at : (view_before x).round ≡ (setup_of s).voters.start) where
+module _ (s : Settings) (multi : is_multi_paxos s.mode ≡ true) (none : s.committers ≡ None) (live : is_live_replica s s.first_leader ≡ true) (numbers : NumbersInRun s)
+    (x : RunStep) (at : (view_before x).round ≡ (model_setup_of s).voters.start) where
   abbrev l : ℕ
   l = s.first_leader
 
@@ -158,28 +158,28 @@ module _ (s : Settings) (multi : is_multi_paxos s.mode ≡ true) (none : s.commi
   y = view_before x
 
   abbrev start : ℕ
-  start = (setup_of s).voters.start
+  start = (model_setup_of s).voters.start
 
-  led : Led (setup_of s) l
+  led : Led (model_setup_of s) l
   led = led_setup s multi none numbers.leader_small
 
-  by_proposal : (v : ℕ) → x.call ≡ Propose v → AsModel meaning_of (setup_of s) l y (kind_of (Propose v)) (seen_in x) → Does s x
+  by_proposal : (v : ℕ) → x.call ≡ Propose v → AsModel meaning_of (model_setup_of s) l y (kind_of (Propose v)) (seen_in x) → Does s x
   unfolding model_outcome
   by_proposal v e m = go m.0.allows refl m.1
     where
-      taken : seen_in x ≡ model_on_propose (setup_of s) l y v → (model_on_propose (setup_of s) l y v ≡ refuse y) ⊎ Proposing l y v (model_on_propose (setup_of s) l y v) → Does s x
+      taken : seen_in x ≡ model_on_propose (model_setup_of s) l y v → (model_on_propose (model_setup_of s) l y v ≡ model_refused y) ⊎ Proposing l y v (model_on_propose (model_setup_of s) l y v) → Does s x
       taken r (inl f) = when_refused s x (r ∙ f)
       taken r (inr p) = proposes v e (subst (Proposing l y v) (sym r) p)
 
-      go : (b : Bool) → m.0.allows ≡ b → seen_in x ≡ cond b (model_on_propose (setup_of s) l y v) (refuse y) → Does s x
-      go true f r = taken r (propose_leader (setup_of s) l led y at v)
+      go : (b : Bool) → m.0.allows ≡ b → seen_in x ≡ cond b (model_on_propose (model_setup_of s) l y v) (model_refused y) → Does s x
+      go true f r = taken r (propose_leader (model_setup_of s) l led y at v)
       go false f r = when_refused s x r
 
   -- a read leaves all as it is
-  by_read : (tag arrival : ℕ) → x.call ≡ StartRead tag arrival → AsModel meaning_of (setup_of s) l y (kind_of (StartRead tag arrival)) (seen_in x) → Does s x
+  by_read : (tag arrival : ℕ) → x.call ≡ StartRead tag arrival → AsModel meaning_of (model_setup_of s) l y (kind_of (StartRead tag arrival)) (seen_in x) → Does s x
   by_read tag arrival e m = when_quiet s x (StartRead tag arrival) e refl m.0 m.1 (λ t le. refl)
 
-  module _ (d : Delivery) (e : x.call ≡ Receive d) (m : AsModel meaning_of (setup_of s) l y (kind_of (Receive d)) (seen_in x)) where
+  module _ (d : Delivery) (e : x.call ≡ Receive d) (m : AsModel meaning_of (model_setup_of s) l y (kind_of (Receive d)) (seen_in x)) where
     -- a message of the kind k is an answer of slot t only where k is an accept of it
     no_answer : (t : ℕ) (k : ConsensusMsg) → d.message.msg ≡ k → is_accept_of t k ≡ false → is_answer s t (delivery_in (Receive d)) ≡ false
     no_answer t k f g =
@@ -195,11 +195,11 @@ module _ (s : Settings) (multi : is_multi_paxos s.mode ≡ true) (none : s.commi
             when_quiet s x (Receive d) e refl (ap (λ (o : ModelOutcome). o.view) r) (ap (λ (o : ModelOutcome). o.decision) r)
             (λ t le. no_answer t k f (no-accept t))
 
-        taken : (h : Host) (b : Bool) → seen_in x ≡ cond b (model_on_message (setup_of s) l y d.message.src h (meaning_of d.message)) (refuse y) → Does s x
-        taken h true r = left (r ∙ ap (model_on_message (setup_of s) l y d.message.src h) no_part)
+        taken : (h : Host) (b : Bool) → seen_in x ≡ cond b (model_on_message (model_setup_of s) l y d.message.src h (meaning_of d.message)) (model_refused y) → Does s x
+        taken h true r = left (r ∙ ap (model_on_message (model_setup_of s) l y d.message.src h) no_part)
         taken h false r = when_refused s x r
 
-        go : AsModel meaning_of (setup_of s) l y (kind_of (Receive d)) (seen_in x) → Does s x
+        go : AsModel meaning_of (model_setup_of s) l y (kind_of (Receive d)) (seen_in x) → Does s x
         go (inl (h, r)) = taken h h.allows r
         go (inr r) = when_quiet s x (Receive d) e refl r.1 r.2 (λ t le. no_answer t k f (no-accept t))
 
@@ -211,23 +211,23 @@ module _ (s : Settings) (multi : is_multi_paxos s.mode ≡ true) (none : s.commi
         is_accept : meaning_of d.message ≡ accept slot start v
         is_accept = meaning_is d.message (Accept slot round v) f ∙ ap (λ (n : ℕ). accept slot n v) first
 
-        handled : (h : Host) → seen_in x ≡ model_on_accept (setup_of s) l y d.message.src slot start v h
-            → ((slot < y.slot) × (model_on_accept (setup_of s) l y d.message.src slot start v h ≡ quiet y))
-            ⊎ ((model_on_accept (setup_of s) l y d.message.src slot start v h ≡ refuse y) ⊎ Accepting (setup_of s) l y d.message.src slot v
-            (model_on_accept (setup_of s) l y d.message.src slot start v h))
+        handled : (h : Host) → seen_in x ≡ model_on_accept (model_setup_of s) l y d.message.src slot start v h
+            → ((slot < y.slot) × (model_on_accept (model_setup_of s) l y d.message.src slot start v h ≡ quiet y))
+            ⊎ ((model_on_accept (model_setup_of s) l y d.message.src slot start v h ≡ model_refused y) ⊎ Accepting (model_setup_of s) l y d.message.src slot v
+            (model_on_accept (model_setup_of s) l y d.message.src slot start v h))
             → Does s x
         handled h r (inl older) =
             when_quiet s x (Receive d) e refl (ap (λ (o : ModelOutcome). o.view) (r ∙ older.1)) (ap (λ (o : ModelOutcome). o.decision) (r ∙ older.1))
             (λ t le. let before : slot < y.slot = older.0 in no_answer t (Accept slot round v) f (ne_eqb slot t (λ same. omega (arith, le, before, same))))
         handled h r (inr (inl out)) = when_refused s x (r ∙ out)
-        handled h r (inr (inr a)) = accepts d slot round v (ap delivery_in e) f (subst (Accepting (setup_of s) l y d.message.src slot v) (sym r) a) numbers
+        handled h r (inr (inr a)) = accepts d slot round v (ap delivery_in e) f (subst (Accepting (model_setup_of s) l y d.message.src slot v) (sym r) a) numbers
 
-        taken : (h : Host) (b : Bool) → seen_in x ≡ cond b (model_on_message (setup_of s) l y d.message.src h (meaning_of d.message)) (refuse y) → Does s x
+        taken : (h : Host) (b : Bool) → seen_in x ≡ cond b (model_on_message (model_setup_of s) l y d.message.src h (meaning_of d.message)) (model_refused y) → Does s x
         taken h true r =
-            handled h (r ∙ ap (model_on_message (setup_of s) l y d.message.src h) is_accept) (accept_leader (setup_of s) l led y at live d.message.src slot v h)
+            handled h (r ∙ ap (model_on_message (model_setup_of s) l y d.message.src h) is_accept) (accept_leader (model_setup_of s) l led y at live d.message.src slot v h)
         taken h false r = when_refused s x r
 
-        go : AsModel meaning_of (setup_of s) l y (kind_of (Receive d)) (seen_in x) → Does s x
+        go : AsModel meaning_of (model_setup_of s) l y (kind_of (Receive d)) (seen_in x) → Does s x
         go (inl (h, r)) = taken h h.allows r
         go (inr r) = absurd (not_both refl (ap is_accept_message (sym is_accept ∙ r.0)))
 
@@ -242,11 +242,11 @@ module _ (s : Settings) (multi : is_multi_paxos s.mode ≡ true) (none : s.commi
     by_message f no_commit (ReadResponse id next) g = by_other (ReadResponse id next) g (meaning_is d.message (ReadResponse id next) g) (λ t. refl)
 
   -- A step of the leader, where no Prepare, no Accept of another round and no Commit comes.
-  pub leader_does : Valid s s.first_leader x.before → Expected meaning_of (setup_of s).voters.start s.first_leader (kind_of x.call)
+  pub leader_does : Valid s s.first_leader x.before → Expected meaning_of (model_setup_of s).voters.start s.first_leader (kind_of x.call)
       → ((d : Delivery) (slot v : ℕ) → x.call ≡ Receive d → d.message.msg ≡ Commit slot v → ⊥) → Does s x
   leader_does valid f no_commit = go x.call refl (call_ok s l (claimed_mode s.mode multi) lowest_best lowest_picks_best x.before valid x.call).as_model_lem f
     where
-      go : (c : Call) → x.call ≡ c → AsModel meaning_of (setup_of s) l y (kind_of c) (seen_in x) → Expected meaning_of start l (kind_of c) → Does s x
+      go : (c : Call) → x.call ≡ c → AsModel meaning_of (model_setup_of s) l y (kind_of c) (seen_in x) → Expected meaning_of start l (kind_of c) → Does s x
       go (Propose v) e m f = by_proposal v e m
       go (StartRead tag arrival) e m f = by_read tag arrival e m
       go (Receive d) e m f = by_message d e m f (λ slot v. no_commit d slot v e) d.message.msg refl

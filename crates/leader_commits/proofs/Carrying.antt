@@ -6,9 +6,9 @@ use Rattle.calls.specs.declared.CommittedSlot.{CommittedSlot}
 use mathlib.Core.Path.{◌≡◌, refl, sym, subst}
 use mathlib.Core.Bool.{Bool, true, false, cond, not, ◌&&◌, ◌||◌}
 use Prim.Native.Nat.{ℕ, ◌≤◌}
-use lib.Dec.{T, eqb, ltb}
+use lib.Dec.{T, ltb}
 use borrow.Author.Tests.{ltb-false, not-true}
-use Rattle.basics.proofs.Tests.{not_both, of-both, and_right}
+use Rattle.basics.proofs.Tests.{not_both, and_right}
 use Rattle.message.specs.Modes.{has_fast_path, is_multi_paxos}
 use Rattle.message.specs.Rounds.{before, equal}
 use Rattle.message.proofs.Order.{equal_rounds}
@@ -22,31 +22,30 @@ use Rattle.message.specs.declared.Refusal.TheVariants.{ValueNotHeld, Panic}
 use Rattle.message.specs.declared.RoundV.{RoundV}
 use Rattle.message.specs.declared.RoundV.TheVariants.{FastV, PaxosV}
 use Rattle.settings.specs.Questions.{starting_round_of}
-use Rattle.enter.specs.Enter.{can_propose, is_older}
+use Rattle.steps.specs.enter.Enter.{can_propose, is_older}
 use Rattle.paxos_family.specs.Commit.{commit_slot}
 use Rattle.propose.specs.Propose.{proposal_round, may_propose}
-use Rattle.steps.specs.Steps.{CoreStep, no_messages, one_message, held_value, on_rounds}
+use Rattle.steps.specs.Steps.{CoreStep, held_value, on_rounds}
 use Rattle.steps.specs.declared.Asked.{Asked}
 use Rattle.steps.specs.declared.Core.{Core}
 use Rattle.steps.specs.declared.Heard.{Heard}
 use Rattle.steps.specs.declared.Next.{Next}
 use Rattle.steps.specs.declared.Next.TheVariants.{Stays, Continues, Commits}
 use Rattle.steps.specs.declared.Outgoing.{Outgoing}
-use Rattle.delivery.specs.declared.Delivery.{Delivery}
+use Rattle.calls.specs.declared.delivery.Delivery.{Delivery}
 use Rattle.calls.specs.Asked.{asked_of, heard_of}
 use Rattle.calls.specs.declared.Call.{Call}
 use Rattle.calls.specs.declared.Call.TheVariants.{Propose, StartRead, Receive}
-use Rattle.consensus.specs.Answers.{refused, sent, nothing, committed, finish_at, finish}
-use Rattle.calls.specs.Replies.{read_answer}
+use Rattle.consensus.specs.Answers.{refused, committed, finish_at, finish}
 use Rattle.consensus.specs.Call.{in_shard, call_of}
-use Rattle.consensus.specs.Handle.{on_commit, on_read_request, on_read_response, proposing, processed, process_message, handle}
+use Rattle.consensus.specs.Handle.{on_read_response, proposing, processed, process_message, handle}
 use Rattle.consensus.specs.declared.Answer.{Answer}
 use Rattle.consensus.specs.declared.Shard.{Shard}
 use Rattle.consensus.specs.declared.State.{State}
 use Rattle.consensus.specs.declared.StateAnswer.{StateAnswer}
 use Rattle.fast_state.specs.Adopt.{lowest_best}
 use Rattle.agreement.proofs.Tests.{nor_both, is_true}
-use Rattle.group.proofs.Handlers.{Any, any_holds, TwoAtMost, Ends, ends, Keeps, Comes, processed_holds, proposing_holds, finish_holds, call_holds}
+use Rattle.group.proofs.Handlers.{Any, any_holds, TwoAtMost, Ends, ends, Keeps, Comes, processed_holds, proposing_holds, finish_holds, handle_holds, call_holds}
 
 -- ---- the steps of a call
 
@@ -171,8 +170,7 @@ module _ (shard : Shard) (multi : is_multi_paxos shard.settings.mode ≡ true) w
   proposal_carries : (v : ℕ) → Left (Propose v) (finish state asked true (proposing asked v state.rounds))
   proposal_carries v =
       finish_holds (Left (Propose v)) state asked true (proposing asked v state.rounds) (refuses_carries (Propose v))
-      (proposing_holds asked Any Any (Proposes (Propose v)) (λ round. ⊥) (AskedFor shard (Propose v)) (SameCore core.slot core.last_v (AskedFor shard (Propose v))) (Carries shard (Propose v)) (keeps (Propose v))
-      (λ step. Left (Propose v) (finish state asked true (Ok step))) (λ d t. tt) v refl state.rounds Any tt (any_holds _) (λ step t q. absurd (fast_path_lem t))
+      (proposing_holds (keeps (Propose v)) (λ step. Left (Propose v) (finish state asked true (Ok step))) (λ d t. tt) v refl state.rounds Any tt (any_holds _) (λ step t q. absurd (fast_path_lem t))
       (λ step t q. finish_carries (Propose v) true step q.0 (ends (Carries shard (Propose v)) _ _ step.next q.1)) (refl, refl))
 
   module _ (d : Delivery) (no_prepare : NoPrepare (Receive d)) where
@@ -180,9 +178,7 @@ module _ (shard : Shard) (multi : is_multi_paxos shard.settings.mode ≡ true) w
     heard = heard_of shard.settings d
 
     -- an Accept is handled where it is not older
-    comes : (m : ConsensusMsg) → d.message.msg ≡ m
-        → Comes asked Any Any (Proposes (Receive d)) (λ round. ⊥) (AskedFor shard (Receive d)) (SameCore core.slot core.last_v (AskedFor shard (Receive d))) (Carries shard (Receive d)) (keeps (Receive d))
-        heard (λ t. tt) core m
+    comes : (m : ConsensusMsg) → d.message.msg ≡ m → Comes (keeps (Receive d)) heard (λ t. tt) core m
     unfolding is_older
     comes (Prepare slot round rv) e = absurd (no_prepare slot round rv e)
     comes (Accept slot round v) e =
@@ -196,25 +192,14 @@ module _ (shard : Shard) (multi : is_multi_paxos shard.settings.mode ≡ true) w
     unfolding process_message
     process_carries =
         finish_holds (Left (Receive d)) state asked d.said.value_held (processed lowest_best asked heard d.message.msg state.rounds) (refuses_carries (Receive d))
-        (processed_holds asked Any Any (Proposes (Receive d)) (λ round. ⊥) (AskedFor shard (Receive d)) (SameCore core.slot core.last_v (AskedFor shard (Receive d))) (Carries shard (Receive d)) (keeps (Receive d))
-        heard (λ t. tt) (λ step. Left (Receive d) (finish state asked d.said.value_held (Ok step))) lowest_best state.rounds Any tt (λ p v w. any_holds _) (λ p v l w. any_holds _)
+        (processed_holds (keeps (Receive d)) heard (λ t. tt) (λ step. Left (Receive d) (finish state asked d.said.value_held (Ok step))) lowest_best state.rounds Any tt (λ p v w. any_holds _) (λ p v l w. any_holds _)
         (λ step t q. absurd (fast_path_lem t)) (λ step t q. finish_carries (Receive d) d.said.value_held step q.0 q.1) d.message.msg (comes d.message.msg refl) (refl, refl))
 
     handle_carries : (m : ConsensusMsg) → Left (Receive d) (handle lowest_best state asked heard d m)
-    unfolding handle on_commit committed commit_slot on_read_request on_read_response
-    handle_carries (Prepare slot round rv) = process_carries
-    handle_carries (Accept slot round v) = process_carries
-    handle_carries (ForwardRequest v) = process_carries
-    handle_carries (Commit slot v) =
-        of-both (Left (Receive d)) (ltb slot core.slot) {x = nothing state} {y = committed state asked v state.rounds no_messages}
-        (record { last_value = refl; accepts = (tt, tt) })
-        (record { last_value = refl; accepts = (tt, tt) })
-    handle_carries (ReadRequest id) =
-        of-both (Left (Receive d)) (eqb d.message.src shard.settings.my_pid) {x = refused Panic state}
-        {y = sent state (one_message (read_answer shard.settings.my_pid d.message.src id core))}
-        (refuses_carries (Receive d) Panic)
-        (record { last_value = refl; accepts = (tt, tt) })
-    handle_carries (ReadResponse id next) = record { last_value = refl; accepts = (tt, tt) }
+    unfolding committed commit_slot on_read_response
+    handle_carries =
+        handle_holds lowest_best state asked heard d (Left (Receive d)) process_carries (record { last_value = refl; accepts = (tt, tt) }) (refuses_carries (Receive d) Panic)
+        (λ v. record { last_value = refl; accepts = (tt, tt) }) (λ id t. record { last_value = refl; accepts = (tt, tt) }) (λ id. record { last_value = refl; accepts = (tt, tt) })
 
   pub call_carries : (c : Call) → NoPrepare c → CallCarries shard c (call_of shard c)
   call_carries =

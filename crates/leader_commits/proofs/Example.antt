@@ -14,13 +14,13 @@ use Rattle.message.specs.Rounds.{round_of}
 use Rattle.message.specs.declared.ConsensusMsg.TheVariants.{Accept, Commit}
 use Rattle.message.specs.declared.PFMode.TheVariants.{MultiPaxos}
 use Rattle.settings.specs.declared.Settings.{Settings}
-use Rattle.consensus.specs.FirstCause.{any_from, joined}
+use Rattle.consensus.specs.FirstCause.{any_from, appended}
 use Rattle.agreement.proofs.Tests.{neqb→ne}
 use Rattle.group.specs.Claim.{MemberCall, entries, Legal, At}
 use Rattle.group.specs.Steps.{RunStep, delivered, steps_from, run_steps}
 use Rattle.group.proofs.Computed.{computed}
-use Rattle.group.proofs.Example.{three, proposes, hears, commits_of, none, commits, first}
-use Rattle.leader_commits.specs.Answers.{Terms, sources, answers_came, Commits, HostHolds, SoundRequesters, SoundAnswers}
+use Rattle.group.proofs.Example.{three, proposal_call, hears_message, commits_of_entries, none, member_commit, first}
+use Rattle.leader_commits.specs.Answers.{Terms, sources, answers_came, CommitsValue, HostHolds, SoundRequesters, SoundAnswers}
 use Rattle.leader_commits.proofs.LeaderCommits.{on_the_very_answer}
 
 -- five members, all live
@@ -42,19 +42,19 @@ five =
 -- answer of 2.
 abbrev calls_of_three : List MemberCall
 calls_of_three =
-    proposes 0 10
-    ∷ hears 1 0 None (Accept 0 (round_of 0 0) 10)
-    ∷ hears 2 0 None (Accept 0 (round_of 0 0) 10)
-    ∷ hears 0 1 None (Accept 0 (round_of 0 0) 10)
-    ∷ hears 0 2 None (Accept 0 (round_of 0 0) 10)
-    ∷ hears 2 0 None (Commit 0 10)
-    ∷ proposes 0 20
-    ∷ hears 2 0 (Some 10) (Accept 1 (round_of 0 0) 20)
-    ∷ hears 0 2 (Some 10) (Accept 1 (round_of 0 0) 20)
+    proposal_call 0 10
+    ∷ hears_message 1 0 None (Accept 0 (round_of 0 0) 10)
+    ∷ hears_message 2 0 None (Accept 0 (round_of 0 0) 10)
+    ∷ hears_message 0 1 None (Accept 0 (round_of 0 0) 10)
+    ∷ hears_message 0 2 None (Accept 0 (round_of 0 0) 10)
+    ∷ hears_message 2 0 None (Commit 0 10)
+    ∷ proposal_call 0 20
+    ∷ hears_message 2 0 (Some 10) (Accept 1 (round_of 0 0) 20)
+    ∷ hears_message 0 2 (Some 10) (Accept 1 (round_of 0 0) 20)
     ∷ []
 
-pub three_commits : commits_of (entries (three MultiPaxos) calls_of_three)
-    ≡ (commits 0 1 20 false ∷ none 2 ∷ none 0 ∷ commits 2 0 10 false ∷ none 0 ∷ commits 0 0 10 false ∷ none 2 ∷ none 1 ∷ none 0 ∷ [])
+pub three_commits : commits_of_entries (entries (three MultiPaxos) calls_of_three)
+    ≡ (member_commit 0 1 20 false ∷ none 2 ∷ none 0 ∷ member_commit 2 0 10 false ∷ none 0 ∷ member_commit 0 0 10 false ∷ none 2 ∷ none 1 ∷ none 0 ∷ [])
 unfolding computed
 three_commits = refl
 
@@ -74,15 +74,15 @@ three_legal =
 -- five: the leader proposes 10, and commits it on the answer of 2, the second member that it hears; the answer of 1 comes twice
 abbrev calls_of_five : List MemberCall
 calls_of_five =
-    proposes 0 10
-    ∷ hears 1 0 None (Accept 0 (round_of 0 0) 10)
-    ∷ hears 2 0 None (Accept 0 (round_of 0 0) 10)
-    ∷ hears 0 1 None (Accept 0 (round_of 0 0) 10)
-    ∷ hears 0 1 None (Accept 0 (round_of 0 0) 10)
-    ∷ hears 0 2 None (Accept 0 (round_of 0 0) 10)
+    proposal_call 0 10
+    ∷ hears_message 1 0 None (Accept 0 (round_of 0 0) 10)
+    ∷ hears_message 2 0 None (Accept 0 (round_of 0 0) 10)
+    ∷ hears_message 0 1 None (Accept 0 (round_of 0 0) 10)
+    ∷ hears_message 0 1 None (Accept 0 (round_of 0 0) 10)
+    ∷ hears_message 0 2 None (Accept 0 (round_of 0 0) 10)
     ∷ []
 
-pub five_commits : commits_of (entries five calls_of_five) ≡ (commits 0 0 10 false ∷ none 0 ∷ none 0 ∷ none 2 ∷ none 1 ∷ none 0 ∷ [])
+pub five_commits : commits_of_entries (entries five calls_of_five) ≡ (member_commit 0 0 10 false ∷ none 0 ∷ none 0 ∷ none 2 ∷ none 1 ∷ none 0 ∷ [])
 unfolding computed
 five_commits = refl
 
@@ -105,7 +105,7 @@ Sound x = HostHolds (delivered x) × SoundRequesters five (delivered x)
 
 -- what the host adds to its answers is sound
 five_sound : SoundAnswers five 0 (run_steps five calls_of_five)
-unfolding steps_from any_from joined
+unfolding steps_from any_from appended
 five_sound x (inl e) came = subst Sound (sym e) (refl, refl)
 five_sound x (inr (inl e)) came = subst Sound (sym e) (refl, refl)
 five_sound x (inr (inr (inl e))) came = subst Sound (sym e) (refl, refl)
@@ -115,7 +115,7 @@ five_sound x (inr (inr (inr (inr (inr (inl e)))))) came = subst Sound (sym e) (t
 five_sound x (inr (inr (inr (inr (inr (inr k)))))) came = absurd k
 
 -- the last step: before it one answer has come, with it two, which is majority less one; so the theorem says that the leader commits 10
-pub five_by_theorem : (x : RunStep) × (past : List RunStep) × At x past (run_steps five calls_of_five) × (answers_came five 0 past ≡ 1) × (answers_came five 0 (x ∷ past) ≡ 2) × Commits x 0 10
+pub five_by_theorem : (x : RunStep) × (past : List RunStep) × At x past (run_steps five calls_of_five) × (answers_came five 0 past ≡ 1) × (answers_came five 0 (x ∷ past) ≡ 2) × CommitsValue x 0 10
 unfolding steps_from sources computed
 five_by_theorem = (
   _,

@@ -17,7 +17,7 @@ use Rattle.basics.proofs.sets.Counting.{count_one_more}
 use Rattle.basics.proofs.sets.Laws.{contains_empty, contains_insert_other, insert_none, size_insert}
 use Rattle.settings.specs.Questions.{is_live_replica}
 use Rattle.settings.specs.declared.Settings.{Settings}
-use Rattle.delivery.specs.declared.Delivery.{Delivery}
+use Rattle.calls.specs.declared.delivery.Delivery.{Delivery}
 use Rattle.agreement.specs.Model.{add}
 use Rattle.group.specs.Steps.{RunStep, reply_of, is_done, delivered}
 use Rattle.leader_commits.specs.Answers.{is_accept_of, is_answer, source_of, comes, leader_hears, sources}

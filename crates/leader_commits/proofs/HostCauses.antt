@@ -25,10 +25,10 @@ use Rattle.settings.specs.Settings.{within_limits}
 use Rattle.settings.specs.declared.Settings.{Settings}
 use Rattle.settings.proofs.Limits.{within_counts, within_members}
 use Rattle.fast_state.specs.Adopt.{lowest_best}
-use Rattle.delivery.specs.declared.Delivery.{Delivery}
+use Rattle.calls.specs.declared.delivery.Delivery.{Delivery}
 use Rattle.calls.specs.declared.Call.TheVariants.{Receive}
-use Rattle.consensus.specs.FirstCause.{any_above, any_from, too_large, given_number, joined, all_processes, all_numbers, given_and_different, is_ignored, source_not_live, leader_delegate, facts_of, handling_causes, all_causes}
-use Rattle.consensus.specs.Panics.{Facts, fits_held, leads, accept_panics}
+use Rattle.consensus.specs.FirstCause.{any_above, any_from, numbers_too_large, given_number, appended, all_processes, all_numbers, given_and_different, is_ignored, source_not_live, leader_delegate, facts_of, handling_causes, all_causes}
+use Rattle.consensus.specs.Panics.{Facts, fits_held, oneself_leads, accept_panics}
 use Rattle.consensus.specs.Rows.{Row, then, first_of}
 use Rattle.consensus.specs.declared.Shard.{Shard}
 use Rattle.consensus.specs.declared.State.{State}
@@ -37,8 +37,8 @@ use Rattle.leader_commits.specs.Answers.{requesters_in, host_causes}
 
 -- ---- numbers of a list
 
-above_joined : (limit : ℕ) (ms ns : List ℕ) → any_above limit (joined ms ns) ≡ (any_above limit ms || any_above limit ns)
-unfolding any_above joined
+above_joined : (limit : ℕ) (ms ns : List ℕ) → any_above limit (appended ms ns) ≡ (any_above limit ms || any_above limit ns)
+unfolding any_above appended
 above_joined limit [] ns = refl
 above_joined limit (m ∷ ms) ns = ap (λ (b : Bool). ltb limit m || b) (above_joined limit ms ns) ∙ shift (ltb limit m) (any_above limit ms) (any_above limit ns)
   where
@@ -64,7 +64,7 @@ same_not_different (Some v) = ap not (eq-eqb v v refl)
 
 -- ---- the panics of the Rust: none is met
 
-no_panic : (m : PFMode) → is_multi_paxos m ≡ true → (f : Facts) (v : ℕ) → fits_held f.held f.round v ≡ true → leads f ≡ true → f.value_held ≡ true
+no_panic : (m : PFMode) → is_multi_paxos m ≡ true → (f : Facts) (v : ℕ) → fits_held f.held f.round v ≡ true → oneself_leads f ≡ true → f.value_held ≡ true
     → first_of (accept_panics m f v) ≡ 0
 unfolding first_of
 no_panic Paxos e f v fits own held = absurd (not_both e refl)
@@ -112,7 +112,7 @@ module _ (s : Settings) (multi : is_multi_paxos s.mode ≡ true) (limits : withi
       → state.rounds.core.paxos.round ≡ Some (round_of 0 s.first_leader)
       → fits_held state.rounds.core.paxos.max_rv (round_of 0 s.first_leader) v ≡ true
       → first_of (all_causes lowest_best leader_shard (Receive the_answer)) ≡ first_of (host_causes s d)
-  unfolding first_of then any_above any_from joined
+  unfolding first_of then any_above any_from appended
   only_host_causes live_source room fits same_last last_Fits in_round_lem held =
       three_left (leb 9223372036854775807 n) _ _ (ltb n n) _ _ (not d.said.value_held) _ (any_above 9223372036854775807 (requesters_in d))
       (any_from s.process_count (requesters_in d))
@@ -128,14 +128,14 @@ module _ (s : Settings) (multi : is_multi_paxos s.mode ≡ true) (limits : withi
       source_below =
           fits_members s.alive_replicas s.process_count (within_members (member_settings s l) limits).live_fit d.message.src live_source
 
-      large : too_large (n ∷ []) (all_numbers the_answer) ≡ any_above 9223372036854775807 (requesters_in d)
+      large : numbers_too_large (n ∷ []) (all_numbers the_answer) ≡ any_above 9223372036854775807 (requesters_in d)
       large =
           let leader_small : l ≤ 9223372036854775807 = let few_processes = few in let below = leader_below in omega arith in
           let source_small : d.message.src ≤ 9223372036854775807 = let few_processes = few in let below = source_below in omega arith in
           let after : any_above 9223372036854775807 (0 ∷ v ∷ given_number d.message.last_v) ≡ false =
           simp (le-ltb 9223372036854775807 0 (omega arith), le-ltb 9223372036854775807 v fits, last_Fits) in
-          let first : too_large (n ∷ []) (all_numbers the_answer) ≡ any_above 9223372036854775807
-          (joined (requesters_in d) (0 ∷ v ∷ given_number d.message.last_v)) =
+          let first : numbers_too_large (n ∷ []) (all_numbers the_answer) ≡ any_above 9223372036854775807
+          (appended (requesters_in d) (0 ∷ v ∷ given_number d.message.last_v)) =
           simp (
             le-ltb 9223372036854775806 n (omega (arith, room)),
             le-ltb 9223372036854775807

@@ -26,28 +26,28 @@ use Rattle.consensus.specs.declared.Answer.{Answer}
 use Rattle.agreement.specs.Model.{undecided, decided}
 use Rattle.group.specs.Claim.{member_settings, begun, ours, MemberCall, WasSent, MayStand, Legal, At, slot_at}
 use Rattle.group.specs.Steps.{RunStep, reply_of, is_done, delivery_in, delivered, step_of, run_steps, entries_of_steps}
-use Rattle.group.proofs.Calls.{decision_of, view_shard}
+use Rattle.group.proofs.Calls.{model_decision_of, view_shard}
 use Rattle.group.proofs.Invariants.{shards_after}
-use Rattle.group.proofs.View.{setup_of}
-use Rattle.leader_commits.specs.Answers.{Terms, is_answer, comes, leader_hears, sources, source_of, answers_heard, answers_came, LeaderProposed, AfterProposal, Commits, CommitsOnAnswer, HostHolds, SoundRequesters, SoundAnswers, BringsCommit, NoCommitCame, NoAnswerRefused, AsAsked}
-use Rattle.leader_commits.proofs.Calls.{Numbers, numbers_within, made_or_refused, seen_in, view_before, Does, rests, proposes, accepts}
+use Rattle.group.proofs.View.{model_setup_of}
+use Rattle.leader_commits.specs.Answers.{Terms, is_answer, comes, leader_hears, sources, source_of, answers_heard, answers_came, LeaderProposed, AfterProposal, CommitsValue, CommitsOnAnswer, HostHolds, SoundRequesters, SoundAnswers, BringsCommit, NoCommitCame, NoAnswerRefused, AsAsked}
+use Rattle.leader_commits.proofs.Calls.{NumbersInRun, numbers_within, made_or_refused, seen_in, view_before, Does, rests, proposes, accepts}
 use Rattle.leader_commits.proofs.Hearing.{sources_same, sources_more, grows_by_one, live_source}
-use Rattle.leader_commits.proofs.Leading.{is_decided, slot_in, value_in, commit_in, Leading, fit_same, accept_commits, accept_waits}
+use Rattle.leader_commits.proofs.Leading.{is_decided, slot_in_view, value_in_view, commit_in, Leading, fit_same, accept_commits, accept_waits}
 use Rattle.leader_commits.proofs.NoneRefused.{sound_taken, none_refused}
 use Rattle.leader_commits.proofs.Places.{in_at}
-use Rattle.leader_commits.proofs.Runs.{Follows, no_commit_to_leader, step_does, leading_before, each_step, run_invariant}
+use Rattle.leader_commits.proofs.Runs.{RunFollows, no_commit_to_leader, step_does, leading_before, each_step, run_invariant}
 
 -- ---- commits, as the model sees them
 
-seen_commit : (x : RunStep) (slot v : ℕ) → Commits x slot v → (seen_in x).decision ≡ decided slot v
-seen_commit x slot v c = ap decision_of c.1
+seen_commit : (x : RunStep) (slot v : ℕ) → CommitsValue x slot v → (seen_in x).decision ≡ decided slot v
+seen_commit x slot v c = ap model_decision_of c.1
 
-not_undecided : (x : RunStep) (slot v : ℕ) → Commits x slot v → (seen_in x).decision ≡ undecided → ⊥
+not_undecided : (x : RunStep) (slot v : ℕ) → CommitsValue x slot v → (seen_in x).decision ≡ undecided → ⊥
 not_undecided x slot v c e = not_both refl (ap is_decided (sym (seen_commit x slot v c) ∙ e))
 
 -- ---- a step of the leader
 
-module _ (s : Settings) (x : RunStep) (past : List RunStep) (own : x.member ≡ s.first_leader) (at : (view_before x).round ≡ (setup_of s).voters.start) (k : Leading s (view_before x) past)
+module _ (s : Settings) (x : RunStep) (past : List RunStep) (own : x.member ≡ s.first_leader) (at : (view_before x).round ≡ (model_setup_of s).voters.start) (k : Leading s (view_before x) past)
     (v : ℕ) (p : LeaderProposed s (view_before x).slot v past) where
   abbrev majority : ℕ
   majority = (quorums_of s).majority
@@ -88,7 +88,7 @@ module _ (s : Settings) (x : RunStep) (past : List RunStep) (own : x.member ≡ 
             exactly = (λ z. omega (arith, few, most, h), λ z. (f.0, f.1 ∙ ap (λ (n : ℕ). committed_slot t n f.0) same));
             no_other = λ slot' w' z.
                 let e : decided slot' w' ≡ decided t w = sym (seen_commit x slot' w' z) ∙ c in
-                (ap slot_in e, ap value_in e ∙ same);
+                (ap slot_in_view e, ap value_in_view e ∙ same);
           }
       go (no h) =
           let waits : answers_heard s t (x ∷ past) + 1 < majority = lt_of_not-le h in
@@ -113,7 +113,7 @@ module _ (s : Settings) (terms : Terms s) (cs : List MemberCall) (legal : Legal 
           x.member ≡ s.first_leader → (t v : ℕ) → LeaderProposed s t v past → slot_at s.first_leader (entries_of_steps past) ≡ t
           → CommitsOnAnswer (answers_heard s t) s t v x past
 
-      follows : Follows s terms P
+      follows : RunFollows s terms P
       follows shards past k c stands own t v p here =
           let lead = leading_before s terms shards past k c stands own in
           let same : (view_before (step_of shards c)).slot ≡ t = lead.slot ∙ here in
@@ -131,22 +131,22 @@ module _ (s : Settings) (terms : Terms s) (cs : List MemberCall) (legal : Legal 
       (lead.too_few (lead.holds_own v (subst (λ (n : ℕ). LeaderProposed s n v (run_steps s cs)) (sym same) p)).0)
 
   -- a call that is not refused is of a group within the limits
-  numbers_of : (x : RunStep) (past : List RunStep) → At x past (run_steps s cs) → is_done (reply_of x).outcome ≡ true → Numbers s
+  numbers_of : (x : RunStep) (past : List RunStep) → At x past (run_steps s cs) → is_done (reply_of x).outcome ≡ true → NumbersInRun s
   numbers_of x past at done = each_step s terms P follows cs legal x past at done
     where
       P : RunStep → List RunStep → Type 0
-      P x past = is_done (reply_of x).outcome ≡ true → Numbers s
+      P x past = is_done (reply_of x).outcome ≡ true → NumbersInRun s
 
-      follows : Follows s terms P
+      follows : RunFollows s terms P
       follows shards past k c stands done = go (made_or_refused s c.member (shards c.member) (k.valid c.member) c.call)
         where
-          go : ((why : Refusal) × (call_of (shards c.member) c.call ≡ number_alone why (shards c.member))) ⊎ (within_limits (member_settings s c.member) ≡ true) → Numbers s
+          go : ((why : Refusal) × (call_of (shards c.member) c.call ≡ number_alone why (shards c.member))) ⊎ (within_limits (member_settings s c.member) ≡ true) → NumbersInRun s
           go (inl (why, e)) = absurd (not_both done (ap (λ (r : Answer). is_done r.reply.outcome) e))
           go (inr limits) = numbers_within s c.member limits
 
   -- The same by the answer: the leader commits on an answer that it hears from a member that it had not heard, the last that was missing.
   pub completing_answer : (t v : ℕ) (x : RunStep) (past : List RunStep) → AfterProposal s cs t v x past
-      → Commits x t v ↔ ((leader_hears s t x ≡ true) × (contains (sources (leader_hears s t) past) (source_of (delivered x)) ≡ false) × (answers_heard s t past + 2 ≡ (quorums_of s).majority))
+      → CommitsValue x t v ↔ ((leader_hears s t x ≡ true) × (contains (sources (leader_hears s t) past) (source_of (delivered x)) ≡ false) × (answers_heard s t past + 2 ≡ (quorums_of s).majority))
   completing_answer t v x past after =
       (λ c. completes (on_answer.exactly.0 c) (either (leader_hears s t x)), λ h. on_answer.exactly.1 (reaches h.0 h.1 h.2))
     where
@@ -192,7 +192,7 @@ module _ (s : Settings) (terms : Terms s) (cs : List MemberCall) (legal : Legal 
 
   -- Where the host holds the value and each requester that it gives is a process, that answer has only to come: it is not refused.
   pub sound_answer_commits : (t v : ℕ) (x : RunStep) (past : List RunStep) → AfterProposal s cs t v x past → comes s t x ≡ true → HostHolds (delivered x)
-      → SoundRequesters s (delivered x) → contains (sources (leader_hears s t) past) (source_of (delivered x)) ≡ false → answers_heard s t past + 2 ≡ (quorums_of s).majority → Commits x t v
+      → SoundRequesters s (delivered x) → contains (sources (leader_hears s t) past) (source_of (delivered x)) ≡ false → answers_heard s t past + 2 ≡ (quorums_of s).majority → CommitsValue x t v
   sound_answer_commits t v x past after came holds sound new last =
       (completing_answer t v x past after).1 (and_both came (sound_taken s terms cs legal t v x past after came holds sound), new, last)
 
@@ -203,7 +203,7 @@ module _ (s : Settings) (terms : Terms s) (cs : List MemberCall) (legal : Legal 
       P : RunStep → List RunStep → Type 0
       P x past = x.member ≡ s.first_leader → BringsCommit t (delivered x) → ⊥
 
-      follows : Follows s terms P
+      follows : RunFollows s terms P
       follows shards past k c stands own = by_call c.call stands
         where
           by_call : (call : Call) → MayStand (entries_of_steps past) c.member call → BringsCommit t (delivery_in call) → ⊥
@@ -255,6 +255,6 @@ module _ (s : Settings) (terms : Terms s) (cs : List MemberCall) (legal : Legal 
         not_before = λ none waits slot w c.
             let only = on_answer.no_other slot w c in
             let reached : answers_heard s t (x ∷ past) + 1 ≡ (quorums_of s).majority =
-            on_answer.exactly.0 (subst (λ (n : ℕ). Commits x n v) only.0 (subst (Commits x slot) only.1 c)) in
+            on_answer.exactly.0 (subst (λ (n : ℕ). CommitsValue x n v) only.0 (subst (CommitsValue x slot) only.1 c)) in
             omega (arith, waits, reached);
       }

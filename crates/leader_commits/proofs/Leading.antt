@@ -6,7 +6,7 @@ use Rattle.calls.specs.Commits.{committed_slot}
 use Rattle.calls.specs.declared.CommittedSlot.{CommittedSlot}
 use mathlib.Core.Path.{◌≡◌, refl, sym, ap, ap₂, subst, ◌∙◌}
 use mathlib.Core.Logic.{◌⊎◌, inl, inr}
-use mathlib.Core.Bool.{Bool, true, false, cond, not, ◌&&◌, and-true}
+use mathlib.Core.Bool.{Bool, true, false, not, ◌&&◌, and-true}
 use mathlib.Core.List.{List, [], ◌∷◌}
 use Prim.Native.Nat.{ℕ, suc, ◌+◌, ◌≤◌, ◌<◌}
 use native.Mathlib.Nat.{le_refl, le_trans}
@@ -20,17 +20,17 @@ use Rattle.message.specs.declared.ConsensusMsg.TheVariants.{Accept}
 use Rattle.message.specs.declared.PaxosRound.{PaxosRound}
 use Rattle.settings.specs.Questions.{is_live_replica, quorums_of}
 use Rattle.settings.specs.declared.Settings.{Settings}
-use Rattle.delivery.specs.declared.Delivery.{Delivery}
+use Rattle.calls.specs.declared.delivery.Delivery.{Delivery}
 use Rattle.calls.specs.declared.Call.{Call}
 use Rattle.calls.specs.declared.Call.TheVariants.{Propose, StartRead, Receive}
-use Rattle.agreement.specs.Model.{View, undecided, decided, Decision, empty, add, advanced, accepted_by, voted, enough_accepted, model_commits, ModelOutcome}
+use Rattle.agreement.specs.Model.{View, undecided, decided, Decision, empty, add, advanced, accepted_by, model_voted, enough_accepted, model_commits, ModelOutcome}
 use Rattle.group.specs.Claim.{At, plus_commit, slot_at}
 use Rattle.group.specs.Steps.{RunStep, reply_of, is_done, delivery_in, delivered, entries_of_steps}
-use Rattle.group.proofs.Calls.{decision_of}
+use Rattle.group.proofs.Calls.{model_decision_of}
 use Rattle.group.proofs.Entering.{add_again, add_other_way}
-use Rattle.group.proofs.View.{no_member, insert_add, setup_of}
+use Rattle.group.proofs.View.{no_member, insert_add, model_setup_of}
 use Rattle.leader_commits.specs.Answers.{is_accept_of, is_answer, source_of, leader_hears, sources, answers_heard, LeaderProposed}
-use Rattle.leader_commits.proofs.Led.{fits_held, proposed_view, Accepting}
+use Rattle.leader_commits.proofs.Led.{fits_held_view, proposed_view, Accepting}
 use Rattle.leader_commits.proofs.Calls.{seen_in}
 use Rattle.leader_commits.proofs.Hearing.{sources_same, sources_more, leader_not_counted, with_leader}
 
@@ -48,21 +48,21 @@ abbrev pub is_decided : Decision → Bool
 is_decided undecided = false
 is_decided (decided slot v) = true
 
-abbrev pub slot_in : Decision → ℕ
-slot_in undecided = 0
-slot_in (decided slot v) = slot
+abbrev pub slot_in_view : Decision → ℕ
+slot_in_view undecided = 0
+slot_in_view (decided slot v) = slot
 
-abbrev pub value_in : Decision → ℕ
-value_in undecided = 0
-value_in (decided slot v) = v
+abbrev pub value_in_view : Decision → ℕ
+value_in_view undecided = 0
+value_in_view (decided slot v) = v
 
-pub no_commit_in : (c : Option CommittedSlot) → decision_of c ≡ undecided → (n : ℕ) → plus_commit c n ≡ n
+pub no_commit_in : (c : Option CommittedSlot) → model_decision_of c ≡ undecided → (n : ℕ) → plus_commit c n ≡ n
 no_commit_in None e n = refl
 no_commit_in (Some commit) e n = absurd (not_both refl (ap is_decided e))
 
-pub commit_in : (c : Option CommittedSlot) (slot v : ℕ) → decision_of c ≡ decided slot v → (fast : Bool) × (c ≡ committed_slot slot v fast)
+pub commit_in : (c : Option CommittedSlot) (slot v : ℕ) → model_decision_of c ≡ decided slot v → (fast : Bool) × (c ≡ committed_slot slot v fast)
 commit_in None slot v e = absurd (not_both refl (ap is_decided (sym e)))
-commit_in (Some commit) slot v e = (commit.fast, λ z. committed_slot (ap slot_in e z) (ap value_in e z) commit.fast)
+commit_in (Some commit) slot v e = (commit.fast, λ z. committed_slot (ap slot_in_view e z) (ap value_in_view e z) commit.fast)
 
 -- a member's slot grows
 grows : (c : Option CommittedSlot) (n : ℕ) → n ≤ plus_commit c n
@@ -70,11 +70,8 @@ grows None n = le_refl n
 grows (Some commit) n = omega arith
 
 slot_grows : (i : ℕ) (x : RunStep) (past : List RunStep) → slot_at i (entries_of_steps past) ≤ slot_at i (entries_of_steps (x ∷ past))
-slot_grows i x past = go (eqb i x.member)
-  where
-    go : (b : Bool) → slot_at i (entries_of_steps past) ≤ cond b (plus_commit (reply_of x).commit (slot_at i (entries_of_steps past))) (slot_at i (entries_of_steps past))
-    go true = grows (reply_of x).commit (slot_at i (entries_of_steps past))
-    go false = le_refl (slot_at i (entries_of_steps past))
+slot_grows i x past =
+    of-both (λ (n : ℕ). slot_at i (entries_of_steps past) ≤ n) (eqb i x.member) (grows (reply_of x).commit (slot_at i (entries_of_steps past))) (le_refl (slot_at i (entries_of_steps past)))
 
 pub slot_before : (i : ℕ) (x : RunStep) (earlier past : List RunStep) → At x earlier past → slot_at i (entries_of_steps earlier) ≤ slot_at i (entries_of_steps past)
 slot_before i x earlier [] a = absurd a
@@ -102,7 +99,7 @@ module _ (s : Settings) where
   majority = (quorums_of s).majority
 
   abbrev start : ℕ
-  start = (setup_of s).voters.start
+  start = (model_setup_of s).voters.start
 
   -- what the leader knows, x, after these steps
   pub record Leading (x : View) (past : List RunStep) : Type 0 where
@@ -113,7 +110,7 @@ module _ (s : Settings) where
     pub nothing_free : x.holds ≡ false → sources (leader_hears s x.slot) past ≡ 0
     pub counted : add s.first_leader x.accepted ≡ add s.first_leader (contains (sources (leader_hears s x.slot) past))
     pub too_few : x.holds ≡ true → answers_heard s x.slot past + 1 < (quorums_of s).majority
-    pub in_start : x.holds ≡ true → x.held_round ≡ (setup_of s).voters.start
+    pub in_start : x.holds ≡ true → x.held_round ≡ (model_setup_of s).voters.start
     pub holds_own : (v : ℕ) → LeaderProposed s x.slot v past → (x.holds ≡ true) × (x.held_value ≡ v)
 
   -- a step after which it knows no more, and by which it has heard nothing and proposed nothing
@@ -144,7 +141,7 @@ module _ (s : Settings) where
   proposed_value (StartRead tag arrival) = 0
   proposed_value (Receive d) = 0
 
-  pub leading_proposed : 2 ≤ (quorums_of s).majority → (x : View) (y : RunStep) (past : List RunStep) (v : ℕ) → Leading x past → x.round ≡ (setup_of s).voters.start
+  pub leading_proposed : 2 ≤ (quorums_of s).majority → (x : View) (y : RunStep) (past : List RunStep) (v : ℕ) → Leading x past → x.round ≡ (model_setup_of s).voters.start
       → slot_at l (entries_of_steps (y ∷ past)) ≡ slot_at l (entries_of_steps past) → x.holds ≡ false → y.call ≡ Propose v → Leading (proposed_view l x v) (y ∷ past)
   leading_proposed two x y past v k at same free is =
       record {
@@ -170,7 +167,7 @@ module _ (s : Settings) where
   -- ---- an accept of the leader's slot that is taken
 
   -- where something is held in the round, an accept that fits it is of the same value
-  pub fit_same : (x : View) (v : ℕ) → fits_held x v ≡ true → x.held_round ≡ x.round → x.held_value ≡ v
+  pub fit_same : (x : View) (v : ℕ) → fits_held_view x v ≡ true → x.held_round ≡ x.round → x.held_value ≡ v
   fit_same x v e same = go (or_cases (ltb x.held_round x.round) (eqb x.held_round x.round && eqb x.held_value v) e)
     where
       go : (ltb x.held_round x.round ≡ true) ⊎ ((eqb x.held_round x.round && eqb x.held_value v) ≡ true) → x.held_value ≡ v
@@ -180,13 +177,13 @@ module _ (s : Settings) where
   module _ (small : s.first_leader < 64) (live_small : (p : ℕ) → is_live_replica s p ≡ true → p < 64)
       (x : View) (y : RunStep) (past : List RunStep) (k : Leading x past) (own : y.member ≡ s.first_leader)
       (d : Delivery) (slot : ℕ) (round : PaxosRound) (v : ℕ) (is : delivered y ≡ Some d) (accept : d.message.msg ≡ Accept slot round v)
-      (a : Accepting (setup_of s) s.first_leader x d.message.src slot v (seen_in y)) where
+      (a : Accepting (model_setup_of s) s.first_leader x d.message.src slot v (seen_in y)) where
     abbrev source : ℕ
     source = d.message.src
 
     -- what the leader then knows, unless it commits
     abbrev pub accepted_view : View
-    accepted_view = accepted_by d.message.src (voted s.first_leader v x)
+    accepted_view = accepted_by d.message.src (model_voted s.first_leader v x)
 
     abbrev before : ℕ
     before = sources (leader_hears s x.slot) past
@@ -194,9 +191,9 @@ module _ (s : Settings) where
     abbrev after : ℕ
     after = sources (leader_hears s x.slot) (y ∷ past)
 
-    commits_taken : (z : View) → (model_commits (setup_of s) z [] true).taken ≡ true
+    commits_taken : (z : View) → (model_commits (model_setup_of s) z [] true).taken ≡ true
     unfolding model_commits
-    commits_taken z = of-both (λ (o : ModelOutcome). o.taken ≡ true) (enough_accepted (setup_of s) z) refl refl
+    commits_taken z = of-both (λ (o : ModelOutcome). o.taken ≡ true) (enough_accepted (model_setup_of s) z) refl refl
 
     done : is_done (reply_of y).outcome ≡ true
     done = ap (λ (o : ModelOutcome). o.taken) a.result ∙ commits_taken accepted_view
@@ -235,22 +232,22 @@ module _ (s : Settings) where
             heard_now : after ≡ insert before source
             heard_now = sources_more (leader_hears s x.slot) y past (hears_own ∙ ap not e) ∙ ap (λ (o : Option Delivery). insert before (source_of o)) is
 
-    enough : enough_accepted (setup_of s) accepted_view ≡ leb majority (size after + 1)
+    enough : enough_accepted (model_setup_of s) accepted_view ≡ leb majority (size after + 1)
     enough = ap (leb majority) (ap (λ (f : ℕ → Bool). count f 64) accepted_now ∙ with_leader after l small (leader_not_counted s x.slot (y ∷ past)))
 
-    commit_yes : enough_accepted (setup_of s) accepted_view ≡ true
-        → ((model_commits (setup_of s) accepted_view [] true).view ≡ advanced start accepted_view) × ((model_commits (setup_of s) accepted_view [] true).decision ≡ decided x.slot v)
+    commit_yes : enough_accepted (model_setup_of s) accepted_view ≡ true
+        → ((model_commits (model_setup_of s) accepted_view [] true).view ≡ advanced start accepted_view) × ((model_commits (model_setup_of s) accepted_view [] true).decision ≡ decided x.slot v)
     unfolding model_commits
     commit_yes e = (simp e, simp e)
 
-    commit_no : enough_accepted (setup_of s) accepted_view ≡ false
-        → ((model_commits (setup_of s) accepted_view [] true).view ≡ accepted_view) × ((model_commits (setup_of s) accepted_view [] true).decision ≡ undecided)
+    commit_no : enough_accepted (model_setup_of s) accepted_view ≡ false
+        → ((model_commits (model_setup_of s) accepted_view [] true).view ≡ accepted_view) × ((model_commits (model_setup_of s) accepted_view [] true).decision ≡ undecided)
     unfolding model_commits
     commit_no e = (simp e, simp e)
 
     -- it commits its value where the leader has heard majority less one
     pub accept_commits : (quorums_of s).majority ≤ answers_heard s x.slot (y ∷ past) + 1
-        → ((seen_in y).view ≡ advanced (setup_of s).voters.start accepted_view) × ((seen_in y).decision ≡ decided x.slot v)
+        → ((seen_in y).view ≡ advanced (model_setup_of s).voters.start accepted_view) × ((seen_in y).decision ≡ decided x.slot v)
     accept_commits h =
         let c = commit_yes (enough ∙ le-leb majority (size after + 1) h) in
         (ap (λ (o : ModelOutcome). o.view) a.result ∙ c.0, ap (λ (o : ModelOutcome). o.decision) a.result ∙ c.1)
@@ -263,7 +260,7 @@ module _ (s : Settings) where
     not_proposal : (w : ℕ) → y.call ≡ Propose w → ⊥
     not_proposal w e = not_both (ap is_some is) (ap (λ (c : Call). is_some (delivery_in c)) e)
 
-    pub leading_waits : x.round ≡ (setup_of s).voters.start → answers_heard s x.slot (y ∷ past) + 1 < (quorums_of s).majority → Leading accepted_view (y ∷ past)
+    pub leading_waits : x.round ≡ (model_setup_of s).voters.start → answers_heard s x.slot (y ∷ past) + 1 < (quorums_of s).majority → Leading accepted_view (y ∷ past)
     leading_waits at h =
         record {
           slot = k.slot ∙ sym (slot_of_own l y past own ∙ no_commit_in (reply_of y).commit (accept_waits h).1 (slot_at l (entries_of_steps past)));
@@ -279,11 +276,11 @@ module _ (s : Settings) where
         go w (inl p) = absurd (not_proposal w p.1)
         go w (inr p) = let held = k.holds_own w p in sym (fit_same x v a.fitting (k.in_start held.0 ∙ sym at)) ∙ held.1
 
-    next_slot_lem : (c : Option CommittedSlot) → decision_of c ≡ decided x.slot v → (n : ℕ) → plus_commit c n ≡ suc n
+    next_slot_lem : (c : Option CommittedSlot) → model_decision_of c ≡ decided x.slot v → (n : ℕ) → plus_commit c n ≡ suc n
     next_slot_lem c e n = let f = commit_in c x.slot v e in ap (λ (c : Option CommittedSlot). plus_commit c n) f.1
 
     pub leading_commits : (quorums_of s).majority ≤ answers_heard s x.slot (y ∷ past) + 1
-        → Leading (advanced (setup_of s).voters.start accepted_view) (y ∷ past)
+        → Leading (advanced (model_setup_of s).voters.start accepted_view) (y ∷ past)
     leading_commits h =
         record {
           slot = ap suc k.slot ∙ sym (slot_of_own l y past own ∙ next_slot_lem (reply_of y).commit (accept_commits h).1 (slot_at l (entries_of_steps past)));

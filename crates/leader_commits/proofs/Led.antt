@@ -11,7 +11,7 @@ use lib.Dec.{T, eqb, ltb, eqb→eq}
 use borrow.Author.Tests.{ltb-true, le-ltb, eqb-true, eq-eqb, not-true}
 use Rattle.basics.proofs.Tests.{either, of-both, and_right}
 use Rattle.agreement.specs.Engine.{CallKind, proposes, delivers, reads}
-use Rattle.agreement.specs.Model.{View, ModelSetup, ModelMessage, prepare, accept, commit, other, ModelDestination, all, ModelOutgoing, Host, undecided, ModelOutcome, in_later_round, holding_other_value, prepared_by, accepted_by, voted, refuse, say, quiet, enough_accepted, model_enter, model_commits, replies, model_after_accept, model_on_accept, model_on_commit, model_on_propose, model_on_message}
+use Rattle.agreement.specs.Model.{View, ModelSetup, ModelMessage, prepare, accept, commit, other, ModelDestination, all, ModelOutgoing, Host, undecided, ModelOutcome, in_later_round, holding_other_value, prepared_by, accepted_by, model_voted, model_refused, model_sends, quiet, enough_accepted, model_enter, model_commits, replies, model_after_accept, model_on_accept, model_on_commit, model_on_propose, model_on_message}
 use Rattle.agreement.specs.Refinement.{model_outcome, OnlyOther, AsModel}
 use Rattle.agreement.proofs.Tests.{by_test}
 
@@ -50,8 +50,8 @@ only_other_led start l i (o ∷ os) h = (subst (FromLed start l i o.destination)
 -- ---- every member
 
 -- an accept of v fits what is held
-abbrev pub fits_held : View → ℕ → Bool
-fits_held x v = ltb x.held_round x.round || (eqb x.held_round x.round && eqb x.held_value v)
+abbrev pub fits_held_view : View → ℕ → Bool
+fits_held_view x v = ltb x.held_round x.round || (eqb x.held_round x.round && eqb x.held_value v)
 
 -- the member is in the starting round after the call, and sends only such messages
 pub record Kept (start l i : ℕ) (r : ModelOutcome) : Type 0 where
@@ -68,7 +68,7 @@ module _ (S : ModelSetup) (l : ℕ) (led : Led S l) (i : ℕ) (x : View) (at : x
   idle : K (quiet x)
   idle = record { in_round_lem = at; sends = tt }
 
-  refused : K (refuse x)
+  refused : K (model_refused x)
   refused = record { in_round_lem = at; sends = tt }
 
   propose_kept : (v : ℕ) → K (model_on_propose S i x v)
@@ -99,14 +99,14 @@ module _ (S : ModelSetup) (l : ℕ) (led : Led S l) (i : ℕ) (x : View) (at : x
       let c : ℕ = cond S.three_phases (S.committer h.requester) 0 in
       let tell : Bool = not (eqb h.requester (suc i)) in
       by_test K (eqb i (S.leader y.round)) (model_commits S y [] true)
-      (cond (eqb source (S.voters.delegate y.round)) (cond (eqb c (suc i)) (model_commits S y (replies S i c y) tell) (say y (replies S i c y)))
-      (cond (eqb c (suc i)) (model_commits S y [] tell) (refuse x)))
+      (cond (eqb source (S.voters.delegate y.round)) (cond (eqb c (suc i)) (model_commits S y (replies S i c y) tell) (model_sends y (replies S i c y)))
+      (cond (eqb c (suc i)) (model_commits S y [] tell) (model_refused x)))
       (λ t. commits_kept (eqb→eq i (S.leader y.round) t ∙ ap S.leader e ∙ led.leads) y e)
       (λ t.
       of-both K (eqb source (S.voters.delegate y.round))
-      (by_test K (eqb c (suc i)) (model_commits S y (replies S i c y) tell) (say y (replies S i c y)) (λ k. absurd (no_third h k))
+      (by_test K (eqb c (suc i)) (model_commits S y (replies S i c y) tell) (model_sends y (replies S i c y)) (λ k. absurd (no_third h k))
       (λ k. record { in_round_lem = e; sends = replies_led c y e }))
-      (by_test K (eqb c (suc i)) (model_commits S y [] tell) (refuse x) (λ k. absurd (no_third h k)) (λ k. refused)))
+      (by_test K (eqb c (suc i)) (model_commits S y [] tell) (model_refused x) (λ k. absurd (no_third h k)) (λ k. refused)))
 
   accept_kept : (source s v : ℕ) (h : Host) → K (model_on_accept S i x source s start v h)
   unfolding model_on_accept model_enter
@@ -116,8 +116,8 @@ module _ (S : ModelSetup) (l : ℕ) (led : Led S l) (i : ℕ) (x : View) (at : x
       (of-both K (not (eqb s x.slot) || not (S.voters.live source)) refused
       (entered (cond (ltb x.round start) (in_later_round start x) x) (of-both (λ (y : View). y.round ≡ start) (ltb x.round start) refl at))))
     where
-      entered : (y : View) → y.round ≡ start → K (cond (fits_held y v) (model_after_accept S i source h x (accepted_by source (voted i v y))) (refuse x))
-      entered y e = of-both K (fits_held y v) (after_accept_kept source h (accepted_by source (voted i v y)) e) refused
+      entered : (y : View) → y.round ≡ start → K (cond (fits_held_view y v) (model_after_accept S i source h x (accepted_by source (model_voted i v y))) (model_refused x))
+      entered y e = of-both K (fits_held_view y v) (after_accept_kept source h (accepted_by source (model_voted i v y)) e) refused
 
   commit_kept : (s v : ℕ) → K (model_on_commit S i x s v)
   unfolding model_on_commit
@@ -145,7 +145,7 @@ module _ (S : ModelSetup) (l : ℕ) (led : Led S l) (i : ℕ) (x : View) (at : x
 
 -- what the leader l knows after it has proposed v
 abbrev pub proposed_view : ℕ → View → ℕ → View
-proposed_view l x v = voted l v (prepared_by l (holding_other_value 0 0 v (in_later_round x.round x)))
+proposed_view l x v = model_voted l v (prepared_by l (holding_other_value 0 0 v (in_later_round x.round x)))
 
 -- a proposal of v that is taken
 pub record Proposing (l : ℕ) (x : View) (v : ℕ) (r : ModelOutcome) : Type 0 where
@@ -157,11 +157,11 @@ pub record Proposing (l : ℕ) (x : View) (v : ℕ) (r : ModelOutcome) : Type 0 
 pub record Accepting (S : ModelSetup) (l : ℕ) (x : View) (source t v : ℕ) (r : ModelOutcome) : Type 0 where
   pub own_slot : t ≡ x.slot
   pub live_source : S.voters.live source ≡ true
-  pub fitting : fits_held x v ≡ true
-  pub result : r ≡ model_commits S (accepted_by source (voted l v x)) [] true
+  pub fitting : fits_held_view x v ≡ true
+  pub result : r ≡ model_commits S (accepted_by source (model_voted l v x)) [] true
 
 module _ (S : ModelSetup) (l : ℕ) (led : Led S l) (x : View) (at : x.round ≡ S.voters.start) where
-  pub propose_leader : (v : ℕ) → (model_on_propose S l x v ≡ refuse x) ⊎ Proposing l x v (model_on_propose S l x v)
+  pub propose_leader : (v : ℕ) → (model_on_propose S l x v ≡ model_refused x) ⊎ Proposing l x v (model_on_propose S l x v)
   unfolding model_on_propose
   propose_leader v = go (either (S.voters.live l && (eqb x.round S.voters.start && not x.holds)))
     where
@@ -169,9 +169,9 @@ module _ (S : ModelSetup) (l : ℕ) (led : Led S l) (x : View) (at : x.round ≡
       own = eq-eqb l (S.voters.delegate x.round) (sym (ap S.voters.delegate at ∙ led.gathers))
 
       go : ((S.voters.live l && (eqb x.round S.voters.start && not x.holds)) ≡ true) ⊎ ((S.voters.live l && (eqb x.round S.voters.start && not x.holds)) ≡ false)
-          → (model_on_propose S l x v ≡ refuse x) ⊎ Proposing l x v (model_on_propose S l x v)
+          → (model_on_propose S l x v ≡ model_refused x) ⊎ Proposing l x v (model_on_propose S l x v)
       go (inl e) =
-          let r : model_on_propose S l x v ≡ say (proposed_view l x v) (record { destination = all; message = accept x.slot x.round v } ∷ []) =
+          let r : model_on_propose S l x v ≡ model_sends (proposed_view l x v) (record { destination = all; message = accept x.slot x.round v } ∷ []) =
           simp (e, led.starts_led_lem, own) in
           inr
           (record {
@@ -186,14 +186,14 @@ module _ (S : ModelSetup) (l : ℕ) (led : Led S l) (x : View) (at : x.round ≡
   -- an accept of the starting round, at a live leader, is of an older slot, or refused, or taken
   pub accept_leader : S.voters.live l ≡ true → (source t v : ℕ) (h : Host)
       → ((t < x.slot) × (model_on_accept S l x source t S.voters.start v h ≡ quiet x))
-      ⊎ ((model_on_accept S l x source t S.voters.start v h ≡ refuse x) ⊎ Accepting S l x source t v (model_on_accept S l x source t S.voters.start v h))
+      ⊎ ((model_on_accept S l x source t S.voters.start v h ≡ model_refused x) ⊎ Accepting S l x source t v (model_on_accept S l x source t S.voters.start v h))
   unfolding model_on_accept model_enter model_after_accept
   accept_leader live source t v h = older (either (ltb t x.slot))
     where
       goal : Type 0
       goal =
           ((t < x.slot) × (model_on_accept S l x source t S.voters.start v h ≡ quiet x))
-          ⊎ ((model_on_accept S l x source t S.voters.start v h ≡ refuse x) ⊎ Accepting S l x source t v (model_on_accept S l x source t S.voters.start v h))
+          ⊎ ((model_on_accept S l x source t S.voters.start v h ≡ model_refused x) ⊎ Accepting S l x source t v (model_on_accept S l x source t S.voters.start v h))
 
       not_older : ltb S.voters.start x.round ≡ false
       not_older = le-ltb S.voters.start x.round (omega (arith, at))
@@ -204,13 +204,13 @@ module _ (S : ModelSetup) (l : ℕ) (led : Led S l) (x : View) (at : x.round ≡
       leads : eqb l (S.leader x.round) ≡ true
       leads = eq-eqb l (S.leader x.round) (sym (ap S.leader at ∙ led.leads))
 
-      fit : ltb t x.slot ≡ false → eqb t x.slot ≡ true → S.voters.live source ≡ true → (fits_held x v ≡ true) ⊎ (fits_held x v ≡ false) → goal
+      fit : ltb t x.slot ≡ false → eqb t x.slot ≡ true → S.voters.live source ≡ true → (fits_held_view x v ≡ true) ⊎ (fits_held_view x v ≡ false) → goal
       fit a b c (inl d) =
           inr (inr (record { own_slot = eqb-true t x.slot b; live_source = c; fitting = d; result = simp (live, a, not_older, b, c, not_later, d, leads) }))
       fit a b c (inr d) = inr (inl (simp (live, a, not_older, b, c, not_later, d)))
 
       from : ltb t x.slot ≡ false → eqb t x.slot ≡ true → (S.voters.live source ≡ true) ⊎ (S.voters.live source ≡ false) → goal
-      from a b (inl c) = fit a b c (either (fits_held x v))
+      from a b (inl c) = fit a b c (either (fits_held_view x v))
       from a b (inr c) = inr (inl (simp (live, a, not_older, b, c)))
 
       own : ltb t x.slot ≡ false → (eqb t x.slot ≡ true) ⊎ (eqb t x.slot ≡ false) → goal

@@ -16,7 +16,7 @@ use Rattle.basics.specs.Lists.{In}
 use Rattle.basics.proofs.Tests.{not_both, and_left, and_right, and_both, or_right}
 use Rattle.message.specs.Modes.{is_multi_paxos}
 use Rattle.message.specs.Rounds.{equal, round_before, round_equal, next_leader_round, starting_round, unwrap_or_default, round_of}
-use Rattle.message.proofs.Order.{equal_rounds, rounds_equal}
+use Rattle.message.proofs.Order.{equal_rounds, round_equals_itself}
 use Rattle.message.specs.declared.ConsensusMsg.TheVariants.{Accept}
 use Rattle.message.specs.declared.PFMode.{PFMode}
 use Rattle.message.specs.declared.PFMode.TheVariants.{Paxos, MultiPaxos, MultiPaxos3P, EPaxos, Pando, SwiftPaxos}
@@ -30,7 +30,7 @@ use Rattle.round_state.specs.Paxos.{get_last_accepted_round}
 use Rattle.fast_state.specs.Adopt.{lowest_best}
 use Rattle.steps.specs.Steps.{held_value}
 use Rattle.steps.specs.declared.Core.{Core}
-use Rattle.delivery.specs.declared.Delivery.{Delivery}
+use Rattle.calls.specs.declared.delivery.Delivery.{Delivery}
 use Rattle.calls.specs.declared.Call.{Call}
 use Rattle.calls.specs.declared.Call.TheVariants.{Propose, StartRead, Receive}
 use Rattle.consensus.specs.Call.{call_of}
@@ -46,14 +46,14 @@ use Rattle.group.proofs.Agreement.{agreement, begun_valid}
 use Rattle.group.proofs.Calls.{Valid, valid_within, leaders_small}
 use Rattle.group.proofs.Invariants.{start_led}
 use Rattle.group.proofs.Steps.{steps_are_entries}
-use Rattle.group.proofs.View.{round_number, LeaderFits, equal_number, setup_of}
+use Rattle.group.proofs.View.{round_number, LeaderFits, equal_number, model_setup_of}
 use Rattle.leader_commits.specs.Answers.{Terms, is_answer, comes, LeaderProposed, AfterProposal, requesters_in, host_causes, HostHolds, SoundRequesters, SoundAnswers, NoAnswerRefused}
 use Rattle.leader_commits.proofs.Calls.{claimed_mode, numbers_within}
-use Rattle.leader_commits.proofs.Places.{in_at, at_in, at_before, at_entry, step_of}
+use Rattle.leader_commits.proofs.Places.{in_at, at_in, at_before, entry_stands_at, step_of_entry}
 use Rattle.leader_commits.proofs.HostCauses.{below_fits, leader_shard, the_answer, only_host_causes}
 use Rattle.leader_commits.proofs.Hearing.{is_accept, live_source}
 use Rattle.leader_commits.proofs.Leading.{slot_before}
-use Rattle.leader_commits.proofs.Runs.{Invariant, Follows, leading_before, each_step}
+use Rattle.leader_commits.proofs.Runs.{Invariant, RunFollows, leading_before, each_step}
 use Rattle.leader_commits.proofs.Sent.{LastAt, same_last, proposal_taken, AnswerSent, answer_sent}
 
 -- ---- the starting round
@@ -69,7 +69,7 @@ start_is SwiftPaxos l e = absurd (not_both e refl)
 
 -- a round with its number is the starting round
 is_start : (s : Settings) → is_multi_paxos s.mode ≡ true → s.first_leader < 64 → (r : Option PaxosRound) → LeaderFits r
-    → round_number r ≡ (setup_of s).voters.start
+    → round_number r ≡ (model_setup_of s).voters.start
     → r ≡ Some (round_of 0 s.first_leader)
 is_start s multi small r fits e =
     equal_rounds r (starting_round_of s)
@@ -78,7 +78,7 @@ is_start s multi small r fits e =
 
 -- what is held as accepted in the starting round fits an accept of the same value
 held_fits : (s : Settings) → is_multi_paxos s.mode ≡ true → s.first_leader < 64 → (held : Option RoundV) (v : ℕ) → LeaderFits (get_last_accepted_round held)
-    → round_number (get_last_accepted_round held) ≡ (setup_of s).voters.start → held_value held ≡ v → fits_held held (round_of 0 s.first_leader) v ≡ true
+    → round_number (get_last_accepted_round held) ≡ (model_setup_of s).voters.start → held_value held ≡ v → fits_held held (round_of 0 s.first_leader) v ≡ true
 held_fits s multi small None v fits e same = refl
 held_fits s multi small (Some (FastV p w)) v fits e same = refl
 held_fits s multi small (Some (PaxosV None w)) v fits e same = refl
@@ -86,7 +86,7 @@ held_fits s multi small (Some (PaxosV (Some r) w)) v fits e same =
     or_right (round_before r (round_of 0 s.first_leader)) (and_both (equal_in (is_start s multi small (Some r) fits e)) (eq-eqb w v same))
   where
     equal_in : Some r ≡ Some (round_of 0 s.first_leader) → round_equal r (round_of 0 s.first_leader) ≡ true
-    equal_in same = ap (equal (Some r)) (sym same) ∙ rounds_equal (Some r)
+    equal_in same = ap (equal (Some r)) (sym same) ∙ round_equals_itself (Some r)
 
 -- ---- outcomes and calls
 
@@ -122,7 +122,7 @@ module _ (s : Settings) (terms : Terms s) (cs : List MemberCall) (legal : Legal 
 
       go : Proposed n w (c.entry ∷ c.earlier) → w ≤ 9223372036854775807
       go (e, earlier, k, is, done, slot) =
-          let x = step_of e run (in_run e earlier k) in
+          let x = step_of_entry e run (in_run e earlier k) in
           (proposal_taken x.0.before w
           (subst (λ (y : Call). (call_of x.0.before y).reply.outcome ≡ Ok tt) (ap (λ (y : Entry). y.call) (sym x.1) ∙ is)
           (ap (λ (y : Entry). y.reply.outcome) (sym x.1) ∙ done))
@@ -154,7 +154,7 @@ module _ (s : Settings) (terms : Terms s) (cs : List MemberCall) (legal : Legal 
       P : RunStep → List RunStep → Type 0
       P x past = (x.before.made ≡ (begun s x.member).made) × (x.member ≡ l → x.before.state.rounds.core.slot ≡ slot_at l (entries_of_steps past))
 
-      follows : Follows s terms P
+      follows : RunFollows s terms P
       follows shards past k c stands = (k.made c.member, λ own. (leading_before s terms shards past k c stands own).slot)
 
   -- what is known at a step of the leader that brings an answer
@@ -251,7 +251,7 @@ module _ (s : Settings) (terms : Terms s) (cs : List MemberCall) (legal : Legal 
       record {
         entry = c.entry;
         earlier = c.earlier;
-        stands = at_before (entry_of_step x) c.entry (entries_of_steps past) c.earlier (entries_of_steps run) (at_entry x past run after.stands) c.stands;
+        stands = at_before (entry_of_step x) c.entry (entries_of_steps past) c.earlier (entries_of_steps run) (entry_stands_at x past run after.stands) c.stands;
         fast = c.fast;
         commit = c.commit;
       })
@@ -265,7 +265,7 @@ module _ (s : Settings) (terms : Terms s) (cs : List MemberCall) (legal : Legal 
           → ((n w : ℕ) → CommitAt n w (entries_of_steps past) → CommitAt n w (entries_of_steps run)) → (d : Delivery) → delivered x ≡ Some d
           → is_answer s t (Some d) ≡ true → number_of_outcome (reply_of x).outcome ≡ first_of (host_causes s d)
 
-      follows : Follows s terms P
+      follows : RunFollows s terms P
       follows shards past k c stands own t v known p here within d is answer =
           let call : c.call ≡ Receive d = received c.call d is in
           ap₂ (λ (i : ℕ) (y : Call). number_of_outcome (call_of (shards i) y).reply.outcome) own call
@@ -297,7 +297,7 @@ module _ (s : Settings) (terms : Terms s) (cs : List MemberCall) (legal : Legal 
       P : RunStep → List RunStep → Type 0
       P x past = comes s t x ≡ true → (v : ℕ) × LeaderProposed s t v past
 
-      follows : Follows s terms P
+      follows : RunFollows s terms P
       follows shards past k c stands came = by_call c.call stands (and_left (is_answer s t (delivery_in c.call)) (eqb c.member l) came)
         where
           by_call : (call : Call) → MayStand (entries_of_steps past) c.member call → is_answer s t (delivery_in call) ≡ true → (v : ℕ) × LeaderProposed s t v past

@@ -24,12 +24,12 @@ at_before x z past earlier (y ∷ run) (inl e) h = inr (subst (At z earlier) e.1
 at_before x z past earlier (y ∷ run) (inr k) h = inr (at_before x z past earlier run k h)
 
 -- steps and their entries
-pub at_entry : (x : RunStep) (past run : List RunStep) → At x past run → At (entry_of_step x) (entries_of_steps past) (entries_of_steps run)
-at_entry x past [] k = absurd k
-at_entry x past (y ∷ run) (inl e) = inl (ap entry_of_step e.0, ap entries_of_steps e.1)
-at_entry x past (y ∷ run) (inr k) = inr (at_entry x past run k)
+pub entry_stands_at : (x : RunStep) (past run : List RunStep) → At x past run → At (entry_of_step x) (entries_of_steps past) (entries_of_steps run)
+entry_stands_at x past [] k = absurd k
+entry_stands_at x past (y ∷ run) (inl e) = inl (ap entry_of_step e.0, ap entries_of_steps e.1)
+entry_stands_at x past (y ∷ run) (inr k) = inr (entry_stands_at x past run k)
 
-pub step_of : (e : Entry) (run : List RunStep) → In e (entries_of_steps run) → (x : RunStep) × (e ≡ entry_of_step x)
-step_of e [] k = absurd k
-step_of e (y ∷ run) (inl same) = (y, same)
-step_of e (y ∷ run) (inr k) = step_of e run k
+pub step_of_entry : (e : Entry) (run : List RunStep) → In e (entries_of_steps run) → (x : RunStep) × (e ≡ entry_of_step x)
+step_of_entry e [] k = absurd k
+step_of_entry e (y ∷ run) (inl same) = (y, same)
+step_of_entry e (y ∷ run) (inr k) = step_of_entry e run k

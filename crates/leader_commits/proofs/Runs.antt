@@ -22,9 +22,9 @@ use Rattle.settings.specs.Questions.{quorums_of}
 use Rattle.settings.specs.Settings.{within_limits}
 use Rattle.settings.specs.declared.Settings.{Settings}
 use Rattle.fast_state.specs.Adopt.{lowest_best}
-use Rattle.steps.specs.declared.Messages.{Messages}
+use Rattle.steps.specs.declared.SentMessages.{SentMessages}
 use Rattle.steps.specs.declared.Outgoing.{Outgoing}
-use Rattle.delivery.specs.declared.Delivery.{Delivery}
+use Rattle.calls.specs.declared.delivery.Delivery.{Delivery}
 use Rattle.calls.specs.declared.Call.{Call}
 use Rattle.calls.specs.declared.Call.TheVariants.{Propose, StartRead, Receive}
 use Rattle.consensus.proofs.Decided.{mark_kept}
@@ -35,13 +35,13 @@ use Rattle.agreement.specs.Model.{View}
 use Rattle.agreement.specs.Model as model
 use Rattle.agreement.specs.Refinement.{meanings}
 use Rattle.agreement.proofs.Tests.{by_test}
-use Rattle.group.specs.Claim.{member_settings, begun, ours, MemberCall, Entry, after_call, listed, messages_of, SentTo, WasSent, MayStand, LegalFrom, Legal, At, plus_commit, slot_at}
-use Rattle.group.specs.Steps.{RunStep, reply_of, is_done, delivered, step_of, steps_from, run_steps, entry_of_step, entries_of_steps}
+use Rattle.group.specs.Claim.{member_settings, begun, ours, MemberCall, Entry, after_call, listed, messages_of, SentTo, WasSent, MayStand, LegalFrom, Legal, At, plus_commit, slot_at, LegalMade}
+use Rattle.group.specs.Steps.{RunStep, reply_of, is_done, delivered, step_of, steps_from, run_steps, entry_of_step, entries_of_steps, shards_made}
 use Rattle.group.proofs.Agreement.{begun_valid}
 use Rattle.group.proofs.Calls.{kind_of, seen_answer, view_shard, Valid, call_ok}
 use Rattle.group.proofs.Invariants.{CallLasts, call_lasts, shards_after}
 use Rattle.group.proofs.Ties.{lowest_picks_best}
-use Rattle.group.proofs.View.{meaning_of, meaning_is, destination_of, envelopes_of, envelopes, setup_of}
+use Rattle.group.proofs.View.{meaning_of, meaning_is, destination_of, envelopes_of, envelopes, model_setup_of}
 use Rattle.leader_commits.specs.Answers.{Terms, is_answer, sources, answers_heard}
 use Rattle.leader_commits.proofs.Led.{FromLed, AllFromLed, Expected, Kept, as_model_kept}
 use Rattle.leader_commits.proofs.Carrying.{NoPrepare, CallCarries, call_carries}
@@ -52,7 +52,7 @@ use Rattle.leader_commits.proofs.Leading.{slot_of_other, slot_of_own, no_commit_
 -- ---- messages
 
 -- what is so of all that the model sees is so of each message
-each_sent : (start l i : ℕ) (o : Outgoing) (ms : Messages) → AllFromLed start l i (meanings meaning_of (envelopes ms)) → In o (messages_of ms)
+each_sent : (start l i : ℕ) (o : Outgoing) (ms : SentMessages) → AllFromLed start l i (meanings meaning_of (envelopes ms)) → In o (messages_of ms)
     → FromLed start l i (destination_of o.destination o.message.msg) (meaning_of o.message)
 each_sent start l i o ms h k = first ms.first ms.second ms.third h k
   where
@@ -82,17 +82,17 @@ module _ (s : Settings) (terms : Terms s) where
   l = s.first_leader
 
   abbrev start : ℕ
-  start = (setup_of s).voters.start
+  start = (model_setup_of s).voters.start
 
   -- every message that was handed back is such as a led group sends
   abbrev pub SentLed : List Entry → Type 0
   SentLed past =
       (e : Entry) → In e past → (o : Outgoing) → In o (messages_of e.reply.messages)
-      → FromLed (setup_of s).voters.start s.first_leader e.member (destination_of o.destination o.message.msg) (meaning_of o.message)
+      → FromLed (model_setup_of s).voters.start s.first_leader e.member (destination_of o.destination o.message.msg) (meaning_of o.message)
 
   pub record Invariant (shards : ℕ → Shard) (past : List RunStep) : Type 0 where
     pub valid : (i : ℕ) → Valid s i (shards i)
-    pub in_round_lem : (i : ℕ) → (view_shard (shards i)).round ≡ (setup_of s).voters.start
+    pub in_round_lem : (i : ℕ) → (view_shard (shards i)).round ≡ (model_setup_of s).voters.start
     pub sent : SentLed (entries_of_steps past)
     pub leading : Leading s (view_shard (shards s.first_leader)) past
     pub made : (i : ℕ) → (shards i).made ≡ (begun s i).made
@@ -164,7 +164,7 @@ module _ (s : Settings) (terms : Terms s) where
     abbrev step : RunStep
     step = step_of shards c
 
-    refused_seen : (why : Refusal) → call_of old c.call ≡ number_alone why old → seen_in step ≡ model.refuse (view_before step)
+    refused_seen : (why : Refusal) → call_of old c.call ≡ number_alone why old → seen_in step ≡ model.model_refused (view_before step)
     refused_seen why e = ap seen_answer e
 
     kept : Kept start l i (seen_in step)
@@ -173,7 +173,7 @@ module _ (s : Settings) (terms : Terms s) where
         go : ((why : Refusal) × (call_of old c.call ≡ number_alone why old)) ⊎ (within_limits (member_settings s i) ≡ true) → Kept start l i (seen_in step)
         go (inl (why, e)) = subst (Kept start l i) (sym (refused_seen why e)) (record { in_round_lem = k.in_round_lem i; sends = tt })
         go (inr limits) =
-            as_model_kept (setup_of s) l (led_setup s terms.multi_paxos terms.no_committer (numbers_within s i limits).leader_small) i (view_shard old)
+            as_model_kept (model_setup_of s) l (led_setup s terms.multi_paxos terms.no_committer (numbers_within s i limits).leader_small) i (view_shard old)
             (k.in_round_lem i) meaning_of (kind_of c.call) (seen_in step)
             (call_ok s i (claimed_mode s.mode terms.multi_paxos) lowest_best lowest_picks_best old (k.valid i) c.call).as_model_lem
             (expected (entries_of_steps past) k.sent i c.call stands)
@@ -300,18 +300,18 @@ module _ (s : Settings) (terms : Terms s) where
   -- ---- every step of a run
 
   -- what follows of a step from the invariant before it
-  abbrev pub Follows : (RunStep → List RunStep → Type 0) → Type 0
-  Follows P =
+  abbrev pub RunFollows : (RunStep → List RunStep → Type 0) → Type 0
+  RunFollows P =
       (shards : ℕ → Shard) (past : List RunStep) → Invariant shards past → (c : MemberCall) → MayStand (entries_of_steps past) c.member c.call
       → P (step_of shards c) past
 
   -- holds of every step of a legal run
-  module _ (P : RunStep → List RunStep → Type 0) (follows : Follows P) where
+  module _ (P : RunStep → List RunStep → Type 0) (follows : RunFollows P) where
     each_from : (shards : ℕ → Shard) (past : List RunStep) (cs : List MemberCall) → Invariant shards past
         → LegalFrom s.process_count ours shards (entries_of_steps past) cs
         → ((x : RunStep) (earlier : List RunStep) → At x earlier past → P x earlier) → (x : RunStep) (earlier : List RunStep) → At x earlier (steps_from shards past cs)
         → P x earlier
-    unfolding LegalFrom steps_from
+    unfolding LegalMade steps_from
     each_from shards past [] k legal known x earlier at = known x earlier at
     each_from shards past (c ∷ cs) k legal known x earlier at =
         each_from (after_call lowest_best shards c) (step_of shards c ∷ past) cs (call_invariant shards past k c legal.1) legal.2 more x earlier at
@@ -327,7 +327,7 @@ module _ (s : Settings) (terms : Terms s) where
   -- and the invariant holds after the run
   run_from : (shards : ℕ → Shard) (past : List RunStep) (cs : List MemberCall) → Invariant shards past → LegalFrom s.process_count ours shards (entries_of_steps past) cs
       → Invariant (shards_after ours shards cs) (steps_from shards past cs)
-  unfolding LegalFrom steps_from shards_after
+  unfolding LegalMade steps_from shards_made
   run_from shards past [] k legal = k
   run_from shards past (c ∷ cs) k legal = run_from (after_call lowest_best shards c) (step_of shards c ∷ past) cs (call_invariant shards past k c legal.1) legal.2
 

@@ -24,7 +24,7 @@ use Rattle.settings.specs.Questions.{starting_round_of}
 use Rattle.settings.specs.declared.Settings.{Settings}
 use Rattle.fast_state.specs.Adopt.{lowest_best}
 use Rattle.steps.specs.declared.Outgoing.{Outgoing}
-use Rattle.delivery.specs.declared.Delivery.{Delivery}
+use Rattle.calls.specs.declared.delivery.Delivery.{Delivery}
 use Rattle.calls.specs.declared.Call.{Call}
 use Rattle.calls.specs.declared.Call.TheVariants.{Propose, StartRead, Receive}
 use Rattle.consensus.specs.Call.{call_of}
@@ -36,7 +36,7 @@ use Rattle.consensus.proofs.Refusals.{by_first_cause}
 use Rattle.group.specs.Claim.{MemberCall, Entry, messages_of, MayStand, CommitAt, Claim, plus_commit, slot_at}
 use Rattle.group.specs.Steps.{RunStep, reply_of, is_done, step_of, entry_of_step, entries_of_steps}
 use Rattle.group.proofs.Calls.{Valid}
-use Rattle.group.proofs.Invariants.{OfSlot}
+use Rattle.group.proofs.Invariants.{CommitOfSlot}
 use Rattle.leader_commits.specs.Answers.{is_accept_of, LeaderProposed}
 use Rattle.group.proofs.Handlers.{each_in}
 use Rattle.leader_commits.proofs.Carrying.{CarriesIn, AskedFor, Carries, last_after, CallCarries, NoPrepare, call_carries}
@@ -56,11 +56,11 @@ last_later e run zero last h = h
 last_later e run (suc n) last (w, is, c) = (w, is, commit_later e run n w c)
 
 -- a call moves both on together
-pub last_moves : (e : Entry) (run : List Entry) (n : ℕ) (last : Option ℕ) → LastAt n last run → OfSlot n e.reply.commit
+pub last_moves : (e : Entry) (run : List Entry) (n : ℕ) (last : Option ℕ) → LastAt n last run → CommitOfSlot n e.reply.commit
     → LastAt (plus_commit e.reply.commit n) (last_after e.reply.commit last) (e ∷ run)
 last_moves e run n last h own = go e.reply.commit refl own
   where
-    go : (c : Option CommittedSlot) → e.reply.commit ≡ c → OfSlot n c → LastAt (plus_commit c n) (last_after c last) (e ∷ run)
+    go : (c : Option CommittedSlot) → e.reply.commit ≡ c → CommitOfSlot n c → LastAt (plus_commit c n) (last_after c last) (e ∷ run)
     go None is own = last_later e run n last h
     go (Some commit) is own =
         (commit.v, refl, record { entry = e; earlier = run; stands = inl (refl, refl); fast = commit.fast; commit = is ∙ ap (λ (m : ℕ). committed_slot m commit.v commit.fast) own })

@@ -9,10 +9,10 @@ use Rattle.message.specs.declared.ConsensusMsg.{ConsensusMsg}
 use Rattle.message.specs.declared.ConsensusMsg.TheVariants.{Prepare, Accept, ForwardRequest, Commit, ReadRequest, ReadResponse}
 use Rattle.settings.specs.Questions.{is_live_replica, quorums_of}
 use Rattle.settings.specs.declared.Settings.{Settings}
-use Rattle.delivery.specs.declared.Delivery.{Delivery}
+use Rattle.calls.specs.declared.delivery.Delivery.{Delivery}
 use Rattle.calls.specs.Commits.{committed_slot}
 use Rattle.calls.specs.declared.Call.TheVariants.{Propose}
-use Rattle.consensus.specs.FirstCause.{given_number, joined, any_above, any_from}
+use Rattle.consensus.specs.FirstCause.{given_number, appended, any_above, any_from}
 use Rattle.consensus.specs.Rows.{Row, gives}
 use Rattle.group.specs.Claim.{MemberCall, At, slot_at}
 use Rattle.group.specs.Steps.{RunStep, reply_of, is_done, delivered, run_steps, entries_of_steps}
@@ -81,8 +81,8 @@ pub record AfterProposal (s : Settings) (cs : List MemberCall) (t v : ℕ) (x : 
   pub proposed : LeaderProposed s t v past
   pub in_slot : slot_at s.first_leader (entries_of_steps past) ≡ t
 
-abbrev pub Commits : RunStep → ℕ → ℕ → Type 0
-Commits x t v = (fast : Bool) × ((reply_of x).commit ≡ committed_slot t v fast)
+abbrev pub CommitsValue : RunStep → ℕ → ℕ → Type 0
+CommitsValue x t v = (fast : Bool) × ((reply_of x).commit ≡ committed_slot t v fast)
 
 -- ---- the claim
 
@@ -90,14 +90,14 @@ Commits x t v = (fast : Bool) × ((reply_of x).commit ≡ committed_slot t v fas
 -- one; and it commits nothing else. Counted are the answers that were heard, or all that came.
 pub record CommitsOnAnswer (answers : List RunStep → ℕ) (s : Settings) (t v : ℕ) (x : RunStep) (past : List RunStep) : Type 0 where
   pub not_yet : answers past + 1 < (quorums_of s).majority
-  pub exactly : Commits x t v ↔ (answers (x ∷ past) + 1 ≡ (quorums_of s).majority)
-  pub no_other : (slot w : ℕ) → Commits x slot w → (slot ≡ t) × (w ≡ v)
+  pub exactly : CommitsValue x t v ↔ (answers (x ∷ past) + 1 ≡ (quorums_of s).majority)
+  pub no_other : (slot w : ℕ) → CommitsValue x slot w → (slot ≡ t) × (w ≡ v)
 
 -- ---- what the host adds to an answer
 
 -- the requesters that it gives: of the answer's value, and of the value of the held promise
 abbrev pub requesters_in : Delivery → List ℕ
-requesters_in d = joined (given_number d.said.requester) (given_number d.held_requester)
+requesters_in d = appended (given_number d.said.requester) (given_number d.held_requester)
 
 -- the causes that are the host's: a requester above the number limit, one that is not below the process count, the value not held
 abbrev pub host_causes : Settings → Delivery → List Row
@@ -140,5 +140,5 @@ NoAnswerRefused s t past = (x : RunStep) → In x past → comes s t x ≡ true 
 -- before that answer."
 pub record AsAsked (s : Settings) (t v : ℕ) (x : RunStep) (past : List RunStep) : Type 0 where
   pub commits : HostHolds (delivered x) → NoCommitCame s t past → NoAnswerRefused s t (x ∷ past)
-      → (answers_came s t past + 1 ≡ (quorums_of s).majority → ⊥) → answers_came s t (x ∷ past) + 1 ≡ (quorums_of s).majority → Commits x t v
-  pub not_before : NoCommitCame s t (x ∷ past) → answers_heard s t (x ∷ past) + 1 < (quorums_of s).majority → (slot w : ℕ) → Commits x slot w → ⊥
+      → (answers_came s t past + 1 ≡ (quorums_of s).majority → ⊥) → answers_came s t (x ∷ past) + 1 ≡ (quorums_of s).majority → CommitsValue x t v
+  pub not_before : NoCommitCame s t (x ∷ past) → answers_heard s t (x ∷ past) + 1 < (quorums_of s).majority → (slot w : ℕ) → CommitsValue x slot w → ⊥

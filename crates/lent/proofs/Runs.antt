@@ -9,12 +9,12 @@ use Rattle.settings.specs.declared.Settings.{Settings}
 use Rattle.fast_state.specs.Adopt.{lowest_best}
 use Rattle.calls.specs.declared.Reply.{Reply}
 use Rattle.consensus.specs.declared.Shard.{Shard}
-use Rattle.group.specs.Claim.{begun, ours, Entry, after_call, entries_from, Legal, Claim, NotSwift}
+use Rattle.group.specs.Claim.{begun, ours, Entry, after_call, entries_from, Legal, Claim, NotSwift, entries_made}
 use Rattle.group.proofs.Agreement.{agreement}
 use Rattle.lent.specs.Runs.{LentCall, LentFrom, calls, kept_from}
 
 pub lent_is_run : (shards : ℕ → Shard) (past : List Entry) (cs : List LentCall) → LentFrom shards cs → kept_from past cs ≡ entries_from ours shards past (calls cs)
-unfolding LentFrom kept_from entries_from
+unfolding LentFrom kept_from entries_made
 lent_is_run shards past [] made = refl
 lent_is_run shards past (c ∷ cs) made =
     lent_is_run (λ j. cond (eqb j c.member) c.after (shards j)) (record { member = c.member; call = c.call; reply = c.reply } ∷ past) cs made.1

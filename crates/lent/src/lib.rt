@@ -2,7 +2,7 @@
 #![tactic(auto)]
 
 ghost use Rattle.std.specs.Prelude.{◌≡◌};
-ghost use Rattle.consensus.specs.Call.{decision, call_of};
+ghost use Rattle.consensus.specs.Call.{call_decision, call_of};
 
 use calls::{Call, Reply, Taken};
 use consensus::Shard;
@@ -11,7 +11,7 @@ use read_tracker::ReadTable;
 
 // What is decided of the call before it is handled.
 fn decision_in_place(s: &Shard, call: Call) -> Result<Taken, Refusal>
-    ensures { result ≡ decision s.now call }
+    ensures { result ≡ call_decision s.now call }
 {
     calls::decision_of(s.made, &s.settings, s.state.rounds.core, call)
 }

@@ -3,28 +3,23 @@
 // each is looked at in one place, and any number has an answer there.
 #![tactic(auto)]
 
-ghost use Rattle.std.specs.Prelude.{◌≡◌, ◌<◌, ◌==◌, get_or, cond, IfSome};
-ghost use Rattle.lines_read.specs.line_calls.Calls.{promise_of, prepare_of, accept_of, message_of, words_place, said_at, delivery_at, call_of_numbers};
+ghost use Rattle.std.specs.Prelude.{◌≡◌, ◌<◌, IfSome};
+ghost use Rattle.lines_read.specs.line_calls.Calls.{optional, promise_of, prepare_of, accept_of, line_message, words_place, said_at, delivery_at, call_of_numbers};
 
+use call_lines::number_at;
 use calls::Call;
-use delivery::{Delivery, Said};
+use calls::delivery::{Delivery, Said};
 use message::{ConsensusMessage, ConsensusMsg, PaxosRound, ReadId, RoundV};
-
-pub fn number_at(numbers: &[u64], i: usize) -> u64
-    ensures { result ≡ get_or numbers.now i 0 }
-{
-    if i < numbers.len() { numbers[i] } else { 0 }
-}
 
 // `x?`: the value counts where the flag is 1.
 pub fn optional<T: Drop>(flag: u64, value: T) -> Option<T>
-    ensures { result ≡ cond (flag == 1) (Some value) None }
+    ensures { result ≡ optional flag value }
 {
     (flag == 1).then_some(value)
 }
 
-#[tactic(auto, unfolding(crate::specs::line_calls::Calls::promise_of, crate::specs::line_calls::Calls::optional_round))]
-pub fn promise(kind: u64, a: u64, b: u64, v: u64) -> RoundV
+#[tactic(auto, unfolding(crate::specs::line_calls::Calls::promise_of))]
+pub fn promise_of(kind: u64, a: u64, b: u64, v: u64) -> RoundV
     ensures { result ≡ promise_of kind a b v }
 {
     match kind {
@@ -59,7 +54,7 @@ fn prepare_of(numbers: &[u64]) -> ConsensusMsg
     ConsensusMsg::Prepare {
         slot: number_at(numbers, 4),
         round,
-        rv: promise(kind, a, b, v),
+        rv: promise_of(kind, a, b, v),
     }
 }
 
@@ -79,9 +74,9 @@ fn accept_of(numbers: &[u64]) -> ConsensusMsg
 }
 
 // The message of a line of kind 5 to 10.
-#[tactic(auto, unfolding(crate::specs::line_calls::Calls::message_of))]
-fn message_of(numbers: &[u64]) -> ConsensusMsg
-    ensures { result ≡ message_of numbers.now }
+#[tactic(auto, unfolding(crate::specs::line_calls::Calls::line_message))]
+fn line_message(numbers: &[u64]) -> ConsensusMsg
+    ensures { result ≡ line_message numbers.now }
 {
     let fourth = number_at(numbers, 4);
     let fifth = number_at(numbers, 5);
@@ -117,7 +112,7 @@ pub fn words_place(kind: u64) -> Option<usize>
 }
 
 // A place and no slice that begins there: a line may end before it, so that the place would be cut to its length first. So in `delivery_at`.
-#[tactic(auto, unfolding(crate::specs::line_calls::Calls::said_at, crate::specs::line_calls::Calls::optional_process))]
+#[tactic(auto, unfolding(crate::specs::line_calls::Calls::said_at))]
 fn said_at(numbers: &[u64], at: usize) -> Said
     requires { at < 100 }
     ensures { result ≡ said_at numbers.now at }
@@ -134,7 +129,7 @@ fn said_at(numbers: &[u64], at: usize) -> Said
 }
 
 // The message of a line whose host's words begin at `at`.
-#[tactic(auto, unfolding(crate::specs::line_calls::Calls::delivery_at, crate::specs::line_calls::Calls::optional_process, crate::specs::line_calls::Calls::optional_value))]
+#[tactic(auto, unfolding(crate::specs::line_calls::Calls::delivery_at))]
 fn delivery_at(numbers: &[u64], at: usize) -> Delivery
     requires { at < 100 }
     ensures { result ≡ delivery_at numbers.now at }
@@ -144,7 +139,7 @@ fn delivery_at(numbers: &[u64], at: usize) -> Delivery
     let flag = number_at(numbers, at + 4);
     let requester = number_at(numbers, at + 5);
     let message = ConsensusMessage {
-        msg: message_of(numbers),
+        msg: line_message(numbers),
         src: number_at(numbers, 1),
         last_v: optional(last, last_v),
     };

@@ -3,14 +3,13 @@
 #![tactic(auto)]
 
 ghost use Rattle.std.specs.Prelude.{◌≡◌, ◌+◌, ◌*◌, ◌≤◌, ◌<◌, min};
-ghost use Rattle.lines_read.specs.line_calls.Calls.{at};
-ghost use Rattle.lines_read.specs.line_states.States.{table_place, table_to, settings_with, date_in_numbers, window_in_numbers, windows_in_places, windows_at, group_settings_with, group_settings_of, held_of, paxos_of, core_at, proposers_to, fast_at, read_at, read_table_at, state_at, state_of};
-ghost use Rattle.lines_read.specs.line_states.Faults.{is_kind, windows_count_at, settings_count_at, state_count_at, expected_count, is_flag, read_flags, settings_flags, state_flags_at, message_flags, flags_fit, mode_number_fits, promise_fits, settings_places, proposers_fit, state_places_at, places_fit, numbers_fault};
+ghost use Rattle.lines_read.specs.line_calls.Calls.{line_number_at};
+ghost use Rattle.lines_read.specs.line_states.States.{table_place, table_to, settings_with, group_settings_with, group_settings_of, held_of, paxos_in_numbers, core_at, proposers_to, fast_in_numbers, read_at, read_table_at, state_at, state_of};
+ghost use Rattle.lines_read.specs.line_states.Faults.{is_kind, windows_count_at, settings_count_at, state_count_at, expected_count, is_flag, read_flags, settings_flags, state_flags_at, message_flags, flags_fit, mode_number_fits, promise_kind_fits, settings_places, proposers_fit, state_places_at, places_fit, numbers_fault};
 
-use crate::line_calls::{number_at, optional, promise, words_place};
+use crate::line_calls::{optional, promise_of, words_place};
 use basics::tables::PerProcess;
-use calendar::Date;
-use call_lines::Fault;
+use call_lines::{Fault, number_at};
 use consensus::State;
 use fast_state::FastState;
 use group_settings::GroupSettings;
@@ -19,16 +18,6 @@ use read_tracker::{OpenRead, ReadTable, ReadTracker};
 use round_state::PaxosState;
 use settings::Settings;
 use steps::{Core, Rounds};
-use windows::{Window, Windows};
-
-// A place without a window.
-const NO_DATE: Date = Date {
-    year: 0,
-    month: 0,
-    day: 0,
-    hour: 0,
-    minute: 0,
-};
 
 #[tactic(auto, unfolding(crate::specs::line_states::States::held_of))]
 fn held_promise(kind: u64, a: u64, b: u64, v: u64) -> Option<RoundV>
@@ -37,7 +26,7 @@ fn held_promise(kind: u64, a: u64, b: u64, v: u64) -> Option<RoundV>
     if kind == 3 {
         None
     } else {
-        Some(promise(kind, a, b, v))
+        Some(promise_of(kind, a, b, v))
     }
 }
 
@@ -61,7 +50,7 @@ fn table_at(numbers: &[u64], at: usize, count: usize) -> PerProcess
 }
 
 // The engine's settings of a line of kind 1 with these tables.
-#[tactic(auto, unfolding(crate::specs::line_states::States::settings_with, crate::specs::line_states::States::optional_set))]
+#[tactic(auto, unfolding(crate::specs::line_states::States::settings_with))]
 fn settings_with(numbers: &[u64], committers: PerProcess, delegates: PerProcess) -> Settings
     ensures { result ≡ settings_with numbers.now committers delegates }
 {
@@ -77,52 +66,9 @@ fn settings_with(numbers: &[u64], committers: PerProcess, delegates: PerProcess)
         // A number that is no mode is refused before it is asked for here (mode_fits).
         mode: PFMode::of_number(number_at(numbers, 6)),
         quorum: optional(quorum, set),
-        committers: (given == 1).then_some(committers),
+        committers: optional(given, committers),
         delegates,
     }
-}
-
-#[tactic(auto, unfolding(crate::specs::line_states::States::date_in_numbers))]
-fn date_in_numbers(numbers: &[u64], at: usize) -> Date
-    requires { at < 10000 }
-    ensures { result ≡ date_in_numbers numbers.now at }
-{
-    Date {
-        year: number_at(numbers, at),
-        month: number_at(numbers, at + 1),
-        day: number_at(numbers, at + 2),
-        hour: number_at(numbers, at + 3),
-        minute: number_at(numbers, at + 4),
-    }
-}
-
-fn window_in_numbers(numbers: &[u64], at: usize) -> Window
-    requires { at < 9000 }
-    ensures { result ≡ window_in_numbers numbers.now at }
-{
-    Window {
-        start: date_in_numbers(numbers, at),
-        end: date_in_numbers(numbers, at + 5),
-    }
-}
-
-// The windows that are counted at `at` and begin behind it. A `for` over places, as in `reads_at`. Those past the 128th are not read: more than 128 are
-// refused by their count.
-#[tactic(auto, using(crate::proofs::line_states::Turns::windows_next), unfolding(crate::specs::line_states::States::windows_in_places, crate::specs::line_states::States::windows_at))]
-fn windows_at(numbers: &[u64], at: usize) -> Windows
-    requires { at < 1000 }
-    ensures { result ≡ windows_at numbers.now at }
-{
-    let none = Window {
-        start: NO_DATE,
-        end: NO_DATE,
-    };
-    let count = number_at(numbers, at);
-    let mut places = [none; 128];
-    for i in 0..at_most(count, 128) {
-        places[i] = window_in_numbers(numbers, at + 1 + 10 * i);
-    }
-    Windows { places, count }
 }
 
 // The group settings of a line of kind 1.
@@ -137,13 +83,16 @@ pub fn group_settings_of(numbers: &[u64]) -> GroupSettings
     GroupSettings {
         settings: settings_with(numbers, committers, delegates),
         whole_mhz_from: number_at(numbers, 12 + committer_count + delegate_count),
-        windows: windows_at(numbers, 13 + committer_count + delegate_count),
+        windows: call_lines::dates::counted_windows_at(
+            numbers,
+            13 + committer_count + delegate_count,
+        ),
     }
 }
 
-#[tactic(auto, unfolding(crate::specs::line_states::States::paxos_of, crate::specs::line_calls::Calls::optional_round))]
-fn paxos_of(numbers: &[u64]) -> PaxosState
-    ensures { result ≡ paxos_of numbers.now }
+#[tactic(auto, unfolding(crate::specs::line_states::States::paxos_in_numbers))]
+fn paxos_in_numbers(numbers: &[u64]) -> PaxosState
+    ensures { result ≡ paxos_in_numbers numbers.now }
 {
     let flag = number_at(numbers, 5);
     let round = PaxosRound {
@@ -163,7 +112,7 @@ fn paxos_of(numbers: &[u64]) -> PaxosState
 }
 
 // The core of a line of kind 2 with so many open reads.
-#[tactic(auto, unfolding(crate::specs::line_states::States::core_at, crate::specs::line_calls::Calls::optional_value))]
+#[tactic(auto, unfolding(crate::specs::line_states::States::core_at))]
 fn core_at(numbers: &[u64], open_count: u64) -> Core
     ensures { result ≡ core_at numbers.now open_count }
 {
@@ -178,7 +127,7 @@ fn core_at(numbers: &[u64], open_count: u64) -> Core
         slot: number_at(numbers, 1),
         last_v: optional(flag, last),
         slot_left_fast_path: left == 1,
-        paxos: paxos_of(numbers),
+        paxos: paxos_in_numbers(numbers),
         tracker,
     }
 }
@@ -188,7 +137,7 @@ fn core_at(numbers: &[u64], open_count: u64) -> Core
 #[tactic(auto, using(crate::proofs::line_states::Turns::proposers_next), unfolding(crate::specs::line_states::States::proposers_to))]
 fn proposer_table(numbers: &[u64], which: usize) -> PerProcess
     requires { which < 4 }
-    ensures { result ≡ proposers_to numbers.now which (min (at numbers.now 20) 64) }
+    ensures { result ≡ proposers_to numbers.now which (min (line_number_at numbers.now 20) 64) }
 {
     let mut table = [0u64; 64];
     for i in 0..at_most(number_at(numbers, 20), 64) {
@@ -200,9 +149,9 @@ fn proposer_table(numbers: &[u64], which: usize) -> PerProcess
 }
 
 // The fast half of a line of kind 2.
-#[tactic(auto, unfolding(crate::specs::line_states::States::fast_at, crate::specs::line_calls::Calls::optional_value))]
-fn fast_of(numbers: &[u64]) -> FastState
-    ensures { result ≡ fast_at numbers.now (min (at numbers.now 20) 64) }
+#[tactic(auto, unfolding(crate::specs::line_states::States::fast_in_numbers))]
+fn fast_in_numbers(numbers: &[u64]) -> FastState
+    ensures { result ≡ fast_in_numbers numbers.now (min (line_number_at numbers.now 20) 64) }
 {
     let flag = number_at(numbers, 17);
     let answer = number_at(numbers, 18);
@@ -259,7 +208,7 @@ pub fn state_of(numbers: &[u64]) -> State
     let proposer_count = at_most(number_at(numbers, 20), 64);
     let open_count = number_at(numbers, 21 + 4 * proposer_count);
     let core = core_at(numbers, open_count);
-    let fast = fast_of(numbers);
+    let fast = fast_in_numbers(numbers);
     let table = reads_at(numbers, 22 + 4 * proposer_count, at_most(open_count, 128));
     State {
         rounds: Rounds { core, fast },
@@ -270,7 +219,7 @@ pub fn state_of(numbers: &[u64]) -> State
 // How many numbers a line of kind 1 has.
 #[tactic(auto, unfolding(crate::specs::line_states::Faults::windows_count_at))]
 fn settings_count(numbers: &[u64]) -> usize
-    ensures { result ≡ settings_count_at numbers.now (min (at numbers.now 10) 2048) }
+    ensures { result ≡ settings_count_at numbers.now (min (line_number_at numbers.now 10) 2048) }
 {
     let committer_count = at_most(number_at(numbers, 10), 2048);
     let delegate_count = at_most(number_at(numbers, 11 + committer_count), 2048);
@@ -282,7 +231,7 @@ fn settings_count(numbers: &[u64]) -> usize
 // How many numbers a line of kind 2 has.
 #[tactic(auto, unfolding(crate::specs::line_states::Faults::state_count_at))]
 fn state_count(numbers: &[u64]) -> usize
-    ensures { result ≡ state_count_at numbers.now (min (at numbers.now 20) 2048) }
+    ensures { result ≡ state_count_at numbers.now (min (line_number_at numbers.now 20) 2048) }
 {
     let proposer_count = at_most(number_at(numbers, 20), 2048);
     let open_count = at_most(number_at(numbers, 21 + 4 * proposer_count), 2048);
@@ -335,7 +284,7 @@ fn read_flags(numbers: &[u64], at: usize, count: usize) -> bool
 // The flags of a line of kind 2.
 #[tactic(auto, unfolding(crate::specs::line_states::Faults::state_flags_at))]
 fn state_flags(numbers: &[u64]) -> bool
-    ensures { result ≡ state_flags_at numbers.now (21 + 4 * min (at numbers.now 20) 2048) }
+    ensures { result ≡ state_flags_at numbers.now (21 + 4 * min (line_number_at numbers.now 20) 2048) }
 {
     let at = 21 + 4 * at_most(number_at(numbers, 20), 2048);
     let open_count = at_most(number_at(numbers, at), 2048);
@@ -383,9 +332,9 @@ fn mode_number_fits(numbers: &[u64]) -> bool
     number_at(numbers, 0) != 1 || number_at(numbers, 6) <= 5
 }
 
-#[tactic(auto, unfolding(crate::specs::line_states::Faults::promise_fits))]
-fn promise_fits(numbers: &[u64]) -> bool
-    ensures { result ≡ promise_fits numbers.now }
+#[tactic(auto, unfolding(crate::specs::line_states::Faults::promise_kind_fits))]
+fn promise_kind_fits(numbers: &[u64]) -> bool
+    ensures { result ≡ promise_kind_fits numbers.now }
 {
     match number_at(numbers, 0) {
         2 => number_at(numbers, 8) <= 3,
@@ -414,7 +363,7 @@ fn proposers_fit(numbers: &[u64], count: usize) -> bool
 // The places of a line of kind 2.
 #[tactic(auto, unfolding(crate::specs::line_states::Faults::state_places_at))]
 fn state_places(numbers: &[u64]) -> bool
-    ensures { result ≡ state_places_at numbers.now (min (at numbers.now 20) 65) }
+    ensures { result ≡ state_places_at numbers.now (min (line_number_at numbers.now 20) 65) }
 {
     let p = at_most(number_at(numbers, 20), 65);
     p <= 64 && number_at(numbers, 21 + 4 * p) <= 128 && proposers_fit(numbers, p)
@@ -448,7 +397,7 @@ pub fn numbers_fault(numbers: &[u64]) -> Result<(), Fault>
     if !mode_number_fits(numbers) {
         return Err(Fault::NoSuchMode);
     }
-    if !promise_fits(numbers) {
+    if !promise_kind_fits(numbers) {
         return Err(Fault::NoSuchPromise);
     }
     if !places_fit(numbers) {

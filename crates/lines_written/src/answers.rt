@@ -11,11 +11,11 @@ use texts::Output;
 
 // The line of an answer, with its LF.
 #[tactic(auto, using(texts::proofs::Putting::put_append), unfolding(crate::specs::answers::Answer::answer_text, texts::specs::Text::put))]
-pub fn put_answer(out: &mut Output, answer: &Answer)
+pub fn put_answer_text(out: &mut Output, answer: &Answer)
     ensures { out.new ≡ put (answer_text answer.now) out.old }
 {
     let state = &answer.shard.state;
-    crate::replies::put_reply(out, answer.reply, &state.table.served);
+    crate::replies::put_reply_text(out, answer.reply, &state.table.served);
     crate::shards::put_shard(out, &state.rounds, &state.table.reads, answer.shard.made);
     out.put_byte(b'\n');
 }

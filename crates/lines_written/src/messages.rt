@@ -6,11 +6,11 @@ ghost use Rattle.texts.specs.Text.{put};
 ghost use Rattle.lines_written.specs.messages.Messages.{message_text, destination_text, optional_message_text, messages_text};
 
 use message::ConsensusMsg;
-use steps::{Destination, Messages, Outgoing};
+use steps::{Destination, Outgoing, SentMessages};
 use texts::Output;
 
 #[tactic(auto, using(texts::proofs::Putting::put_then), unfolding(crate::specs::messages::Messages::message_text))]
-fn put_message(out: &mut Output, msg: ConsensusMsg)
+fn put_message_text(out: &mut Output, msg: ConsensusMsg)
     ensures { out.new ≡ put (message_text msg) out.old }
 {
     match msg {
@@ -55,12 +55,12 @@ fn put_optional_message(out: &mut Output, message: Option<Outgoing>)
         out.put_bytes(b" | send");
         put_destination(out, outgoing.destination);
         crate::promises::put_optional_value(out, outgoing.message.last_v);
-        put_message(out, outgoing.message.msg);
+        put_message_text(out, outgoing.message.msg);
     }
 }
 
 #[tactic(auto, using(texts::proofs::Putting::put_append), unfolding(crate::specs::messages::Messages::messages_text, texts::specs::Text::put))]
-pub fn put_messages(out: &mut Output, messages: Messages)
+pub fn put_messages_text(out: &mut Output, messages: SentMessages)
     ensures { out.new ≡ put (messages_text messages) out.old }
 {
     put_optional_message(out, messages.first);

@@ -5,14 +5,14 @@ ghost use Rattle.std.specs.Prelude.{◌≡◌};
 ghost use Rattle.texts.specs.Text.{put, first_places};
 ghost use Rattle.lines_written.specs.replies.Reply.{outcome_text, commit_text, served_text, reply_text};
 
+use basics::refusals::Refused;
 use calls::{CommittedSlot, Reply};
 use message::Outcome;
 use read_tracker::ServedRead;
-use refusals::Refused;
 use texts::Output;
 
 #[tactic(auto, unfolding(crate::specs::replies::Reply::outcome_text))]
-fn put_outcome(out: &mut Output, outcome: Outcome)
+fn put_outcome_text(out: &mut Output, outcome: Outcome)
     ensures { out.new ≡ put (outcome_text outcome) out.old }
 {
     match outcome {
@@ -43,7 +43,7 @@ fn put_served_read(out: &mut Output, read: &ServedRead)
 // One loop for these and the open reads of `lines_written::shards` would be a trait that neither crate may implement for them, or a closure with its text as
 // a ghost value: no plainer than the two lines.
 #[tactic(auto, using(texts::proofs::Putting::reached_next, texts::proofs::Putting::reached_all), unfolding(texts::specs::Text::first_places))]
-fn put_served(out: &mut Output, served: &[ServedRead; 128], served_count: u64)
+fn put_served_text(out: &mut Output, served: &[ServedRead; 128], served_count: u64)
     ensures { out.new ≡ put (first_places served_text served.now served_count) out.old }
 {
     let reads = &served[..served_count.min(128) as usize];
@@ -53,11 +53,11 @@ fn put_served(out: &mut Output, served: &[ServedRead; 128], served_count: u64)
 }
 
 #[tactic(auto, using(texts::proofs::Putting::put_append), unfolding(crate::specs::replies::Reply::reply_text, texts::specs::Text::put))]
-pub fn put_reply(out: &mut Output, reply: Reply, served: &[ServedRead; 128])
+pub fn put_reply_text(out: &mut Output, reply: Reply, served: &[ServedRead; 128])
     ensures { out.new ≡ put (reply_text reply served.now) out.old }
 {
-    put_outcome(out, reply.outcome);
-    crate::messages::put_messages(out, reply.messages);
+    put_outcome_text(out, reply.outcome);
+    crate::messages::put_messages_text(out, reply.messages);
     put_commit(out, reply.commit);
-    put_served(out, served, reply.served_count);
+    put_served_text(out, served, reply.served_count);
 }

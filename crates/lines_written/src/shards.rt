@@ -80,7 +80,7 @@ fn put_open_read(out: &mut Output, read: &OpenRead)
 }
 
 // Puts the reads in the first open_count places, of which there are 128. Why it is a loop of its own, and why the array comes with its count:
-// `put_served` of `lines_written::replies`.
+// `put_served_text` of `lines_written::replies`.
 #[tactic(auto, using(texts::proofs::Putting::reached_next, texts::proofs::Putting::reached_all), unfolding(texts::specs::Text::first_places))]
 fn put_open(out: &mut Output, reads: &[OpenRead; 128], open_count: u64)
     ensures { out.new ≡ put (first_places open_text reads.now open_count) out.old }

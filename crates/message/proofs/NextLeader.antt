@@ -11,7 +11,7 @@ use borrow.Author.Tests.{lt-ltb, leb-true, leb-false}
 use Rattle.basics.proofs.Tests.{fails}
 use Rattle.message.specs.declared.PaxosRound.{PaxosRound}
 use Rattle.message.specs.Rounds.{increment, round_before, next_leader_round}
-use Rattle.message.proofs.Order.{Earlier, round_before_lem, before_round_lem}
+use Rattle.message.proofs.Order.{EarlierRound, round_before_lem, before_round_lem}
 
 -- a number that a call may hold has one after it
 pub increment_next : (n : ℕ) → n < 18446744073709551615 → increment n ≡ n + 1
@@ -40,7 +40,7 @@ module _ (r : PaxosRound) (p : ℕ) (h : r.round_group < 18446744073709551615) w
   pub next_leader_not_before : round_before (next_leader_round r p) r ≡ false
   next_leader_not_before = fails (λ e. go next_group (round_before_lem (next_leader_round r p) r e))
     where
-      go : NextGroup r p (next_leader_round r p).round_group → Earlier (next_leader_round r p) r → ⊥
+      go : NextGroup r p (next_leader_round r p).round_group → EarlierRound (next_leader_round r p) r → ⊥
       go (inl g) (inl l) = omega arith
       go (inl g) (inr l) = omega (arith, next_leader_own r p)
       go (inr g) (inl l) = omega arith
@@ -50,12 +50,12 @@ module _ (r : PaxosRound) (p : ℕ) (h : r.round_group < 18446744073709551615) w
   pub next_leader_least : (q : PaxosRound) → q.leader ≡ p → round_before q (next_leader_round r p) ≡ true → round_before q r ≡ true
   next_leader_least q own e = before_round_lem q r (go next_group (round_before_lem q (next_leader_round r p) e))
     where
-      go : NextGroup r p (next_leader_round r p).round_group → Earlier q (next_leader_round r p) → Earlier q r
+      go : NextGroup r p (next_leader_round r p).round_group → EarlierRound q (next_leader_round r p) → EarlierRound q r
       go (inl g) (inl l) = inl (omega arith)
       go (inl g) (inr l) = absurd (omega (arith, next_leader_own r p))
       go (inr g) (inl l) = later (dec_lt q.round_group r.round_group)
         where
-          later : Dec (q.round_group < r.round_group) → Earlier q r
+          later : Dec (q.round_group < r.round_group) → EarlierRound q r
           later (yes k) = inl k
           later (no k) = inr (omega arith, omega arith)
       go (inr g) (inr l) = absurd (omega (arith, next_leader_own r p))

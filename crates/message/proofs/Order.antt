@@ -14,10 +14,10 @@ use Rattle.message.specs.declared.PaxosRound.{PaxosRound}
 use Rattle.message.specs.Rounds.{round_of, round_before, round_equal, before, equal}
 
 -- a comes before b: its group is lower, or the groups are equal and its leader is lower
-abbrev pub Earlier : PaxosRound → PaxosRound → Type 0
-Earlier a b = (a.round_group < b.round_group) ⊎ ((a.round_group ≡ b.round_group) × (a.leader < b.leader))
+abbrev pub EarlierRound : PaxosRound → PaxosRound → Type 0
+EarlierRound a b = (a.round_group < b.round_group) ⊎ ((a.round_group ≡ b.round_group) × (a.leader < b.leader))
 
-pub round_before_lem : (a b : PaxosRound) → round_before a b ≡ true → Earlier a b
+pub round_before_lem : (a b : PaxosRound) → round_before a b ≡ true → EarlierRound a b
 unfolding round_before
 round_before_lem a b e = go (or_cases lower (same && ltb a.leader b.leader) e)
   where
@@ -27,30 +27,30 @@ round_before_lem a b e = go (or_cases lower (same && ltb a.leader b.leader) e)
     same : Bool
     same = eqb a.round_group b.round_group
 
-    go : (lower ≡ true) ⊎ ((same && ltb a.leader b.leader) ≡ true) → Earlier a b
+    go : (lower ≡ true) ⊎ ((same && ltb a.leader b.leader) ≡ true) → EarlierRound a b
     go (inl l) = inl (ltb-true a.round_group b.round_group l)
     go (inr r) =
         inr
         (eqb-true a.round_group b.round_group (and_left same (ltb a.leader b.leader) r), ltb-true a.leader b.leader (and_right same (ltb a.leader b.leader) r))
 
-pub before_round_lem : (a b : PaxosRound) → Earlier a b → round_before a b ≡ true
+pub before_round_lem : (a b : PaxosRound) → EarlierRound a b → round_before a b ≡ true
 unfolding round_before
 before_round_lem a b (inl l) = or_left (eqb a.round_group b.round_group && ltb a.leader b.leader) (lt-ltb a.round_group b.round_group l)
 before_round_lem a b (inr r) =
     or_right (ltb a.round_group b.round_group)
     (and_both (eq-eqb a.round_group b.round_group r.0) (lt-ltb a.leader b.leader r.1))
 
-earlier_irreflexive : (a : PaxosRound) → Earlier a a → ⊥
+earlier_irreflexive : (a : PaxosRound) → EarlierRound a a → ⊥
 earlier_irreflexive a (inl l) = omega arith
 earlier_irreflexive a (inr r) = omega arith
 
-earlier_transitive : (a b c : PaxosRound) → Earlier a b → Earlier b c → Earlier a c
+earlier_transitive : (a b c : PaxosRound) → EarlierRound a b → EarlierRound b c → EarlierRound a c
 earlier_transitive a b c (inl l) (inl k) = inl (omega arith)
 earlier_transitive a b c (inl l) (inr k) = inl (omega arith)
 earlier_transitive a b c (inr l) (inl k) = inl (omega arith)
 earlier_transitive a b c (inr l) (inr k) = inr (omega arith, omega arith)
 
-earlier_connected : (a b : PaxosRound) → (Earlier a b → ⊥) → (Earlier b a → ⊥) → a ≡ b
+earlier_connected : (a b : PaxosRound) → (EarlierRound a b → ⊥) → (EarlierRound b a → ⊥) → a ≡ b
 earlier_connected a b p q =
     let low : a.round_group < b.round_group → ⊥ = λ l. p (inl l) in
     let high : b.round_group < a.round_group → ⊥ = λ l. q (inl l) in
@@ -116,6 +116,6 @@ equal_rounds None (Some b) e = absurd (not_both e refl)
 equal_rounds (Some a) None e = absurd (not_both e refl)
 equal_rounds (Some a) (Some b) e = ap Some (round_equal_lem a b e)
 
-pub rounds_equal : (a : Option PaxosRound) → equal a a ≡ true
-rounds_equal None = refl
-rounds_equal (Some a) = equal_round a
+pub round_equals_itself : (a : Option PaxosRound) → equal a a ≡ true
+round_equals_itself None = refl
+round_equals_itself (Some a) = equal_round a

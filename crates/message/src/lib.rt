@@ -11,7 +11,7 @@ ghost use Rattle.message.specs.Promises.{accept_round_of, value_of};
 ghost use Rattle.message.specs.Refusals.{refusal_number};
 ghost use Rattle.message.specs.Messages.{msg_slot};
 
-use refusals::Refused;
+use basics::refusals::Refused;
 
 // The modes of the paxos family: the Rust's PFModeSetting, whose tables stand beside it in the settings.
 #[derive(Clone, Copy, PartialEq, Eq, Debug)]

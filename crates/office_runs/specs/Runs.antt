@@ -6,7 +6,7 @@ use Rattle.calls.specs.declared.CommittedSlot.{CommittedSlot}
 use Rattle.basics.specs.sets.Sets.{contains, insert}
 use Rattle.message.specs.declared.ConsensusMsg.TheVariants.{ForwardRequest}
 use Rattle.steps.specs.declared.Destination.TheVariants.{One}
-use Rattle.steps.specs.declared.Messages.{Messages}
+use Rattle.steps.specs.declared.SentMessages.{SentMessages}
 use Rattle.calls.specs.declared.Call.TheVariants.{Propose, Receive}
 use Rattle.consensus.specs.Call.{new_shard, call_of}
 use Rattle.consensus.specs.declared.Answer.{Answer}
@@ -51,7 +51,7 @@ with_message s source None = s
 with_message s source (Some o) = with_last s (record { source = source; outgoing = o })
 
 -- with the messages of a call
-unfoldable pub with_messages : SoFar Sending 15 → ℕ → Messages → SoFar Sending 15
+unfoldable pub with_messages : SoFar Sending 15 → ℕ → SentMessages → SoFar Sending 15
 with_messages s source ms = with_message (with_message (with_message s source ms.first) source ms.second) source ms.third
 
 -- with the commit of a call, if there is one
@@ -76,8 +76,8 @@ unfoldable pub office_shard : OfficeRun → ℕ → Shard
 office_shard run member = cond (ltb member 3) (get_or run.members member (office 0)) (office 0)
 
 -- after a call on a member, which was the event
-unfoldable pub with_answer : OfficeRun → ℕ → RunEvent → Answer → OfficeRun
-with_answer run member e a =
+unfoldable pub run_with_answer : OfficeRun → ℕ → RunEvent → Answer → OfficeRun
+run_with_answer run member e a =
     record {
       members = cond (ltb member 3) (set run.members member a.shard) run.members;
       proposed = run.proposed;
@@ -93,17 +93,17 @@ with_proposer run member =
 -- ---- the run with an event more, or none where the event may not come next
 
 -- by the answer to the proposal
-unfoldable pub if_taken : OfficeRun → ℕ → Answer → Option OfficeRun
-if_taken run member a =
-    cond (is_done a.reply.outcome) (Some (with_proposer (with_answer run member (Proposes member) a) member)) None
+unfoldable pub run_if_taken : OfficeRun → ℕ → Answer → Option OfficeRun
+run_if_taken run member a =
+    cond (is_done a.reply.outcome) (Some (with_proposer (run_with_answer run member (Proposes member) a) member)) None
 
-unfoldable pub after_proposal : OfficeRun → ℕ → Option OfficeRun
-after_proposal run member =
-    cond (contains run.proposed member) None (if_taken run member (call_of (office_shard run member) (Propose (value_proposed member))))
+unfoldable pub run_after_proposal : OfficeRun → ℕ → Option OfficeRun
+run_after_proposal run member =
+    cond (contains run.proposed member) None (run_if_taken run member (call_of (office_shard run member) (Propose (value_proposed member))))
 
 unfoldable pub after_message : OfficeRun → ℕ → ℕ → Sending → OfficeRun
 after_message run member place s =
-    with_answer run member (Delivers member place) (call_of (office_shard run member) (Receive (heard_by (office_shard run member) s.outgoing.message)))
+    run_with_answer run member (Delivers member place) (call_of (office_shard run member) (Receive (heard_by (office_shard run member) s.outgoing.message)))
 
 unfoldable pub after_delivery : OfficeRun → ℕ → ℕ → Option OfficeRun
 after_delivery run member place =
@@ -112,5 +112,5 @@ after_delivery run member place =
     None
 
 unfoldable pub trial_of : OfficeRun → RunEvent → Option OfficeRun
-trial_of run (Proposes member) = after_proposal run member
+trial_of run (Proposes member) = run_after_proposal run member
 trial_of run (Delivers member place) = after_delivery run member place

@@ -1,19 +1,21 @@
 // A run of the three offices of request E12, event after event: the group by value, and what the run has brought so far.
 #![tactic(auto)]
 
+pub mod listing;
+
 ghost use Rattle.std.specs.Prelude.{◌≡◌};
 ghost use Rattle.basics.specs.sets.Sets.{insert};
 ghost use Rattle.enabled_runs.specs.Listing.{is_commit_message, is_sent_to};
-ghost use Rattle.enabled_runs.specs.Offices.{office_settings, requester_of_value, message_requester, held_requester, heard_by};
-ghost use Rattle.office_runs.specs.Runs.{office, value_proposed, no_sending, sending_at, with_last, with_message, with_messages, with_commit_by, new_run, office_shard, with_answer, after_proposal, after_delivery, trial_of};
+ghost use Rattle.enabled_runs.specs.Offices.{office_settings, requester_of_value, message_requester, requester_of_held, heard_by};
+ghost use Rattle.office_runs.specs.Runs.{office, value_proposed, no_sending, sending_at, with_last, with_message, with_messages, with_commit_by, new_run, office_shard, run_with_answer, run_after_proposal, after_delivery, trial_of};
 
+use calls::delivery::{Delivery, Said};
 use calls::{Call, CommittedSlot};
 use consensus::{Answer, Shard};
-use delivery::{Delivery, Said};
 use enabled_runs::{CommitBy, RunEvent, Sending};
 use message::{ConsensusMessage, ConsensusMsg, PFMode, RoundV};
 use settings::Settings;
-use steps::{Destination, Messages, Outgoing};
+use steps::{Destination, Outgoing, SentMessages};
 
 // What a run has brought, in time order: the first count places are filled. An array with its count, without heap, and no
 // ArrayVec: that is not Copy, and the lister passes one run on to each event that may come next. Network, of group runs, has the shape too, and is a type of
@@ -64,14 +66,14 @@ fn new_office(member: u64) -> Shard
 
 // "member 0, 1 or 2 proposes value 10, 11 or 12"; another number is no member.
 #[tactic(auto, unfolding(crate::specs::Runs::value_proposed))]
-fn value_of(member: u64) -> u64
+fn value_proposed(member: u64) -> u64
     ensures { result ≡ value_proposed member }
 {
     if member < 3 { 10 + member } else { 10 }
 }
 
 // "names the member that proposes a value as its requester"
-fn requester_of(v: u64) -> Option<u64>
+fn requester_of_value(v: u64) -> Option<u64>
     ensures { result ≡ requester_of_value v }
 {
     Some(v.saturating_sub(10))
@@ -82,19 +84,19 @@ fn message_requester(msg: ConsensusMsg) -> Option<u64>
     ensures { result ≡ message_requester msg }
 {
     match msg {
-        ConsensusMsg::Prepare { rv, .. } => requester_of(rv.get_v()),
-        ConsensusMsg::Accept { v, .. } => requester_of(v),
-        ConsensusMsg::ForwardRequest { v } => requester_of(v),
-        ConsensusMsg::Commit { v, .. } => requester_of(v),
+        ConsensusMsg::Prepare { rv, .. } => requester_of_value(rv.get_v()),
+        ConsensusMsg::Accept { v, .. } => requester_of_value(v),
+        ConsensusMsg::ForwardRequest { v } => requester_of_value(v),
+        ConsensusMsg::Commit { v, .. } => requester_of_value(v),
         ConsensusMsg::ReadRequest { .. } | ConsensusMsg::ReadResponse { .. } => None,
     }
 }
 
-#[tactic(auto, unfolding(enabled_runs::specs::Offices::held_requester))]
-fn held_requester(held: Option<RoundV>) -> Option<u64>
-    ensures { result ≡ held_requester held }
+#[tactic(auto, unfolding(enabled_runs::specs::Offices::requester_of_held))]
+fn requester_of_held(held: Option<RoundV>) -> Option<u64>
+    ensures { result ≡ requester_of_held held }
 {
-    held.and_then(|rv| requester_of(rv.get_v()))
+    held.and_then(|rv| requester_of_value(rv.get_v()))
 }
 
 // What the host of a shard makes of a message: "each host holds all values".
@@ -114,7 +116,7 @@ fn heard_by(shard: Shard, message: ConsensusMessage) -> Delivery
             requester: message_requester(msg),
             fast: false,
         },
-        held_requester: held_requester(held),
+        held_requester: requester_of_held(held),
     }
 }
 
@@ -127,7 +129,7 @@ fn is_commit_message(msg: ConsensusMsg) -> bool
 
 // Whether the message was sent to the member. "A Commit counts as sent to every other member."
 #[tactic(auto, unfolding(enabled_runs::specs::Listing::is_sent_to))]
-fn sent_to(sending: Sending, member: u64) -> bool
+fn is_sent_to(sending: Sending, member: u64) -> bool
     ensures { result ≡ is_sent_to sending member }
 {
     let outgoing = sending.outgoing;
@@ -191,7 +193,7 @@ impl SoFar<Sending, 15> {
 
     // With the messages of a call, in the order of sending.
     #[tactic(auto, unfolding(crate::specs::Runs::with_messages))]
-    fn with_messages(self, source: u64, messages: Messages) -> SoFar<Sending, 15>
+    fn with_messages(self, source: u64, messages: SentMessages) -> SoFar<Sending, 15>
         ensures { result ≡ with_messages self source messages }
     {
         let one = self.with_message(source, messages.first);
@@ -267,9 +269,9 @@ impl OfficeRun {
     }
 
     // After a call on a member, which was the event.
-    #[tactic(auto, unfolding(crate::specs::Runs::with_answer))]
+    #[tactic(auto, unfolding(crate::specs::Runs::run_with_answer))]
     fn with_answer(mut self, member: u64, event: RunEvent, answer: Answer) -> OfficeRun
-        ensures { result ≡ with_answer self member event answer }
+        ensures { result ≡ run_with_answer self member event answer }
     {
         let reply = answer.reply;
         self.sent = self.sent.with_messages(member, reply.messages);
@@ -282,15 +284,15 @@ impl OfficeRun {
     }
 
     // "a member's one proposal, where it is not refused"
-    #[tactic(auto, unfolding(crate::specs::Runs::after_proposal, crate::specs::Runs::if_taken))]
+    #[tactic(auto, unfolding(crate::specs::Runs::run_after_proposal, crate::specs::Runs::run_if_taken))]
     fn after_proposal(self, member: u64) -> Option<OfficeRun>
-        ensures { result ≡ after_proposal self member }
+        ensures { result ≡ run_after_proposal self member }
     {
         if basics::sets::contains(self.proposed, member) {
             return None;
         }
         let shard = self.shard_of(member);
-        let answer = shard.call(Call::Propose(value_of(member)));
+        let answer = shard.call(Call::Propose(value_proposed(member)));
         let reply = answer.reply;
         if reply.outcome.is_err() {
             return None;
@@ -309,7 +311,7 @@ impl OfficeRun {
             return None;
         }
         let sending = self.sent.at(place);
-        if !sent_to(sending, member) {
+        if !is_sent_to(sending, member) {
             return None;
         }
         let shard = self.shard_of(member);

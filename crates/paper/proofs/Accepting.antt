@@ -25,23 +25,23 @@ use Rattle.message.specs.declared.Refusal.{Refusal}
 use Rattle.message.specs.declared.Refusal.TheVariants.{Panic}
 use Rattle.round_state.specs.Paxos.{receive_accept, accept_fits, after_accept, paxos_can_commit}
 use Rattle.round_state.specs.declared.PaxosState.{PaxosState}
-use Rattle.classic.specs.accept.Accept.{tells_committer, is_committer, accept_to, committer_hears, answer_accept, tells_commit, with_commit_message, try_commit, answered, follower, accepted as accepted_step, after_accepted, accepting}
+use Rattle.classic.specs.accept.Accept.{tells_committer, is_committer, accept_to, committer_hears, answer_accept, tells_commit, with_commit_message, try_commit, answered_delegate, follower, accept_taken as accepted_step, after_accepted, accepting}
 use Rattle.paxos_family.specs.Commit.{commit_slot}
-use Rattle.steps.specs.Steps.{CoreStep, no_messages, one_message, two_messages, also, first_served, with_paxos, left_fast_path, stays, continues, commits as commits_step}
+use Rattle.steps.specs.Steps.{CoreStep, no_messages, one_message, two_messages, also, first_served, with_paxos, left_fast_path, stays, continues, commits_with as commits_step}
 use Rattle.steps.specs.declared.Asked.{Asked}
 use Rattle.steps.specs.declared.Core.{Core}
 use Rattle.steps.specs.declared.Destination.TheVariants.{All}
 use Rattle.steps.specs.declared.Outgoing.{Outgoing}
 use Rattle.steps.specs.declared.Heard.{Heard}
-use Rattle.steps.specs.declared.Messages.{Messages}
+use Rattle.steps.specs.declared.SentMessages.{SentMessages}
 use Rattle.consensus.specs.Answers.{committed}
 use Rattle.consensus.specs.FirstCause.{is_oneself}
 use Rattle.consensus.specs.declared.State.{State}
-use Rattle.consensus.proofs.Entered.{not_swift}
+use Rattle.consensus.proofs.Entered.{not_swift_without_fast_path}
 use Rattle.consensus.proofs.Handled.{eqb_sym}
 use Rattle.paper.specs.Replica.{Replica, replica_of}
-use Rattle.paper.specs.PaperCall.{Seen, Place, Known, in_places, is_one_of, but, leaves, commits_learned, addressed, learners, is_learner, to_each, served_first, informs, learning, counts_and_learns, committers_as_learners}
-use Rattle.paper.proofs.Views.{place_in, known_in, state_seen, seen_after, taken_no, push, Agrees, agrees, through, no_refusal, agree_both, agree_unless, accept_counted}
+use Rattle.paper.specs.PaperCall.{Seen, Place, Known, in_places, is_one_of, all_but, leaves, commits_learned, addressed, learners, is_learner, to_each, served_first, informs, learning, counts_and_learns, committers_as_learners}
+use Rattle.paper.proofs.Views.{place_in, known_in, state_seen, seen_after, taken_no, push, AgreesIfTaken, agrees_if_taken, through, no_refusal, agree_both, agree_unless, accept_counted}
 use Rattle.paper.proofs.InOrder.{then_accept}
 use Rattle.paper.proofs.Handlers.{off_paxos}
 
@@ -77,7 +77,7 @@ module _ (state : State) (a : Asked) (h : Heard) (there : Bool) (acceptors : ℕ
   seen_taken step = seen_step (Ok step)
 
   swift : is_swift_paxos a.mode ≡ false
-  swift = not_swift a.mode classic
+  swift = not_swift_without_fast_path a.mode classic
 
   module _ (replica : a.member.replica ≡ true) (n : PaxosRound) (v : ℕ) (p : PaxosState) where
     abbrev after : PaxosState
@@ -94,50 +94,50 @@ module _ (state : State) (a : Asked) (h : Heard) (there : Bool) (acceptors : ℕ
     acceptances ps = to_each here known ps (some (acceptance proposal))
 
     -- what the engine sends is a list, with room for one more
-    abbrev Lists : Messages → List Outgoing → Type 0
+    abbrev Lists : SentMessages → List Outgoing → Type 0
     Lists x ms = (x ≡ in_places ms) × ((m : Outgoing) → also x m ≡ in_places (ms ++ (m ∷ [])))
 
     module _ (other : eqb me n.leader ≡ false) where
       abbrev to_leader : Outgoing
       to_leader = accept_to a off n n.leader
 
-      leader_told : Lists (one_message to_leader) (acceptances (but me (n.leader ∷ [])))
+      leader_told : Lists (one_message to_leader) (acceptances (all_but me (n.leader ∷ [])))
       leader_told = subst (λ (t : Bool). Lists (one_message to_leader) (acceptances (cond t [] (n.leader ∷ [])))) (sym other) (refl, λ m. refl)
 
       committer_told : (q : ℕ)
           → Lists (cond (true && (not (eqb q n.leader) && not (eqb q me))) (two_messages (accept_to a off n q) to_leader) (one_message to_leader))
-          (acceptances (but me (but n.leader (q ∷ []) ++ (n.leader ∷ []))))
+          (acceptances (all_but me (all_but n.leader (q ∷ []) ++ (n.leader ∷ []))))
       committer_told q =
-          subst (λ (s : Bool). Lists (sent s (eqb q me)) (acceptances (but me (cond (eqb n.leader q) [] (q ∷ []) ++ (n.leader ∷ [])))))
+          subst (λ (s : Bool). Lists (sent s (eqb q me)) (acceptances (all_but me (cond (eqb n.leader q) [] (q ∷ []) ++ (n.leader ∷ [])))))
           (eqb_sym n.leader q)
-          (subst (λ (t : Bool). Lists (sent (eqb n.leader q) t) (acceptances (but me (cond (eqb n.leader q) [] (q ∷ []) ++ (n.leader ∷ [])))))
+          (subst (λ (t : Bool). Lists (sent (eqb n.leader q) t) (acceptances (all_but me (cond (eqb n.leader q) [] (q ∷ []) ++ (n.leader ∷ [])))))
           (eqb_sym me q) (by_leader (eqb n.leader q)))
         where
-          sent : Bool → Bool → Messages
+          sent : Bool → Bool → SentMessages
           sent s t = cond (not s && not t) (two_messages (accept_to a off n q) to_leader) (one_message to_leader)
 
-          both_told : Lists (two_messages (accept_to a off n q) to_leader) (acceptances (q ∷ but me (n.leader ∷ [])))
+          both_told : Lists (two_messages (accept_to a off n q) to_leader) (acceptances (q ∷ all_but me (n.leader ∷ [])))
           both_told =
               subst (λ (t : Bool). Lists (two_messages (accept_to a off n q) to_leader) (acceptances (q ∷ cond t [] (n.leader ∷ [])))) (sym other) (refl, λ m. refl)
 
           by_self : (t : Bool)
               → Lists (sent false t)
-              (acceptances (cond t (but me (n.leader ∷ [])) (q ∷ but me (n.leader ∷ []))))
+              (acceptances (cond t (all_but me (n.leader ∷ [])) (q ∷ all_but me (n.leader ∷ []))))
           by_self true = leader_told
           by_self false = both_told
 
           by_leader : (s : Bool)
-              → Lists (sent s (eqb me q)) (acceptances (but me (cond s [] (q ∷ []) ++ (n.leader ∷ []))))
+              → Lists (sent s (eqb me q)) (acceptances (all_but me (cond s [] (q ∷ []) ++ (n.leader ∷ []))))
           by_leader true = leader_told
           by_leader false = by_self (eqb me q)
 
       -- the engine's answer tells each of the learners but itself
-      answer_paper : Lists (answer_accept a n off h.committer) (acceptances (but me (learners here known n)))
+      answer_paper : Lists (answer_accept a n off h.committer) (acceptances (all_but me (learners here known n)))
       unfolding answer_accept committer_hears
       answer_paper = by_committer h.committer
         where
-          Tells : Messages → List ℕ → Type 0
-          Tells x committers = Lists x (acceptances (but me (but n.leader committers ++ (n.leader ∷ []))))
+          Tells : SentMessages → List ℕ → Type 0
+          Tells x committers = Lists x (acceptances (all_but me (all_but n.leader committers ++ (n.leader ∷ []))))
 
           no_committer : (m : PFMode) → Tells (one_message to_leader) (committers_as_learners m None)
           no_committer Paxos = leader_told
@@ -172,7 +172,7 @@ module _ (state : State) (a : Asked) (h : Heard) (there : Bool) (acceptors : ℕ
         by_leader q false e = or_turned (eqb me q) (eqb me n.leader)
 
         go : (m : PFMode) (q : Optional ℕ) → has_fast_path m ≡ false
-            → is_one_of me (but n.leader (committers_as_learners m q) ++ (n.leader ∷ [])) ≡ (eqb me n.leader || (tells_committer m && is_process q me))
+            → is_one_of me (all_but n.leader (committers_as_learners m q) ++ (n.leader ∷ [])) ≡ (eqb me n.leader || (tells_committer m && is_process q me))
         go Paxos q e = refl
         go MultiPaxos q e = refl
         go MultiPaxos3P None e = refl
@@ -182,7 +182,7 @@ module _ (state : State) (a : Asked) (h : Heard) (there : Bool) (acceptors : ℕ
         go Pando q e = refl
         go SwiftPaxos q e = absurd (not_both refl e)
 
-    tells_paper : (x : Messages) (ms : List Outgoing) → Lists x ms → with_commit_message a h n off x ≡ in_places (ms ++ informs here known proposal)
+    tells_paper : (x : SentMessages) (ms : List Outgoing) → Lists x ms → with_commit_message a h n off x ≡ in_places (ms ++ informs here known proposal)
     unfolding with_commit_message tells_commit informs
     tells_paper x ms (same, room) =
         ap (λ (p : Optional ℕ). cond tells (also x (addressed here (All p) (Commit core.slot v))) x) (first_served_lem h.requester)
@@ -196,7 +196,7 @@ module _ (state : State) (a : Asked) (h : Heard) (there : Bool) (acceptors : ℕ
         tells : Bool
         tells = cond (eqb n.leader me) true (not (is_process h.requester me))
 
-        by : Bool → Bool → Messages
+        by : Bool → Bool → SentMessages
         by l k = cond (cond l true (not k)) (also x told_all) x
 
         first_served_lem : (p : Optional ℕ) → first_served a p ≡ served_first here known p
@@ -213,11 +213,11 @@ module _ (state : State) (a : Asked) (h : Heard) (there : Bool) (acceptors : ℕ
         go false true = same ∙ ap in_places (sym (append-nil ms))
         go false false = room told_all
 
-    commit_paper : (ms : List Outgoing) → Agrees (seen_taken (commits_step v (left_fast_path off) (in_places ms))) (commits_learned here v ms)
+    commit_paper : (ms : List Outgoing) → AgreesIfTaken (seen_taken (commits_step v (left_fast_path off) (in_places ms))) (commits_learned here v ms)
     unfolding committed commit_slot
     commit_paper ms =
         agree_unless state_seen there
-        (λ e. agrees (ap (λ (t : Bool). record {
+        (λ e. agrees_if_taken (ap (λ (t : Bool). record {
           outcome = 0;
           slot = increment
               core.slot;
@@ -228,18 +228,18 @@ module _ (state : State) (a : Asked) (h : Heard) (there : Bool) (acceptors : ℕ
         }) classic))
         (λ e. no_refusal refl)
 
-    learns_paper : (x : Messages) (ms : List Outgoing) → Lists x ms
-        → Agrees (seen_taken (try_commit a h n v off x)) (counts_and_learns here known proposal (replica_of after) ms)
+    learns_paper : (x : SentMessages) (ms : List Outgoing) → Lists x ms
+        → AgreesIfTaken (seen_taken (try_commit a h n v off x)) (counts_and_learns here known proposal (replica_of after) ms)
     unfolding try_commit learning learns
     learns_paper x ms lists =
         through refl
         (agree_both seen_taken (paxos_can_commit a.member after) (is_majority acceptors (size after.accepted_set)) (quorum (size after.accepted_set))
-        (λ e. through (ap (λ (y : Messages). seen_taken (commits_step v (left_fast_path off) y)) (tells_paper x ms lists))
+        (λ e. through (ap (λ (y : SentMessages). seen_taken (commits_step v (left_fast_path off) y)) (tells_paper x ms lists))
         (commit_paper (ms ++ informs here known proposal)) refl)
-        (λ e. agrees (ap (λ (y : Messages). seen_taken (stays off y)) lists.0)))
+        (λ e. agrees_if_taken (ap (λ (y : SentMessages). seen_taken (stays off y)) lists.0)))
         (push (learning here known proposal (replica_of after) ms) (is_majority acceptors (size after.accepted_set)) (some v) none)
 
-    abbrev answers : Messages
+    abbrev answers : SentMessages
     answers = answer_accept a n off h.committer
 
     abbrev leads : Bool
@@ -257,29 +257,29 @@ module _ (state : State) (a : Asked) (h : Heard) (there : Bool) (acceptors : ℕ
         (cond c (Ok (try_commit a h n v off no_messages)) (Err Panic)))
 
     abbrev announced : Bool → Bool → List Outgoing
-    announced l d = cond d (acceptances (cond l [] (but me (learners here known n)))) []
+    announced l d = cond d (acceptances (cond l [] (all_but me (learners here known n)))) []
 
     abbrev rule : Replica → List Outgoing → Bool → Seen
     rule r ms learner = cond learner (counts_and_learns here known proposal r ms) (leaves here r ms)
 
-    by_roles : (l d c : Bool) → leads ≡ l → Agrees (seen_step (step l d c)) (rule (replica_of after) (announced l d) (l || c))
+    by_roles : (l d c : Bool) → leads ≡ l → AgreesIfTaken (seen_step (step l d c)) (rule (replica_of after) (announced l d) (l || c))
     by_roles true true c e = learns_paper no_messages [] (refl, λ m. refl)
     by_roles true false c e = learns_paper no_messages [] (refl, λ m. refl)
     by_roles false true true e =
         through (taken_no seen_taken (is_swift_paxos a.mode) (continues off answers) (try_commit a h n v off answers) swift)
         (learns_paper answers (announced false true) (answer_paper e)) refl
-    by_roles false true false e = agrees (ap (λ (x : Messages). seen_taken (stays off x)) (answer_paper e).0)
+    by_roles false true false e = agrees_if_taken (ap (λ (x : SentMessages). seen_taken (stays off x)) (answer_paper e).0)
     by_roles false false true e = learns_paper no_messages [] (refl, λ m. refl)
     by_roles false false false e = no_refusal refl
 
-    accepted_paper : Agrees (seen_step (accepted_step a h n v off)) (rule (replica_of after) (announced leads from_proposer) (is_learner here known n))
-    unfolding accepted_step follower answered
+    accepted_paper : AgreesIfTaken (seen_step (accepted_step a h n v off)) (rule (replica_of after) (announced leads from_proposer) (is_learner here known n))
+    unfolding accepted_step follower answered_delegate
     accepted_paper =
         through refl (by_roles leads from_proposer (is_committer a h) refl)
         (ap (rule (replica_of after) (announced leads from_proposer)) (sym learner_same))
 
     pub accepting_paper : before (Some n) p.round ≡ false
-        → Agrees (seen_step (accepting a h n v (with_paxos p core))) (then_accept here known proposal (replica_of p))
+        → AgreesIfTaken (seen_step (accepting a h n v (with_paxos p core))) (then_accept here known proposal (replica_of p))
     unfolding accepting receive_accept
     accepting_paper free =
         agree_unless g (accept_fits p.max_rv n v)

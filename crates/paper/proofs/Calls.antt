@@ -32,8 +32,8 @@ use Rattle.read_tracker.specs.declared.Inserted.{Inserted}
 use Rattle.settings.specs.Settings.{counts_fit, within_limits}
 use Rattle.settings.specs.Questions.{committer_of, quorums_of}
 use Rattle.settings.specs.declared.Settings.{Settings}
-use Rattle.enter.specs.Enter.{in_round}
-use Rattle.classic.specs.prepare.Prepare.{prepared, gather}
+use Rattle.steps.specs.enter.Enter.{in_round}
+use Rattle.classic.specs.prepare.Prepare.{prepare_answered, gather}
 use Rattle.classic.specs.accept.Accept.{accepting}
 use Rattle.propose.specs.Propose.{propose_fast, propose_classic}
 use Rattle.paxos_family.specs.Commit.{commit_slot}
@@ -42,17 +42,17 @@ use Rattle.steps.specs.Steps.{RoundsStep, CoreStep, no_messages, one_message, an
 use Rattle.steps.specs.declared.Asked.{Asked}
 use Rattle.steps.specs.declared.Core.{Core}
 use Rattle.steps.specs.declared.Heard.{Heard}
-use Rattle.delivery.specs.declared.Delivery.{Delivery}
+use Rattle.calls.specs.declared.delivery.Delivery.{Delivery}
 use Rattle.calls.specs.Commits.{committed_slot}
 use Rattle.calls.specs.Asked.{asked_of, gatherer_in, gatherer_of, heard_of}
 use Rattle.calls.specs.Replies.{read_answer}
 use Rattle.calls.specs.declared.Call.{Call}
 use Rattle.calls.specs.declared.Call.TheVariants.{Propose, StartRead, Receive}
-use Rattle.consensus.specs.Answers.{refused, sent, committed, finish}
+use Rattle.consensus.specs.Answers.{refused, sent_answer, committed, finish}
 use Rattle.consensus.specs.Call.{new_shard, call_of, in_shard}
 use Rattle.consensus.proofs.Decided.{handled, by_decision, settings_kept}
-use Rattle.consensus.proofs.Entered.{not_swift, committer_same, prepare_delegate, accept_delegate}
-use Rattle.consensus.proofs.FirstCause.{Gives, first_start, first_cause_lem}
+use Rattle.consensus.proofs.Entered.{not_swift_without_fast_path, committer_same, prepare_delegate, accept_delegate}
+use Rattle.consensus.proofs.FirstCause.{GivesNumber, first_start, first_cause_lem}
 use Rattle.consensus.proofs.Refusals.{refusal_numbered}
 use Rattle.consensus.specs.FirstCause.{number_alone, number_of_outcome, is_live, leader_delegate, promise_delegate, led_from_start}
 use Rattle.consensus.specs.Handle.{proposing, processed, process_message, on_commit, on_read_request, on_read_response, read_inserted, after_insert, start_read, handle, handle_call}
@@ -60,8 +60,8 @@ use Rattle.consensus.specs.declared.Shard.{Shard}
 use Rattle.consensus.specs.declared.State.{State}
 use Rattle.paper.specs.Replica.{Replica, responded_of, enters_number}
 use Rattle.paper.specs.PaperCall.{Seen, Place, Known, place_of, proposer_by, committers_as_learners, known_of, seen, commits_learned, prepare_received, accept_received, proposes_own, received, OfPaxos, InPaxos, LeavesPaxos, beginning, AtBeginning, replica_in, refused_with, by_rules, paper_call}
-use Rattle.paper.specs.Runs.{ClassicMode, Reached, new, called}
-use Rattle.paper.proofs.Views.{place_in, known_in, state_seen, seen_after, taken_no, Agrees, agrees, through, no_refusal, agree_both, round_entered, not_exceeded}
+use Rattle.paper.specs.Runs.{ClassicMode, ReachedShard, new, called}
+use Rattle.paper.proofs.Views.{place_in, known_in, state_seen, seen_after, taken_no, AgreesIfTaken, agrees_if_taken, through, no_refusal, agree_both, round_entered, not_exceeded}
 use Rattle.paper.proofs.InOrder.{kept, then_prepare, prepare_in_order, then_accept, accept_in_order}
 use Rattle.paper.proofs.Handlers.{enter_paper, entered_core, prepared_paper}
 use Rattle.paper.proofs.Accepting.{accepting_paper}
@@ -118,7 +118,7 @@ place_same shard = ap with (start_same shard.settings.mode shard.settings.first_
 -- only SwiftPaxos has another proposer for a promise of the fast path
 promise_proposer : (s : Settings) → has_fast_path s.mode ≡ false → (leader : ℕ) (rv : RoundV) → promise_delegate s leader rv ≡ leader_delegate s s.mode leader
 promise_proposer s classic leader (FastV proposer v) =
-    ap (λ (t : Bool). cond (t && not (eqb leader s.my_pid)) proposer (leader_delegate s s.mode leader)) (not_swift s.mode classic)
+    ap (λ (t : Bool). cond (t && not (eqb leader s.my_pid)) proposer (leader_delegate s s.mode leader)) (not_swift_without_fast_path s.mode classic)
 promise_proposer s classic leader (PaxosV at v) = refl
 
 proposer_same : (s : Settings) → has_fast_path s.mode ≡ false → (m : ConsensusMsg) → gatherer_of s m ≡ proposer_by s m
@@ -176,13 +176,13 @@ module _ (shard : Shard) (classic : has_fast_path shard.settings.mode ≡ false)
     abbrev seen_step : Result CoreStep Refusal → Seen
     seen_step step = seen_after state a there step
 
-    prepare_paper : (slot : ℕ) (n : PaxosRound) (rv : RoundV) → Agrees (seen_step (on_prepare a h slot n rv core)) (prepare_received here known slot n rv)
+    prepare_paper : (slot : ℕ) (n : PaxosRound) (rv : RoundV) → AgreesIfTaken (seen_step (on_prepare a h slot n rv core)) (prepare_received here known slot n rv)
     unfolding on_prepare entered_prepare
     prepare_paper slot n rv =
         through refl
         (enter_paper state a h there acceptors classic quorum slot n (entered_prepare a h n rv) (ends (enters_number n old))
         (λ replica free.
-        through (ap (λ (c : Core). seen_step (and_then (prepared a h n rv c) (gather a h n rv))) (entered_core state a h there acceptors classic quorum n))
+        through (ap (λ (c : Core). seen_step (and_then (prepare_answered a h n rv c) (gather a h n rv))) (entered_core state a h there acceptors classic quorum n))
         (prepared_paper state a h there acceptors classic quorum replica n rv (in_round n core).paxos (not_exceeded n core free))
         (ap ends (round_entered n core))))
         (sym (prepare_in_order here known n rv slot))
@@ -191,7 +191,7 @@ module _ (shard : Shard) (classic : has_fast_path shard.settings.mode ≡ false)
         ends r = then_prepare here known n rv (kept here known n rv r)
 
     accept_paper : (slot : ℕ) (n : PaxosRound) (v : ℕ)
-        → Agrees (seen_step (on_accept a h slot n v core)) (accept_received here known slot (record { number = n; value = v }))
+        → AgreesIfTaken (seen_step (on_accept a h slot n v core)) (accept_received here known slot (record { number = n; value = v }))
     unfolding on_accept
     accept_paper slot n v =
         through refl
@@ -212,14 +212,14 @@ module _ (shard : Shard) (classic : has_fast_path shard.settings.mode ≡ false)
         (map_step (on_rounds state.rounds.fast) (process_classic a h d.message.msg core)) classic
         ∙ ap (λ (x : ConsensusMsg). seen_step (process_classic a h x core)) e
 
-    handled_paper : (m : ConsensusMsg) → d.message.msg ≡ m → OfPaxos m → Agrees (state_seen (handle lowest_best state a h d m)) (received here known m)
+    handled_paper : (m : ConsensusMsg) → d.message.msg ≡ m → OfPaxos m → AgreesIfTaken (state_seen (handle lowest_best state a h d m)) (received here known m)
     unfolding handle process_classic on_commit committed commit_slot received
     handled_paper (Prepare slot n rv) e p = through (by_core_lem (Prepare slot n rv) e) (prepare_paper slot n rv) refl
     handled_paper (Accept slot n v) e p = through (by_core_lem (Accept slot n v) e) (accept_paper slot n v) refl
-    handled_paper (ForwardRequest v) e p = agrees (by_core_lem (ForwardRequest v) e)
+    handled_paper (ForwardRequest v) e p = agrees_if_taken (by_core_lem (ForwardRequest v) e)
     handled_paper (Commit slot v) e p =
-        agree_both state_seen (ltb slot core.slot) (ltb slot core.slot) refl (λ o. agrees refl)
-        (λ o. agrees (ap (λ (t : Bool). record {
+        agree_both state_seen (ltb slot core.slot) (ltb slot core.slot) refl (λ o. agrees_if_taken refl)
+        (λ o. agrees_if_taken (ap (λ (t : Bool). record {
           outcome = 0;
           slot = increment
               core.slot;
@@ -232,7 +232,7 @@ module _ (shard : Shard) (classic : has_fast_path shard.settings.mode ≡ false)
     handled_paper (ReadRequest id) e p = absurd p
     handled_paper (ReadResponse id next) e p = absurd p
 
-  propose_paper : (v : ℕ) → Agrees (state_seen (finish state a true (proposing a v state.rounds))) (proposes_own (place_in a acceptors core) v)
+  propose_paper : (v : ℕ) → AgreesIfTaken (state_seen (finish state a true (proposing a v state.rounds))) (proposes_own (place_in a acceptors core) v)
   unfolding proposing
   propose_paper v =
       through
@@ -241,7 +241,7 @@ module _ (shard : Shard) (classic : has_fast_path shard.settings.mode ≡ false)
       (proposal_paper shard.settings state acceptors classic v) refl
 
   -- a call that is taken follows the rules
-  taken_paper : (c : Call) → InPaxos c → Agrees (seen (handled lowest_best shard c)) (by_rules shard c)
+  taken_paper : (c : Call) → InPaxos c → AgreesIfTaken (seen (handled lowest_best shard c)) (by_rules shard c)
   unfolding handle_call by_rules
   taken_paper (Propose v) p = through refl (propose_paper v) (ap (λ (x : Place). proposes_own x v) (place_same shard))
   taken_paper (StartRead tag arrival) p = absurd p
@@ -250,9 +250,9 @@ module _ (shard : Shard) (classic : has_fast_path shard.settings.mode ≡ false)
       (ap (λ (x : Place). received x (known_in a (heard_of shard.settings d)) d.message.msg) (place_same shard)
       ∙ ap (λ (x : Known). received (place_of shard) x d.message.msg) (known_same shard.settings classic d))
 
-  taken_by_rules : (c : Call) → InPaxos c → Agrees (seen (call_of shard c)) (by_rules shard c)
+  taken_by_rules : (c : Call) → InPaxos c → AgreesIfTaken (seen (call_of shard c)) (by_rules shard c)
   taken_by_rules c p =
-      by_decision lowest_best shard (λ r. Agrees (seen r) (by_rules shard c)) c (λ why. no_refusal (refusal_numbered why)) (λ made room admitted. taken_paper c p)
+      by_decision lowest_best shard (λ r. AgreesIfTaken (seen r) (by_rules shard c)) c (λ why. no_refusal (refusal_numbered why)) (λ made room admitted. taken_paper c p)
 
   -- Every call is the paper's, whatever stands in the shard: where a cause refuses it (demand 1), with its number, and else by the rules.
   pub call_as_paper : (c : Call) → InPaxos c → seen (call_of shard c) ≡ paper_call shard c
@@ -265,7 +265,7 @@ module _ (shard : Shard) (classic : has_fast_path shard.settings.mode ≡ false)
       above : (why : Refusal) → eqb (refusal_number why) 0 ≡ false
       above why = ne_eqb (refusal_number why) 0 (λ e. not_both (refusal_numbered why) (ap (ltb 0) e))
 
-      go : {n : ℕ} → Gives shard (call_of shard c) n → seen (call_of shard c) ≡ by n
+      go : {n : ℕ} → GivesNumber shard (call_of shard c) n → seen (call_of shard c) ≡ by n
       go (inl (taken, e)) = taken_by_rules c p (ap number_of_outcome taken) ∙ ap by (sym e)
       go (inr (why, e, n)) = ap seen e ∙ ap (λ (t : Bool). cond t (by_rules shard c) (refused_with (refusal_number why) shard)) (sym (above why)) ∙ ap by (sym n)
 
@@ -286,7 +286,7 @@ other_calls_leave shard c other = by_decision lowest_best shard (LeavesPaxos sha
     asked : (src : ℕ) (id : ReadId) (t : Bool)
         → LeavesPaxos shard
         (in_shard shard
-        (cond t (refused Panic shard.state) (sent shard.state (one_message (read_answer shard.settings.my_pid src id shard.state.rounds.core)))))
+        (cond t (refused Panic shard.state) (sent_answer shard.state (one_message (read_answer shard.settings.my_pid src id shard.state.rounds.core)))))
     asked src id true = nothing_left Panic
     asked src id false = (refl, refl, refl, refl, ((λ x. x), tt, tt))
 
@@ -326,7 +326,7 @@ new_within s e = go (within_limits s) e
     go true d = refl
     go false d = absurd (not_both (ap is_done d) refl)
 
-reached_within : (shard : Shard) → Reached shard → within_limits shard.settings ≡ true
+reached_within : (shard : Shard) → ReachedShard shard → within_limits shard.settings ≡ true
 reached_within shard (new s e) = new_within s e
 reached_within shard (called before c r) = ap within_limits (settings_kept lowest_best before c) ∙ reached_within before r
 
@@ -339,6 +339,6 @@ no_fast_path Pando c = refl
 no_fast_path SwiftPaxos c = absurd c
 
 -- Every call of Paxos on every shard that there is, in Paxos, MultiPaxos, MultiPaxos3P and Pando.
-pub every_call_as_paper : (shard : Shard) → Reached shard → ClassicMode shard.settings.mode → (c : Call) → InPaxos c
+pub every_call_as_paper : (shard : Shard) → ReachedShard shard → ClassicMode shard.settings.mode → (c : Call) → InPaxos c
     → seen (call_of shard c) ≡ paper_call shard c
 every_call_as_paper shard r classic c p = call_as_paper shard (no_fast_path shard.settings.mode classic) (reached_within shard r) c p

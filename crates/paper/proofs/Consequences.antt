@@ -26,7 +26,7 @@ use Rattle.consensus.specs.Call.{call_of}
 use Rattle.consensus.specs.declared.Shard.{Shard}
 use Rattle.paper.specs.Replica.{Replica, report_of, accepted_of, wish_of, responded_of, replica_of, engine_round, engine_held, engine_state, own_value, first_wish, unless_accepted, is_there, keeps_something, proposer_in, also_self, hears}
 use Rattle.paper.specs.PaperCall.{Seen, InPaxos, paper_call}
-use Rattle.paper.specs.Runs.{Response, reports_of, hears_all, with_all}
+use Rattle.paper.specs.Runs.{HeardPromise, reports_of, hears_all, with_all}
 use Rattle.paper.proofs.Calls.{call_as_paper}
 
 -- ---- the new shard
@@ -122,7 +122,7 @@ counted_by {X} {A} {B} src me q x xs one = go
     go (inr (inr (y, i, f))) = inr (inr (y, inr i, f))
 
 module _ (me : ℕ) where
-  heard_value : (r : Replica) (ps : List Response) → keeps_something r ≡ true
+  heard_value : (r : Replica) (ps : List HeardPromise) → keeps_something r ≡ true
       → value_or_own round_before (own_value (hears_all me r ps).wish) (hears_all me r ps).acceptor.accepted
       ≡ value_or_own round_before (own_value r.wish) (highest round_before r.acceptor.accepted (reports_of ps))
   unfolding highest hears
@@ -132,22 +132,22 @@ module _ (me : ℕ) where
       (still_keeps (higher round_before r.acceptor.accepted (report_of p.brought)) r.wish p.brought)
       ∙ own_kept r.acceptor.accepted r.wish p.brought (reports_of ps) e
 
-  heard_keeps_one : (r : Replica) (p : Response) → keeps_something (hears me p.src p.brought r) ≡ true
+  heard_keeps_one : (r : Replica) (p : HeardPromise) → keeps_something (hears me p.src p.brought r) ≡ true
   unfolding hears
   heard_keeps_one r p = still_keeps (higher round_before r.acceptor.accepted (report_of p.brought)) r.wish p.brought
 
-  pub heard_keeps : (r : Replica) (ps : List Response) → keeps_something r ≡ true → keeps_something (hears_all me r ps) ≡ true
+  pub heard_keeps : (r : Replica) (ps : List HeardPromise) → keeps_something r ≡ true → keeps_something (hears_all me r ps) ≡ true
   heard_keeps r [] e = e
   heard_keeps r (p ∷ ps) e = heard_keeps (hears me p.src p.brought r) ps (heard_keeps_one r p)
 
   -- one promise more, behind the others
-  pub heard_last : (r : Replica) (ps : List Response) (src : ℕ) (rv : RoundV)
+  pub heard_last : (r : Replica) (ps : List HeardPromise) (src : ℕ) (rv : RoundV)
       → hears me src rv (hears_all me r ps) ≡ hears_all me r (ps ++ (record { src = src; brought = rv } ∷ []))
   heard_last r [] src rv = refl
   heard_last r (p ∷ ps) src rv = heard_last (hears me p.src p.brought r) ps src rv
 
   -- A gatherer that has heard some promises proposes as the paper's proposer that remembers every report.
-  pub proposes_of_all : (acceptors : ℕ) (n : PaxosRound) (r : Replica) (ps : List Response) → keeps_something r ≡ true
+  pub proposes_of_all : (acceptors : ℕ) (n : PaxosRound) (r : Replica) (ps : List HeardPromise) → keeps_something r ≡ true
       → proposes round_before acceptors (proposer_in n (hears_all me r ps)) ≡ proposes round_before acceptors (with_all me n r ps)
   unfolding proposes choice highest
   proposes_of_all acceptors n r ps e =
@@ -169,9 +169,9 @@ module _ (me : ℕ) where
       by_self false d = by_sender (eqb src q) refl (sym (contains_insert_other (insert set src) me q (eqb-false me q d)) ∙ e)
 
   -- it counts those alone that it has heard, and itself
-  pub responders_heard : (r : Replica) (ps : List Response) (q : ℕ) → contains (hears_all me r ps).promised q ≡ true
-      → (contains r.promised q ≡ true) ⊎ (q ≡ me) ⊎ ((p : Response) × In p ps × (q ≡ p.src))
+  pub responders_heard : (r : Replica) (ps : List HeardPromise) (q : ℕ) → contains (hears_all me r ps).promised q ≡ true
+      → (contains r.promised q ≡ true) ⊎ (q ≡ me) ⊎ ((p : HeardPromise) × In p ps × (q ≡ p.src))
   unfolding hears
   responders_heard r [] q e = inl e
   responders_heard r (p ∷ ps) q e =
-      counted_by (λ (x : Response). x.src) me q p ps (also_members p.src r.promised q) (responders_heard (hears me p.src p.brought r) ps q e)
+      counted_by (λ (x : HeardPromise). x.src) me q p ps (also_members p.src r.promised q) (responders_heard (hears me p.src p.brought r) ps q e)

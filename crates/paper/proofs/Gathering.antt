@@ -16,8 +16,8 @@ use Rattle.message.specs.declared.PaxosRound.{PaxosRound}
 use Rattle.message.specs.declared.RoundV.{RoundV}
 use Rattle.settings.specs.Settings.{within_limits}
 use Rattle.settings.specs.declared.Settings.{Settings}
-use Rattle.steps.specs.declared.Messages.{Messages}
-use Rattle.delivery.specs.declared.Delivery.{Delivery}
+use Rattle.steps.specs.declared.SentMessages.{SentMessages}
+use Rattle.calls.specs.declared.delivery.Delivery.{Delivery}
 use Rattle.calls.specs.declared.Call.TheVariants.{Receive}
 use Rattle.fast_state.specs.Adopt.{lowest_best}
 use Rattle.consensus.specs.Call.{call_of}
@@ -25,7 +25,7 @@ use Rattle.consensus.specs.declared.Shard.{Shard}
 use Rattle.consensus.proofs.Decided.{settings_kept}
 use Rattle.paper.specs.Replica.{Replica, keeps_something, proposer_in, newly, hears}
 use Rattle.paper.specs.PaperCall.{in_places, Seen, Place, place_of, seen, requesting, replica_in}
-use Rattle.paper.specs.Runs.{Response, hears_all, with_all, Promised, response_of, Gathered, nothing_yet, one_more}
+use Rattle.paper.specs.Runs.{HeardPromise, hears_all, with_all, PromiseAtProposer, response_of, Gathered, nothing_yet, one_more}
 use Rattle.paper.proofs.Consequences.{heard_keeps, heard_last}
 use Rattle.paper.proofs.Roles.{proposer_proposes, proposer_proposes_of_all}
 
@@ -40,7 +40,7 @@ Quiet r s = s.messages ≡ in_places [] → s.replica ≡ r
 quiet : (here : Place) (r : Replica) (o : Option (Proposal PaxosRound ℕ)) → Quiet r (requesting here r o)
 unfolding requesting
 quiet here r none = λ f. refl
-quiet here r (some p) = λ f. absurd (not_both refl (ap (λ (m : Messages). is_sent m.first) f))
+quiet here r (some p) = λ f. absurd (not_both refl (ap (λ (m : SentMessages). is_sent m.first) f))
 
 module _ (n : PaxosRound) (first : Shard) (classic : has_fast_path first.settings.mode ≡ false) (within : within_limits first.settings ≡ true)
     (keeps : keeps_something (replica_in first) ≡ true) (entry : (replica_in first).acceptor.responded ≡ some n) where
@@ -50,17 +50,17 @@ module _ (n : PaxosRound) (first : Shard) (classic : has_fast_path first.setting
   abbrev acceptors : ℕ
   acceptors = first.settings.replica_count
 
-  pub record Since (ps : List Response) (shard : Shard) : Type 0 where
+  pub record Since (ps : List HeardPromise) (shard : Shard) : Type 0 where
     pub settings : shard.settings ≡ first.settings
     pub heard : replica_in shard ≡ hears_all me (replica_in first) ps
 
-  responded_kept : (r : Replica) (ps : List Response) → (hears_all me r ps).acceptor.responded ≡ r.acceptor.responded
+  responded_kept : (r : Replica) (ps : List HeardPromise) → (hears_all me r ps).acceptor.responded ≡ r.acceptor.responded
   unfolding hears
   responded_kept r [] = refl
   responded_kept r (p ∷ ps) = responded_kept (hears me p.src p.brought r) ps
 
   -- what the theorems on one call ask of a shard on the way
-  module _ (ps : List Response) (shard : Shard) (s : Since ps shard) where
+  module _ (ps : List HeardPromise) (shard : Shard) (s : Since ps shard) where
     classic_since : has_fast_path shard.settings.mode ≡ false
     classic_since = ap (λ (x : Settings). has_fast_path x.mode) s.settings ∙ classic
 
@@ -74,7 +74,7 @@ module _ (n : PaxosRound) (first : Shard) (classic : has_fast_path first.setting
     entry_since = ap (λ (r : Replica). r.acceptor.responded) s.heard ∙ responded_kept (replica_in first) ps ∙ entry
 
     -- a promise that sends nothing was heard
-    heard_more : (d : Delivery) (rv : RoundV) → Promised n shard d rv → (call_of shard (Receive d)).reply.messages ≡ in_places []
+    heard_more : (d : Delivery) (rv : RoundV) → PromiseAtProposer n shard d rv → (call_of shard (Receive d)).reply.messages ≡ in_places []
         → Since (ps ++ (response_of d rv ∷ [])) (call_of shard (Receive d)).shard
     heard_more d rv p sent =
         record {
@@ -104,7 +104,7 @@ module _ (n : PaxosRound) (first : Shard) (classic : has_fast_path first.setting
             proposer_proposes shard classic_since within_since d p.slot n p.handled rv p.message p.gatherer keeps_since entry_since
 
     -- and the next one is answered by the paper's proposer with all of them
-    next_proposes : (d : Delivery) (rv : RoundV) → Promised n shard d rv
+    next_proposes : (d : Delivery) (rv : RoundV) → PromiseAtProposer n shard d rv
         → seen (call_of shard (Receive d))
         ≡ requesting (place_of shard) (hears_all me (replica_in first) (ps ++ (response_of d rv ∷ [])))
         (newly (proposes round_before acceptors (with_all me n (replica_in first) ps))
@@ -126,13 +126,13 @@ module _ (n : PaxosRound) (first : Shard) (classic : has_fast_path first.setting
             newly (proposes round_before count (with_all own n (replica_in first) ps))
             (proposes round_before count (with_all own n (replica_in first) (ps ++ (response_of d rv ∷ []))))
 
-  gathered_since : (ps : List Response) (shard : Shard) → Gathered n first ps shard → Since ps shard
+  gathered_since : (ps : List HeardPromise) (shard : Shard) → Gathered n first ps shard → Since ps shard
   gathered_since ps shard nothing_yet = record { settings = refl; heard = refl }
   gathered_since ps shard (one_more {ps = qs} {shard = before} d rv g p sent) = heard_more qs before (gathered_since qs before g) d rv p sent
 
   -- Phase 2 (a) over a list of calls: a gatherer that was in the number and has since taken the promises ps, and sent nothing, takes one more. It
   -- then makes the proposal of the paper's proposer with all the reports, exactly where that one proposes and did not before.
-  pub gathered_proposes : (ps : List Response) (shard : Shard) → Gathered n first ps shard → (d : Delivery) (rv : RoundV) → Promised n shard d rv
+  pub gathered_proposes : (ps : List HeardPromise) (shard : Shard) → Gathered n first ps shard → (d : Delivery) (rv : RoundV) → PromiseAtProposer n shard d rv
       → seen (call_of shard (Receive d))
       ≡ requesting (place_of shard) (hears_all me (replica_in first) (ps ++ (response_of d rv ∷ [])))
       (newly (proposes round_before acceptors (with_all me n (replica_in first) ps))

@@ -20,19 +20,19 @@ use Rattle.message.specs.declared.Refusal.TheVariants.{Panic}
 use Rattle.message.specs.declared.RoundV.{RoundV}
 use Rattle.round_state.specs.Paxos.{get_v, get_last_accepted_round, goto_round, held_after_promise, receive_promise, paxos_propose_v, self_accept, accept_own, receive_accept, accept_fits, after_accept}
 use Rattle.round_state.specs.declared.PaxosState.{PaxosState}
-use Rattle.enter.specs.Enter.{in_round, is_older, from_live, enter}
-use Rattle.classic.specs.prepare.Prepare.{hold_first, may_answer, answer_prepare, answers_nothing, preparing, after_held, prepared, off_fast_path, broadcast_accept, after_own_accept, accept_phase, with_promise, becomes_prepared, gather}
+use Rattle.steps.specs.enter.Enter.{in_round, is_older, from_live, enter}
+use Rattle.classic.specs.prepare.Prepare.{hold_first, may_answer, answer_prepare, answers_nothing, preparing, after_held, prepare_answered, off_fast_path, broadcast_accept, after_own_accept, accept_phase, with_promise, becomes_prepared, gather}
 use Rattle.steps.specs.Steps.{CoreStep, sends, to_all, held_value, with_paxos, left_fast_path, stays, and_then}
 use Rattle.steps.specs.declared.Asked.{Asked}
 use Rattle.steps.specs.declared.Core.{Core}
 use Rattle.steps.specs.declared.Destination.TheVariants.{One}
 use Rattle.steps.specs.declared.Outgoing.{Outgoing}
 use Rattle.steps.specs.declared.Heard.{Heard}
-use Rattle.consensus.proofs.Entered.{not_swift}
+use Rattle.consensus.proofs.Entered.{not_swift_without_fast_path}
 use Rattle.consensus.specs.declared.State.{State}
 use Rattle.paper.specs.Replica.{Replica, accepted_of, replica_of, keeps_something, proposer_in, newly, hears, accepts_with}
 use Rattle.paper.specs.PaperCall.{Seen, Place, Known, in_places, leaves, nothing_happens, takes_part_in_slot, to_proposer, requesting, proposes_on_majority}
-use Rattle.paper.proofs.Views.{place_in, known_in, seen_after, taken_no, push, once, Agrees, agrees, through, no_refusal, agree_both, agree_unless, held_kept, held_brings, held_value_lem, held_accepted_in, exceeded_older, promise_heard, accept_counted}
+use Rattle.paper.proofs.Views.{place_in, known_in, seen_after, taken_no, push, once, AgreesIfTaken, agrees_if_taken, through, no_refusal, agree_both, agree_unless, held_kept, held_brings, held_value_lem, held_accepted_in, exceeded_older, promise_heard, accept_counted}
 use Rattle.paper.proofs.InOrder.{or_false, kept, then_prepare}
 
 -- ---- the classic modes
@@ -80,13 +80,13 @@ module _ (state : State) (a : Asked) (h : Heard) (there : Bool) (acceptors : ℕ
   seen_step step = seen_after state a there step
 
   swift : is_swift_paxos a.mode ≡ false
-  swift = not_swift a.mode classic
+  swift = not_swift_without_fast_path a.mode classic
 
   -- ---- entering
 
   pub enter_paper : (slot : ℕ) (n : PaxosRound) (rest : Core → Result CoreStep Refusal) (rule : Seen)
-      → (a.member.replica ≡ true → before (Some n) core.paxos.round ≡ false → Agrees (seen_step (rest (in_round n core))) rule)
-      → Agrees (seen_step (and_then (enter a h slot n core) rest))
+      → (a.member.replica ≡ true → before (Some n) core.paxos.round ≡ false → AgreesIfTaken (seen_step (rest (in_round n core))) rule)
+      → AgreesIfTaken (seen_step (and_then (enter a h slot n core) rest))
       (cond (takes_part_in_slot here slot && not (exceeded round_before old.acceptor.responded n)) rule (nothing_happens here))
   unfolding enter is_older from_live
   enter_paper slot n rest rule go =
@@ -95,13 +95,13 @@ module _ (state : State) (a : Asked) (h : Heard) (there : Bool) (acceptors : ℕ
       (λ r.
       agree_both f (ltb slot core.slot || before (Some n) core.paxos.round) (ltb slot core.slot || exceeded round_before old.acceptor.responded n)
       (ap (λ (t : Bool). ltb slot core.slot || t) (exceeded_older core.paxos.round n))
-      (λ o. agrees refl)
+      (λ o. agrees_if_taken refl)
       (λ o.
       agree_unless f (h.source_live || is_swift_paxos a.mode)
       (λ l. go (sym (or_false a.member.replica (is_swift_paxos a.mode) swift) ∙ r)
       (neither_right (ltb slot core.slot) (before (Some n) core.paxos.round) o))
       (λ l. no_refusal refl)))
-      (λ r. agrees refl))
+      (λ r. agrees_if_taken refl))
       (nested a.member.replica (ltb slot core.slot) (exceeded round_before old.acceptor.responded n) rule (nothing_happens here))
     where
       f : Result CoreStep Refusal → Seen
@@ -125,14 +125,14 @@ module _ (state : State) (a : Asked) (h : Heard) (there : Bool) (acceptors : ℕ
 
     module _ (rv : RoundV) where
       propose_paper : (q : PaxosState) → is_some q.max_rv ≡ true → before (Some n) q.round ≡ false
-          → Agrees (seen_step (accept_phase a n (with_paxos q core))) (requesting here (replica_of q) (some (proposal_of round_before (proposer_in n (replica_of q)))))
+          → AgreesIfTaken (seen_step (accept_phase a n (with_paxos q core))) (requesting here (replica_of q) (some (proposal_of round_before (proposer_in n (replica_of q)))))
       unfolding accept_phase self_accept accept_own receive_accept broadcast_accept requesting
       propose_paper q has free =
           agree_unless g (is_empty q.accepted_set)
           (λ e.
           through (ap (λ (v : Optional ℕ). g (accept_own a.member n q v)) (held_has_value q.max_rv has))
           (agree_unless g (accept_fits q.max_rv n v)
-          (λ fit. agrees
+          (λ fit. agrees_if_taken
           (ap (λ (c : Core). seen_step (Ok (stays c (in_places request)))) (off_paxos (with_paxos (after_accept a.member a.member.my_pid n v q) core))
           ∙ ap (λ (r : Replica). leaves here r request) (accept_counted a replica a.member.my_pid n v q free fit)
           ∙ ap (λ (w : ℕ). leaves here (accepts_with here.self a.member.my_pid (record { number = n; value = w }) (replica_of q))
@@ -155,7 +155,7 @@ module _ (state : State) (a : Asked) (h : Heard) (there : Bool) (acceptors : ℕ
       requests_none r = refl
 
       gather_paper : (p : PaxosState) → before (Some n) p.round ≡ false
-          → Agrees (seen_step (gather a h n rv (with_paxos p core))) (proposes_on_majority here known n rv (replica_of p))
+          → AgreesIfTaken (seen_step (gather a h n rv (with_paxos p core))) (proposes_on_majority here known n rv (replica_of p))
       unfolding gather proposes_on_majority becomes_prepared receive_promise proposes
       gather_paper p free =
           through refl
@@ -164,7 +164,7 @@ module _ (state : State) (a : Asked) (h : Heard) (there : Bool) (acceptors : ℕ
           (ap (λ (t : Bool). not t && leb a.member.quorums.majority (size q.prepared_set)) (quorum (size p.prepared_set))
           ∙ ap (λ (t : Bool). not (is_majority acceptors (size p.prepared_set)) && t) (quorum (size q.prepared_set)))
           (λ e. propose_paper q (after_promise_held p.max_rv rv) free)
-          (λ e. agrees (requests_none (replica_of q))))
+          (λ e. agrees_if_taken (requests_none (replica_of q))))
           (once (requesting here (replica_of q)) (is_majority acceptors (size p.prepared_set)) (is_majority acceptors (size q.prepared_set))
           (proposal_of round_before (proposer_in n (replica_of p))) (proposal_of round_before (proposer_in n (replica_of q)))
           ∙ ap (λ (r : Replica). requesting here r (newly (proposes round_before acceptors (proposer_in n (replica_of p)))
@@ -181,7 +181,7 @@ module _ (state : State) (a : Asked) (h : Heard) (there : Bool) (acceptors : ℕ
       seen_then step = seen_step (and_then step (gather a h n rv))
 
       preparing_paper : (p : PaxosState) → before (Some n) p.round ≡ false
-          → Agrees (seen_then (preparing a h n (with_paxos p core))) (then_prepare here known n rv (replica_of p))
+          → AgreesIfTaken (seen_then (preparing a h n (with_paxos p core))) (then_prepare here known n rv (replica_of p))
       unfolding preparing answers_nothing answer_prepare
       preparing_paper p free =
           agree_both seen_then (eqb h.delegate a.member.my_pid) (eqb h.delegate a.member.my_pid) refl
@@ -190,10 +190,10 @@ module _ (state : State) (a : Asked) (h : Heard) (there : Bool) (acceptors : ℕ
           through refl
           (agree_both seen_then (answers_nothing a h n (with_paxos p core)) (accepted_in round_before n (accepted_of p.max_rv))
           (ap (λ (t : Bool). (t && eqb h.delegate n.leader) || last) swift ∙ held_accepted_in p.max_rv n)
-          (λ d. agrees refl)
+          (λ d. agrees_if_taken refl)
           (λ d.
           agree_unless seen_then (may_answer h n)
-          (λ m. agrees (ap (λ (x : RoundV). leaves here (replica_of p) (sends a core (One h.delegate) (Prepare core.slot n x) ∷ []))
+          (λ m. agrees_if_taken (ap (λ (x : RoundV). leaves here (replica_of p) (sends a core (One h.delegate) (Prepare core.slot n x) ∷ []))
           (held_brings p.max_rv)))
           (λ m. no_refusal refl)))
           (push answer (accepted_in round_before n (accepted_of p.max_rv)) none (some (promise n (accepted_of p.max_rv)))))
@@ -205,8 +205,8 @@ module _ (state : State) (a : Asked) (h : Heard) (there : Bool) (acceptors : ℕ
           answer m = leaves here (replica_of p) (to_proposer here known (replica_of p).wish m)
 
       pub prepared_paper : (p : PaxosState) → before (Some n) p.round ≡ false
-          → Agrees (seen_then (prepared a h n rv (with_paxos p core))) (then_prepare here known n rv (kept here known n rv (replica_of p)))
-      unfolding prepared hold_first paxos_propose_v receive_promise
+          → AgreesIfTaken (seen_then (prepare_answered a h n rv (with_paxos p core))) (then_prepare here known n rv (kept here known n rv (replica_of p)))
+      unfolding prepare_answered hold_first paxos_propose_v receive_promise
       prepared_paper p free =
           through refl
           (agree_both g (is_some p.max_rv) (keeps_something (replica_of p)) (held_kept p.max_rv)

@@ -22,7 +22,7 @@ use Rattle.message.specs.declared.RoundV.TheVariants.{PaxosV}
 use Rattle.round_state.specs.Paxos.{goto_round, held_after_promise, receive_promise, paxos_propose_v, self_accept, accept_own, receive_accept, accept_fits}
 use Rattle.round_state.specs.declared.PaxosState.{PaxosState}
 use Rattle.settings.specs.declared.Settings.{Settings}
-use Rattle.enter.specs.Enter.{can_propose}
+use Rattle.steps.specs.enter.Enter.{can_propose}
 use Rattle.propose.specs.proposal.Proposal.{proposal_round, electing, may_propose}
 use Rattle.propose.specs.Propose.{broadcast_own, propose_prepare, after_own_promise, propose_accept, propose_classic}
 use Rattle.steps.specs.Steps.{CoreStep, sends, to_all}
@@ -30,14 +30,14 @@ use Rattle.steps.specs.declared.Asked.{Asked}
 use Rattle.steps.specs.declared.Core.{Core}
 use Rattle.steps.specs.declared.Outgoing.{Outgoing}
 use Rattle.calls.specs.Asked.{asked_of}
-use Rattle.consensus.proofs.Entered.{not_swift}
+use Rattle.consensus.proofs.Entered.{not_swift_without_fast_path}
 use Rattle.consensus.specs.declared.State.{State}
-use Rattle.paper.specs.Replica.{Replica, accepted_of, wish_of, responded_of, replica_of, brings, is_there, number_or, proposer_in, hears, accepts_with}
+use Rattle.paper.specs.Replica.{Replica, accepted_of, wish_of, responded_of, replica_of, brings, is_there, number_where_none, proposer_in, hears, accepts_with}
 use Rattle.paper.specs.PaperCall.{Seen, Place, leaves, requesting, own_number, begins_proposal, proposes_own}
-use Rattle.paper.proofs.Views.{place_in, seen_after, Agrees, agrees, no_refusal, agree_both, agree_unless, promise_heard, accept_counted}
+use Rattle.paper.proofs.Views.{place_in, seen_after, AgreesIfTaken, agrees_if_taken, no_refusal, agree_both, agree_unless, promise_heard, accept_counted}
 use Rattle.paper.proofs.InOrder.{or_false}
 
-or_default : (o : Optional PaxosRound) → unwrap_or_default o ≡ number_or default_round (responded_of o)
+or_default : (o : Optional PaxosRound) → unwrap_or_default o ≡ number_where_none default_round (responded_of o)
 or_default None = refl
 or_default (Some n) = refl
 
@@ -94,7 +94,7 @@ module _ (settings : Settings) (state : State) (acceptors : ℕ) (classic : has_
   seen_step step = seen_after state a true step
 
   swift : is_swift_paxos a.mode ≡ false
-  swift = not_swift a.mode classic
+  swift = not_swift_without_fast_path a.mode classic
 
   number : proposal_round a core ≡ n
   unfolding electing
@@ -186,12 +186,12 @@ module _ (settings : Settings) (state : State) (acceptors : ℕ) (classic : has_
         request : List Outgoing
         request = sends a core to_all (Accept core.slot n v) ∷ []
 
-  pub proposal_paper : Agrees (seen_step (propose_classic a v core)) (proposes_own here v)
+  pub proposal_paper : AgreesIfTaken (seen_step (propose_classic a v core)) (proposes_own here v)
   unfolding propose_classic proposes_own requesting
   proposal_paper =
       agree_unless seen_step (may_propose a core)
       (λ e.
       agree_both seen_step (is_multi_paxos a.mode) (is_there here.start) (led_start a.mode a.first_leader)
-      (λ m. agrees (ap (λ (k : PaxosRound). seen_step (propose_accept a k v core)) number ∙ accept_request_lem e))
-      (λ m. agrees (ap (λ (k : PaxosRound). seen_step (propose_prepare a k (PaxosV None v) core)) number ∙ prepare_request_lem e)))
+      (λ m. agrees_if_taken (ap (λ (k : PaxosRound). seen_step (propose_accept a k v core)) number ∙ accept_request_lem e))
+      (λ m. agrees_if_taken (ap (λ (k : PaxosRound). seen_step (propose_prepare a k (PaxosV None v) core)) number ∙ prepare_request_lem e)))
       (λ e. no_refusal refl)

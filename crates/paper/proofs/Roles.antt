@@ -24,15 +24,15 @@ use Rattle.message.specs.declared.PaxosRound.{PaxosRound}
 use Rattle.message.specs.declared.RoundV.{RoundV}
 use Rattle.settings.specs.Settings.{within_limits}
 use Rattle.steps.specs.declared.Destination.TheVariants.{One}
-use Rattle.steps.specs.declared.Messages.{Messages}
+use Rattle.steps.specs.declared.SentMessages.{SentMessages}
 use Rattle.steps.specs.declared.Outgoing.{Outgoing}
-use Rattle.delivery.specs.declared.Delivery.{Delivery}
+use Rattle.calls.specs.declared.delivery.Delivery.{Delivery}
 use Rattle.calls.specs.declared.Call.TheVariants.{Receive}
 use Rattle.consensus.specs.Call.{call_of}
 use Rattle.consensus.specs.declared.Shard.{Shard}
 use Rattle.paper.specs.Replica.{Replica, report_of, enters_number, or_again, promises, unless_accepted, is_there, keeps_something, proposer_in, newly, also_self, hears, takes_up, accepts_with}
-use Rattle.paper.specs.PaperCall.{Known, known_of, is_one_of, but, Seen, Place, place_of, seen, in_places, leaves, nothing_happens, commits_learned, sending, takes_part_in_slot, replica_after_prepare, to_proposer, responding, requesting, proposes_on_majority, hearing, prepare_received, learners, is_learner, is_leader, announced_to, to_each, informs, learning, counts_and_learns, received, OfPaxos, replica_in, refused_with, by_rules, paper_call}
-use Rattle.paper.specs.Runs.{Handled, Response, hears_all, with_all}
+use Rattle.paper.specs.PaperCall.{Known, known_of, is_one_of, all_but, Seen, Place, place_of, seen, in_places, leaves, nothing_happens, commits_learned, paper_outgoing, takes_part_in_slot, replica_after_prepare, to_proposer, responding, requesting, proposes_on_majority, hearing, prepare_received, learners, is_learner, is_leader, announced_to, to_each, informs, learning, counts_and_learns, received, OfPaxos, replica_in, refused_with, by_rules, paper_call}
+use Rattle.paper.specs.Runs.{Handled, HeardPromise, hears_all, with_all}
 use Rattle.paper.proofs.InOrder.{later_not_exceeded, exceeded_not_later, kept, then_prepare, prepared_in, prepare_in_order, announced, then_accept, accept_in_order}
 use Rattle.paper.proofs.Calls.{call_as_paper}
 use Rattle.paper.proofs.Consequences.{heard_keeps, heard_last, proposes_of_all}
@@ -108,11 +108,11 @@ last_of p q [] e = or_left false e
 last_of p q (x ∷ xs) e = or_right (eqb p x) (last_of p q xs e)
 
 -- one that is not of the list is not left out of it
-but_other : (p : ℕ) (qs : List ℕ) → is_one_of p qs ≡ false → but p qs ≡ qs
+but_other : (p : ℕ) (qs : List ℕ) → is_one_of p qs ≡ false → all_but p qs ≡ qs
 but_other p [] e = refl
 but_other p (q ∷ qs) e = go (eqb p q) (but_other p qs) e
   where
-    go : (t : Bool) → (is_one_of p qs ≡ false → but p qs ≡ qs) → (t || is_one_of p qs) ≡ false → cond t (but p qs) (q ∷ but p qs) ≡ q ∷ qs
+    go : (t : Bool) → (is_one_of p qs ≡ false → all_but p qs ≡ qs) → (t || is_one_of p qs) ≡ false → cond t (all_but p qs) (q ∷ all_but p qs) ≡ q ∷ qs
     go true f d = absurd (not_both refl d)
     go false f d = ap (λ (xs : List ℕ). q ∷ xs) (f d)
 
@@ -184,7 +184,7 @@ module _ (shard : Shard) (classic : has_fast_path shard.settings.mode ≡ false)
 
     -- the promise of one that is not the gatherer, in the number that it has entered and has accepted nothing in
     promised_in : (r : Replica) → eqb h.proposer me ≡ false → accepted_in round_before n r.acceptor.accepted ≡ false
-        → then_prepare here h n rv r ≡ leaves here r (sending here r.wish (promise n r.acceptor.accepted) (One h.proposer) ∷ [])
+        → then_prepare here h n rv r ≡ leaves here r (paper_outgoing here r.wish (promise n r.acceptor.accepted) (One h.proposer) ∷ [])
     promised_in r other fresh =
         ap (λ (t : Bool). cond t (proposes_on_majority here h n rv r) (answer (accepted_in round_before n r.acceptor.accepted))) other ∙ ap answer fresh
       where
@@ -197,7 +197,7 @@ module _ (shard : Shard) (classic : has_fast_path shard.settings.mode ≡ false)
         → (m : Message PaxosRound ℕ) → response round_before old.acceptor n ≡ some m
         → seen (call_of shard (Receive d))
         ≡ leaves here (record { acceptor = prepare round_before old.acceptor n; wish = old.wish; promised = 0; agreed = 0 })
-        (sending here old.wish m (One h.proposer) ∷ [])
+        (paper_outgoing here old.wish m (One h.proposer) ∷ [])
     unfolding response
     acceptor_responds other keeps fresh m e = go (responds round_before old.acceptor n) refl e
       where
@@ -207,15 +207,15 @@ module _ (shard : Shard) (classic : has_fast_path shard.settings.mode ≡ false)
         go : (t : Bool) → responds round_before old.acceptor n ≡ t → cond t (some answer) none ≡ some m
             → seen (call_of shard (Receive d))
             ≡ leaves here (record { acceptor = prepare round_before old.acceptor n; wish = old.wish; promised = 0; agreed = 0 })
-            (sending here old.wish m (One h.proposer) ∷ [])
+            (paper_outgoing here old.wish m (One h.proposer) ∷ [])
         go false f g = absurd (not_both refl (ap is_some (sym g)))
         go true f g =
             responded f
             ∙ ap (λ (t : Bool). then_prepare here h n rv (cond t now (hears me me rv now))) keeps
             ∙ promised_in now other fresh
-            ∙ ap (λ (x : Message PaxosRound ℕ). leaves here now (sending here old.wish x (One h.proposer) ∷ [])) (ap (value_in answer) g)
+            ∙ ap (λ (x : Message PaxosRound ℕ). leaves here now (paper_outgoing here old.wish x (One h.proposer) ∷ [])) (ap (value_in answer) g)
             ∙ ap (λ (x : Acceptor PaxosRound ℕ). leaves here (record { acceptor = x; wish = old.wish; promised = 0; agreed = 0 })
-            (sending here old.wish m (One h.proposer) ∷ [])) (prepared_acceptor f)
+            (paper_outgoing here old.wish m (One h.proposer) ∷ [])) (prepared_acceptor f)
 
     -- The same at one that keeps nothing, where the Prepare reports no proposal: the value that it brings is kept as the wish, and goes with the
     -- response.
@@ -223,7 +223,7 @@ module _ (shard : Shard) (classic : has_fast_path shard.settings.mode ≡ false)
         → (m : Message PaxosRound ℕ) → response round_before old.acceptor n ≡ some m
         → seen (call_of shard (Receive d))
         ≡ leaves here (record { acceptor = prepare round_before old.acceptor n; wish = some rv; promised = also_self me me 0; agreed = 0 })
-        (sending here (some rv) m (One h.proposer) ∷ [])
+        (paper_outgoing here (some rv) m (One h.proposer) ∷ [])
     unfolding response hears
     acceptor_responds_first other keeps unreported m e = go (responds round_before old.acceptor n) refl e
       where
@@ -255,7 +255,7 @@ module _ (shard : Shard) (classic : has_fast_path shard.settings.mode ≡ false)
         answer = promise n old.acceptor.accepted
 
         reply : Message PaxosRound ℕ → List Outgoing
-        reply x = sending here (some rv) x (One h.proposer) ∷ []
+        reply x = paper_outgoing here (some rv) x (One h.proposer) ∷ []
 
         after : Acceptor PaxosRound ℕ → Replica
         after x = record { acceptor = x; wish = some rv; promised = also_self me me 0; agreed = 0 }
@@ -286,7 +286,7 @@ module _ (shard : Shard) (classic : has_fast_path shard.settings.mode ≡ false)
         ∙ ap (λ (r : Replica). answer (promises n r.acceptor)) as_it_was
         ∙ ap (λ (t : Bool). answer (cond t none (or_again n old.acceptor (response round_before old.acceptor n)))) ignored
       where
-        answer : Option (Message PaxosRound ℕ) → Messages
+        answer : Option (Message PaxosRound ℕ) → SentMessages
         answer m = in_places (to_proposer here h (replica_after_prepare here h n rv).wish m)
 
         -- it takes up nothing
@@ -333,7 +333,7 @@ module _ (shard : Shard) (classic : has_fast_path shard.settings.mode ≡ false)
     -- The same by all that it has heard: since it kept r it has heard the promises ps and nothing else. What it proposes is the proposal of the
     -- paper's proposer with every report, its own acceptor's first.
     pub proposer_proposes_of_all : eqb h.proposer me ≡ true → old.acceptor.responded ≡ some n
-        → (r : Replica) (ps : List Response) → keeps_something r ≡ true → old ≡ hears_all me r ps
+        → (r : Replica) (ps : List HeardPromise) → keeps_something r ≡ true → old ≡ hears_all me r ps
         → seen (call_of shard (Receive d))
         ≡ requesting here (hears me h.src rv old)
         (newly (proposes round_before acceptors (with_all me n r ps))
@@ -385,7 +385,7 @@ module _ (shard : Shard) (classic : has_fast_path shard.settings.mode ≡ false)
     -- Section 2.3, for an accept request, which comes from the proposer: where the paper's acceptor announces the proposal, another than the leader does, to
     -- each of the distinguished learners but itself
     announced_by : is_leader here h n ≡ false → eqb h.src h.proposer ≡ true → (m : Message PaxosRound ℕ)
-        → announcement round_before old.acceptor p ≡ some m → (older ≡ false) × (announced here h p ≡ to_each here h (but me (learners here h n)) (some m))
+        → announcement round_before old.acceptor p ≡ some m → (older ≡ false) × (announced here h p ≡ to_each here h (all_but me (learners here h n)) (some m))
     unfolding announcement accepts_proposal
     announced_by other asked m e = go older refl e
       where
@@ -393,13 +393,13 @@ module _ (shard : Shard) (classic : has_fast_path shard.settings.mode ≡ false)
         told t ps x = cond t (to_each here h ps x) []
 
         go : (t : Bool) → older ≡ t → cond (not t) (some (acceptance p)) none ≡ some m
-            → (older ≡ false) × (announced here h p ≡ to_each here h (but me (learners here h n)) (some m))
+            → (older ≡ false) × (announced here h p ≡ to_each here h (all_but me (learners here h n)) (some m))
         go true f g = absurd (not_both refl (ap is_some (sym g)))
         go false f g = (
           f,
           ap (λ (t : Bool). told t (announced_to here h n) (some (acceptance p))) asked
-              ∙ ap (λ (t : Bool). told true (cond t [] (but me (learners here h n))) (some (acceptance p))) other
-              ∙ ap (told true (but me (learners here h n))) g,
+              ∙ ap (λ (t : Bool). told true (cond t [] (all_but me (learners here h n))) (some (acceptance p))) other
+              ∙ ap (told true (all_but me (learners here h n))) g,
         )
 
     -- and what it makes of the Accept is by whether it is one of them
@@ -420,19 +420,19 @@ module _ (shard : Shard) (classic : has_fast_path shard.settings.mode ≡ false)
         ∙ ap (λ (qs : List ℕ). leaves here counted (to_each here h qs (some m))) (but_other me (learners here h n) other)
       where
         not_leader : is_leader here h n ≡ false
-        not_leader = fails (λ g. not_both (last_of me n.leader (but n.leader h.committers) g) other)
+        not_leader = fails (λ g. not_both (last_of me n.leader (all_but n.leader h.committers) g) other)
 
-        told : (older ≡ false) × (announced here h p ≡ to_each here h (but me (learners here h n)) (some m))
+        told : (older ≡ false) × (announced here h p ≡ to_each here h (all_but me (learners here h n)) (some m))
         told = announced_by not_leader asked m e
 
     -- At a committer, a distinguished learner that is not the leader, each of the others is told, and it learns the value where a majority has accepted.
     pub committer_announces : is_learner here h n ≡ true → is_leader here h n ≡ false → eqb h.src h.proposer ≡ true
         → (m : Message PaxosRound ℕ) → announcement round_before old.acceptor p ≡ some m
         → seen (call_of shard (Receive d))
-        ≡ learning here h p counted (to_each here h (but me (learners here h n)) (some m)) (learns round_before acceptors (size counted.agreed) p)
+        ≡ learning here h p counted (to_each here h (all_but me (learners here h n)) (some m)) (learns round_before acceptors (size counted.agreed) p)
     committer_announces learner not_leader asked m e = by_learner told.0 true learner _ told.1
       where
-        told : (older ≡ false) × (announced here h p ≡ to_each here h (but me (learners here h n)) (some m))
+        told : (older ≡ false) × (announced here h p ≡ to_each here h (all_but me (learners here h n)) (some m))
         told = announced_by not_leader asked m e
 
     -- the replica after one that commits nothing, in a number that is not exceeded

@@ -24,7 +24,7 @@ use Rattle.message.specs.declared.RoundV.TheVariants.{FastV, PaxosV}
 use Rattle.round_state.specs.Paxos.{get_last_accepted_round, held_after_promise, receive_promise, counted, with_sender, with_own, accept_fits, after_accept}
 use Rattle.round_state.specs.declared.PaxosState.{PaxosState}
 use Rattle.round_state.proofs.Holding.{accept_fits_lem}
-use Rattle.enter.specs.Enter.{in_round}
+use Rattle.steps.specs.enter.Enter.{in_round}
 use Rattle.steps.specs.Steps.{CoreStep, held_rv, held_value, map_step, on_rounds}
 use Rattle.steps.specs.declared.Asked.{Asked}
 use Rattle.steps.specs.declared.Core.{Core}
@@ -81,35 +81,35 @@ both {A} {B} f t s {x} {y} {p} {q} e pos neg = go t refl ∙ ap (λ (b : Bool). 
     go false d = neg d
 
 -- What is seen of a call that is taken is what the paper has. The causes of demand 1 say which calls are refused, so that a refusal has to be nothing.
-abbrev pub Agrees : Seen → Seen → Type 0
-Agrees s p = s.outcome ≡ 0 → s ≡ p
+abbrev pub AgreesIfTaken : Seen → Seen → Type 0
+AgreesIfTaken s p = s.outcome ≡ 0 → s ≡ p
 
-pub agrees : {s p : Seen} → s ≡ p → Agrees s p
-agrees e taken = e
+pub agrees_if_taken : {s p : Seen} → s ≡ p → AgreesIfTaken s p
+agrees_if_taken e taken = e
 
-pub through : {s t p q : Seen} → s ≡ t → Agrees t q → q ≡ p → Agrees s p
+pub through : {s t p q : Seen} → s ≡ t → AgreesIfTaken t q → q ≡ p → AgreesIfTaken s p
 through e f d taken = e ∙ f (ap (λ (x : Seen). x.outcome) (sym e) ∙ taken) ∙ d
 
-pub no_refusal : {s p : Seen} → ltb 0 s.outcome ≡ true → Agrees s p
+pub no_refusal : {s p : Seen} → ltb 0 s.outcome ≡ true → AgreesIfTaken s p
 no_refusal above taken = absurd (not_both above (ap (ltb 0) taken))
 
 -- by one test on both sides
-pub agree_both : {A : Type 0} (f : A → Seen) (t s : Bool) {x y : A} {p q : Seen} → t ≡ s → (t ≡ true → Agrees (f x) p) → (t ≡ false → Agrees (f y) q)
-    → Agrees (f (cond t x y)) (cond s p q)
+pub agree_both : {A : Type 0} (f : A → Seen) (t s : Bool) {x y : A} {p q : Seen} → t ≡ s → (t ≡ true → AgreesIfTaken (f x) p) → (t ≡ false → AgreesIfTaken (f y) q)
+    → AgreesIfTaken (f (cond t x y)) (cond s p q)
 agree_both {A} f t s {x} {y} {p} {q} e pos neg = go t s refl e
   where
-    go : (b c : Bool) → t ≡ b → b ≡ c → Agrees (f (cond b x y)) (cond c p q)
+    go : (b c : Bool) → t ≡ b → b ≡ c → AgreesIfTaken (f (cond b x y)) (cond c p q)
     go true true d g = pos d
     go true false d g = absurd (not_both refl g)
     go false true d g = absurd (not_both refl (sym g))
     go false false d g = neg d
 
 -- by a test of the engine alone
-pub agree_unless : {A : Type 0} (f : A → Seen) (t : Bool) {x y : A} {p : Seen} → (t ≡ true → Agrees (f x) p) → (t ≡ false → Agrees (f y) p)
-    → Agrees (f (cond t x y)) p
+pub agree_unless : {A : Type 0} (f : A → Seen) (t : Bool) {x y : A} {p : Seen} → (t ≡ true → AgreesIfTaken (f x) p) → (t ≡ false → AgreesIfTaken (f y) p)
+    → AgreesIfTaken (f (cond t x y)) p
 agree_unless {A} f t {x} {y} {p} pos neg = go t refl
   where
-    go : (b : Bool) → t ≡ b → Agrees (f (cond b x y)) p
+    go : (b : Bool) → t ≡ b → AgreesIfTaken (f (cond b x y)) p
     go true d = pos d
     go false d = neg d
 

@@ -26,15 +26,15 @@ use Rattle.fast_state.specs.Adopt.{lowest_best}
 use Rattle.settings.specs.declared.Settings.{Settings}
 use Rattle.steps.specs.declared.Destination.{Destination}
 use Rattle.steps.specs.declared.Destination.TheVariants.{One, All}
-use Rattle.steps.specs.declared.Messages.{Messages}
+use Rattle.steps.specs.declared.SentMessages.{SentMessages}
 use Rattle.steps.specs.declared.Outgoing.{Outgoing}
-use Rattle.delivery.specs.declared.Delivery.{Delivery}
+use Rattle.calls.specs.declared.delivery.Delivery.{Delivery}
 use Rattle.calls.specs.declared.Call.{Call}
 use Rattle.calls.specs.declared.Call.TheVariants.{Propose, StartRead, Receive}
 use Rattle.consensus.specs.FirstCause.{number_of_outcome, given_number, is_live, is_oneself, leader_delegate, value_committer, starts_in, first_cause}
 use Rattle.consensus.specs.declared.Answer.{Answer}
 use Rattle.consensus.specs.declared.Shard.{Shard}
-use Rattle.paper.specs.Replica.{Replica, responded_of, replica_of, written, enters_number, promises, is_there, abandons, proposer_in, newly, hears, takes_up, accepts_with, number_or}
+use Rattle.paper.specs.Replica.{Replica, responded_of, replica_of, written, enters_number, promises, is_there, abandons, proposer_in, newly, hears, takes_up, accepts_with, number_where_none}
 
 -- ---- what is seen of a call
 
@@ -44,7 +44,7 @@ pub record Seen : Type 0 where
   pub slot : ℕ
   pub last : Optional ℕ
   pub replica : Replica
-  pub messages : Messages
+  pub messages : SentMessages
   pub commit : Optional CommittedSlot
 
 abbrev pub seen : Answer → Seen
@@ -70,7 +70,7 @@ sent_behind_first [] = []
 sent_behind_first (m ∷ ms) = ms
 
 -- The messages of a call stand in three places, in the order of the list. There is room for all: at most two announcements and a Commit.
-abbrev pub in_places : List Outgoing → Messages
+abbrev pub in_places : List Outgoing → SentMessages
 in_places ms = record { first = first_sent ms; second = first_sent (sent_behind_first ms); third = first_sent (sent_behind_first (sent_behind_first ms)) }
 
 -- ---- lists of processes
@@ -81,9 +81,9 @@ is_one_of p [] = false
 is_one_of p (q ∷ qs) = eqb p q || is_one_of p qs
 
 -- all of the list but p
-abbrev pub but : ℕ → List ℕ → List ℕ
-but p [] = []
-but p (q ∷ qs) = cond (eqb p q) (but p qs) (q ∷ but p qs)
+abbrev pub all_but : ℕ → List ℕ → List ℕ
+all_but p [] = []
+all_but p (q ∷ qs) = cond (eqb p q) (all_but p qs) (q ∷ all_but p qs)
 
 -- ---- a call at a replica
 
@@ -136,8 +136,8 @@ module _ (here : Place) where
   addressed destination msg = record { destination = destination; message = record { msg = msg; src = here.self; last_v = here.last } }
 
   -- one of the paper's messages
-  abbrev pub sending : Option RoundV → Message PaxosRound ℕ → Destination → Outgoing
-  sending wish m destination = addressed destination (written here.slot wish m)
+  abbrev pub paper_outgoing : Option RoundV → Message PaxosRound ℕ → Destination → Outgoing
+  paper_outgoing wish m destination = addressed destination (written here.slot wish m)
 
   -- DIFFERENCE ("a process that is no acceptor"): as a proposer and as a learner as well, an acceptor alone takes part. DIFFERENCE ("a message of a slot that
   -- is committed"): it does so in its own slot alone, and ignores an older one.
@@ -148,7 +148,7 @@ module _ (here : Place) where
   -- DIFFERENCE ("a group of one, in MultiPaxos and MultiPaxos3P"): it is counted, and where it alone is a majority the value is not learned.
   unfoldable pub requesting : Replica → Option (Proposal PaxosRound ℕ) → Seen
   requesting r none = leaves r []
-  requesting r (some p) = leaves (accepts_with here.self here.self p r) (sending none (accept_request p) (All None) ∷ [])
+  requesting r (some p) = leaves (accepts_with here.self here.self p r) (paper_outgoing none (accept_request p) (All None) ∷ [])
 
   -- ---- a proposal
 
@@ -156,7 +156,7 @@ module _ (here : Place) where
   -- (`next_leader_own`, `next_leader_least`, crates/message/proofs/NextLeader.antt). DIFFERENCE ("a proposer that is overtaken or gets no answer"): it
   -- does so once in a slot, by the causes of 11.
   abbrev pub own_number : PaxosRound
-  own_number = next_leader_round (number_or default_round here.old.acceptor.responded) here.self
+  own_number = next_leader_round (number_where_none default_round here.old.acceptor.responded) here.self
 
   -- nobody is counted in the number yet but the own acceptor, which promises; the value is the wish
   abbrev pub begins_proposal : ℕ → Replica
@@ -171,7 +171,7 @@ module _ (here : Place) where
   proposes_own v =
       cond (is_there here.start)
       (requesting (begins_proposal v) (some (proposal_of round_before (proposer_in own_number (begins_proposal v)))))
-      (leaves (begins_proposal v) (sending (begins_proposal v).wish (asks round_before (proposer_in own_number (begins_proposal v))) (All None) ∷ []))
+      (leaves (begins_proposal v) (paper_outgoing (begins_proposal v).wish (asks round_before (proposer_in own_number (begins_proposal v))) (All None) ∷ []))
 
   module _ (known : Known) where
     -- ---- Prepare
@@ -184,7 +184,7 @@ module _ (here : Place) where
     -- Phase 1 (b): the response, to the proposer
     abbrev pub to_proposer : Option RoundV → Option (Message PaxosRound ℕ) → List Outgoing
     to_proposer wish none = []
-    to_proposer wish (some m) = sending wish m (One known.proposer) ∷ []
+    to_proposer wish (some m) = paper_outgoing wish m (One known.proposer) ∷ []
 
     -- At an acceptor: the response is that of the acceptor as it was before the call, but for what it takes up.
     unfoldable pub responding : PaxosRound → RoundV → Seen
@@ -213,7 +213,7 @@ module _ (here : Place) where
     -- learners when a value has been chosen". Those of a number are the committer of the value, where there is one and it is another, and the leader, in the
     -- order in which they are told. Section 2.5: the leader "plays the roles of the distinguished proposer and the distinguished learner".
     abbrev pub learners : PaxosRound → List ℕ
-    learners n = but n.leader known.committers ++ (n.leader ∷ [])
+    learners n = all_but n.leader known.committers ++ (n.leader ∷ [])
 
     abbrev pub is_learner : PaxosRound → Bool
     is_learner n = is_one_of here.self (learners n)
@@ -223,11 +223,11 @@ module _ (here : Place) where
 
     -- An acceptor tells each of them but itself. DIFFERENCE ("the leader's own acceptance"): the leader tells nobody.
     abbrev pub announced_to : PaxosRound → List ℕ
-    announced_to n = cond (is_leader n) [] (but here.self (learners n))
+    announced_to n = cond (is_leader n) [] (all_but here.self (learners n))
 
     abbrev pub to_each : List ℕ → Option (Message PaxosRound ℕ) → List Outgoing
     to_each ps none = []
-    to_each ps (some m) = map (λ (p : ℕ). sending none m (One p)) ps
+    to_each ps (some m) = map (λ (p : ℕ). paper_outgoing none m (One p)) ps
 
     -- Phase 2 (b) and section 2.3: the acceptor as it was before the call announces that it accepts an accept request, which comes from the proposer. Any
     -- other Accept is an acceptance; what it brings the replica to accept (`replica_after_accept`) is not announced.
@@ -384,7 +384,7 @@ abbrev pub NotOfPaxos : Optional Outgoing → Type 0
 NotOfPaxos None = Unit {0}
 NotOfPaxos (Some m) = OfPaxos m.message.msg → ⊥
 
-abbrev pub NoneOfPaxos : Messages → Type 0
+abbrev pub NoneOfPaxos : SentMessages → Type 0
 NoneOfPaxos messages = NotOfPaxos messages.first × NotOfPaxos messages.second × NotOfPaxos messages.third
 
 -- a call leaves what the paper speaks of: slot, last value and replica stay, nothing is committed, and no message of the paper is sent

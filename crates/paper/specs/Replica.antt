@@ -183,9 +183,9 @@ newly (some p) now = none
 newly none now = now
 
 -- a number, or another where there is none
-abbrev pub number_or : PaxosRound → Option PaxosRound → PaxosRound
-number_or n none = n
-number_or n (some m) = m
+abbrev pub number_where_none : PaxosRound → Option PaxosRound → PaxosRound
+number_where_none n none = n
+number_where_none n (some m) = m
 
 -- ---- the acceptor and the learner: an accept request
 

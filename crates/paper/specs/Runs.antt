@@ -12,7 +12,7 @@ use Rattle.message.specs.declared.PFMode.TheVariants.{Paxos, MultiPaxos, MultiPa
 use Rattle.message.specs.declared.RoundV.{RoundV}
 use Rattle.fast_state.specs.Adopt.{lowest_best}
 use Rattle.settings.specs.declared.Settings.{Settings}
-use Rattle.delivery.specs.declared.Delivery.{Delivery}
+use Rattle.calls.specs.declared.delivery.Delivery.{Delivery}
 use Rattle.calls.specs.declared.Call.{Call}
 use Rattle.calls.specs.declared.Call.TheVariants.{Receive}
 use Rattle.consensus.specs.Call.{new_shard, call_of}
@@ -31,9 +31,9 @@ ClassicMode Pando = Unit {0}
 ClassicMode SwiftPaxos = ⊥
 
 -- a shard as it was made, or as a call of it has left it
-pub data Reached : Shard → Type 0 where
-  new : (s : Settings) → (new_shard s).made ≡ Ok tt → Reached (new_shard s)
-  called : (shard : Shard) (c : Call) → Reached shard → Reached (call_of shard c).shard
+pub data ReachedShard : Shard → Type 0 where
+  new : (s : Settings) → (new_shard s).made ≡ Ok tt → ReachedShard (new_shard s)
+  called : (shard : Shard) (c : Call) → ReachedShard shard → ReachedShard (call_of shard c).shard
 
 -- a message of the own slot, at a live replica, that no cause refuses
 pub record Handled (shard : Shard) (d : Delivery) (slot : ℕ) : Type 0 where
@@ -44,38 +44,38 @@ pub record Handled (shard : Shard) (d : Delivery) (slot : ℕ) : Type 0 where
 -- ---- the proposer
 
 -- a promise that was heard: whose, and what it brought
-pub record Response : Type 0 where
+pub record HeardPromise : Type 0 where
   pub src : ℕ
   pub brought : RoundV
 
-abbrev pub reports_of : List Response → List (Option (Proposal PaxosRound ℕ))
+abbrev pub reports_of : List HeardPromise → List (Option (Proposal PaxosRound ℕ))
 reports_of [] = []
 reports_of (p ∷ ps) = report_of p.brought ∷ reports_of ps
 
 -- promises that are heard one after the other, at the process me
-abbrev pub hears_all : ℕ → Replica → List Response → Replica
+abbrev pub hears_all : ℕ → Replica → List HeardPromise → Replica
 hears_all me r [] = r
 hears_all me r (p ∷ ps) = hears_all me (hears me p.src p.brought r) ps
 
 -- the paper's proposer with every report: the own acceptor's, and then those of the promises
-abbrev pub with_all : ℕ → PaxosRound → Replica → List Response → Proposer PaxosRound ℕ
+abbrev pub with_all : ℕ → PaxosRound → Replica → List HeardPromise → Proposer PaxosRound ℕ
 with_all me n r ps =
     record { number = n; own = own_value r.wish; responders = size (hears_all me r ps).promised; reports = r.acceptor.accepted ∷ reports_of ps }
 
 -- a Prepare of the number n at the proposer
-pub record Promised (n : PaxosRound) (shard : Shard) (d : Delivery) (rv : RoundV) : Type 0 where
+pub record PromiseAtProposer (n : PaxosRound) (shard : Shard) (d : Delivery) (rv : RoundV) : Type 0 where
   pub slot : ℕ
   pub handled : Handled shard d slot
   pub message : d.message.msg ≡ Prepare slot n rv
   pub gatherer : eqb (known_of shard.settings d).proposer shard.settings.my_pid ≡ true
 
-abbrev pub response_of : Delivery → RoundV → Response
+abbrev pub response_of : Delivery → RoundV → HeardPromise
 response_of d rv = record { src = d.message.src; brought = rv }
 
 -- the shard has taken promises one after the other, and has sent nothing
-pub data Gathered (n : PaxosRound) (first : Shard) : List Response → Shard → Type 0 where
+pub data Gathered (n : PaxosRound) (first : Shard) : List HeardPromise → Shard → Type 0 where
   nothing_yet : Gathered n first [] first
-  one_more : {ps : List Response} {shard : Shard} (d : Delivery) (rv : RoundV) → Gathered n first ps shard → Promised n shard d rv
+  one_more : {ps : List HeardPromise} {shard : Shard} (d : Delivery) (rv : RoundV) → Gathered n first ps shard → PromiseAtProposer n shard d rv
       → (call_of shard (Receive d)).reply.messages ≡ in_places []
       → Gathered n first (ps ++ (response_of d rv ∷ [])) (call_of shard (Receive d)).shard
 

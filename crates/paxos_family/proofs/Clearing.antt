@@ -15,7 +15,7 @@ use Rattle.fast_state.specs.Fast.{answers_of, unchanged, changed, no_answers, to
 use Rattle.fast_state.specs.RoundState.{new_round_state}
 use Rattle.fast_state.specs.declared.FastState.{FastState}
 use Rattle.fast_state.specs.declared.PaxosFamilyRoundState.{PaxosFamilyRoundState}
-use Rattle.enter.specs.Enter.{can_propose, source_taken, in_round, is_older, from_live, enter}
+use Rattle.steps.specs.enter.Enter.{can_propose, source_taken, in_round, is_older, from_live, enter}
 use Rattle.steps.specs.Steps.{CoreStep, no_messages, stays, with_change, change_rounds}
 use Rattle.steps.specs.declared.Asked.{Asked}
 use Rattle.steps.specs.declared.Core.{Core}
@@ -60,10 +60,10 @@ module _ (a : Asked) (h : Heard) (slot : ℕ) (round : PaxosRound) (s : Rounds) 
   abbrev Keeps : Result CoreStep Refusal → Type 0
   Keeps r = ((rounds_left r).core.paxos.max_rv ≡ s.core.paxos.max_rv) × ((rounds_left r).fast ≡ s.fast)
 
-  abbrev pub entered : Rounds
-  entered = rounds_left (enter a h slot round s.core)
+  abbrev pub entered_rounds : Rounds
+  entered_rounds = rounds_left (enter a h slot round s.core)
 
-  pub new_round_keeps : (entered.core.paxos.max_rv ≡ s.core.paxos.max_rv) × (entered.fast ≡ s.fast)
+  pub new_round_keeps : (entered_rounds.core.paxos.max_rv ≡ s.core.paxos.max_rv) × (entered_rounds.fast ≡ s.fast)
   unfolding enter from_live
   new_round_keeps =
       of-both Keeps (can_propose a)

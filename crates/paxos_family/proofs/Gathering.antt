@@ -27,7 +27,7 @@ use Rattle.steps.specs.Steps.{CoreStep, no_messages, with_paxos, left_fast_path,
 use Rattle.steps.specs.declared.Asked.{Asked}
 use Rattle.steps.specs.declared.Core.{Core}
 use Rattle.steps.specs.declared.Heard.{Heard}
-use Rattle.steps.specs.declared.Messages.{Messages}
+use Rattle.steps.specs.declared.SentMessages.{SentMessages}
 
 -- a majority that has prepared is one after a further promise, too
 prepared_stays : (me : Member) (src : ℕ) (rv : RoundV) (s : PaxosState) → is_prepared me s ≡ true → is_prepared me (receive_promise me src rv s) ≡ true
@@ -74,7 +74,7 @@ abbrev pub core_left : Core → Result CoreStep Refusal → Core
 core_left core (Ok step) = step.state
 core_left core (Err why) = core
 
-abbrev pub sent_by : Result CoreStep Refusal → Messages
+abbrev pub sent_by : Result CoreStep Refusal → SentMessages
 sent_by (Ok step) = step.messages
 sent_by (Err why) = no_messages
 

@@ -14,10 +14,10 @@ use Rattle.message.specs.declared.ConsensusMsg.TheVariants.{Prepare, Accept}
 use Rattle.message.specs.declared.PaxosRound.{PaxosRound}
 use Rattle.message.specs.declared.Refusal.{Refusal}
 use Rattle.message.specs.declared.RoundV.{RoundV}
-use Rattle.fast_state.specs.Adopt.{Choice}
+use Rattle.fast_state.specs.Adopt.{ProposerChoice}
 use Rattle.fast_state.specs.Fast.{unchanged, to_v_after, epaxos_scores_after, swift_scores_after}
 use Rattle.fast_state.specs.declared.FastAnswers.{FastAnswers}
-use Rattle.enter.specs.Enter.{is_older, from_live, enter}
+use Rattle.steps.specs.enter.Enter.{is_older, from_live, enter}
 use Rattle.paxos_family.specs.Process.{process_classic, on_prepare, on_accept, process_change, process_fast, on_fast_prepare, on_fast_accept}
 use Rattle.steps.specs.Steps.{CoreStep, no_messages, stays, map_step, with_change, on_rounds, change_rounds}
 use Rattle.steps.specs.declared.Asked.{Asked}
@@ -52,7 +52,7 @@ module _ (a : Asked) (h : Heard) (slot : ℕ) (round : PaxosRound) where
   older_accept v core o = let e = older_enter core o in simp e
 
   -- EPaxos and SwiftPaxos
-  module _ (choose : Choice) where
+  module _ (choose : ProposerChoice) where
     module _ (f : FastAnswers) (values epaxos swift : List ℕ) where
       pub older_prepare_change : (rv : RoundV) (core : Core) → Older slot round core
           → process_change choose a h (Prepare slot round rv) core f values epaxos swift ≡ Ok (with_change (unchanged f) (stays core no_messages))

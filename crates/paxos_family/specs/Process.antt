@@ -8,14 +8,14 @@ use Rattle.message.specs.declared.ConsensusMsg.TheVariants.{Prepare, Accept, For
 use Rattle.message.specs.declared.PaxosRound.{PaxosRound}
 use Rattle.message.specs.declared.Refusal.{Refusal}
 use Rattle.message.specs.declared.RoundV.{RoundV}
-use Rattle.fast_state.specs.Adopt.{Choice}
+use Rattle.fast_state.specs.Adopt.{ProposerChoice}
 use Rattle.fast_state.specs.Fast.{answers_of, unchanged}
 use Rattle.fast_state.specs.declared.FastAnswers.{FastAnswers}
 use Rattle.classic.specs.accept.Accept.{accepting}
-use Rattle.enter.specs.Enter.{enter}
+use Rattle.steps.specs.enter.Enter.{enter}
 use Rattle.fast.specs.epaxos.EPaxos.{epaxos_answer}
 use Rattle.fast.specs.swift.Swift.{swift_client_prepare, swift_client_accept, swift_answered_accept}
-use Rattle.classic.specs.prepare.Prepare.{prepared, accept_phase, with_promise, becomes_prepared, gather, has_accepted}
+use Rattle.classic.specs.prepare.Prepare.{prepare_answered, accept_phase, with_promise, becomes_prepared, gather, has_accepted}
 use Rattle.steps.specs.Steps.{RoundsStep, CoreStep, no_messages, stays, continues, and_then, map_step, with_change, and_then_change, change_rounds}
 use Rattle.steps.specs.declared.Asked.{Asked}
 use Rattle.steps.specs.declared.ChangeStep.{ChangeStep}
@@ -27,7 +27,7 @@ use Rattle.steps.specs.declared.Rounds.{Rounds}
 
 -- a Prepare in the entered round
 unfoldable pub entered_prepare : Asked → Heard → PaxosRound → RoundV → Core → Result CoreStep Refusal
-entered_prepare a h round rv core = and_then (prepared a h round rv core) (gather a h round rv)
+entered_prepare a h round rv core = and_then (prepare_answered a h round rv core) (gather a h round rv)
 
 -- process_message, Prepare
 unfoldable pub on_prepare : Asked → Heard → ℕ → PaxosRound → RoundV → Core → Result CoreStep Refusal
@@ -50,7 +50,7 @@ process_classic a h (ReadResponse id next) core = Ok (stays core no_messages)
 
 -- of a Prepare a client (no replica) holds and answers nothing: the Rust goes to process_answers_at_swift_paxos_client at once
 unfoldable pub fast_prepared : Asked → Heard → PaxosRound → RoundV → Core → Result CoreStep Refusal
-fast_prepared a h round rv core = cond a.member.replica (prepared a h round rv core) (Ok (continues core no_messages))
+fast_prepared a h round rv core = cond a.member.replica (prepare_answered a h round rv core) (Ok (continues core no_messages))
 
 -- nor does it count a promise
 unfoldable pub fast_promised : Asked → Heard → RoundV → Core → Core
@@ -71,7 +71,7 @@ unfoldable pub waits : Asked → PaxosRound → Core → Bool
 waits a round promised = cond (is_swift_paxos a.mode) (leads_round a round) (has_accepted promised)
 
 -- values, epaxos_scores and swift_scores are the tables by proposer: values, scores of EPaxos, scores of SwiftPaxos
-module _ (choose : Choice) where
+module _ (choose : ProposerChoice) where
   -- any other promise is an answer on the fast path
   unfoldable pub fast_answered : Asked → Heard → PaxosRound → RoundV → Core → FastAnswers → List ℕ → List ℕ → List ℕ → Result ChangeStep Refusal
   fast_answered a h round rv promised answers values epaxos_scores swift_scores =
@@ -115,7 +115,7 @@ on_fast_accept a h slot round v core answers swift_scores =
     and_then_change answers (enter a h slot round core) (λ c. entered_fast_accept a h round v c answers swift_scores)
 
 -- process_message, with what changes in the fast half
-unfoldable pub process_change : Choice → Asked → Heard → ConsensusMsg → Core → FastAnswers → List ℕ → List ℕ → List ℕ → Result ChangeStep Refusal
+unfoldable pub process_change : ProposerChoice → Asked → Heard → ConsensusMsg → Core → FastAnswers → List ℕ → List ℕ → List ℕ → Result ChangeStep Refusal
 process_change choose a h (Prepare slot round rv) core answers values epaxos_scores swift_scores =
     on_fast_prepare choose a h slot round rv core answers values epaxos_scores swift_scores
 process_change choose a h (Accept slot round v) core answers values epaxos_scores swift_scores = on_fast_accept a h slot round v core answers swift_scores
@@ -125,7 +125,7 @@ process_change choose a h (ReadRequest id) core answers values epaxos_scores swi
 process_change choose a h (ReadResponse id next) core answers values epaxos_scores swift_scores = Ok (with_change (unchanged answers) (stays core no_messages))
 
 -- process_message, with the change made
-unfoldable pub process_fast : Choice → Asked → Heard → ConsensusMsg → Rounds → Result RoundsStep Refusal
+unfoldable pub process_fast : ProposerChoice → Asked → Heard → ConsensusMsg → Rounds → Result RoundsStep Refusal
 process_fast choose a h msg s =
     map_step (change_rounds s.fast)
     (process_change choose a h msg s.core (answers_of s.fast) s.fast.fast_proposer_to_v s.fast.epaxos_proposer_scores

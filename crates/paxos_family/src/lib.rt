@@ -42,7 +42,7 @@ fn entered_prepare(
 ) -> Result<CoreStep, Refusal>
     ensures { result ≡ entered_prepare asked heard round rv core }
 {
-    let step = classic::prepare::prepared(asked, heard, round, rv, core)?;
+    let step = classic::prepare::prepare_answered(asked, heard, round, rv, core)?;
     and_then(
         step,
         |core| classic::prepare::gather(asked, heard, round, rv, core),
@@ -60,7 +60,7 @@ fn on_prepare(
 ) -> Result<CoreStep, Refusal>
     ensures { result ≡ on_prepare asked heard slot round rv core }
 {
-    let step = enter::enter(asked, heard, slot, round, core)?;
+    let step = steps::enter::enter(asked, heard, slot, round, core)?;
     and_then(step, |core| entered_prepare(asked, heard, round, rv, core))
 }
 
@@ -75,7 +75,7 @@ fn on_accept(
 ) -> Result<CoreStep, Refusal>
     ensures { result ≡ on_accept asked heard slot round v core }
 {
-    let step = enter::enter(asked, heard, slot, round, core)?;
+    let step = steps::enter::enter(asked, heard, slot, round, core)?;
     and_then(
         step,
         |core| classic::accept::accepting(asked, heard, round, v, core),
@@ -117,7 +117,7 @@ fn fast_prepared(
     ensures { result ≡ fast_prepared asked heard round rv core }
 {
     if asked.member.replica {
-        return classic::prepare::prepared(asked, heard, round, rv, core);
+        return classic::prepare::prepare_answered(asked, heard, round, rv, core);
     }
     Ok(core.continues(steps::no_messages()))
 }
@@ -254,7 +254,7 @@ fn on_fast_prepare(
 ) -> Result<ChangeStep, Refusal>
     ensures { result ≡ on_fast_prepare lowest_best asked heard slot round rv core answers tables.entry.values.now tables.entry.epaxos_scores.now tables.entry.swift_scores.now }
 {
-    let step = enter::enter(asked, heard, slot, round, core)?;
+    let step = steps::enter::enter(asked, heard, slot, round, core)?;
     if step.next.goes_on() {
         return entered_fast_prepare(asked, heard, round, rv, step.state, answers, tables);
     }
@@ -321,7 +321,7 @@ fn on_fast_accept(
 ) -> Result<ChangeStep, Refusal>
     ensures { result ≡ on_fast_accept asked heard slot round v core answers tables.entry.swift_scores.now }
 {
-    let step = enter::enter(asked, heard, slot, round, core)?;
+    let step = steps::enter::enter(asked, heard, slot, round, core)?;
     if step.next.goes_on() {
         return entered_fast_accept(asked, heard, round, v, step.state, answers, tables);
     }

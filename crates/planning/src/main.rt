@@ -3,14 +3,14 @@
 #![tactic(auto)]
 
 ghost use Rattle.std.specs.Prelude.{◌≡◌, true, cond};
-ghost use Rattle.list_lines.specs.Answers.{placed_after_list_line};
-ghost use Rattle.window_lines.specs.Lines.{is_window_line};
-ghost use Rattle.window_lines.specs.Answers.{after_window_line};
+ghost use Rattle.planning_lines.specs.lists.Answers.{placed_after_list_line};
+ghost use Rattle.planning_lines.specs.change_windows.Lines.{is_window_line};
+ghost use Rattle.planning_lines.specs.change_windows.Answers.{after_window_line};
 
-use line_blocks::LineTaker;
 use positions::PlacedRegister;
 use std::io::Read;
 use texts::Output;
+use texts::blocks::LineTaker;
 use windows::{KeptWindows, WindowRefusal};
 
 // The register that the lines ask of, with the positions of its cells, and the windows.
@@ -28,10 +28,10 @@ impl LineTaker for Planner {
     ghost asks = { λ _. true };
 
     fn take(&mut self, line: &[u8], out: &mut Output<'_>) {
-        if window_lines::is_window_line(line) {
-            window_lines::answer_line(&mut self.windows, line, out);
+        if planning_lines::change_windows::is_window_line(line) {
+            planning_lines::change_windows::answer_line(&mut self.windows, line, out);
         } else {
-            list_lines::answer_line(&mut self.placed, line, out);
+            planning_lines::lists::answer_line(&mut self.placed, line, out);
         }
     }
 
@@ -44,16 +44,16 @@ impl LineTaker for Planner {
     }
 }
 
-// The input buffer has room for the longest line and its LF. The output buffer has 360,449 bytes left where an answer begins (line_blocks), and the
-// longest answer, that to `join` with a result of 8,192 entries, needs 344,085 (`join_answer_whole`, crates/list_lines/proofs/Laws.antt).
+// The input buffer has room for the longest line and its LF. The output buffer has 360,449 bytes left where an answer begins (texts::blocks), and the
+// longest answer, that to `join` with a result of 8,192 entries, needs 344,085 (`join_answer_whole`, crates/planning_lines/proofs/lists/Laws.antt).
 fn answer_input<R: Read>(reader: &mut R, input_bytes: &mut [u8; 1048577], output_bytes: &mut [u8]) {
     let input: &mut [u8] = input_bytes;
     let mut out = Output::new(output_bytes);
     let mut planner = Planner {
         placed: PlacedRegister::without_positions(register_lines::first_register()),
-        windows: window_lines::first_windows(),
+        windows: planning_lines::change_windows::first_windows(),
     };
-    line_blocks::take_input(reader, input, &mut planner, &mut out);
+    texts::blocks::take_input(reader, input, &mut planner, &mut out);
 }
 
 fn main(rt: HostRuntime) {

@@ -8,8 +8,8 @@ use Prim.Native.Nat.{ℕ}
 use lib.Dec.{eqb}
 use Rattle.register.specs.History.{register_after}
 use Rattle.register.specs.declared.CellEntry.{CellEntry}
-use Rattle.stored_register.specs.Stored.{stored_of, OldEntries}
-use Rattle.stored_register.specs.declared.StoredRegister.{StoredRegister}
+use Rattle.register.specs.stored.Stored.{stored_of, OldEntries}
+use Rattle.register.specs.declared.stored.StoredRegister.{StoredRegister}
 use Rattle.group_register.specs.Settings.{unmade_number, settings_refusal}
 use Rattle.group_register.specs.GroupRegister.{group_outcome_number, apply_in_group}
 use Rattle.group_register.specs.GroupTaken.{group_number_for}
@@ -19,31 +19,31 @@ use Rattle.group_register.specs.declared.UnmadeBy.TheVariants.{OutsideLimits, No
 use Rattle.group_register.proofs.GroupLaws.{number_given_lem}
 use Rattle.group_settings.specs.GroupSettings.{decoded_group_settings, flat_settings_number, NumberBySettings, FlatNumberBySettings}
 use Rattle.group_settings.specs.declared.FlatGroupSettings.{FlatGroupSettings}
-use Rattle.group_arrays.proofs.StoredLaws.{stored_then_applied}
+use Rattle.register_arrays.proofs.in_group.StoredLaws.{stored_then_applied}
 use Rattle.group_settings.proofs.Numbers.{flat_number_by_settings}
 use Rattle.planning_host.specs.Begun.{register_settings, widened_with}
 
 -- the settings have no other number than 0, 1 and 17
-abbrev pub IsNumber : ℕ → Type 0
-IsNumber n = (n ≡ 0) ⊎ ((n ≡ 1) ⊎ (n ≡ 17))
+abbrev pub NumberIs : ℕ → Type 0
+NumberIs n = (n ≡ 0) ⊎ ((n ≡ 1) ⊎ (n ≡ 17))
 
-pub is_number : (f : FlatGroupSettings) → IsNumber (flat_settings_number f)
-is_number f = of_all (flat_settings_number f) (flat_number_by_settings f)
+pub number_is : (f : FlatGroupSettings) → NumberIs (flat_settings_number f)
+number_is f = of_all (flat_settings_number f) (flat_number_by_settings f)
   where
-    of_one : (n : ℕ) → NumberBySettings (decoded_group_settings f) n → IsNumber n
+    of_one : (n : ℕ) → NumberBySettings (decoded_group_settings f) n → NumberIs n
     of_one n (inl made) = inl made.0
     of_one n (inr (inl outside)) = inr (inl outside.0)
     of_one n (inr (inr unfit)) = inr (inr unfit.0)
 
-    of_all : (n : ℕ) → FlatNumberBySettings f n → IsNumber n
+    of_all : (n : ℕ) → FlatNumberBySettings f n → NumberIs n
     of_all n (inl known) = of_one n known.1
     of_all n (inr unknown) = inr (inl unknown.1)
 
 pub same_number : (f : FlatGroupSettings) → settings_refusal (register_settings f) ≡ flat_settings_number f
 unfolding settings_refusal
-same_number f = go (flat_settings_number f) (is_number f)
+same_number f = go (flat_settings_number f) (number_is f)
   where
-    go : (n : ℕ) → IsNumber n → cond (eqb n 0) 0 (unmade_number (cond (eqb n 17) NotInCalendar OutsideLimits)) ≡ n
+    go : (n : ℕ) → NumberIs n → cond (eqb n 0) 0 (unmade_number (cond (eqb n 17) NotInCalendar OutsideLimits)) ≡ n
     go n (inl e) = rw e refl
     go n (inr (inl e)) = rw e refl
     go n (inr (inr e)) = rw e refl

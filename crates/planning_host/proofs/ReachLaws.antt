@@ -4,7 +4,7 @@ use mathlib.Core.Path.{◌≡◌, refl}
 use Prim.Native.Nat.{ℕ}
 use lib.IntN.{ℤ}
 use Rattle.positions.specs.declared.PlacedEntry.TheVariants.{OfPosition}
-use Rattle.position_arrays.specs.Row.{placed_entry_of}
+use Rattle.register_arrays.specs.positioned.Row.{placed_entry_of}
 use Rattle.planning_host.specs.Reach.{question_of}
 
 pub asked_where_it_stands : (slot cell carrier width asked distance : ℕ) (x y : ℤ)

@@ -15,7 +15,7 @@ use Rattle.windows.specs.Windows.{window_check_number, check_windows, no_windows
 use Rattle.windows.proofs.Kept.{kept_answers}
 use Rattle.windows.proofs.Laws.{made_always}
 use Rattle.planning_host.specs.Asked.{kept_settings}
-use Rattle.planning_host.proofs.BegunLaws.{IsNumber, is_number}
+use Rattle.planning_host.proofs.BegunLaws.{NumberIs, number_is}
 
 module _ (f : FlatGroupSettings) where
   -- of settings that are made the windows are
@@ -40,9 +40,9 @@ module _ (f : FlatGroupSettings) where
   unfolding ask_kept check_kept ask_checked
   asked_unmade not-0 minute =
       ap (λ (t : Bool). window_check_number (ask_kept (cond t (kept_of f.windows) (no_windows (flat_settings_number f))) minute)) (ne_eqb (flat_settings_number f) 0 not-0)
-      ∙ go (flat_settings_number f) not-0 (is_number f)
+      ∙ go (flat_settings_number f) not-0 (number_is f)
     where
-      go : (n : ℕ) → (n ≡ 0 → ⊥) → IsNumber n → window_check_number (ask_kept (no_windows n) minute) ≡ n
+      go : (n : ℕ) → (n ≡ 0 → ⊥) → NumberIs n → window_check_number (ask_kept (no_windows n) minute) ≡ n
       go n off (inl e) = absurd (off e)
       go n off (inr (inl e)) = rw e refl
       go n off (inr (inr e)) = rw e refl

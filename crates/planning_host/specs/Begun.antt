@@ -5,8 +5,8 @@ use Rattle.group_register.specs.declared.GroupRegister.{GroupRegister}
 use Rattle.group_register.specs.declared.RegisterSettings.{RegisterSettings}
 use Rattle.group_settings.specs.GroupSettings.{flat_settings_number}
 use Rattle.group_settings.specs.declared.FlatGroupSettings.{FlatGroupSettings}
-use Rattle.stored_register.specs.Stored.{widened}
-use Rattle.stored_register.specs.declared.StoredRegister.{StoredRegister}
+use Rattle.register.specs.stored.Stored.{widened}
+use Rattle.register.specs.declared.stored.StoredRegister.{StoredRegister}
 
 -- the number of the settings, and the slot from which widths are in whole MHz
 abbrev pub register_settings : FlatGroupSettings → RegisterSettings

@@ -2,7 +2,7 @@
 -- Assumes nothing.
 use Rattle.std.specs.Prelude.{ℕ, Option, Some, None, Result}
 use Rattle.std.specs.Result.{result_unwrap_or}
-use Rattle.refusals.specs.Refusals.{refusal}
+use Rattle.basics.specs.refusals.Refusals.{refusal}
 use Rattle.raster.specs.Raster.{frequency_of, number_of, raster_refusal, raster_value}
 use Rattle.calendar.specs.Calendar.{to_minute, to_date}
 use Rattle.calendar.specs.declared.Date.{Date}
@@ -19,8 +19,8 @@ flat_raster answer = record { refusal = raster_refusal answer; value = raster_va
 abbrev pub flat_khz : ℕ → FlatValue
 flat_khz n = flat_raster (frequency_of n)
 
-abbrev pub flat_number : ℕ → FlatValue
-flat_number f = flat_raster (number_of f)
+abbrev pub flat_carrier_number : ℕ → FlatValue
+flat_carrier_number f = flat_raster (number_of f)
 
 abbrev pub flat_minute_answer : Option ℕ → FlatValue
 flat_minute_answer (Some minute) = record { refusal = 0; value = minute }

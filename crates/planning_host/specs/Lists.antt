@@ -4,14 +4,10 @@
 use Rattle.std.specs.Prelude.{◌≡◌, ℕ, Option, Result, Ok, Err}
 use Rattle.catch_up.specs.Joining.{Joins}
 use Rattle.catch_up.specs.declared.JoinRefusal.{JoinRefusal}
-use Rattle.group_register.specs.declared.GroupRegister.{GroupRegister}
 use Rattle.catch_up.specs.Causes.{CommitList, join_number}
-use Rattle.feeding.specs.Feeding.{FedList, refused_slot, refused_number, feed_refusal_number, feeding}
+use Rattle.feeding.specs.Feeding.{refused_slot, refused_number, feed_refusal_number, CommitRegister, feeding}
 use Rattle.feeding.specs.declared.FeedRefusal.{FeedRefusal}
 use Rattle.feeding.specs.declared.FirstRefused.{FirstRefused}
-use Rattle.positions.specs.declared.PlacedRegister.{PlacedRegister}
-use Rattle.placed_feeding.specs.PlacedFeeding as placed
-use Rattle.placed_feeding.specs.declared.FirstPlacedRefused.{FirstPlacedRefused}
 use Rattle.planning_host.specs.Conversions.{flat_value}
 use Rattle.planning_host.specs.declared.FlatFed.{FlatFed}
 use Rattle.planning_host.specs.declared.FlatValue.{FlatValue}
@@ -25,20 +21,12 @@ pub record JoinsFlat (a b places after : CommitList) (answer : FlatValue) : Type
   pub numbers : answer ≡ flat_join joined
   pub call : Joins a b places after joined
 
-abbrev pub flat_fed : Result (Option FirstRefused) FeedRefusal → FlatFed
-flat_fed (Ok first) = record { refusal = 0; slot = refused_slot first; number = refused_number first }
-flat_fed (Err why) = record { refusal = feed_refusal_number why; slot = 0; number = 0 }
+-- of refusals with these numbers
+abbrev pub flat_fed : {W : Type 0} → (W → ℕ) → Result (Option (FirstRefused W)) FeedRefusal → FlatFed
+flat_fed number (Ok first) = record { refusal = 0; slot = refused_slot first; number = refused_number number first }
+flat_fed number (Err why) = record { refusal = feed_refusal_number why; slot = 0; number = 0 }
 
 -- the list is fed to the register, and the answer is in numbers
-pub record FeedsFlat (g : GroupRegister) (l : FedList) (after : GroupRegister) (answer : FlatFed) : Type 0 where
-  pub group : after ≡ (feeding g l).group
-  pub numbers : answer ≡ flat_fed (feeding g l).answer
-
--- the same of a register with positions
-abbrev pub flat_placed_fed : Result (Option FirstPlacedRefused) FeedRefusal → FlatFed
-flat_placed_fed (Ok first) = record { refusal = 0; slot = placed.placed_refused_slot first; number = placed.placed_refused_number first }
-flat_placed_fed (Err why) = record { refusal = feed_refusal_number why; slot = 0; number = 0 }
-
-pub record FeedsPlacedFlat (p : PlacedRegister) (l : placed.PlacedColumns) (after : PlacedRegister) (answer : FlatFed) : Type 0 where
-  pub placed_after : after ≡ (placed.feeding_placed p l).placed
-  pub numbers : answer ≡ flat_placed_fed (placed.feeding_placed p l).answer
+pub record FeedsFlat {R L E W : Type 0} (k : CommitRegister R L E W) (r : R) (l : L) (after : R) (answer : FlatFed) : Type 0 where
+  pub register : after ≡ (feeding k r l).register
+  pub numbers : answer ≡ flat_fed k.number (feeding k r l).answer

@@ -2,12 +2,12 @@
 -- Assumes nothing.
 use Rattle.std.specs.Prelude.{ℕ, ℤ, List, Result}
 use Rattle.register.specs.Refusals.{outcome_number}
-use Rattle.group_arrays.specs.GroupColumns.{group_in}
-use Rattle.positions.specs.Placed.{placed, position_refusal_number, apply_entry}
+use Rattle.register_arrays.specs.in_group.GroupColumns.{group_in}
+use Rattle.positions.specs.Placed.{register_with_positions, position_refusal_number, apply_entry}
 use Rattle.positions.specs.declared.PlacedEntry.{PlacedEntry}
 use Rattle.positions.specs.declared.PlacedRegister.{PlacedRegister}
-use Rattle.position_arrays.specs.Row.{positions_in}
-use Rattle.position_arrays.specs.declared.CellPosition.{CellPosition}
+use Rattle.register_arrays.specs.positioned.Row.{positions_in}
+use Rattle.register_arrays.specs.declared.positioned.CellPosition.{CellPosition}
 use Rattle.reach.specs.Reach.{reach_refusal_number}
 use Rattle.reach.specs.declared.Question.{Question}
 use Rattle.reach.specs.declared.ReachRefusal.{ReachRefusal}
@@ -16,7 +16,7 @@ use Rattle.planning_host.specs.declared.FlatValue.{FlatValue}
 
 -- the register in the arrays
 abbrev pub placed_in_arrays : List ℕ → List ℕ → List ℕ → List ℕ → List ℕ → List CellPosition → PlacedRegister
-placed_in_arrays settings cells carriers widths figures positions = placed (group_in settings cells carriers widths figures) (positions_in positions)
+placed_in_arrays settings cells carriers widths figures positions = register_with_positions (group_in settings cells carriers widths figures) (positions_in positions)
 
 -- the register after an entry, and the number of what became of it
 abbrev pub after_placed_entry : PlacedRegister → PlacedEntry → PlacedRegister × ℕ

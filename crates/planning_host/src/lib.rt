@@ -4,40 +4,38 @@
 ghost use Rattle.std.specs.Prelude.{◌≡◌, None, replicate};
 ghost use Rattle.register_arrays.specs.Columns.{entry_from_numbers};
 ghost use Rattle.group_register.specs.GroupRegister.{new_group_register};
-ghost use Rattle.group_arrays.specs.GroupColumns.{settings_in, group_in, after_group_entry, group_report_in};
-ghost use Rattle.stored_arrays.specs.Columns.{stored_in};
+ghost use Rattle.register_arrays.specs.in_group.GroupColumns.{settings_in, group_in, after_group_entry, group_report_in};
+ghost use Rattle.register_arrays.specs.stored.Columns.{stored_in};
 ghost use Rattle.catch_up.specs.Joining.{list_of};
-ghost use Rattle.feeding.specs.Feeding.{fed_list_of};
+ghost use Rattle.feeding.specs.Registers.{fed_list_of, cell_register, placed_columns, placed_register};
 ghost use Rattle.planning_host.specs.Begun.{register_settings, widened_with};
-ghost use Rattle.planning_host.specs.Conversions.{flat_value, flat_raster, flat_khz, flat_number, flat_minute, flat_date};
+ghost use Rattle.planning_host.specs.Conversions.{flat_value, flat_raster, flat_khz, flat_carrier_number, flat_minute, flat_date};
 ghost use Rattle.group_settings.specs.GroupSettings.{flat_settings_number};
 ghost use Rattle.windows.specs.Windows.{kept_in, ask_kept};
 ghost use Rattle.planning_host.specs.Asked.{kept_settings, flat_window_answer};
 ghost use Rattle.group_register.specs.Settings.{is_made};
-ghost use Rattle.position_arrays.specs.Row.{positions_in, Plain, placed_entry_of};
+ghost use Rattle.register_arrays.specs.positioned.Row.{positions_in, Plain, placed_entry_of};
 ghost use Rattle.reach.specs.Cells.{cells_of};
 ghost use Rattle.reach.specs.Reach.{conflicts_of, first_free};
 ghost use Rattle.planning_host.specs.Reach.{placed_in_arrays, after_placed_entry, question_of, flat_reach_answer, flat_list};
-ghost use Rattle.planning_host.specs.Lists.{JoinsFlat, flat_fed, FeedsFlat, flat_placed_fed, FeedsPlacedFlat};
-ghost use Rattle.placed_feeding.specs.PlacedFeeding.{placed_columns};
+ghost use Rattle.planning_host.specs.Lists.{JoinsFlat, flat_fed, FeedsFlat};
 
+use basics::refusals::{Refused, refusal};
 use calendar::{Date, NotInCalendar};
 use catch_up::{LentList, LentPlaces};
-use feeding::{EntryList, FeedRefusal, FirstRefused};
-use group_arrays::{
-    apply_group_entry, new_group_register, put_group_page, settings_in, widen_in_group,
-};
+use feeding::{EntryList, FeedRefusal, FirstRefused, PlacedList};
 use group_register::RegisterSettings;
 use group_settings::FlatGroupSettings;
-use placed_feeding::PlacedList;
-use position_arrays::{CellPosition, LentCells, PositionRow};
 use positions::Position;
 use raster::NotOnRaster;
 use reach::Question;
-use refusals::{Refused, refusal};
 use register::{CellNumber, entry_number};
+use register_arrays::in_group::{
+    apply_group_entry, new_group_register, put_group_page, settings_in, widen_in_group,
+};
+use register_arrays::positioned::{CellPosition, LentCells, PositionRow};
+use register_arrays::stored::StoredColumns;
 use register_arrays::{CellsArray, Columns, FiguresArray};
-use stored_arrays::StoredColumns;
 use windows::{WindowAnswer, WindowRefusal};
 
 // The number of document 02 that refuses, with 0 as the value; or 0 and the value: a Result or an Option as the C interface has it.
@@ -102,7 +100,7 @@ pub extern "C" fn chanbook_raster_khz(number: u64) -> FlatValue
 // E5: the carrier number of a frequency in kHz.
 #[unsafe(no_mangle)]
 pub extern "C" fn chanbook_raster_number(khz: u64) -> FlatValue
-    ensures { result ≡ flat_number khz }
+    ensures { result ≡ flat_carrier_number khz }
 {
     flat_raster(raster::number_of(khz))
 }
@@ -112,12 +110,12 @@ fn register_settings(group: FlatGroupSettings) -> RegisterSettings
     ensures { result ≡ register_settings group }
 {
     RegisterSettings {
-        number: group_settings::flat_number(group),
+        number: group_settings::flat_settings_number(group),
         whole_mhz_from: group.whole_mhz_from,
     }
 }
 
-// E6 and E13: a register of the settings of its group that has seen no entry, in five arrays that the host lends (crates/group_arrays says what stands
+// E6 and E13: a register of the settings of its group that has seen no entry, in five arrays that the host lends (register_arrays::in_group says what stands
 // where).
 #[unsafe(no_mangle)]
 pub extern "C" fn chanbook_register_new(
@@ -236,8 +234,8 @@ pub extern "C" fn chanbook_join(
     flat_value(catch_up::join(a, b, &mut places))
 }
 
-fn flat_fed(fed: Result<Option<FirstRefused>, FeedRefusal>) -> FlatFed
-    ensures { result ≡ flat_fed fed }
+fn flat_fed<W: Copy + Refused>(fed: Result<Option<FirstRefused<W>>, FeedRefusal>) -> FlatFed
+    ensures { result ≡ flat_fed W.refusal_number fed }
 {
     let refusal = refusal(fed);
     match fed {
@@ -269,7 +267,7 @@ pub extern "C" fn chanbook_feed(
     entry_carriers: &[u64],
     entry_widths: &[u64],
 ) -> FlatFed
-    ensures { FeedsFlat (group_in settings.now cells.old carriers.old widths.old figures.old)
+    ensures { FeedsFlat cell_register (group_in settings.now cells.old carriers.old widths.old figures.old)
         (fed_list_of slots.now values.now kinds.now entry_cells.now entry_carriers.now entry_widths.now)
         (group_in settings.now cells.new carriers.new widths.new figures.new) result }
 {
@@ -327,26 +325,15 @@ pub extern "C" fn chanbook_placed_entry(
         figures,
     };
     let mut row = PositionRow { cells: positions };
-    let entry = position_arrays::entry_from_numbers(slot, kind, cell, carrier, width, x, y);
-    entry_number(position_arrays::apply(settings, &mut columns, &mut row, entry))
-}
-
-fn flat_placed_fed(fed: Result<Option<placed_feeding::FirstPlacedRefused>, FeedRefusal>) -> FlatFed
-    ensures { result ≡ flat_placed_fed fed }
-{
-    let refusal = refusal(fed);
-    match fed {
-        Ok(Some(first)) => FlatFed {
-            refusal,
-            slot: first.slot,
-            number: first.why.number(),
-        },
-        _ => FlatFed {
-            refusal,
-            slot: 0,
-            number: 0,
-        },
-    }
+    let entry = register_arrays::positioned::placed_entry_of(
+        slot, kind, cell, carrier, width, x, y,
+    );
+    entry_number(register_arrays::positioned::apply_in_arrays(
+        settings,
+        &mut columns,
+        &mut row,
+        entry,
+    ))
 }
 
 // E10 and E11: feeds a list, with the host's entry beside each value, to a register with positions: what chanbook_placed_entry is given of an entry.
@@ -368,7 +355,7 @@ pub extern "C" fn chanbook_placed_feed(
     entry_ys: &[i64],
 ) -> FlatFed
     ensures plain { Plain positions.old → Plain positions.new }
-    ensures fed { FeedsPlacedFlat (placed_in_arrays settings.now cells.old carriers.old widths.old figures.old positions.old)
+    ensures fed { FeedsFlat placed_register (placed_in_arrays settings.now cells.old carriers.old widths.old figures.old positions.old)
         (placed_columns (fed_list_of slots.now values.now kinds.now entry_cells.now entry_carriers.now entry_widths.now) entry_xs.now entry_ys.now)
         (placed_in_arrays settings.now cells.new carriers.new widths.new figures.new positions.new) result }
 {
@@ -390,7 +377,7 @@ pub extern "C" fn chanbook_placed_feed(
         xs: entry_xs,
         ys: entry_ys,
     };
-    flat_placed_fed(placed_feeding::feed(settings_in(settings), &mut columns, &mut row, list))
+    flat_fed(feeding::feed_placed(settings_in(settings), &mut columns, &mut row, list))
 }
 
 // E11: the numbers of the cells that a carrier conflicts with, in the first of the lent places. The value is how many they are.
@@ -498,7 +485,7 @@ pub extern "C" fn chanbook_windows_new(
     ensures kept { kept_in starts.new ends.new figures.new ≡ kept_settings group }
     ensures number { result ≡ flat_settings_number group }
 {
-    let number = group_settings::flat_number(group);
+    let number = group_settings::flat_settings_number(group);
     if number == 0 {
         windows::keep(&group.windows, starts, ends, figures);
     } else {

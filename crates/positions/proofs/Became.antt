@@ -36,43 +36,43 @@ NotDone (Err why) = Unit {0}
 
 module _ (s : RegisterSettings) (r : Register) (e : CellEntry) where
   -- the register with the slot seen
-  abbrev pub seen : Register
-  seen = slot_seen e.slot r
+  abbrev pub seen_slot : Register
+  seen_slot = slot_seen e.slot r
 
   abbrev live : Bool
   live = is_live_cell e.cell (live_cells r)
 
   pub data Became : GroupApplied → Type 0 where
     stayed : (after : Register) (o : Result Entered GroupRefusal) → live_cells after ≡ live_cells r → NotDone o → Became (group_applied s after o)
-    superseded : (a : Assignment) → e.change ≡ Assign a → live ≡ true → Became (group_applied s (with_superseded e.cell a seen) (Ok Done))
-    made : (a : Assignment) → e.change ≡ Assign a → live ≡ false → live_places r < 512 → Became (group_applied s (with_new_cell e.cell a seen) (Ok Done))
-    released : e.change ≡ Release → live ≡ true → Became (group_applied s (with_released e.cell seen) (Ok Done))
+    superseded : (a : Assignment) → e.change ≡ Assign a → live ≡ true → Became (group_applied s (with_superseded e.cell a seen_slot) (Ok Done))
+    made : (a : Assignment) → e.change ≡ Assign a → live ≡ false → live_places r < 512 → Became (group_applied s (with_new_cell e.cell a seen_slot) (Ok Done))
+    released : e.change ≡ Release → live ≡ true → Became (group_applied s (with_released e.cell seen_slot) (Ok Done))
 
   abbrev Becomes : Applied → Type 0
   Becomes x = Became (as_register s x)
 
-  assigned : (a : Assignment) → e.change ≡ Assign a → Becomes (assign seen e.cell a)
+  assigned : (a : Assignment) → e.change ≡ Assign a → Becomes (assign seen_slot e.cell a)
   unfolding assign
   assigned a is = go (assignable a) live refl (leb 512 (live_places r)) refl
     where
       go : (t u : Bool) → live ≡ u → (v : Bool) → leb 512 (live_places r) ≡ v
           → Becomes
-          (cond (not t) (entry_refused NotAssignable seen)
-          (cond u (done (with_superseded e.cell a seen)) (cond v (entry_refused NoRoomForCell seen) (done (with_new_cell e.cell a seen)))))
-      go false u k v h = stayed seen (Err _) refl tt
+          (cond (not t) (entry_refused NotAssignable seen_slot)
+          (cond u (done (with_superseded e.cell a seen_slot)) (cond v (entry_refused NoRoomForCell seen_slot) (done (with_new_cell e.cell a seen_slot)))))
+      go false u k v h = stayed seen_slot (Err _) refl tt
       go true true k v h = superseded a is k
-      go true false k true h = stayed seen (Err _) refl tt
+      go true false k true h = stayed seen_slot (Err _) refl tt
       go true false k false h = made a is k (leb-false 512 (live_places r) h)
 
-  release_became : e.change ≡ Release → Becomes (release seen e.cell)
+  release_became : e.change ≡ Release → Becomes (release seen_slot e.cell)
   unfolding release
   release_became is = go live refl
     where
-      go : (u : Bool) → live ≡ u → Becomes (cond u (done (with_released e.cell seen)) (entry_refused CellNotLive seen))
+      go : (u : Bool) → live ≡ u → Becomes (cond u (done (with_released e.cell seen_slot)) (entry_refused CellNotLive seen_slot))
       go true k = released is k
-      go false k = stayed seen (Err _) refl tt
+      go false k = stayed seen_slot (Err _) refl tt
 
-  changed : (c : Change) → e.change ≡ c → Becomes (apply_change c e.cell seen)
+  changed : (c : Change) → e.change ≡ c → Becomes (apply_change c e.cell seen_slot)
   unfolding apply_change
   changed (Assign a) is = assigned a is
   changed Release is = release_became is
@@ -81,10 +81,10 @@ module _ (s : RegisterSettings) (r : Register) (e : CellEntry) where
   unfolding apply_in_group apply_made apply
   became = go (is_made s) (gives_odd_width s.whole_mhz_from r.next_slot e) (ltb 9223372036854775806 e.slot) (ltb e.slot r.next_slot) (changed e.change refl)
     where
-      go : (m o t u : Bool) → Becomes (apply_change e.change e.cell seen)
-          → Became (cond m (cond o (group_applied s seen (Err OddWidth)) (as_register s (cond t (entry_refused NumberTooLarge r) (cond u (older r) (apply_change e.change e.cell seen))))) (group_applied s r (Err (Unmade (unmade_by s)))))
+      go : (m o t u : Bool) → Becomes (apply_change e.change e.cell seen_slot)
+          → Became (cond m (cond o (group_applied s seen_slot (Err OddWidth)) (as_register s (cond t (entry_refused NumberTooLarge r) (cond u (older r) (apply_change e.change e.cell seen_slot))))) (group_applied s r (Err (Unmade (unmade_by s)))))
       go false o t u x = stayed r (Err (Unmade (unmade_by s))) refl tt
-      go true true t u x = stayed seen (Err OddWidth) refl tt
+      go true true t u x = stayed seen_slot (Err OddWidth) refl tt
       go true false true u x = stayed r (Err _) refl tt
       go true false false true x = stayed r (Ok Older) refl tt
       go true false false false x = x

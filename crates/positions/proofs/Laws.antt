@@ -36,7 +36,7 @@ use Rattle.group_register.specs.declared.RegisterSettings.{RegisterSettings}
 use Rattle.group_register.proofs.Mapped.{bound_entries, above_bound, latest_bound}
 use Rattle.group_register.proofs.GroupLaws as E13
 use Rattle.positions.specs.Grid.{within_grid}
-use Rattle.positions.specs.Placed.{placed, without_positions, new_placed, position_of, placed_applied, positioned, with_seen, position_refused, give_position, apply_cell, apply_position, apply_entry}
+use Rattle.positions.specs.Placed.{register_with_positions, without_positions, new_placed, position_of, placed_applied, positioned, with_seen, position_refused, give_position, apply_cell, apply_position, apply_entry}
 use Rattle.positions.specs.PlacedTaken.{cell_entry, cell_entries, is_beyond, is_outside, assigned_in, position_number, entry_number_for, entry_is_taken, cell_named, position_said, latest_position, is_later_entry, later_placed, placed_after}
 use Rattle.positions.specs.declared.PlacedEntry.{PlacedEntry}
 use Rattle.positions.specs.declared.PlacedEntry.TheVariants.{OfCell, OfPosition}
@@ -105,7 +105,7 @@ module _ (s : RegisterSettings) where
 
     live_is : (es : List PlacedEntry) (n : ℕ) → is_live_cell n (live_cells (below es)) ≡ assigned_in s es n
     live_is es n =
-        live_look_up n (live_cells (below es)) ∙ ap is_assigned ((E6.agrees entries).held n) ∙ same (latest entries n)
+        live_look_up n (live_cells (below es)) ∙ ap is_assigned ((E6.register_agrees entries).held n) ∙ same (latest entries n)
         ∙ ap (λ (l : ℕ → Latest). is_assigned (l n)) (latest_bound slot (cell_entries es))
       where
         entries : List CellEntry
@@ -118,7 +118,7 @@ module _ (s : RegisterSettings) where
 
     -- ---- the number of a position is the one that the entries say
     position_outcome : (before : List PlacedEntry) (ps : List (Option Position)) (e : PositionEntry)
-        → placed_number (apply_position (placed (group_register s (below before)) ps) e).outcome ≡ position_number s before e
+        → placed_number (apply_position (register_with_positions (group_register s (below before)) ps) e).outcome ≡ position_number s before e
     unfolding apply_position give_position position_number
     position_outcome before ps e =
         ap (λ (m : Bool). placed_number (chain m large old outside live).outcome) made
@@ -172,14 +172,14 @@ module _ (s : RegisterSettings) where
         is_old : old ≡ not (above e.slot (cell_entries before))
         is_old =
             not_leb e.slot r.next_slot
-            ∙ ap not (sym (sym (above_bound slot e.slot (cell_entries before)) ∙ (E6.agrees (bound_entries slot (cell_entries before))).slots e.slot))
+            ∙ ap not (sym (sym (above_bound slot e.slot (cell_entries before)) ∙ (E6.register_agrees (bound_entries slot (cell_entries before))).slots e.slot))
 
         swap : (l : Bool) → ◌≡◌ {A = ℕ} (cond l 0 16) (cond (not l) 16 0)
         swap true = refl
         swap false = refl
 
-    whole : (es : List PlacedEntry) → placed_after s es ≡ placed (group_register s (below es)) (placed_after s es).positions
-    whole es = ap (λ (g : GroupRegister). placed g (placed_after s es).positions) (group_is es)
+    whole : (es : List PlacedEntry) → placed_after s es ≡ register_with_positions (group_register s (below es)) (placed_after s es).positions
+    whole es = ap (λ (g : GroupRegister). register_with_positions g (placed_after s es).positions) (group_is es)
 
     number_made : (before : List PlacedEntry) (e : PlacedEntry) → placed_number (apply_entry (placed_after s before) e).outcome ≡ entry_number_for s before e
     unfolding apply_entry apply_cell entry_number_for
@@ -205,13 +205,13 @@ module _ (s : RegisterSettings) where
       ps = (placed_after s before).positions
 
       agreeing : RegisterAgrees (bound_entries slot (cell_entries before)) r
-      agreeing = E6.agrees (bound_entries slot (cell_entries before))
+      agreeing = E6.register_agrees (bound_entries slot (cell_entries before))
 
       abbrev Behind : PlacedEntry → PlacedApplied → Type 0
       Behind e x =
           Beside s r ps agreeing.places agreeing.fits agreeing.rising standing_before.long x (cell_named e) (eqb (placed_number x.outcome) 0) (position_said e)
 
-      behind : (e : PlacedEntry) → Behind e (apply_entry (placed (group_register s r) ps) e)
+      behind : (e : PlacedEntry) → Behind e (apply_entry (register_with_positions (group_register s r) ps) e)
       unfolding apply_entry
       behind (OfCell e) = cell_beside s r ps agreeing.places agreeing.fits agreeing.rising standing_before.long e
       behind (OfPosition e) = position_beside s r ps agreeing.places agreeing.fits agreeing.rising standing_before.long e
@@ -227,7 +227,7 @@ module _ (s : RegisterSettings) where
                 (ap (λ (p : PlacedRegister). position_of p n) (sym (whole before)) ∙ standing_before.each n));
           }
         where
-          taken : eqb (placed_number (apply_entry (placed (group_register s r) ps) e).outcome) 0 ≡ entry_is_taken s before e
+          taken : eqb (placed_number (apply_entry (register_with_positions (group_register s r) ps) e).outcome) 0 ≡ entry_is_taken s before e
           taken = ap (λ (k : ℕ). eqb k 0) (ap (λ (p : PlacedRegister). placed_number (apply_entry p e).outcome) (sym (whole before)) ∙ number_made before e)
 
     all_standing : (es : List PlacedEntry) → Standing es
@@ -258,17 +258,17 @@ module _ (s : RegisterSettings) where
             none false = refl
 
     left_cell : (r : Register) (ps : List (Option Position)) (e : CellEntry) → (leb e.slot 9223372036854775806 && leb r.next_slot e.slot) ≡ false
-        → (apply_cell (placed (group_register s r) ps) e).placed ≡ placed (group_register s r) ps
+        → (apply_cell (register_with_positions (group_register s r) ps) e).placed ≡ register_with_positions (group_register s r) ps
     unfolding apply_cell
     left_cell r ps e h = go (ltb 9223372036854775806 e.slot) refl
       where
         stays : (x : GroupApplied) → apply_in_group (group_register s r) e ≡ x
-            → (positioned (placed (group_register s r) ps) e x).placed ≡ placed (group_register s r) ps
-            → (positioned (placed (group_register s r) ps) e (apply_in_group (group_register s r) e)).placed ≡ placed (group_register s r) ps
-        stays x same stay = ap (λ (y : GroupApplied). (positioned (placed (group_register s r) ps) e y).placed) same ∙ stay
+            → (positioned (register_with_positions (group_register s r) ps) e x).placed ≡ register_with_positions (group_register s r) ps
+            → (positioned (register_with_positions (group_register s r) ps) e (apply_in_group (group_register s r) e)).placed ≡ register_with_positions (group_register s r) ps
+        stays x same stay = ap (λ (y : GroupApplied). (positioned (register_with_positions (group_register s r) ps) e y).placed) same ∙ stay
 
         go : (t : Bool) → ltb 9223372036854775806 e.slot ≡ t
-            → (positioned (placed (group_register s r) ps) e (apply_in_group (group_register s r) e)).placed ≡ placed (group_register s r) ps
+            → (positioned (register_with_positions (group_register s r) ps) e (apply_in_group (group_register s r) e)).placed ≡ register_with_positions (group_register s r) ps
         go true k = stays _ (large_applied r e k) refl
         go false k = stays _ (E13.older_applied s made r e within (older_slot (le-leb e.slot 9223372036854775806 within))) refl
           where
@@ -279,7 +279,7 @@ module _ (s : RegisterSettings) where
             older_slot t = leb-false r.next_slot e.slot (simp t at h)
 
     left_position : (r : Register) (ps : List (Option Position)) (e : PositionEntry) → (leb e.slot 9223372036854775806 && leb r.next_slot e.slot) ≡ false
-        → (apply_position (placed (group_register s r) ps) e).placed ≡ placed (group_register s r) ps
+        → (apply_position (register_with_positions (group_register s r) ps) e).placed ≡ register_with_positions (group_register s r) ps
     unfolding apply_position
     left_position r ps e h =
         go (ltb 9223372036854775806 e.slot) (not_leb 9223372036854775806 e.slot) (ltb e.slot r.next_slot) (not_leb e.slot r.next_slot) (is_made s)
@@ -290,7 +290,7 @@ module _ (s : RegisterSettings) where
         go : (t : Bool) → t ≡ not (leb e.slot 9223372036854775806) → (u : Bool) → u ≡ not (leb r.next_slot e.slot) → (m : Bool)
             → (cond (not m) (position_refused (group_register s r) ps (AsGroup (Unmade (unmade_by s))))
             (cond t (position_refused (group_register s r) ps (AsGroup (AsRegister NumberTooLarge)))
-            (cond u (placed_applied (group_register s r) ps (Ok Older)) given))).placed ≡ placed (group_register s r) ps
+            (cond u (placed_applied (group_register s r) ps (Ok Older)) given))).placed ≡ register_with_positions (group_register s r) ps
         go t p u q false = refl
         go true p u q true = refl
         go false p true q true = refl
@@ -310,20 +310,20 @@ module _ (s : RegisterSettings) where
         slots : (leb (cell_entry e).slot 9223372036854775806 && leb (below before).next_slot (cell_entry e).slot) ≡ false
         slots =
             ap (λ (t : Bool). slot_within_limit (cell_entry e).slot && t)
-            (sym (sym (above_bound slot (cell_entry e).slot (cell_entries before)) ∙ (E6.agrees (bound_entries slot (cell_entries before))).slots
+            (sym (sym (above_bound slot (cell_entry e).slot (cell_entries before)) ∙ (E6.register_agrees (bound_entries slot (cell_entries before))).slots
             (cell_entry e).slot)) ∙ h
 
         go : (e : PlacedEntry) → (leb (cell_entry e).slot 9223372036854775806 && leb (below before).next_slot (cell_entry e).slot) ≡ false
-            → (apply_entry (placed (group_register s (below before)) ps) e).placed ≡ placed (group_register s (below before)) ps
+            → (apply_entry (register_with_positions (group_register s (below before)) ps) e).placed ≡ register_with_positions (group_register s (below before)) ps
         go (OfCell e) k = left_cell (below before) ps e k
         go (OfPosition e) k = left_position (below before) ps e k
 
   -- ---- a register that is not made: every entry gives its number, and nothing changes
   module _ (unmade : is_made s ≡ false) where
     unmade_entry : (r : Register) (ps : List (Option Position)) (e : PlacedEntry)
-        → apply_entry (placed (group_register s r) ps) e ≡ placed_applied (group_register s r) ps (Err (AsGroup (Unmade (unmade_by s))))
+        → apply_entry (register_with_positions (group_register s r) ps) e ≡ placed_applied (group_register s r) ps (Err (AsGroup (Unmade (unmade_by s))))
     unfolding apply_entry apply_cell apply_position
-    unmade_entry r ps (OfCell e) = ap (λ (x : GroupApplied). positioned (placed (group_register s r) ps) e x) (E13.unmade_left s unmade r e)
+    unmade_entry r ps (OfCell e) = ap (λ (x : GroupApplied). positioned (register_with_positions (group_register s r) ps) e x) (E13.unmade_left s unmade r e)
     unmade_entry r ps (OfPosition e) = simp unmade
 
     unmade_after : (es : List PlacedEntry) → placed_after s es ≡ new_placed s

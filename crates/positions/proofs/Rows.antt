@@ -25,30 +25,30 @@ abbrev Positions : Type 0
 Positions = List (Option Position)
 
 -- the position of live cell m, and none of a cell that is not live
-abbrev pub position_in : List Cell → List (Option Position) → ℕ → Option Position
-position_in cs ps m = cond (is_live_cell m cs) (get_or ps (cell_place m cs) None) None
+abbrev pub position_of_cell : List Cell → List (Option Position) → ℕ → Option Position
+position_of_cell cs ps m = cond (is_live_cell m cs) (get_or ps (cell_place m cs) None) None
 
 -- ---- a row in whose first places they stand
 same_place : (cs : List Cell) (ps qs : List (Option Position)) (m : ℕ) → ((i : ℕ) → i < length cs → get_or ps i None ≡ get_or qs i None)
-    → position_in cs ps m ≡ position_in cs qs m
+    → position_of_cell cs ps m ≡ position_of_cell cs qs m
 same_place cs ps qs m same = go (is_live_cell m cs) refl
   where
     go : (t : Bool) → is_live_cell m cs ≡ t → cond t (get_or ps (cell_place m cs) None) None ≡ cond t (get_or qs (cell_place m cs) None) None
     go true h = same (cell_place m cs) (live_within m cs h)
     go false h = refl
 
-pub in_front : (cs : List Cell) (l ps : List (Option Position)) (m : ℕ) → length cs ≤ length l → position_in cs (at_front l ps) m ≡ position_in cs l m
+pub put_in_front : (cs : List Cell) (l ps : List (Option Position)) (m : ℕ) → length cs ≤ length l → position_of_cell cs (at_front l ps) m ≡ position_of_cell cs l m
 unfolding at_front
-in_front cs l ps m h = same_place cs (l ++ drop (length l) ps) l m (λ i k. get_or_append_left l (drop (length l) ps) None i (omega arith))
+put_in_front cs l ps m h = same_place cs (l ++ drop (length l) ps) l m (λ i k. get_or_append_left l (drop (length l) ps) None i (omega arith))
 
-pub in_take : (cs : List Cell) (n : ℕ) (ps : List (Option Position)) (m : ℕ) → length cs ≤ n → position_in cs (take n ps) m ≡ position_in cs ps m
+pub in_take : (cs : List Cell) (n : ℕ) (ps : List (Option Position)) (m : ℕ) → length cs ≤ n → position_of_cell cs (take n ps) m ≡ position_of_cell cs ps m
 in_take cs n ps m h = same_place cs (take n ps) ps m (λ i k. get_or-take n ps i None (omega arith))
 
 -- ---- one cell
 module _ (n m : ℕ) where
   -- a new cell, with no position beside it
   pub in_inserted : (a : Assignment) (cs : List Cell) (q : List (Option Position)) → length q ≡ length cs
-      → position_in (cell_inserted n a cs) (with_at (cell_place n cs) None q) m ≡ cond (eqb n m) None (position_in cs q m)
+      → position_of_cell (cell_inserted n a cs) (with_at (cell_place n cs) None q) m ≡ cond (eqb n m) None (position_of_cell cs q m)
   unfolding cell_inserted with_at has_number number_place
   in_inserted a [] [] h = go (leb m n) (eqb n m)
     where
@@ -63,7 +63,7 @@ module _ (n m : ℕ) where
       go (either (leb n c.number)) (either (leb m n)) (either (eqb n m)) (either (leb m c.number)) (in_inserted a cs q (omega arith))
     where
       Told : List Cell → List (Option Position) → List Cell → List (Option Position) → Type 0
-      Told new ps old qs = position_in new ps m ≡ cond (eqb n m) None (position_in old qs m)
+      Told new ps old qs = position_of_cell new ps m ≡ cond (eqb n m) None (position_of_cell old qs m)
 
       go : (leb n c.number ≡ true) ⊎ (leb n c.number ≡ false) → (leb m n ≡ true) ⊎ (leb m n ≡ false) → (eqb n m ≡ true) ⊎ (eqb n m ≡ false)
           → (leb m c.number ≡ true) ⊎ (leb m c.number ≡ false)
@@ -84,7 +84,7 @@ module _ (n m : ℕ) where
 
   -- a cell goes, with its position
   pub in_removed : (low : ℕ) (cs : List Cell) (q : List (Option Position)) → length q ≡ length cs → RisingCells low cs → is_live_cell n cs ≡ true
-      → position_in (cell_removed n cs) (without (cell_place n cs) q) m ≡ cond (eqb n m) None (position_in cs q m)
+      → position_of_cell (cell_removed n cs) (without (cell_place n cs) q) m ≡ cond (eqb n m) None (position_of_cell cs q m)
   unfolding cell_removed without has_number number_place
   in_removed low [] q h rise live = absurd (not_both live refl)
   in_removed low (c ∷ cs) [] h rise live = absurd (omega arith)
@@ -92,7 +92,7 @@ module _ (n m : ℕ) where
       go (either (leb n c.number)) (either (leb m c.number)) (either (eqb n m)) (λ l. in_removed (c.number + 1) cs q (omega arith) rise.1 l)
     where
       Told : List Cell → List (Option Position) → List Cell → List (Option Position) → Type 0
-      Told new ps old qs = position_in new ps m ≡ cond (eqb n m) None (position_in old qs m)
+      Told new ps old qs = position_of_cell new ps m ≡ cond (eqb n m) None (position_of_cell old qs m)
 
       go : (leb n c.number ≡ true) ⊎ (leb n c.number ≡ false) → (leb m c.number ≡ true) ⊎ (leb m c.number ≡ false) → (eqb n m ≡ true) ⊎ (eqb n m ≡ false)
           → (is_live_cell n cs ≡ true → Told (cell_removed n cs) (without (cell_place n cs) q) cs q)
@@ -142,19 +142,19 @@ module _ (n m : ℕ) where
       go (inr e) rest = let r = rest (simp e at live) in (simp (e, r.0), simp (e, r.1))
 
   pub in_reassigned : (a : Assignment) (cs : List Cell) (q : List (Option Position)) → is_live_cell n cs ≡ true
-      → position_in (cell_reassigned n a cs) q m ≡ position_in cs q m
+      → position_of_cell (cell_reassigned n a cs) q m ≡ position_of_cell cs q m
   in_reassigned a cs q live = let r = same_cell a cs live in ap₂ (λ (t : Bool) (k : ℕ). cond t (get_or q k None) None) r.0 r.1
 
   -- a live cell gets a position
   pub in_set : (x : Option Position) (cs : List Cell) (q : List (Option Position)) → length cs ≤ length q → is_live_cell n cs ≡ true
-      → position_in cs (set q (cell_place n cs) x) m ≡ cond (eqb n m) x (position_in cs q m)
+      → position_of_cell cs (set q (cell_place n cs) x) m ≡ cond (eqb n m) x (position_of_cell cs q m)
   unfolding has_number number_place
   in_set x [] q h live = absurd (not_both live refl)
   in_set x (c ∷ cs) [] h live = absurd (omega arith)
   in_set x (c ∷ cs) (p ∷ q) h live = go (either (leb n c.number)) (either (leb m c.number)) (either (eqb n m)) (λ l. in_set x cs q (omega arith) l)
     where
       Told : List Cell → List (Option Position) → List (Option Position) → Type 0
-      Told ds ps qs = position_in ds ps m ≡ cond (eqb n m) x (position_in ds qs m)
+      Told ds ps qs = position_of_cell ds ps m ≡ cond (eqb n m) x (position_of_cell ds qs m)
 
       go : (leb n c.number ≡ true) ⊎ (leb n c.number ≡ false) → (leb m c.number ≡ true) ⊎ (leb m c.number ≡ false) → (eqb n m ≡ true) ⊎ (eqb n m ≡ false)
           → (is_live_cell n cs ≡ true → Told cs (set q (cell_place n cs) x) q) → Told (c ∷ cs) (set (p ∷ q) (cell_place n (c ∷ cs)) x) (p ∷ q)

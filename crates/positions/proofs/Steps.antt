@@ -37,7 +37,7 @@ use Rattle.group_register.specs.declared.UnmadeBy.TheVariants.{OutsideLimits, No
 use Rattle.group_register.specs.declared.GroupRegister.{GroupRegister}
 use Rattle.group_register.specs.declared.RegisterSettings.{RegisterSettings}
 use Rattle.positions.specs.Grid.{within_grid}
-use Rattle.positions.specs.Placed.{placed, position_of, position_refusal_number, placed_applied, as_placed, followed, positions_after, where_done, positioned, apply_cell, with_seen, position_refused, give_position, apply_position}
+use Rattle.positions.specs.Placed.{register_with_positions, position_of, position_refusal_number, placed_applied, as_placed, followed_positions, positions_after, where_done, positioned, apply_cell, with_seen, position_refused, give_position, apply_position}
 use Rattle.positions.specs.PlacedTaken.{slot_alone, position_behind}
 use Rattle.positions.specs.declared.PlacedApplied.{PlacedApplied}
 use Rattle.positions.specs.declared.PlacedRegister.{PlacedRegister}
@@ -46,7 +46,7 @@ use Rattle.positions.specs.declared.PositionEntry.{PositionEntry}
 use Rattle.positions.specs.declared.PositionRefusal.{PositionRefusal}
 use Rattle.positions.specs.declared.PositionRefusal.TheVariants.{OutsideGrid, AsGroup}
 use Rattle.positions.proofs.Became.{NotDone, Became, stayed, superseded, made, released, became}
-use Rattle.positions.proofs.Rows.{position_in, in_front, in_take, in_inserted, in_removed, in_reassigned, in_set}
+use Rattle.positions.proofs.Rows.{position_of_cell, put_in_front, in_take, in_inserted, in_removed, in_reassigned, in_set}
 
 -- document 02's number of what became of an entry
 abbrev pub placed_number : Result Entered PositionRefusal → ℕ
@@ -103,7 +103,7 @@ module _ (s : RegisterSettings) (r : Register) (e : PositionEntry) where
       go false false = refl
 
   pub position_group : (ps : List (Option Position))
-      → (apply_position (placed (group_register s r) ps) e).placed.group ≡ (apply_in_group (group_register s r) (slot_alone e)).group
+      → (apply_position (register_with_positions (group_register s r) ps) e).placed.group ≡ (apply_in_group (group_register s r) (slot_alone e)).group
   unfolding apply_position give_position apply_in_group
   position_group ps =
       go (is_made s) (ltb 9223372036854775806 e.slot) (ltb e.slot r.next_slot) (within_grid e.position) (is_live_cell e.cell (live_cells r)) made_alone
@@ -139,7 +139,7 @@ module _ (s : RegisterSettings) (r : Register) (ps : List (Option Position)) (pl
   cells = live_cells r
 
   abbrev before : PlacedRegister
-  before = placed (group_register s r) ps
+  before = register_with_positions (group_register s r) ps
 
   count : length cells ≡ live_places r
   count = length-take (live_places r) r.cells ∙ omega (arith, places)
@@ -168,13 +168,13 @@ module _ (s : RegisterSettings) (r : Register) (ps : List (Option Position)) (pl
     Goal x = Beside (positioned before e x) e.cell (eqb (group_outcome_number x.outcome) 0) (position_behind e.change)
 
     by_case : (x : GroupApplied) → Became s r e x → Goal x
-    unfolding position_of followed
+    unfolding position_of followed_positions
     by_case x (stayed after o same off) =
         record {
           still_long = ap length (not_done_where o off (positions_after r e ps) ps) ∙ long;
           each = λ m. (
-              ap₂ (λ (cs : List Cell) (qs : List (Option Position)). position_in cs qs m) same (not_done_where o off (positions_after r e ps) ps)
-              ∙ ap (λ (t : Bool). cond (t && eqb e.cell m) (position_behind e.change (position_in cells ps m)) (position_in cells ps m))
+              ap₂ (λ (cs : List Cell) (qs : List (Option Position)). position_of_cell cs qs m) same (not_done_where o off (positions_after r e ps) ps)
+              ∙ ap (λ (t : Bool). cond (t && eqb e.cell m) (position_behind e.change (position_of_cell cells ps m)) (position_of_cell cells ps m))
               (sym (not_done_number o off)));
         }
     by_case x (superseded a is live) =
@@ -183,10 +183,10 @@ module _ (s : RegisterSettings) (r : Register) (ps : List (Option Position)) (pl
         (record {
           still_long = long;
           each = λ m. (
-              ap (λ (cs : List Cell). position_in cs ps m)
+              ap (λ (cs : List Cell). position_of_cell cs ps m)
               (new_cells (cell_reassigned e.cell a cells) (with_superseded e.cell a (slot_seen e.slot r)).figures (slot_seen e.slot r)
               (omega (arith, reassigned_length e.cell a cells, count)))
-              ∙ in_reassigned e.cell m a cells ps live ∙ either_way (eqb e.cell m) (position_in cells ps m));
+              ∙ in_reassigned e.cell m a cells ps live ∙ either_way (eqb e.cell m) (position_of_cell cells ps m));
         }))
     by_case x (made a is live room) =
         rw is
@@ -194,10 +194,10 @@ module _ (s : RegisterSettings) (r : Register) (ps : List (Option Position)) (pl
         (record {
           still_long = front_length _ ps (omega (arith, long, longer)) ∙ long;
           each = λ m. (
-              ap (λ (cs : List Cell). position_in cs row m)
+              ap (λ (cs : List Cell). position_of_cell cs row m)
               (new_cells (cell_inserted e.cell a cells) (with_new_cell e.cell a (slot_seen e.slot r)).figures (slot_seen e.slot r)
               (omega (arith, inserted_length e.cell a cells, count)))
-              ∙ in_front (cell_inserted e.cell a cells) front ps m (omega (arith, inserted_length e.cell a cells, longer, count))
+              ∙ put_in_front (cell_inserted e.cell a cells) front ps m (omega (arith, inserted_length e.cell a cells, longer, count))
               ∙ in_inserted e.cell m a cells (take (live_places r) ps) held
               ∙ ap (λ (p : Option Position). cond (eqb e.cell m) None p) (in_take cells (live_places r) ps m (omega (arith, count)))
               ∙ new_has_none m (eqb e.cell m) refl);
@@ -215,8 +215,8 @@ module _ (s : RegisterSettings) (r : Register) (ps : List (Option Position)) (pl
         longer : length front ≡ live_places r + 1
         longer = with_length ps at (live_places r) None (omega (arith, place_within e.cell cells, count)) (omega (arith, long))
 
-        new_has_none : (m : ℕ) (t : Bool) → eqb e.cell m ≡ t → cond t None (position_in cells ps m) ≡ cond t (position_in cells ps m) (position_in cells ps m)
-        new_has_none m true h = sym (ap (λ (k : ℕ). position_in cells ps k) (sym (eqb-true e.cell m h)) ∙ simp live)
+        new_has_none : (m : ℕ) (t : Bool) → eqb e.cell m ≡ t → cond t None (position_of_cell cells ps m) ≡ cond t (position_of_cell cells ps m) (position_of_cell cells ps m)
+        new_has_none m true h = sym (ap (λ (k : ℕ). position_of_cell cells ps k) (sym (eqb-true e.cell m h)) ∙ simp live)
         new_has_none m false h = refl
     by_case x (released is live) =
         rw is
@@ -224,10 +224,10 @@ module _ (s : RegisterSettings) (r : Register) (ps : List (Option Position)) (pl
         (record {
           still_long = front_length _ ps (omega (arith, long, shorter)) ∙ long;
           each = λ m. (
-              ap (λ (cs : List Cell). position_in cs row m)
+              ap (λ (cs : List Cell). position_of_cell cs row m)
               (new_cells (cell_removed e.cell cells) (with_released e.cell (slot_seen e.slot r)).figures (slot_seen e.slot r)
               (omega (arith, removed_length e.cell cells live, count)))
-              ∙ in_front (cell_removed e.cell cells) front ps m (omega (arith, removed_length e.cell cells live, shorter, count))
+              ∙ put_in_front (cell_removed e.cell cells) front ps m (omega (arith, removed_length e.cell cells live, shorter, count))
               ∙ in_removed e.cell m 0 cells (take (live_places r) ps) held rising live
               ∙ ap (λ (p : Option Position). cond (eqb e.cell m) None p) (in_take cells (live_places r) ps m (omega (arith, count))));
         }))

@@ -30,12 +30,12 @@ use Rattle.positions.specs.declared.PositionRefusal.{PositionRefusal}
 use Rattle.positions.specs.declared.PositionRefusal.TheVariants.{OutsideGrid, AsGroup}
 
 -- ---- registers
-abbrev pub placed : GroupRegister → List (Option Position) → PlacedRegister
-placed g ps = record { group = g; positions = ps }
+abbrev pub register_with_positions : GroupRegister → List (Option Position) → PlacedRegister
+register_with_positions g ps = record { group = g; positions = ps }
 
 -- no cell has a position: so it is of a stored register (E7) that is read, and of a new one
 abbrev pub without_positions : GroupRegister → PlacedRegister
-without_positions g = placed g (replicate 512 None)
+without_positions g = register_with_positions g (replicate 512 None)
 
 -- it has seen no entry
 abbrev pub new_placed : RegisterSettings → PlacedRegister
@@ -56,7 +56,7 @@ position_refusal_number (AsGroup why) = group_refusal_number why
 
 -- ---- what becomes of an entry
 abbrev pub placed_applied : GroupRegister → List (Option Position) → Result Entered PositionRefusal → PlacedApplied
-placed_applied g ps o = record { placed = placed g ps; outcome = o }
+placed_applied g ps o = record { placed = register_with_positions g ps; outcome = o }
 
 abbrev pub as_placed : Result Entered GroupRefusal → Result Entered PositionRefusal
 as_placed (Ok entered) = Ok entered
@@ -66,11 +66,11 @@ as_placed (Err why) = Err (AsGroup why)
 
 -- the positions behind one that is done, by the place in which the cell stood or would have stood: "A new assignment keeps the position, a release drops
 -- it." Beside a new cell stands none.
-unfoldable pub followed : Change → Result ℕ ℕ → ℕ → List (Option Position) → List (Option Position)
-followed (Assign a) (Ok at) live ps = ps
-followed (Assign a) (Err at) live ps = at_front (with_at at None (take live ps)) ps
-followed Release (Ok at) live ps = at_front (without at (take live ps)) ps
-followed Release (Err at) live ps = ps
+unfoldable pub followed_positions : Change → Result ℕ ℕ → ℕ → List (Option Position) → List (Option Position)
+followed_positions (Assign a) (Ok at) live ps = ps
+followed_positions (Assign a) (Err at) live ps = at_front (with_at at None (take live ps)) ps
+followed_positions Release (Ok at) live ps = at_front (without at (take live ps)) ps
+followed_positions Release (Err at) live ps = ps
 
 -- the places that one more, or one fewer, may stand in
 abbrev pub IsPlaceOf : Change → Result ℕ ℕ → ℕ → Type 0
@@ -80,7 +80,7 @@ IsPlaceOf Release (Ok at) live = (at < live) × (live ≤ 512)
 IsPlaceOf Release (Err at) live = Unit {0}
 
 abbrev pub positions_after : Register → CellEntry → List (Option Position) → List (Option Position)
-positions_after r e ps = followed e.change (found number_of_cell e.cell (live_cells r)) (live_places r) ps
+positions_after r e ps = followed_positions e.change (found number_of_cell e.cell (live_cells r)) (live_places r) ps
 
 -- where it is done, and else they stay
 abbrev pub where_done : {A : Type 0} → Result Entered GroupRefusal → A → A → A

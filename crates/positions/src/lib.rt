@@ -10,11 +10,11 @@ ghost use Rattle.register.specs.Register.{live_cells, live_places};
 ghost use Rattle.group_register.specs.GroupRegister.{group_register, group_applied, apply_in_group};
 ghost use Rattle.positions.specs.declared.Position.{Position};
 ghost use Rattle.positions.specs.Grid.{within_grid};
-ghost use Rattle.positions.specs.Placed.{IsPlaceOf, followed, placed, placed_applied, without_positions, new_placed, position_refusal_number, apply_cell, apply_position, apply_entry, position_of};
+ghost use Rattle.positions.specs.Placed.{IsPlaceOf, followed_positions, register_with_positions, placed_applied, without_positions, new_placed, position_refusal_number, apply_cell, apply_position, apply_entry, position_of};
 
 use basics::elements::{insert_at, remove_at};
+use basics::refusals::Refused;
 use group_register::{GroupRefusal, GroupRegister, RegisterSettings};
-use refusals::Refused;
 use register::{
     Applied, CellEntry, CellNumber, Change, Entered, EntryRefusal, Register, RegisterPlaces,
 };
@@ -156,7 +156,7 @@ impl PositionPlaces for [Option<Position>; 512] {
 
 // The positions behind an assignment or a release that is done, of a cell that stood, or would have stood, in the place found: "A new assignment keeps
 // the position, a release drops it."
-#[tactic(auto, unfolding(crate::specs::Placed::followed))]
+#[tactic(auto, unfolding(crate::specs::Placed::followed_positions))]
 fn follow<P: PositionPlaces>(
     positions: &mut P,
     change: Change,
@@ -166,7 +166,7 @@ fn follow<P: PositionPlaces>(
     requires { IsPlaceOf change found live }
     ensures same { P.lent positions.new ≡ P.lent positions.old }
     ensures plain { P.plain positions.old → P.plain positions.new }
-    ensures followed { P.positions positions.new ≡ followed change found live (P.positions positions.old) }
+    ensures followed { P.positions positions.new ≡ followed_positions change found live (P.positions positions.old) }
 {
     match change {
         Change::Assign(_) => {
@@ -193,7 +193,7 @@ fn apply_cell<R: RegisterPlaces, P: PositionPlaces>(
     ensures same { (R.lent register.new ≡ R.lent register.old) × (P.lent positions.new ≡ P.lent positions.old) }
     ensures plain { P.plain positions.old → P.plain positions.new }
     ensures applied { placed_applied (group_register settings (R.register register.new)) (P.positions positions.new) result
-        ≡ apply_cell (placed (group_register settings (R.register register.old)) (P.positions positions.old)) entry }
+        ≡ apply_cell (register_with_positions (group_register settings (R.register register.old)) (P.positions positions.old)) entry }
 {
     let found = register.find(entry.cell);
     let live = register.live();
@@ -215,7 +215,7 @@ fn apply_position<R: RegisterPlaces, P: PositionPlaces>(
     ensures same { (R.lent register.new ≡ R.lent register.old) × (P.lent positions.new ≡ P.lent positions.old) }
     ensures plain { P.plain positions.old → P.plain positions.new }
     ensures applied { placed_applied (group_register settings (R.register register.new)) (P.positions positions.new) result
-        ≡ apply_position (placed (group_register settings (R.register register.old)) (P.positions positions.old)) entry }
+        ≡ apply_position (register_with_positions (group_register settings (R.register register.old)) (P.positions positions.old)) entry }
 {
     if !settings.is_made() {
         return Err(PositionRefusal::AsGroup(GroupRefusal::Unmade(settings.unmade_by())));
@@ -250,7 +250,7 @@ pub fn apply_in<R: RegisterPlaces, P: PositionPlaces>(
     ensures same { (R.lent register.new ≡ R.lent register.old) × (P.lent positions.new ≡ P.lent positions.old) }
     ensures plain { P.plain positions.old → P.plain positions.new }
     ensures applied { placed_applied (group_register settings (R.register register.new)) (P.positions positions.new) result
-        ≡ apply_entry (placed (group_register settings (R.register register.old)) (P.positions positions.old)) entry }
+        ≡ apply_entry (register_with_positions (group_register settings (R.register register.old)) (P.positions positions.old)) entry }
 {
     match entry {
         PlacedEntry::OfCell(entry) => apply_cell(settings, register, positions, entry),
@@ -259,7 +259,7 @@ pub fn apply_in<R: RegisterPlaces, P: PositionPlaces>(
 }
 
 // The register after an entry.
-pub fn apply(mut placed: PlacedRegister, entry: PlacedEntry) -> PlacedApplied
+pub fn apply_entry(mut placed: PlacedRegister, entry: PlacedEntry) -> PlacedApplied
     ensures { result ≡ apply_entry placed entry }
 {
     let outcome = apply_in(

@@ -54,7 +54,7 @@ pub fn may_propose(asked: Asked, core: Core) -> bool
     if core.paxos.max_rv.is_some() {
         return false;
     }
-    enter::can_propose(asked)
+    steps::enter::can_propose(asked)
         && core.paxos.round == asked.starting_round
         && round_allowed(asked, core)
 }

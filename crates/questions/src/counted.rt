@@ -3,7 +3,7 @@
 #![tactic(auto)]
 
 ghost use Rattle.std.specs.Prelude.{◌≡◌};
-ghost use Rattle.questions.specs.counted.Counting.{round_in, member_of, member_majority, in_own_round, repeats_held, accepted_set_with, only_counts_accept, keeps_held, prepared_set_with, completes_majority, gathers_promises, only_counts_promise, only_counts, with_counted};
+ghost use Rattle.questions.specs.counted.Counting.{round_in, member_of, setup_majority, in_own_round, repeats_held, accepted_set_with, only_counts_accept, keeps_held, prepared_set_with, completes_majority, gathers_promises, only_counts_promise, only_counts, with_counted};
 
 use arrays::Setup;
 use basics::tables::PerProcess;
@@ -28,10 +28,11 @@ fn member_of(setup: Setup) -> Member
     crate::decided::asked_of(setup).member
 }
 
-fn member_majority(setup: Setup) -> u64
-    ensures { result ≡ member_majority setup }
+// A majority of the group's replicas.
+pub fn setup_majority(setup: Setup) -> u64
+    ensures { result ≡ setup_majority setup }
 {
-    member_of(setup).quorums.majority
+    quorum::row_of(setup.replica_count).majority
 }
 
 // Whether member and source are live replicas, and the message is of no later round than the core's. Older ones are ignored before.
@@ -45,7 +46,7 @@ fn in_own_round(setup: Setup, c: FlatCore, m: FlatMessage) -> bool
     if !basics::sets::contains(setup.alive_replicas, m.src) {
         return false;
     }
-    flat::decode_round(c.round) >= Some(round_in(m))
+    flat::decoded_round(c.round) >= Some(round_in(m))
 }
 
 // Whether what is held is the accept's value, accepted in its round: then the accept changes it in nothing.
@@ -53,7 +54,7 @@ fn in_own_round(setup: Setup, c: FlatCore, m: FlatMessage) -> bool
 fn repeats_held(c: FlatCore, m: FlatMessage) -> bool
     ensures { result ≡ repeats_held c m }
 {
-    let held = flat::decode_held(c.max_rv);
+    let held = flat::decoded_held(c.max_rv);
     let round = round_in(m);
     if get_last_accepted_round(held) < Some(round) {
         return false;
@@ -76,7 +77,7 @@ fn only_counts_accept(setup: Setup, c: FlatCore, m: FlatMessage) -> bool
     setup.my_pid == m.leader
         && in_own_round(setup, c, m)
         && repeats_held(c, m)
-        && basics::sets::size(accepted_set_with(setup, c, m)) < member_majority(setup)
+        && basics::sets::size(accepted_set_with(setup, c, m)) < setup_majority(setup)
 }
 
 // Whether what is held stays: something is held, and the promise's value was not accepted later.
@@ -84,11 +85,11 @@ fn only_counts_accept(setup: Setup, c: FlatCore, m: FlatMessage) -> bool
 fn keeps_held(c: FlatCore, m: FlatMessage) -> bool
     ensures { result ≡ keeps_held c m }
 {
-    let held = flat::decode_held(c.max_rv);
+    let held = flat::decoded_held(c.max_rv);
     if held.is_none() {
         return false;
     }
-    let promise = flat::decode_promise(m.rv);
+    let promise = flat::decoded_promise(m.rv);
     get_last_accepted_round(held) >= promise.get_accept_round()
 }
 
@@ -104,7 +105,7 @@ fn prepared_set_with(setup: Setup, c: FlatCore, m: FlatMessage) -> u64
 fn completes_majority(setup: Setup, c: FlatCore, m: FlatMessage) -> bool
     ensures { result ≡ completes_majority setup c m }
 {
-    let majority = member_majority(setup);
+    let majority = setup_majority(setup);
     basics::sets::size(c.prepared_set) < majority
         && basics::sets::size(prepared_set_with(setup, c, m)) >= majority
 }

@@ -6,8 +6,8 @@ ghost use Rattle.std.specs.Prelude.{◌≡◌, cond, [], None, Some, option_copi
 ghost use Rattle.arrays.specs.Arrays.{settings_of, setup_of, core_of, flat_call_of};
 ghost use Rattle.calls.specs.Asked.{asked_of, heard_of};
 ghost use Rattle.calls.specs.Decision.{admission_of};
-ghost use Rattle.delivery.specs.Admit.{admit, ready};
-ghost use Rattle.delivery.specs.Limits.{numbers_fit, processes_fit};
+ghost use Rattle.calls.specs.delivery.Admit.{admit, ready};
+ghost use Rattle.calls.specs.delivery.Limits.{numbers_fit, processes_fit};
 ghost use Rattle.flat.specs.Decode.{is_yes, decoded_call, decoded_core, decoded_delivery, decoded_settings};
 ghost use Rattle.questions.specs.decided.Refusals.{is_small, is_below, is_plain, unfit, refusal_of};
 
@@ -59,21 +59,23 @@ fn is_plain(n: u64, f: FlatCall) -> bool
 fn is_plain_in(n: u64, call: &CallArray) -> bool
     ensures { result ≡ is_plain n (flat_call_of call.now) }
 {
-    is_plain(n, arrays::call_in(call))
+    is_plain(n, arrays::flat_call_of(call))
 }
 
 // Refusal 2: whether no number is too large.
 fn numbers_fit_in(process_count: u64, own: u64, call: &CallArray) -> bool
     ensures { result ≡ numbers_fit (decoded_delivery process_count own (flat_call_of call.now)) }
 {
-    flat::decode_delivery(process_count, own, arrays::call_in(call)).numbers_fit()
+    flat::decoded_delivery(process_count, own, arrays::flat_call_of(call)).numbers_fit()
 }
 
 // Refusal 3: whether every process number is below the count.
 fn processes_fit_in(process_count: u64, own: u64, call: &CallArray) -> bool
     ensures { result ≡ processes_fit process_count (decoded_delivery process_count own (flat_call_of call.now)) }
 {
-    flat::decode_delivery(process_count, own, arrays::call_in(call)).processes_fit(process_count)
+    flat::decoded_delivery(process_count, own, arrays::flat_call_of(call)).processes_fit(
+        process_count,
+    )
 }
 
 // Refusals 2 and 3. Not delivery's `admit`, which is a Delivery's, by value, and asks all: here one test of all numbers comes first, which has no like there,
@@ -96,23 +98,23 @@ fn unfit(process_count: u64, own: u64, call: &CallArray) -> Outcome
 // Refusals 5, and 4 before 6. Of another slot than the own one neither 4 nor 6 is asked. The process count is there for the contract alone. Not `ready` of a
 // Delivery, which is made of the whole message with the host's words: of another slot nothing but the slot is read here. What both ask is one (`is_ahead`,
 // `is_own_slot`, `is_other_last`, `needs_value`).
-#[tactic(auto, unfolding(delivery::specs::Admit::ready, delivery::specs::Admit::other_last_value, delivery::specs::Admit::value_awaited))]
+#[tactic(auto, unfolding(calls::specs::delivery::Admit::ready, calls::specs::delivery::Admit::other_last_value, calls::specs::delivery::Admit::value_awaited))]
 fn ready(process_count: u64, own: u64, core: FlatCore, f: FlatCall) -> Outcome
     ensures { result ≡ ready own (decoded_core core) (decoded_delivery process_count own f) }
 {
-    let msg = flat::decode_msg(f.message);
+    let msg = flat::decoded_msg(f.message);
     let slot = msg.get_slot();
-    let at = flat::decode_core(core);
-    if delivery::is_ahead(at, slot) {
+    let at = flat::decoded_core(core);
+    if calls::delivery::is_ahead(at, slot) {
         return Err(Refusal::SlotAhead);
     }
-    if !delivery::is_own_slot(at, slot) {
+    if !calls::delivery::is_own_slot(at, slot) {
         return Ok(());
     }
-    if delivery::is_other_last(at, flat::decode_option(f.message.last_v)) {
+    if calls::delivery::is_other_last(at, flat::decoded_option(f.message.last_v)) {
         return Err(Refusal::OtherLastValue);
     }
-    if delivery::needs_value(own, msg) && !flat::is_yes(f.value_held) {
+    if calls::delivery::needs_value(own, msg) && !flat::is_yes(f.value_held) {
         return Err(Refusal::ValueNotHeld);
     }
     Ok(())
@@ -125,12 +127,12 @@ fn ready_in(process_count: u64, own: u64, core: &CoreArray, call: &CallArray) ->
         process_count,
         own,
         arrays::core_in(core),
-        arrays::call_in(call),
+        arrays::flat_call_of(call),
     )
 }
 
 // A message: 2, 3, then 5, or 4 before 6.
-#[tactic(auto, unfolding(delivery::specs::Admit::admit))]
+#[tactic(auto, unfolding(calls::specs::delivery::Admit::admit))]
 fn message_refusal(process_count: u64, own: u64, core: &CoreArray, call: &CallArray) -> Outcome
     ensures { result ≡ admit process_count own (decoded_core (core_of core.now)) (decoded_delivery process_count own (flat_call_of call.now)) }
 {
@@ -143,7 +145,7 @@ fn message_refusal(process_count: u64, own: u64, core: &CoreArray, call: &CallAr
 fn call_refusal(process_count: u64, own: u64, core: &CoreArray, call: &CallArray) -> Outcome
     ensures { result ≡ admission_of process_count own (decoded_core (core_of core.now)) (decoded_call process_count own (flat_call_of call.now)) }
 {
-    let f = arrays::call_in(call);
+    let f = arrays::flat_call_of(call);
     let fits = match f.kind {
         flat::PROPOSAL => message::limits::is_number(f.v),
         flat::NEW_READ => message::limits::is_number(f.v)
@@ -157,13 +159,13 @@ fn call_refusal(process_count: u64, own: u64, core: &CoreArray, call: &CallArray
 }
 
 // Why a call is refused before it is handled: 1 of a shard that is not made, 2 of one whose slots are spent, and then what refuses the call. Not by calls'
-// `if_made` and `unless_spent`, which go on to a Call by value: they hand a made shard's call to `admit`, and this one to the questions above.
+// `unless_unmade` and `unless_spent`, which go on to a Call by value: they hand a made shard's call to `admit`, and this one to the questions above.
 #[tactic(auto, unfolding(calls::specs::Decision::unless_spent))]
-pub fn refusal(setup: &SetupArray, core: &CoreArray, call: &CallArray) -> Outcome
+pub fn refusal_of(setup: &SetupArray, core: &CoreArray, call: &CallArray) -> Outcome
     ensures { result ≡ refusal_of (setup_of setup.now) (core_of core.now) (flat_call_of call.now) }
 {
     let s = arrays::setup_in(setup);
-    flat::decode_made(s.made, s.mode)?;
+    flat::decoded_made(s.made, s.mode)?;
     let c = arrays::core_in(core);
     if c.slot >= message::LARGEST_NUMBER {
         return Err(Refusal::NumberTooLarge);
@@ -179,14 +181,14 @@ pub fn asked_of(setup: Setup) -> Asked
     let member = Member {
         my_pid: setup.my_pid,
         replica: basics::sets::contains(setup.alive_replicas, setup.my_pid),
-        quorums: quorum::row(setup.replica_count),
+        quorums: quorum::row_of(setup.replica_count),
     };
     Asked {
         member,
         mode,
         starting_round: PaxosRound::starting(mode, setup.first_leader),
         first_leader: setup.first_leader,
-        quorum: flat::decode_option(setup.quorum),
+        quorum: flat::decoded_option(setup.quorum),
     }
 }
 
@@ -201,10 +203,10 @@ fn table_given(flag: u64, table: &PerProcess) -> Option<&PerProcess>
 pub fn heard_of(setup: Setup, tables: Tables<'_>, f: FlatCall) -> Heard
     ensures { result ≡ heard_of (decoded_settings (settings_of setup tables.entry.committers.now tables.entry.delegates.now)) (decoded_delivery setup.process_count setup.my_pid f) }
 {
-    let src = flat::decode_source(setup.process_count, setup.my_pid, f.message);
-    let requester = flat::decode_option(f.requester);
+    let src = flat::decoded_source(setup.process_count, setup.my_pid, f.message);
+    let requester = flat::decoded_option(f.requester);
     let mode = PFMode::of_number(setup.mode);
-    let msg = flat::decode_msg(f.message);
+    let msg = flat::decoded_msg(f.message);
     let given = table_given(setup.has_committers, tables.committers);
     Heard {
         src,
@@ -212,6 +214,6 @@ pub fn heard_of(setup: Setup, tables: Tables<'_>, f: FlatCall) -> Heard
         delegate: calls::gatherer_in(setup.my_pid, mode, tables.delegates, msg),
         requester,
         committer: settings::committer_in(given, mode, requester),
-        held_requester: flat::decode_option(f.held_requester),
+        held_requester: flat::decoded_option(f.held_requester),
     }
 }

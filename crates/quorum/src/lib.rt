@@ -13,7 +13,7 @@ pub struct QuorumRow {
 }
 
 // The row for n replicas. Every count has an answer: 0 takes the row of 1, and a count above 64 that of 64.
-pub fn row(n: u64) -> QuorumRow
+pub fn row_of(n: u64) -> QuorumRow
     ensures { result ≡ row_of n }
 {
     let replicas = n.clamp(1, 64);

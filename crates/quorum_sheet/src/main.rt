@@ -22,6 +22,6 @@ fn read_line<R: Read + Drop>(reader: R) -> Result<ArrayVec<u8, 3>, Error> {
 // A read that fails is answered as an empty input, since the line may then go on.
 fn main(rt: HostRuntime) {
     let line = read_line(rt.stdin()).unwrap_or_default();
-    let page = sheet::answer(line.as_slice());
+    let page = sheet::sheet_answer(line.as_slice());
     io::write_all(1, page.as_str().as_bytes());
 }

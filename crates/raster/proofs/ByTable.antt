@@ -10,7 +10,7 @@ use borrow.Author.Tests.{ltb-true, ltb-false, leb-true, leb-false, eqb-true, lt-
 use Rattle.std.specs.Prelude.{Option, Some, None}
 use Rattle.raster.specs.Table.{OnRaster}
 use Rattle.std.specs.Option.{ok_or}
-use Rattle.refusals.specs.Refusals.{refusal}
+use Rattle.basics.specs.refusals.Refusals.{refusal}
 use Rattle.raster.specs.Raster.{frequency_of, whole_steps, number_of, not_on_raster, raster_refusal, raster_value}
 
 -- ---- what the conversions give, a row of the table says

@@ -4,7 +4,7 @@
 ghost use Rattle.std.specs.Prelude.{◌≡◌, ◌+◌, ◌<◌, ◌≤◌};
 ghost use Rattle.raster.specs.Raster.{frequency_of, whole_steps, number_of, not_on_raster};
 
-use refusals::Refused;
+use basics::refusals::Refused;
 
 // Why there is no answer: no raster number, or no raster frequency.
 #[derive(Clone, Copy, PartialEq, Eq, Debug)]

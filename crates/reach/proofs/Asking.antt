@@ -7,7 +7,7 @@ use Prim.Native.Nat.{ℕ, ◌≤◌}
 use native.Mathlib.Omega.{arith}
 use Rattle.std.specs.Prelude.{Result, Ok, Err}
 use Rattle.basics.proofs.Tests.{either, not_both, and_left, and_right, and_both}
-use Rattle.refusals.specs.Refusals.{refusal}
+use Rattle.basics.specs.refusals.Refusals.{refusal}
 use Rattle.reach.specs.Conflict.{QuestionWithinLimits, MayAssign}
 use Rattle.reach.specs.Reach.{reach_refusal_number, question_within_limits, khz_at, may_ask, question_checked}
 use Rattle.reach.specs.Search.{Askable}
@@ -23,8 +23,8 @@ use Rattle.reach.proofs.Meaning.{limits_of_test, test_of_limits, number_most, ma
 use Rattle.reach.proofs.Raster.{khz_most}
 
 -- document 02's number of what refuses, and 0
-abbrev pub number_of : {A : Type 0} → Result A ReachRefusal → ℕ
-number_of answer = refusal reach_refusal_number answer
+abbrev pub refusal_number_of : {A : Type 0} → Result A ReachRefusal → ℕ
+refusal_number_of answer = refusal reach_refusal_number answer
 
 -- a number is not two
 pub same_number : {m n : ℕ} (answer : ℕ) → answer ≡ m → answer ≡ n → m ≡ n
@@ -64,31 +64,31 @@ module _ (s : RegisterSettings) (q : Question) (first last : ℕ) where
           (may_of_test last q.width (and_right (may_ask first q.width) (may_ask last q.width) e)) (simp (m, l, e))
 
   -- ---- each cause refuses, in that order; a register that is not made gives the number of its settings, 1 or 17
-  pub unmade_is_its_number : is_made s ≡ false → number_of before ≡ settings_refusal s
+  pub unmade_is_its_number : is_made s ≡ false → refusal_number_of before ≡ settings_refusal s
   unmade_is_its_number m = go the_cause
     where
-      go : Cause → number_of before ≡ settings_refusal s
-      go (unmade u is) = ap number_of is ∙ sym (unmade_number_lem s u)
+      go : Cause → refusal_number_of before ≡ settings_refusal s
+      go (unmade u is) = ap refusal_number_of is ∙ sym (unmade_number_lem s u)
       go (outside made off is) = absurd (not_both made m)
       go (not_assignable made limits may is) = absurd (not_both made m)
       go (none made limits low high is) = absurd (not_both made m)
 
-  pub outside_is_21 : is_made s ≡ true → (QuestionWithinLimits q → ⊥) → number_of before ≡ 21
+  pub outside_is_21 : is_made s ≡ true → (QuestionWithinLimits q → ⊥) → refusal_number_of before ≡ 21
   outside_is_21 m off = go the_cause
     where
-      go : Cause → number_of before ≡ 21
+      go : Cause → refusal_number_of before ≡ 21
       go (unmade u is) = absurd (not_both m u)
-      go (outside made off is) = ap number_of is
+      go (outside made off is) = ap refusal_number_of is
       go (not_assignable made limits may is) = absurd (off limits)
       go (none made limits low high is) = absurd (off limits)
 
-  pub not_assignable_is_14 : is_made s ≡ true → QuestionWithinLimits q → (MayAssign first q.width × MayAssign last q.width → ⊥) → number_of before ≡ 14
+  pub not_assignable_is_14 : is_made s ≡ true → QuestionWithinLimits q → (MayAssign first q.width × MayAssign last q.width → ⊥) → refusal_number_of before ≡ 14
   not_assignable_is_14 m limits off = go the_cause
     where
-      go : Cause → number_of before ≡ 14
+      go : Cause → refusal_number_of before ≡ 14
       go (unmade u is) = absurd (not_both m u)
       go (outside made beyond is) = absurd (beyond limits)
-      go (not_assignable made within may is) = ap number_of is
+      go (not_assignable made within may is) = ap refusal_number_of is
       go (none made within low high is) = absurd (off (low, high))
 
   pub else_asked : is_made s ≡ true → QuestionWithinLimits q → MayAssign first q.width → MayAssign last q.width → before ≡ Ok tt
@@ -101,42 +101,42 @@ module _ (s : RegisterSettings) (q : Question) (first last : ℕ) where
       go (none made within least most is) = is
 
   -- ---- and nothing else gives its number
-  pub is_its_number_unmade : (why : UnmadeBy) → number_of before ≡ unmade_number why → (is_made s ≡ false) × (settings_refusal s ≡ unmade_number why)
+  pub is_its_number_unmade : (why : UnmadeBy) → refusal_number_of before ≡ unmade_number why → (is_made s ≡ false) × (settings_refusal s ≡ unmade_number why)
   is_its_number_unmade why e = go the_cause
     where
       go : Cause → (is_made s ≡ false) × (settings_refusal s ≡ unmade_number why)
-      go (unmade u is) = (u, unmade_number_lem s u ∙ same_number (number_of before) (ap number_of is) e)
-      go (outside made off is) = absurd (no_other why 21 (λ z. omega arith) (λ z. omega arith) (same_number (number_of before) e (ap number_of is)))
-      go (not_assignable made limits may is) = absurd (no_other why 14 (λ z. omega arith) (λ z. omega arith) (same_number (number_of before) e (ap number_of is)))
-      go (none made limits low high is) = absurd (no_other why 0 (λ z. omega arith) (λ z. omega arith) (same_number (number_of before) e (ap number_of is)))
+      go (unmade u is) = (u, unmade_number_lem s u ∙ same_number (refusal_number_of before) (ap refusal_number_of is) e)
+      go (outside made off is) = absurd (no_other why 21 (λ z. omega arith) (λ z. omega arith) (same_number (refusal_number_of before) e (ap refusal_number_of is)))
+      go (not_assignable made limits may is) = absurd (no_other why 14 (λ z. omega arith) (λ z. omega arith) (same_number (refusal_number_of before) e (ap refusal_number_of is)))
+      go (none made limits low high is) = absurd (no_other why 0 (λ z. omega arith) (λ z. omega arith) (same_number (refusal_number_of before) e (ap refusal_number_of is)))
 
-  pub is_21_outside : number_of before ≡ 21 → (is_made s ≡ true) × (QuestionWithinLimits q → ⊥)
+  pub is_21_outside : refusal_number_of before ≡ 21 → (is_made s ≡ true) × (QuestionWithinLimits q → ⊥)
   is_21_outside e = go the_cause
     where
       go : Cause → (is_made s ≡ true) × (QuestionWithinLimits q → ⊥)
-      go (unmade u is) = absurd (no_other (unmade_by s) 21 (λ z. omega arith) (λ z. omega arith) (same_number (number_of before) (ap number_of is) e))
+      go (unmade u is) = absurd (no_other (unmade_by s) 21 (λ z. omega arith) (λ z. omega arith) (same_number (refusal_number_of before) (ap refusal_number_of is) e))
       go (outside m off is) = (m, off)
-      go (not_assignable made limits may is) = absurd (let z : ◌≡◌ {A = ℕ} 14 21 = same_number (number_of before) (ap number_of is) e in omega arith)
-      go (none made limits low high is) = absurd (let z : ◌≡◌ {A = ℕ} 0 21 = same_number (number_of before) (ap number_of is) e in omega arith)
+      go (not_assignable made limits may is) = absurd (let z : ◌≡◌ {A = ℕ} 14 21 = same_number (refusal_number_of before) (ap refusal_number_of is) e in omega arith)
+      go (none made limits low high is) = absurd (let z : ◌≡◌ {A = ℕ} 0 21 = same_number (refusal_number_of before) (ap refusal_number_of is) e in omega arith)
 
-  pub is_14_not_assignable : number_of before ≡ 14 → (is_made s ≡ true) × QuestionWithinLimits q × (MayAssign first q.width × MayAssign last q.width → ⊥)
+  pub is_14_not_assignable : refusal_number_of before ≡ 14 → (is_made s ≡ true) × QuestionWithinLimits q × (MayAssign first q.width × MayAssign last q.width → ⊥)
   is_14_not_assignable e = go the_cause
     where
       go : Cause → (is_made s ≡ true) × QuestionWithinLimits q × (MayAssign first q.width × MayAssign last q.width → ⊥)
-      go (unmade u is) = absurd (no_other (unmade_by s) 14 (λ z. omega arith) (λ z. omega arith) (same_number (number_of before) (ap number_of is) e))
-      go (outside made off is) = absurd (let z : ◌≡◌ {A = ℕ} 21 14 = same_number (number_of before) (ap number_of is) e in omega arith)
+      go (unmade u is) = absurd (no_other (unmade_by s) 14 (λ z. omega arith) (λ z. omega arith) (same_number (refusal_number_of before) (ap refusal_number_of is) e))
+      go (outside made off is) = absurd (let z : ◌≡◌ {A = ℕ} 21 14 = same_number (refusal_number_of before) (ap refusal_number_of is) e in omega arith)
       go (not_assignable m limits may is) = (m, limits, may)
-      go (none made limits low high is) = absurd (let z : ◌≡◌ {A = ℕ} 0 14 = same_number (number_of before) (ap number_of is) e in omega arith)
+      go (none made limits low high is) = absurd (let z : ◌≡◌ {A = ℕ} 0 14 = same_number (refusal_number_of before) (ap refusal_number_of is) e in omega arith)
 
   -- what is not refused keeps to the limits
   pub asked_limits : before ≡ Ok tt → (is_made s ≡ true) × QuestionWithinLimits q × MayAssign first q.width × MayAssign last q.width
   asked_limits e = go the_cause
     where
       go : Cause → (is_made s ≡ true) × QuestionWithinLimits q × MayAssign first q.width × MayAssign last q.width
-      go (unmade u is) = absurd (no_other (unmade_by s) 0 (λ z. omega arith) (λ z. omega arith) (same_number (number_of before) (ap number_of is) (ap number_of e)))
-      go (outside made off is) = absurd (let z : ◌≡◌ {A = ℕ} 21 0 = same_number (number_of before) (ap number_of is) (ap number_of e) in omega arith)
+      go (unmade u is) = absurd (no_other (unmade_by s) 0 (λ z. omega arith) (λ z. omega arith) (same_number (refusal_number_of before) (ap refusal_number_of is) (ap refusal_number_of e)))
+      go (outside made off is) = absurd (let z : ◌≡◌ {A = ℕ} 21 0 = same_number (refusal_number_of before) (ap refusal_number_of is) (ap refusal_number_of e) in omega arith)
       go (not_assignable made limits may is) =
-          absurd (let z : ◌≡◌ {A = ℕ} 14 0 = same_number (number_of before) (ap number_of is) (ap number_of e) in omega arith)
+          absurd (let z : ◌≡◌ {A = ℕ} 14 0 = same_number (refusal_number_of before) (ap refusal_number_of is) (ap refusal_number_of e) in omega arith)
       go (none m limits low high is) = (m, limits, low, high)
 
   -- what the code asks of such a question

@@ -13,7 +13,7 @@ use Rattle.basics.specs.elements.Places.{at_front}
 use Rattle.positions.specs.Grid.{within_grid}
 use Rattle.positions.specs.declared.Position.{Position}
 use Rattle.reach.specs.Conflict.{Assigned, RisingPlaced}
-use Rattle.reach.specs.Reach.{question_within_limits, near, overlaps, clashes, blocked, lowest_free, question_checked, conflicts_of, first_free}
+use Rattle.reach.specs.Reach.{question_within_limits, is_near, overlaps, clashes, blocked, lowest_free, question_checked, conflicts_of, first_free}
 use Rattle.reach.specs.declared.PlacedCell.{PlacedCell}
 use Rattle.reach.specs.declared.Question.{Question}
 use Rattle.reach.specs.declared.ReachRefusal.TheVariants.{Unmade, NotAssignable, OutsideLimits, NoneFree}
@@ -60,7 +60,7 @@ rising = (omega arith, (omega arith, tt))
 pub lists : (conflicts_of (kept 0) office 631000 (ask 20000 (pos 0) 500) places ≡ (Ok 2, 3 ∷ 7 ∷ 9 ∷ 9 ∷ []))
     × (conflicts_of (kept 0) office 631000 (ask 20000 (pos 0) 499) places ≡ (Ok 1, 7 ∷ 9 ∷ 9 ∷ 9 ∷ []))
     × (conflicts_of (kept 0) office 631000 (ask 10000 (pos 0) 500) places ≡ (Ok 0, places))
-unfolding settings_refusal conflicts_of question_checked clashes overlaps near question_within_limits within_grid assignable frequency_of at_front
+unfolding settings_refusal conflicts_of question_checked clashes overlaps is_near question_within_limits within_grid assignable frequency_of at_front
 lists = (refl, refl, refl)
 
 pub refusals : (conflicts_of (kept 17) office 3279166 (ask 0 (negsuc 2000000) 500) places ≡ (Err (Unmade NotInCalendar), places))
@@ -78,5 +78,5 @@ pub ranges : (first_free (kept 0) office 630998 631001 (ask 10000 (pos 0) 500) �
     × (first_free (kept 0) office 631001 3279166 (ask 10000 (pos 0) 500) ≡ Err NotAssignable)
     × (first_free (kept 0) office 3279166 631000 (ask 0 (pos 2000001) 500) ≡ Err OutsideLimits)
     × (first_free (kept 17) office 3279166 631000 (ask 0 (pos 2000001) 500) ≡ Err (Unmade NotInCalendar))
-unfolding settings_refusal first_free question_checked lowest_free blocked clashes overlaps near question_within_limits within_grid assignable frequency_of
+unfolding settings_refusal first_free question_checked lowest_free blocked clashes overlaps is_near question_within_limits within_grid assignable frequency_of
 ranges = (refl, refl, refl, refl, refl, refl)

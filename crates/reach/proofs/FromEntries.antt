@@ -35,14 +35,14 @@ use Rattle.positions.specs.PlacedTaken.{cell_entries, latest_position, placed_af
 use Rattle.positions.specs.declared.PlacedEntry.{PlacedEntry}
 use Rattle.positions.specs.declared.Position.{Position}
 use Rattle.positions.proofs.Laws.{register_below, group_is, positions_long, position_given}
-use Rattle.positions.proofs.Rows.{position_in}
+use Rattle.positions.proofs.Rows.{position_of_cell}
 use Rattle.reach.specs.Cells.{placed_cell, placed_cells, cells_of}
 use Rattle.reach.specs.Conflict.{Conflict, CarrierTaken, Named, QuestionWithinLimits, MayAssign, Assigned, RisingPlaced}
 use Rattle.reach.specs.Entries.{LiveWith, said_cell, InConflict, SomeInConflict, LowestFree}
 use Rattle.reach.specs.Reach.{khz_at, numbers_listed, conflicts_of, first_free}
 use Rattle.reach.specs.declared.PlacedCell.{PlacedCell}
 use Rattle.reach.specs.declared.Question.{Question}
-use Rattle.reach.proofs.Asking.{number_of}
+use Rattle.reach.proofs.Asking.{refusal_number_of}
 use Rattle.reach.proofs.Laws.{listed_conflicts, conflicts_listed, free_lowest, lowest_free_lem, free_22_all_taken, all_taken_is_22}
 use Rattle.reach.proofs.Raster.{on_raster}
 
@@ -55,7 +55,7 @@ rising_placed low (c ∷ cs) (p ∷ ps) r = (r.0, rising_placed (c.number + 1) c
 
 -- one of them is the cell, with the position that it has
 in_cells : (low : ℕ) (cs : List Cell) (ps : List (Option Position)) (c : PlacedCell) → RisingCells low cs → In c (placed_cells cs ps)
-    → (low ≤ c.number) × In (cell_of c.number c.assignment) cs × (c.position ≡ position_in cs ps c.number)
+    → (low ≤ c.number) × In (cell_of c.number c.assignment) cs × (c.position ≡ position_of_cell cs ps c.number)
 unfolding placed_cells has_number number_place
 in_cells low [] ps c r i = absurd i
 in_cells low (d ∷ cs) [] c r i = absurd i
@@ -71,7 +71,7 @@ in_cells low (d ∷ cs) (p ∷ ps) c r (inr i) =
 
 -- and each cell is one of them
 in_placed : (low : ℕ) (cs : List Cell) (ps : List (Option Position)) (n : ℕ) (a : Assignment) → RisingCells low cs → length cs ≤ length ps → In (cell_of n a) cs
-    → (low ≤ n) × In (record { number = n; assignment = a; position = position_in cs ps n }) (placed_cells cs ps)
+    → (low ≤ n) × In (record { number = n; assignment = a; position = position_of_cell cs ps n }) (placed_cells cs ps)
 unfolding placed_cells has_number number_place
 in_placed low [] ps n a r h i = absurd i
 in_placed low (d ∷ cs) [] n a r h i = absurd (omega arith)
@@ -152,7 +152,7 @@ module _ (s : RegisterSettings) (made : is_made s ≡ true) (es : List PlacedEnt
       subst (λ (g : GroupRegister). length (live_cells g.register) ≤ 512) (sym (group_is s made es))
       (E6.at_most_512 (bound_entries s.whole_mhz_from (cell_entries es)))
 
-  position_is : (n : ℕ) → position_in (live_cells r) ps n ≡ latest_position s es n
+  position_is : (n : ℕ) → position_of_cell (live_cells r) ps n ≡ latest_position s es n
   unfolding position_of
   position_is n = position_given s es n
 
@@ -230,7 +230,7 @@ module _ (s : RegisterSettings) (made : is_made s ≡ true) (es : List PlacedEnt
         }
 
     -- "22, no carrier in the range is free, given only if every one conflicts"
-    pub none_free_in_entries : number_of (first_free s (cells_of (placed_after s es)) first last q) ≡ 22 → (k : ℕ) → first ≤ k → k ≤ last
+    pub none_free_in_entries : refusal_number_of (first_free s (cells_of (placed_after s es)) first last q) ≡ 22 → (k : ℕ) → first ≤ k → k ≤ last
         → SomeInConflict s es q k
     none_free_in_entries e k least most = taken_in_conflict q k (free_22_all_taken s cells first last q cells_assigned e k least most)
 
@@ -247,7 +247,7 @@ module _ (s : RegisterSettings) (made : is_made s ≡ true) (es : List PlacedEnt
           })
 
       pub in_entries_none_free : ((k : ℕ) → first ≤ k → k ≤ last → SomeInConflict s es q k)
-          → number_of (first_free s (cells_of (placed_after s es)) first last q) ≡ 22
+          → refusal_number_of (first_free s (cells_of (placed_after s es)) first last q) ≡ 22
       in_entries_none_free all =
           all_taken_is_22 s cells first last q made limits low high
           (λ k least most. (let some = all k least most in in_conflict_taken q k some.cell some.conflict))

@@ -20,7 +20,7 @@ use Rattle.reach.specs.declared.Question.{Question}
 use Rattle.reach.specs.declared.ReachRefusal.{ReachRefusal}
 use Rattle.group_register.specs.Settings.{unmade_by, is_made}
 use Rattle.group_register.specs.declared.RegisterSettings.{RegisterSettings}
-use Rattle.reach.proofs.Asking.{number_of, same_number, no_other, Cause, unmade, outside, not_assignable, none, the_cause, else_asked, asked_limits}
+use Rattle.reach.proofs.Asking.{refusal_number_of, same_number, no_other, Cause, unmade, outside, not_assignable, none, the_cause, else_asked, asked_limits}
 use Rattle.reach.proofs.Meaning.{test_of_may, number_most, taken_of_test, test_of_taken, named_of_list, list_of_conflict, list_rises}
 use Rattle.reach.proofs.Raster.{on_raster}
 use Rattle.reach.proofs.Ranges.{Found, lowest_found, lowest_none, none_lowest, found_lowest}
@@ -70,11 +70,11 @@ module _ (s : RegisterSettings) (cs : List PlacedCell) (n : ℕ) (q : Question) 
   listed_rises low r = by_answer (Rising low) (λ e. list_rises q (khz_at n) low cs r) tt
 
   -- the numbers with which a list is refused are those of Asking.antt
-  pub list_number : number_of (conflicts_of s cs n q places).0 ≡ number_of (question_checked s q n n)
+  pub list_number : refusal_number_of (conflicts_of s cs n q places).0 ≡ refusal_number_of (question_checked s q n n)
   unfolding conflicts_of
   list_number = go before
     where
-      go : (r : Result (Unit {0}) ReachRefusal) → number_of (listed_in_places r (clashing q (khz_at n) cs) places).0 ≡ number_of r
+      go : (r : Result (Unit {0}) ReachRefusal) → refusal_number_of (listed_in_places r (clashing q (khz_at n) cs) places).0 ≡ refusal_number_of r
       go (Ok u) = refl
       go (Err why) = refl
 
@@ -145,70 +145,70 @@ module _ (s : RegisterSettings) (cs : List PlacedCell) (first last : ℕ) (q : Q
       clear k = l.free k.cell k.live k.conflict
 
   -- ---- "22, no carrier in the range is free, given only if every one conflicts, an empty range (last below first) included"
-  searched_number : (r : Result ℕ ReachRefusal) → search ≡ r → (number_of r ≡ 0) ⊎ (number_of r ≡ 22)
+  searched_number : (r : Result ℕ ReachRefusal) → search ≡ r → (refusal_number_of r ≡ 0) ⊎ (refusal_number_of r ≡ 22)
   searched_number (Ok n) e = inl refl
   searched_number (Err why) e =
-      inr (ap number_of (sym e ∙ none_lowest (blocked q cs) first (last + 1 - first) (lowest_none (blocked q cs) first (last + 1 - first) why e)))
+      inr (ap refusal_number_of (sym e ∙ none_lowest (blocked q cs) first (last + 1 - first) (lowest_none (blocked q cs) first (last + 1 - first) why e)))
 
-  pub free_22_all_taken : Assigned cs → number_of (first_free s cs first last q) ≡ 22 → (m : ℕ) → first ≤ m → m ≤ last → CarrierTaken q m cs
+  pub free_22_all_taken : Assigned cs → refusal_number_of (first_free s cs first last q) ≡ 22 → (m : ℕ) → first ≤ m → m ≤ last → CarrierTaken q m cs
   free_22_all_taken assigned e m low high = go (the_cause s q first last)
     where
-      refused : (why : ReachRefusal) → question_checked s q first last ≡ Err why → number_of answer ≡ number_of {A = ℕ} (Err why)
-      refused why is = ap number_of (not_searched why is)
+      refused : (why : ReachRefusal) → question_checked s q first last ≡ Err why → refusal_number_of answer ≡ refusal_number_of {A = ℕ} (Err why)
+      refused why is = ap refusal_number_of (not_searched why is)
 
       go : Cause s q first last → CarrierTaken q m cs
-      go (unmade u is) = absurd (no_other (unmade_by s) 22 (λ z. omega arith) (λ z. omega arith) (same_number (number_of answer) (refused _ is) e))
-      go (outside u off is) = absurd (let z : ◌≡◌ {A = ℕ} 21 22 = same_number (number_of answer) (refused _ is) e in omega arith)
-      go (not_assignable u limits may is) = absurd (let z : ◌≡◌ {A = ℕ} 14 22 = same_number (number_of answer) (refused _ is) e in omega arith)
-      go (none u limits least most is) = searching search refl (ap number_of (sym (searched is)) ∙ e)
+      go (unmade u is) = absurd (no_other (unmade_by s) 22 (λ z. omega arith) (λ z. omega arith) (same_number (refusal_number_of answer) (refused _ is) e))
+      go (outside u off is) = absurd (let z : ◌≡◌ {A = ℕ} 21 22 = same_number (refusal_number_of answer) (refused _ is) e in omega arith)
+      go (not_assignable u limits may is) = absurd (let z : ◌≡◌ {A = ℕ} 14 22 = same_number (refusal_number_of answer) (refused _ is) e in omega arith)
+      go (none u limits least most is) = searching search refl (ap refusal_number_of (sym (searched is)) ∙ e)
         where
-          searching : (r : Result ℕ ReachRefusal) → search ≡ r → number_of r ≡ 22 → CarrierTaken q m cs
+          searching : (r : Result ℕ ReachRefusal) → search ≡ r → refusal_number_of r ≡ 22 → CarrierTaken q m cs
           searching (Ok n) found z = absurd (omega arith)
           searching (Err why) found z =
               taken_of_test q m (within_range most m high) cs assigned (lowest_none (blocked q cs) first (last + 1 - first) why found m low (omega arith))
 
   -- only where neither 21 nor 14 is due
-  pub free_22_asked : number_of (first_free s cs first last q) ≡ 22 → question_checked s q first last ≡ Ok tt
+  pub free_22_asked : refusal_number_of (first_free s cs first last q) ≡ 22 → question_checked s q first last ≡ Ok tt
   free_22_asked e = go (the_cause s q first last)
     where
-      refused : (why : ReachRefusal) → question_checked s q first last ≡ Err why → number_of answer ≡ number_of {A = ℕ} (Err why)
-      refused why is = ap number_of (not_searched why is)
+      refused : (why : ReachRefusal) → question_checked s q first last ≡ Err why → refusal_number_of answer ≡ refusal_number_of {A = ℕ} (Err why)
+      refused why is = ap refusal_number_of (not_searched why is)
 
       go : Cause s q first last → question_checked s q first last ≡ Ok tt
-      go (unmade u is) = absurd (no_other (unmade_by s) 22 (λ z. omega arith) (λ z. omega arith) (same_number (number_of answer) (refused _ is) e))
-      go (outside u off is) = absurd (let z : ◌≡◌ {A = ℕ} 21 22 = same_number (number_of answer) (refused _ is) e in omega arith)
-      go (not_assignable u limits may is) = absurd (let z : ◌≡◌ {A = ℕ} 14 22 = same_number (number_of answer) (refused _ is) e in omega arith)
+      go (unmade u is) = absurd (no_other (unmade_by s) 22 (λ z. omega arith) (λ z. omega arith) (same_number (refusal_number_of answer) (refused _ is) e))
+      go (outside u off is) = absurd (let z : ◌≡◌ {A = ℕ} 21 22 = same_number (refusal_number_of answer) (refused _ is) e in omega arith)
+      go (not_assignable u limits may is) = absurd (let z : ◌≡◌ {A = ℕ} 14 22 = same_number (refusal_number_of answer) (refused _ is) e in omega arith)
       go (none u limits least most is) = is
 
   pub all_taken_is_22 : is_made s ≡ true → QuestionWithinLimits q → MayAssign first q.width → MayAssign last q.width
-      → ((m : ℕ) → first ≤ m → m ≤ last → CarrierTaken q m cs) → number_of (first_free s cs first last q) ≡ 22
+      → ((m : ℕ) → first ≤ m → m ≤ last → CarrierTaken q m cs) → refusal_number_of (first_free s cs first last q) ≡ 22
   all_taken_is_22 m limits low high all =
-      ap number_of
+      ap refusal_number_of
       (searched (else_asked s q first last m limits low high)
       ∙ none_lowest (blocked q cs) first (last + 1 - first)
       (λ k least less. (let t = all k least (omega arith) in test_of_taken q k cs t.cell t.live t.conflict)))
 
   pub empty_is_22 : is_made s ≡ true → QuestionWithinLimits q → MayAssign first q.width → MayAssign last q.width → last < first
-      → number_of (first_free s cs first last q) ≡ 22
+      → refusal_number_of (first_free s cs first last q) ≡ 22
   empty_is_22 m limits low high empty = all_taken_is_22 m limits low high (λ k least most. absurd (omega arith))
 
   -- ---- the other numbers are those of Asking.antt: a question that is refused there is refused here, and else the search gives 0 or 22
-  pub free_number_asked : (why : ReachRefusal) → question_checked s q first last ≡ Err why → number_of (first_free s cs first last q) ≡ reach_refusal_number why
-  free_number_asked why e = ap number_of (not_searched why e)
+  pub free_number_asked : (why : ReachRefusal) → question_checked s q first last ≡ Err why → refusal_number_of (first_free s cs first last q) ≡ reach_refusal_number why
+  free_number_asked why e = ap refusal_number_of (not_searched why e)
 
   pub free_number_searched : question_checked s q first last ≡ Ok tt
-      → (number_of (first_free s cs first last q) ≡ 0) ⊎ (number_of (first_free s cs first last q) ≡ 22)
+      → (refusal_number_of (first_free s cs first last q) ≡ 0) ⊎ (refusal_number_of (first_free s cs first last q) ≡ 22)
   free_number_searched e = go (searched_number search refl)
     where
-      go : (number_of search ≡ 0) ⊎ (number_of search ≡ 22) → (number_of answer ≡ 0) ⊎ (number_of answer ≡ 22)
-      go (inl z) = inl (ap number_of (searched e) ∙ z)
-      go (inr z) = inr (ap number_of (searched e) ∙ z)
+      go : (refusal_number_of search ≡ 0) ⊎ (refusal_number_of search ≡ 22) → (refusal_number_of answer ≡ 0) ⊎ (refusal_number_of answer ≡ 22)
+      go (inl z) = inl (ap refusal_number_of (searched e) ∙ z)
+      go (inr z) = inr (ap refusal_number_of (searched e) ∙ z)
 
   -- and a question within its limits, with a free carrier in the range, has no number
   pub some_free_is_0 : is_made s ≡ true → QuestionWithinLimits q → MayAssign first q.width → MayAssign last q.width → Assigned cs → (m : ℕ) → first ≤ m → m ≤ last
-      → ((c : PlacedCell) → In c cs → Conflict q m c → ⊥) → number_of (first_free s cs first last q) ≡ 0
+      → ((c : PlacedCell) → In c cs → Conflict q m c → ⊥) → refusal_number_of (first_free s cs first last q) ≡ 0
   some_free_is_0 is limits low high assigned m least most free = go (free_number_searched (else_asked s q first last is limits low high))
     where
-      go : (number_of answer ≡ 0) ⊎ (number_of answer ≡ 22) → number_of answer ≡ 0
+      go : (refusal_number_of answer ≡ 0) ⊎ (refusal_number_of answer ≡ 22) → refusal_number_of answer ≡ 0
       go (inl e) = e
       go (inr e) = let k = free_22_all_taken assigned e m least most in absurd (free k.cell k.live k.conflict)

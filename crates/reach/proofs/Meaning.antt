@@ -20,7 +20,7 @@ use Rattle.register.proofs.Agreement.{within_limits_lem}
 use Rattle.positions.specs.Grid.{within_grid}
 use Rattle.positions.specs.declared.Position.{Position}
 use Rattle.reach.specs.Conflict.{Overlap, squared, Near, Conflict, CarrierTaken, Named, QuestionWithinLimits, MayAssign, Assigned, RisingPlaced, Rising}
-use Rattle.reach.specs.Reach.{question_within_limits, near, khz_at, overlaps, clashes, clashing, blocked, may_ask}
+use Rattle.reach.specs.Reach.{question_within_limits, is_near, khz_at, overlaps, clashes, clashing, blocked, may_ask}
 use Rattle.reach.specs.declared.PlacedCell.{PlacedCell}
 use Rattle.reach.specs.declared.Question.{Question}
 use Rattle.reach.proofs.Raster.{khz_is, on_raster}
@@ -49,13 +49,13 @@ test_of_overlap f w g v both =
     (lt-ltb (2 * g) (2 * f + (w + v)) (omega (arith, both.other.from, both.one.to)))
 
 -- ---- near
-near_of_test : (q : Question) (p : Option Position) → near q p ≡ true → Near q p
-unfolding near
+near_of_test : (q : Question) (p : Option Position) → is_near q p ≡ true → Near q p
+unfolding is_near
 near_of_test q None t = tt
 near_of_test q (Some other) t = leb-true _ _ t
 
-test_of_near : (q : Question) (p : Option Position) → Near q p → near q p ≡ true
-unfolding near
+test_of_near : (q : Question) (p : Option Position) → Near q p → is_near q p ≡ true
+unfolding is_near
 test_of_near q None t = refl
 test_of_near q (Some other) t = le-leb _ _ t
 
@@ -124,7 +124,7 @@ module _ (q : Question) (n : ℕ) (asked : MayAssign n q.width) (c : PlacedCell)
   pub conflict_of_test : clashes q (khz_at n) c ≡ true → Conflict q n c
   unfolding clashes
   conflict_of_test t =
-      let over = and_left (overlaps (khz_at n) q.width cell_khz c.assignment.width) (near q c.position) t in
+      let over = and_left (overlaps (khz_at n) q.width cell_khz c.assignment.width) (is_near q c.position) t in
       record {
         khz = khz_at n;
         on_raster = rw (khz_is n asked.khz asked.on_raster) asked.on_raster;
@@ -133,7 +133,7 @@ module _ (q : Question) (n : ℕ) (asked : MayAssign n q.width) (c : PlacedCell)
         overlap = overlap_of_test (khz_at n) q.width cell_khz c.assignment.width asked.from assigned.from over;
         near =
             near_of_test q c.position
-            (and_right (overlaps (khz_at n) q.width cell_khz c.assignment.width) (near q c.position) t);
+            (and_right (overlaps (khz_at n) q.width cell_khz c.assignment.width) (is_near q c.position) t);
       }
 
 pub test_of_conflict : (q : Question) (n : ℕ) (c : PlacedCell) → Conflict q n c → clashes q (khz_at n) c ≡ true

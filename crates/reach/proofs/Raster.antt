@@ -8,7 +8,7 @@ use native.Mathlib.Omega.{arith}
 use lib.Dec.{leb}
 use borrow.Author.Tests.{leb-true, leb-false}
 use Rattle.basics.proofs.Tests.{either}
-use Rattle.raster.specs.Table.{OnRaster}
+use Rattle.raster.specs.Table.{RasterRow, OnRaster}
 use Rattle.std.specs.Prelude.{Option, Some, None}
 use Rattle.raster.specs.Raster.{frequency_of, raster_value}
 use Rattle.raster.proofs.ByTable.{frequency_on_raster, on_raster_frequency}
@@ -55,79 +55,47 @@ rises m n f g (inr (inr a)) (inl b) h = omega arith
 rises m n f g (inr (inr a)) (inr (inl b)) h = omega arith
 rises m n f g (inr (inr a)) (inr (inr b)) h = omega arith
 
--- ---- the branches of `number_from`
-pub in_first : (e : ℕ) → e ≤ 5999990 → FirstFrom e ((e + 9) / 10)
-in_first e h = record { below = under; from = over; within = omega arith }
-  where
-    under : (n f : ℕ) → OnRaster n f → n < (e + 9) / 10 → 2 * f < e
-    under n f (inl r) k = omega arith
-    under n f (inr (inl r)) k = omega arith
-    under n f (inr (inr r)) k = omega arith
+-- ---- the branches of `first_number_from`
 
-    over : (n f : ℕ) → OnRaster n f → (e + 9) / 10 ≤ n → e ≤ 2 * f
-    over n f (inl r) k = omega arith
-    over n f (inr (inl r)) k = omega arith
-    over n f (inr (inr r)) k = omega arith
+-- a number below r has a frequency below the edge, and one from r on does not
+abbrev PartedAt : ℕ → ℕ → ℕ → ℕ → Type 0
+PartedAt e r n f = (n < r → 2 * f < e) × (r ≤ n → e ≤ 2 * f)
+
+by_rows : (e r : ℕ) → ((n f : ℕ) → RasterRow 0 599999 5 0 n f → PartedAt e r n f) → ((n f : ℕ) → RasterRow 600000 2016666 15 3000000 n f → PartedAt e r n f)
+    → ((n f : ℕ) → RasterRow 2016667 3279165 60 24250080 n f → PartedAt e r n f) → r ≤ 3279166 → FirstFrom e r
+by_rows e r first second third within = record { below = λ n f row. (parted n f row).0; from = λ n f row. (parted n f row).1; within = within }
+  where
+    parted : (n f : ℕ) → OnRaster n f → PartedAt e r n f
+    parted n f (inl row) = first n f row
+    parted n f (inr (inl row)) = second n f row
+    parted n f (inr (inr row)) = third n f row
+
+pub in_first : (e : ℕ) → e ≤ 5999990 → FirstFrom e ((e + 9) / 10)
+in_first e h =
+    by_rows e ((e + 9) / 10) (λ n f row. (λ k. omega arith, λ k. omega arith)) (λ n f row. (λ k. omega arith, λ k. omega arith))
+    (λ n f row. (λ k. omega arith, λ k. omega arith)) (omega arith)
 
 pub at_second : (e : ℕ) → 5999990 < e → e ≤ 6000000 → FirstFrom e 600000
-at_second e g h = record { below = under; from = over; within = omega arith }
-  where
-    under : (n f : ℕ) → OnRaster n f → n < 600000 → 2 * f < e
-    under n f (inl r) k = omega arith
-    under n f (inr (inl r)) k = omega arith
-    under n f (inr (inr r)) k = omega arith
-
-    over : (n f : ℕ) → OnRaster n f → 600000 ≤ n → e ≤ 2 * f
-    over n f (inl r) k = omega arith
-    over n f (inr (inl r)) k = omega arith
-    over n f (inr (inr r)) k = omega arith
+at_second e g h =
+    by_rows e 600000 (λ n f row. (λ k. omega arith, λ k. omega arith)) (λ n f row. (λ k. omega arith, λ k. omega arith))
+    (λ n f row. (λ k. omega arith, λ k. omega arith)) (omega arith)
 
 pub in_second : (e : ℕ) → 6000000 < e → e ≤ 48499980 → FirstFrom e (600000 + (e - 6000000 + 29) / 30)
-in_second e g h = record { below = under; from = over; within = omega arith }
-  where
-    under : (n f : ℕ) → OnRaster n f → n < 600000 + (e - 6000000 + 29) / 30 → 2 * f < e
-    under n f (inl r) k = omega arith
-    under n f (inr (inl r)) k = omega arith
-    under n f (inr (inr r)) k = omega arith
-
-    over : (n f : ℕ) → OnRaster n f → 600000 + (e - 6000000 + 29) / 30 ≤ n → e ≤ 2 * f
-    over n f (inl r) k = omega arith
-    over n f (inr (inl r)) k = omega arith
-    over n f (inr (inr r)) k = omega arith
+in_second e g h =
+    by_rows e (600000 + (e - 6000000 + 29) / 30) (λ n f row. (λ k. omega arith, λ k. omega arith)) (λ n f row. (λ k. omega arith, λ k. omega arith))
+    (λ n f row. (λ k. omega arith, λ k. omega arith)) (omega arith)
 
 pub at_third : (e : ℕ) → 48499980 < e → e ≤ 48500160 → FirstFrom e 2016667
-at_third e g h = record { below = under; from = over; within = omega arith }
-  where
-    under : (n f : ℕ) → OnRaster n f → n < 2016667 → 2 * f < e
-    under n f (inl r) k = omega arith
-    under n f (inr (inl r)) k = omega arith
-    under n f (inr (inr r)) k = omega arith
-
-    over : (n f : ℕ) → OnRaster n f → 2016667 ≤ n → e ≤ 2 * f
-    over n f (inl r) k = omega arith
-    over n f (inr (inl r)) k = omega arith
-    over n f (inr (inr r)) k = omega arith
+at_third e g h =
+    by_rows e 2016667 (λ n f row. (λ k. omega arith, λ k. omega arith)) (λ n f row. (λ k. omega arith, λ k. omega arith))
+    (λ n f row. (λ k. omega arith, λ k. omega arith)) (omega arith)
 
 pub in_third : (e : ℕ) → 48500160 < e → e ≤ 199999920 → FirstFrom e (2016667 + (e - 48500160 + 119) / 120)
-in_third e g h = record { below = under; from = over; within = omega arith }
-  where
-    under : (n f : ℕ) → OnRaster n f → n < 2016667 + (e - 48500160 + 119) / 120 → 2 * f < e
-    under n f (inl r) k = omega arith
-    under n f (inr (inl r)) k = omega arith
-    under n f (inr (inr r)) k = omega arith
-
-    over : (n f : ℕ) → OnRaster n f → 2016667 + (e - 48500160 + 119) / 120 ≤ n → e ≤ 2 * f
-    over n f (inl r) k = omega arith
-    over n f (inr (inl r)) k = omega arith
-    over n f (inr (inr r)) k = omega arith
+in_third e g h =
+    by_rows e (2016667 + (e - 48500160 + 119) / 120) (λ n f row. (λ k. omega arith, λ k. omega arith)) (λ n f row. (λ k. omega arith, λ k. omega arith))
+    (λ n f row. (λ k. omega arith, λ k. omega arith)) (omega arith)
 
 pub past_last : (e : ℕ) → 199999920 < e → FirstFrom e 3279166
-past_last e g = record { below = under; from = over; within = omega arith }
-  where
-    under : (n f : ℕ) → OnRaster n f → n < 3279166 → 2 * f < e
-    under n f row k = let z = most n f row in omega arith
-
-    over : (n f : ℕ) → OnRaster n f → 3279166 ≤ n → e ≤ 2 * f
-    over n f (inl r) k = omega arith
-    over n f (inr (inl r)) k = omega arith
-    over n f (inr (inr r)) k = omega arith
+past_last e g =
+    by_rows e 3279166 (λ n f row. (λ k. omega arith, λ k. omega arith)) (λ n f row. (λ k. omega arith, λ k. omega arith))
+    (λ n f row. (λ k. omega arith, λ k. omega arith)) (omega arith)

@@ -1,4 +1,4 @@
--- Squares of distances: what the early tests of `near` leave out, and how large a square is.
+-- Squares of distances: what the early tests of `is_near` leave out, and how large a square is.
 -- Assumes nothing.
 use mathlib.Core.Path.{◌≡◌, sym}
 use mathlib.Core.Bool.{false}

@@ -14,8 +14,8 @@ use borrow.Author.Tests.{ltb-true, ltb-false, leb-true, lt-ltb, le-leb}
 use Rattle.std.specs.Prelude.{Option, Some, None, Ok, Err, is_some}
 use Rattle.std.specs.List.{filter}
 use Rattle.basics.proofs.Tests.{either, same_test, and_left, and_right, and_both}
-use Rattle.reach.specs.Reach.{khz_at, overlaps, near, clashes, blocked, lowest_free}
-use Rattle.reach.specs.Search.{edges_of, contain, near_edges, in_the_way, is_in_the_way, FirstFrom}
+use Rattle.reach.specs.Reach.{khz_at, overlaps, is_near, clashes, blocked, lowest_free}
+use Rattle.reach.specs.Search.{edges_of, edges_contain, near_edges, in_the_way, is_in_the_way, FirstFrom}
 use Rattle.reach.specs.declared.Edges.{Edges}
 use Rattle.reach.specs.declared.PlacedCell.{PlacedCell}
 use Rattle.reach.specs.declared.Question.{Question}
@@ -31,8 +31,8 @@ module _ (w f : ℕ) (c : PlacedCell) (most : f ≤ 99999960) where
   abbrev both : ℕ
   both = w + c.assignment.width
 
-  pub edges_overlap : contain (edges_of w c) (2 * f) ≡ overlaps f w cell_khz c.assignment.width
-  unfolding contain edges_of overlaps
+  pub edges_overlap : edges_contain (edges_of w c) (2 * f) ≡ overlaps f w cell_khz c.assignment.width
+  unfolding edges_contain edges_of overlaps
   edges_overlap = same_test forth back
     where
       low : ℕ
@@ -57,15 +57,15 @@ module _ (w f : ℕ) (c : PlacedCell) (most : f ≤ 99999960) where
           and_both (le-leb low (2 * f) (omega (arith, cell_most))) (lt-ltb (2 * f) high (omega (arith, cell_most)))
 
 -- as the code tests it
-pub clashes_by_edges : (q : Question) (f : ℕ) (c : PlacedCell) → f ≤ 99999960 → (contain (edges_of q.width c) (2 * f) && near q c.position) ≡ clashes q f c
+pub clashes_by_edges : (q : Question) (f : ℕ) (c : PlacedCell) → f ≤ 99999960 → (edges_contain (edges_of q.width c) (2 * f) && is_near q c.position) ≡ clashes q f c
 unfolding clashes
-clashes_by_edges q f c most = ap (λ (t : Bool). t && near q c.position) (edges_overlap q.width f c most)
+clashes_by_edges q f c most = ap (λ (t : Bool). t && is_near q c.position) (edges_overlap q.width f c most)
 
 -- ---- some edges contain a centre exactly where some cell is in conflict
 pub blocked_by_edges : (q : Question) (cs : List PlacedCell) (n : ℕ) → is_in_the_way (near_edges q cs) n ≡ blocked q cs n
 unfolding in_the_way blocked clashes
 blocked_by_edges q [] n = refl
-blocked_by_edges q (c ∷ cs) n = go (near q c.position) (blocked_by_edges q cs n)
+blocked_by_edges q (c ∷ cs) n = go (is_near q c.position) (blocked_by_edges q cs n)
   where
     u : Bool
     u = overlaps (khz_at n) q.width (khz_at c.assignment.carrier) c.assignment.width
@@ -86,13 +86,13 @@ blocked_by_edges q (c ∷ cs) n = go (near q c.position) (blocked_by_edges q cs 
     neither false b = refl
 
     near_cells : List PlacedCell
-    near_cells = filter (λ d. near q d.position) cs
+    near_cells = filter (λ d. is_near q d.position) cs
 
     go : (far : Bool) → is_in_the_way (near_edges q cs) n ≡ blocked q cs n
         → is_some (in_the_way (2 * khz_at n) (map (edges_of q.width) (cond far (c ∷ near_cells) near_cells))) ≡ ((u && far) || blocked q cs n)
     go false rest = rest ∙ neither u (blocked q cs n)
     go true rest =
-        some_of (contain own (2 * khz_at n)) own.to (in_the_way (2 * khz_at n) (near_edges q cs))
+        some_of (edges_contain own (2 * khz_at n)) own.to (in_the_way (2 * khz_at n) (near_edges q cs))
         ∙ ap₂ (λ (t b : Bool). t || b) (edges_overlap q.width (khz_at n) c (khz_most n)) rest ∙ alone u (blocked q cs n)
 
 -- so the lowest number that is in none of them is the one that conflicts with none
@@ -107,11 +107,11 @@ module _ (centre : ℕ) (es : List Edges) (i : ℕ) (d : Edges) (more : i < leng
   next : drop i es ≡ get_or es i d ∷ drop (i + 1) es
   next = rw add-one (drop-cons es i d more)
 
-  pub first_in_the_way : contain (get_or es i d) centre ≡ true → Some (get_or es i d).to ≡ in_the_way centre es
+  pub first_in_the_way : edges_contain (get_or es i d) centre ≡ true → Some (get_or es i d).to ≡ in_the_way centre es
   unfolding in_the_way
   first_in_the_way t = sym (passed ∙ simp (next, t))
 
-  pub next_in_the_way : contain (get_or es i d) centre ≡ false → in_the_way centre es ≡ in_the_way centre (drop (i + 1) es)
+  pub next_in_the_way : edges_contain (get_or es i d) centre ≡ false → in_the_way centre es ≡ in_the_way centre (drop (i + 1) es)
   unfolding in_the_way
   next_in_the_way t = passed ∙ simp (next, t)
 
@@ -124,7 +124,7 @@ none_in_the_way centre es i h passed =
 
 -- ---- from a centre on, those below the edge are in the way too
 pub under_the_edge : (es : List Edges) (centre edge : ℕ) → in_the_way centre es ≡ Some edge → centre < edge
-unfolding in_the_way contain
+unfolding in_the_way edges_contain
 under_the_edge [] centre edge e = absurd (never e)
   where
     never : None ≡ Some edge → ⊥
@@ -144,7 +144,7 @@ under_the_edge (d ∷ es) centre edge e = go (either (leb d.from centre && ltb c
 
 pub still_in_the_way : (es : List Edges) (centre next edge : ℕ) → centre ≤ next → next < edge → in_the_way centre es ≡ Some edge
     → is_some (in_the_way next es) ≡ true
-unfolding in_the_way contain
+unfolding in_the_way edges_contain
 still_in_the_way [] centre next edge rise under e = absurd (never e)
   where
     never : None ≡ Some edge → ⊥
@@ -167,10 +167,10 @@ still_in_the_way (d ∷ es) centre next edge rise under e = go (either (leb d.fr
         either_way false k = k
 
 -- ---- the loop of `search`: `number` is reached, and what is below it is in the way
-abbrev pub Reached : List Edges → ℕ → ℕ → ℕ → Type 0
-Reached es first last n = lowest_free (is_in_the_way es) first (last + 1 - first) ≡ lowest_free (is_in_the_way es) n (last + 1 - n)
+abbrev pub SearchedTo : List Edges → ℕ → ℕ → ℕ → Type 0
+SearchedTo es first last n = lowest_free (is_in_the_way es) first (last + 1 - first) ≡ lowest_free (is_in_the_way es) n (last + 1 - n)
 
-module _ (es : List Edges) (first last n : ℕ) (reached : Reached es first last n) where
+module _ (es : List Edges) (first last n : ℕ) (reached : SearchedTo es first last n) where
   pub search_free : n ≤ last → None ≡ in_the_way (2 * khz_at n) es → Ok n ≡ lowest_free (is_in_the_way es) first (last + 1 - first)
   unfolding lowest_free
   search_free inside e =
@@ -196,7 +196,7 @@ module _ (es : List Edges) (first last n : ℕ) (reached : Reached es first last
         go (inl t) = ltb-true n next t
         go (inr t) = absurd (let z = from.from n (khz_at n) (on_raster n (omega arith)) (ltb-false n next t) in omega (arith, under))
 
-    pub search_again : Reached es first last next
+    pub search_again : SearchedTo es first last next
     search_again =
         let rise : n < next = search_rises in
         reached ∙ skip (is_in_the_way es) (next - n) n (last + 1 - n) passed ∙ ap (λ (x : ℕ). lowest_free (is_in_the_way es) x (last + 1 - n - (next - n))) at

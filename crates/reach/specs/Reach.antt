@@ -31,9 +31,9 @@ unfoldable pub question_within_limits : Question → Bool
 question_within_limits q = within_grid q.position && leb q.distance 6000000
 
 -- "within the distance of the position, equality included, squares compared"; "Cells without a position always count as near."
-unfoldable pub near : Question → Option Position → Bool
-near q None = true
-near q (Some p) = leb (squared (q.position.x -ℤ p.x) + squared (q.position.y -ℤ p.y)) (q.distance * q.distance)
+unfoldable pub is_near : Question → Option Position → Bool
+is_near q None = true
+is_near q (Some p) = leb (squared (q.position.x -ℤ p.x) + squared (q.position.y -ℤ p.y)) (q.distance * q.distance)
 
 -- ---- carriers
 -- the frequency of a raster number, in kHz, and 0 for any other number: 14 has refused those, here and in E6
@@ -46,7 +46,7 @@ overlaps f w g v = ltb (2 * f) (2 * g + (w + v)) && ltb (2 * g) (2 * f + (w + v)
 
 -- a carrier of f kHz is in conflict with a cell: "overlap the carrier and lie within the distance of the position"
 unfoldable pub clashes : Question → ℕ → PlacedCell → Bool
-clashes q f c = overlaps f q.width (khz_at c.assignment.carrier) c.assignment.width && near q c.position
+clashes q f c = overlaps f q.width (khz_at c.assignment.carrier) c.assignment.width && is_near q c.position
 
 -- "list the cells, by number"
 abbrev pub clashing : Question → ℕ → List PlacedCell → List ℕ

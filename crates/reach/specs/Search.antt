@@ -3,7 +3,7 @@
 use Rattle.std.specs.Prelude.{Bool, cond, ◌&&◌, ℕ, ◌+◌, ◌*◌, ◌-◌, ◌≤◌, ◌<◌, min, ltb, leb, List, [], ◌∷◌, map, Option, Some, None, is_some}
 use Rattle.std.specs.List.{filter}
 use Rattle.raster.specs.Table.{OnRaster}
-use Rattle.reach.specs.Reach.{near, khz_at}
+use Rattle.reach.specs.Reach.{is_near, khz_at}
 use Rattle.reach.specs.declared.Edges.{Edges}
 use Rattle.reach.specs.declared.PlacedCell.{PlacedCell}
 use Rattle.reach.specs.declared.Question.{Question}
@@ -22,17 +22,17 @@ edges_of w c =
       to = 2 * khz_at c.assignment.carrier + (w + min c.assignment.width 200000000);
     }
 
-unfoldable pub contain : Edges → ℕ → Bool
-contain e centre = leb e.from centre && ltb centre e.to
+unfoldable pub edges_contain : Edges → ℕ → Bool
+edges_contain e centre = leb e.from centre && ltb centre e.to
 
 -- of the near cells
 abbrev pub near_edges : Question → List PlacedCell → List Edges
-near_edges q cs = map (edges_of q.width) (filter (λ c. near q c.position) cs)
+near_edges q cs = map (edges_of q.width) (filter (λ c. is_near q c.position) cs)
 
 -- the end of the first that contain a centre
 unfoldable pub in_the_way : ℕ → List Edges → Option ℕ
 in_the_way centre [] = None
-in_the_way centre (e ∷ es) = cond (contain e centre) (Some e.to) (in_the_way centre es)
+in_the_way centre (e ∷ es) = cond (edges_contain e centre) (Some e.to) (in_the_way centre es)
 
 -- a carrier number is in one of them
 abbrev pub is_in_the_way : List Edges → ℕ → Bool

@@ -4,15 +4,15 @@
 ghost use Rattle.std.specs.Prelude.{◌≡◌, ◌+◌, ◌*◌, ◌-◌, ◌≤◌, ◌<◌, ℕ, List, length, take, get_or, min};
 ghost use Rattle.basics.specs.elements.Places.{at_front};
 ghost use Rattle.reach.specs.Cells.{cells_of};
-ghost use Rattle.reach.specs.Reach.{question_within_limits, near, khz_at, clashes, clashing, may_ask, question_checked, reach_refusal_number, conflicts_of, first_free, lowest_free};
+ghost use Rattle.reach.specs.Reach.{question_within_limits, is_near, khz_at, clashes, clashing, may_ask, question_checked, reach_refusal_number, conflicts_of, first_free, lowest_free};
 ghost use Rattle.group_register.specs.declared.RegisterSettings.{RegisterSettings};
 ghost use Rattle.reach.specs.declared.PlacedCell.{PlacedCell};
-ghost use Rattle.reach.specs.Search.{edges_of, contain, near_edges, in_the_way, is_in_the_way, FirstFrom, Askable};
+ghost use Rattle.reach.specs.Search.{edges_of, edges_contain, near_edges, in_the_way, is_in_the_way, FirstFrom, Askable};
 
+use basics::refusals::Refused;
 use group_register::{RegisterSettings, UnmadeBy};
 use positions::{PlacedRegister, Position};
 use raster::frequency_of;
-use refusals::Refused;
 use register::{Assignment, Cell, live_places};
 
 // A live cell, with its position where it has one.
@@ -134,10 +134,10 @@ impl Question {
 }
 
 // "within the distance of the position, equality included, squares compared"; "Cells without a position always count as near."
-#[tactic(auto, using(crate::proofs::Squares::far, crate::proofs::Squares::far_north, crate::proofs::Squares::square_fits), unfolding(crate::specs::Reach::near))]
-fn near(question: Question, position: Option<Position>) -> bool
+#[tactic(auto, using(crate::proofs::Squares::far, crate::proofs::Squares::far_north, crate::proofs::Squares::square_fits), unfolding(crate::specs::Reach::is_near))]
+fn is_near(question: Question, position: Option<Position>) -> bool
     requires { question.distance ≤ 6000000 }
-    ensures { result ≡ near question position }
+    ensures { result ≡ is_near question position }
 {
     let Some(place) = position else {
         return true;
@@ -181,9 +181,9 @@ fn edges_of(cell: PlacedCell, width: u64) -> Edges
 
 impl Edges {
     // Whether a centre is between them.
-    #[tactic(auto, unfolding(crate::specs::Search::contain))]
+    #[tactic(auto, unfolding(crate::specs::Search::edges_contain))]
     fn contain(self, centre: u64) -> bool
-        ensures { result ≡ contain self centre }
+        ensures { result ≡ edges_contain self centre }
     {
         self.from <= centre && centre < self.to
     }
@@ -201,7 +201,7 @@ fn near_edges<C: PlacedCells>(cells: &C, question: Question) -> NearEdges
     let live = cells.live();
     for i in 0..live {
         let cell = cells.cell(i);
-        if near(question, cell.position) {
+        if is_near(question, cell.position) {
             edges[count] = edges_of(cell, question.width);
             count += 1;
         }
@@ -214,7 +214,7 @@ fn clashes(question: Question, khz: u64, cell: PlacedCell) -> bool
     requires { Askable khz question }
     ensures { result ≡ clashes question khz cell }
 {
-    edges_of(cell, question.width).contain(2 * khz) && near(question, cell.position)
+    edges_of(cell, question.width).contain(2 * khz) && is_near(question, cell.position)
 }
 
 // The cells in conflict, by number, into the first of the lent places, and how many they are.
@@ -256,7 +256,7 @@ fn in_the_way(edges: &[Edges], centre: u64) -> Option<u64>
 
 // The first raster number whose frequency, in half kHz, is not below the edge; or the number after the last.
 #[tactic(auto, using(crate::proofs::Raster::in_first, crate::proofs::Raster::at_second, crate::proofs::Raster::in_second, crate::proofs::Raster::at_third, crate::proofs::Raster::in_third, crate::proofs::Raster::past_last))]
-fn number_from(edge: u64) -> u64
+fn first_number_from(edge: u64) -> u64
     ensures { FirstFrom edge result }
 {
     if edge <= 5999990 {
@@ -289,7 +289,7 @@ fn search(edges: &[Edges], first: u64, last: u64) -> Result<u64, ReachRefusal>
         let Some(edge) = in_the_way(edges, 2 * khz_at(number)) else {
             return Ok(number);
         };
-        number = number_from(edge);
+        number = first_number_from(edge);
     }
     Err(ReachRefusal::NoneFree)
 }

@@ -29,11 +29,15 @@ new_read id tag arrival local =
 abbrev pub serve : ℕ → Bool → OpenRead → ServedRead
 serve slot fast r = record { id = r.id; tag = r.tag; waited_for = slot - r.arrival_slot; fast = fast }
 
+-- a place with no read in it
+abbrev pub no_read : OpenRead
+no_read = new_read (read_id 0) 0 0 false
+
 -- the table as it begins: 128 places (document 01, "At most 128 reads are open"), with no read in them
 abbrev pub new_table : ReadTable
 new_table =
     record {
-      reads = replicate 128 (new_read (read_id 0) 0 0 false);
+      reads = replicate 128 no_read;
       served = replicate 128 (record { id = read_id 0; tag = 0; waited_for = 0; fast = false });
     }
 

@@ -19,7 +19,7 @@ use Rattle.register.specs.Cells.{is_live_cell, cell_reassigned, cell_inserted, c
 use Rattle.register.specs.Register.{new_register, live_places, live_cells, assignable, holding, with_new_cell, with_superseded, with_released, slot_seen, done, older, entry_refused, assign, release, apply_change, apply}
 use Rattle.register.specs.Refusals.{entry_number, entry_refusal_number}
 use Rattle.register.specs.History.{RisingCells}
-use Rattle.register.specs.Taken.{Latest, never, is, is_assigned, above, is_later, assignment_within_limits, change_within_limits, is_assignment, is_release, entry_number_given, number_for, is_taken_given, latest, is_taken, tally, makes, supersedes, is_taken_release, live_count, named_cells, count_in}
+use Rattle.register.specs.Taken.{Latest, never, is, is_assigned, above, is_later, assignment_within_limits, change_within_limits, is_assignment, is_release, entry_number_given, entry_number_after, is_taken_given, latest, is_taken, tally, makes, supersedes, is_taken_release, live_cell_count, named_cells, count_in}
 use Rattle.register.specs.declared.Assignment.{Assignment}
 use Rattle.register.specs.declared.Cell.{Cell}
 use Rattle.register.specs.declared.Change.{Change}
@@ -49,7 +49,7 @@ pub record RegisterAgrees (es : List CellEntry) (r : Register) : Type 0 where
   pub fits : r.live_count ≤ 512
   pub rising : RisingCells 0 (live_cells r)
   pub held : (n : ℕ) → look_up_cell n (live_cells r) ≡ standing (latest es n)
-  pub live_counted : live_count es ≡ r.live_count
+  pub live_counted : live_cell_count es ≡ r.live_count
   pub slots : (slot : ℕ) → above slot es ≡ leb r.next_slot slot
   pub bound : r.next_slot ≤ 9223372036854775807
   pub few : r.figures.made ≤ r.next_slot
@@ -136,7 +136,7 @@ module _ (before : List CellEntry) (r : Register) (slot n : ℕ) (ok : RegisterA
     unfolding at_front
     new_live = take_at new _ (live_places after) (omega arith)
 
-    pub changed_agrees : RisingCells 0 new → ((m : ℕ) → look_up_cell m new ≡ cond (eqb n m) (standing (is x)) (look_up_cell m cells)) → live_count (entry x ∷ before) ≡ length new
+    pub changed_agrees : RisingCells 0 new → ((m : ℕ) → look_up_cell m new ≡ cond (eqb n m) (standing (is x)) (look_up_cell m cells)) → live_cell_count (entry x ∷ before) ≡ length new
         → figures.made ≤ slot + 1 → figures.made ≡ tally makes (entry x ∷ before) → figures.superseded ≡ tally supersedes (entry x ∷ before)
         → figures.released ≡ tally is_taken_release (entry x ∷ before) → figures.made ≡ figures.superseded + figures.released + length new
         → RegisterAgrees (entry x ∷ before) after
@@ -213,7 +213,7 @@ module _ (before : List CellEntry) (r : Register) (slot n : ℕ) (ok : RegisterA
       let d : increment r.figures.released ≡ r.figures.released + 1 = one_more r.figures.released (omega (arith, ok.sum)) in
       let size : length cells ≡ suc (length (cell_removed n cells)) = removed_length n cells old in
       let was : is_assigned (latest before n) ≡ true = sym live_is ∙ old in
-      let fewer : live_count before ≡ suc (live_count (e ∷ before)) = live_less before e took refl was in
+      let fewer : live_cell_count before ≡ suc (live_cell_count (e ∷ before)) = live_less before e took refl was in
       changed_agrees Release took (cell_removed n cells) (with_released n (slot_seen slot r)).figures (omega (arith, all_live, ok.fits))
       (rising_removed 0 n cells ok.rising)
       (λ k. look_up_removed n k 0 cells ok.rising old)
@@ -226,10 +226,10 @@ module _ (before : List CellEntry) (r : Register) (slot n : ℕ) (ok : RegisterA
 
 -- ---- every entry: its number is the one that the entries say, and the register agrees with one entry more
 pub record Stepped (before : List CellEntry) (e : CellEntry) (x : Applied) : Type 0 where
-  pub number : entry_number x.outcome ≡ number_for before e
+  pub number : entry_number x.outcome ≡ entry_number_after before e
   pub agreeing : RegisterAgrees (e ∷ before) x.register
 
-pub taken_by_number : (before : List CellEntry) (e : CellEntry) (k : ℕ) → number_for before e ≡ k → is_taken before e ≡ eqb k 0
+pub taken_by_number : (before : List CellEntry) (e : CellEntry) (k : ℕ) → entry_number_after before e ≡ k → is_taken before e ≡ eqb k 0
 unfolding is_taken_given
 taken_by_number before e k h = ap (λ (m : ℕ). eqb m 0) h
 
@@ -257,11 +257,11 @@ module _ (before : List CellEntry) (r : Register) (slot n : ℕ) (ok : RegisterA
   abbrev change_number : Change → ℕ
   change_number x =
       cond (not (change_within_limits x)) 14
-      (cond (is_assignment x && not (is_assigned (latest before n)) && leb 512 (live_count before)) 15
+      (cond (is_assignment x && not (is_assigned (latest before n)) && leb 512 (live_cell_count before)) 15
       (cond (is_release x && not (is_assigned (latest before n))) 16
       0))
 
-  number_told : (x : Change) (k : ℕ) → change_number x ≡ k → number_for before (told x) ≡ k
+  number_told : (x : Change) (k : ℕ) → change_number x ≡ k → entry_number_after before (told x) ≡ k
   unfolding entry_number_given
   number_told x k h = simp (le-leb slot 9223372036854775806 within, ok.slots slot, le-leb r.next_slot slot later) h
 
@@ -294,11 +294,11 @@ module _ (before : List CellEntry) (r : Register) (slot n : ℕ) (ok : RegisterA
           done_stepped (Assign a) (with_superseded n a (slot_seen slot r)) (simp (within_limits_lem a ∙ p, assigned true q))
           (λ took. superseded_agrees before r slot n ok within later a took q)
       go true p false q true s =
-          let full : leb 512 (live_count before) ≡ true = le-leb 512 (live_count before) (omega (arith, leb-true 512 (live_places r) s, ok.live_counted)) in
+          let full : leb 512 (live_cell_count before) ≡ true = le-leb 512 (live_cell_count before) (omega (arith, leb-true 512 (live_places r) s, ok.live_counted)) in
           refused_stepped (Assign a) NoRoomForCell refl (simp (within_limits_lem a ∙ p, assigned false q, full))
       go true p false q false s =
           let room : live_places r < 512 = leb-false 512 (live_places r) s in
-          let free : leb 512 (live_count before) ≡ false = lt-leb 512 (live_count before) (omega (arith, room, ok.live_counted, ok.fits)) in
+          let free : leb 512 (live_cell_count before) ≡ false = lt-leb 512 (live_cell_count before) (omega (arith, room, ok.live_counted, ok.fits)) in
           done_stepped (Assign a) (with_new_cell n a (slot_seen slot r)) (simp (within_limits_lem a ∙ p, assigned false q, free))
           (λ took. made_agrees before r slot n ok within later a took q (omega (arith, room, ok.fits)))
 
@@ -323,7 +323,7 @@ module _ (before : List CellEntry) (r : Register) (e : CellEntry) (ok : Register
   unfolding above
   too_large_slots h slot = simp (lt-leb e.slot 9223372036854775806 h) (ok.slots slot)
 
-  too_large_number : 9223372036854775806 < e.slot → number_for before e ≡ 2
+  too_large_number : 9223372036854775806 < e.slot → entry_number_after before e ≡ 2
   unfolding entry_number_given
   too_large_number h = simp (lt-leb e.slot 9223372036854775806 h)
 
@@ -337,7 +337,7 @@ module _ (before : List CellEntry) (r : Register) (e : CellEntry) (ok : Register
       back : leb r.next_slot slot ≡ true → (ltb e.slot slot && leb r.next_slot slot) ≡ true
       back t = let p = leb-true r.next_slot slot t in and_both (lt-ltb e.slot slot (omega arith)) t
 
-  not_later_number : e.slot ≤ 9223372036854775806 → e.slot < r.next_slot → number_for before e ≡ 64
+  not_later_number : e.slot ≤ 9223372036854775806 → e.slot < r.next_slot → entry_number_after before e ≡ 64
   unfolding entry_number_given
   not_later_number g h = simp (le-leb e.slot 9223372036854775806 g, ok.slots e.slot, lt-leb r.next_slot e.slot h)
 

@@ -8,7 +8,7 @@ use Prim.Native.Nat.{ℕ, suc}
 use lib.Dec.{eqb}
 use borrow.Author.Tests.{eqb-true, eq-eqb}
 use Rattle.basics.proofs.Tests.{either, not_both, fails}
-use Rattle.register.specs.Taken.{is, is_assigned, among, named_cells, count_in, is_taken_given, latest, is_taken, live_count}
+use Rattle.register.specs.Taken.{is, is_assigned, among, named_cells, count_in, is_taken_given, latest, is_taken, live_cell_count}
 use Rattle.register.specs.declared.CellEntry.{CellEntry}
 use Rattle.register.proofs.Counting.{Distinct, named, named_distinct, named_among, named_keeps, count_same, count_named, count_more}
 
@@ -45,7 +45,7 @@ module _ (before : List CellEntry) (e : CellEntry) where
   g n = is_assigned (latest (e ∷ before) n)
 
   -- the cells named with the entry's
-  count_before : count_in f (named_cells (e ∷ before)) ≡ live_count before
+  count_before : count_in f (named_cells (e ∷ before)) ≡ live_cell_count before
   unfolding named_cells
   count_before = count_named f e.cell (named_cells before) (unnamed before e.cell)
 
@@ -55,7 +55,7 @@ module _ (before : List CellEntry) (e : CellEntry) where
     unfolding latest
     latest_kept n = ap (λ (t : Bool). cond (t && eqb e.cell n) (is e.change) (latest before n)) left
 
-    pub live_kept : live_count (e ∷ before) ≡ live_count before
+    pub live_kept : live_cell_count (e ∷ before) ≡ live_cell_count before
     live_kept = count_same g f (λ n. ap is_assigned (latest_kept n)) (named_cells (e ∷ before)) ∙ count_before
 
   -- an entry that is taken
@@ -82,12 +82,12 @@ module _ (before : List CellEntry) (e : CellEntry) where
     among_named = named_among e.cell (named_cells before)
 
     -- a new cell is assigned
-    pub live_more : is_assigned (is e.change) ≡ true → is_assigned (latest before e.cell) ≡ false → live_count (e ∷ before) ≡ suc (live_count before)
+    pub live_more : is_assigned (is e.change) ≡ true → is_assigned (latest before e.cell) ≡ false → live_cell_count (e ∷ before) ≡ suc (live_cell_count before)
     live_more assigns new =
         count_more f g e.cell others new (own true assigns) (named_cells (e ∷ before)) (distinct (e ∷ before)) among_named ∙ ap suc count_before
 
     -- an assigned cell is assigned again
-    pub live_same : is_assigned (is e.change) ≡ true → is_assigned (latest before e.cell) ≡ true → live_count (e ∷ before) ≡ live_count before
+    pub live_same : is_assigned (is e.change) ≡ true → is_assigned (latest before e.cell) ≡ true → live_cell_count (e ∷ before) ≡ live_cell_count before
     live_same assigns old = count_same g f (λ n. go n (either (eqb e.cell n))) (named_cells (e ∷ before)) ∙ count_before
       where
         go : (n : ℕ) → (eqb e.cell n ≡ true) ⊎ (eqb e.cell n ≡ false) → g n ≡ f n
@@ -95,7 +95,7 @@ module _ (before : List CellEntry) (e : CellEntry) where
         go n (inr t) = sym (others n t)
 
     -- an assigned cell is released
-    pub live_less : is_assigned (is e.change) ≡ false → is_assigned (latest before e.cell) ≡ true → live_count before ≡ suc (live_count (e ∷ before))
+    pub live_less : is_assigned (is e.change) ≡ false → is_assigned (latest before e.cell) ≡ true → live_cell_count before ≡ suc (live_cell_count (e ∷ before))
     live_less releases old =
         sym count_before
         ∙ count_more g f e.cell (λ m t. sym (others m t)) (own false releases) old (named_cells (e ∷ before)) (distinct (e ∷ before)) among_named

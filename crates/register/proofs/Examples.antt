@@ -4,7 +4,7 @@ use mathlib.Core.Path.{◌≡◌, refl}
 use mathlib.Core.Bool.{true}
 use mathlib.Core.List.{List, [], ◌∷◌}
 use Prim.Native.Nat.{ℕ}
-use Rattle.register.specs.Taken.{above, later_entries, is, among, named_cells, count_in, entry_number_given, is_taken_given, latest, is_taken, number_for, tally, makes, supersedes, is_taken_release, live_count}
+use Rattle.register.specs.Taken.{above, later_entries, is, among, named_cells, count_in, entry_number_given, is_taken_given, latest, is_taken, entry_number_after, tally, makes, supersedes, is_taken_release, live_cell_count}
 use Rattle.register.specs.declared.Assignment.{Assignment}
 use Rattle.register.specs.declared.Change.{Change}
 use Rattle.register.specs.declared.Change.TheVariants.{Assign, Release}
@@ -37,14 +37,14 @@ pub latest_of_both : (latest office 7 ≡ is (Assign wide)) × (latest office 9 
 unfolding latest is_taken_given entry_number_given above count_in named_cells among
 latest_of_both = (refl, refl)
 
-pub figures : (tally makes office ≡ 3) × (tally supersedes office ≡ 1) × (tally is_taken_release office ≡ 1) × (live_count office ≡ 1)
+pub figures : (tally makes office ≡ 3) × (tally supersedes office ≡ 1) × (tally is_taken_release office ≡ 1) × (live_cell_count office ≡ 1)
 unfolding tally latest is_taken_given entry_number_given above count_in named_cells among
 figures = (refl, refl, refl, refl)
 
 -- an entry that is taken, and one for each number but 15, which Full.antt has; the slot last seen is older
-pub numbers : (is_taken office (entry 6 9 (Assign wide)) ≡ true) × (number_for office (entry 9223372036854775807 7 Release) ≡ 2)
-    × (number_for office (entry 6 8 (Assign (record { carrier = 3279166; width = 1 }))) ≡ 14)
-    × (number_for office (entry 6 8 (Assign (record { carrier = 0; width = 400001 }))) ≡ 14) × (number_for office (entry 6 9 Release) ≡ 16)
-    × (number_for office (entry 5 7 Release) ≡ 64)
+pub numbers : (is_taken office (entry 6 9 (Assign wide)) ≡ true) × (entry_number_after office (entry 9223372036854775807 7 Release) ≡ 2)
+    × (entry_number_after office (entry 6 8 (Assign (record { carrier = 3279166; width = 1 }))) ≡ 14)
+    × (entry_number_after office (entry 6 8 (Assign (record { carrier = 0; width = 400001 }))) ≡ 14) × (entry_number_after office (entry 6 9 Release) ≡ 16)
+    × (entry_number_after office (entry 5 7 Release) ≡ 64)
 unfolding latest is_taken_given entry_number_given above count_in named_cells among
 numbers = (refl, refl, refl, refl, refl, refl)

@@ -9,7 +9,7 @@ use native.Mathlib.Omega.{arith}
 use lib.Dec.{eqb}
 use borrow.Author.Tests.{lt-ltb, le-leb, lt-leb, eqb-false, ne_eqb}
 use Rattle.basics.proofs.Tests.{either}
-use Rattle.register.specs.Taken.{is_assigned, above, entry_number_given, number_for, is_taken, latest, live_count, named_cells, count_in}
+use Rattle.register.specs.Taken.{is_assigned, above, entry_number_given, entry_number_after, is_taken, latest, live_cell_count, named_cells, count_in}
 use Rattle.register.specs.declared.Change.TheVariants.{Assign}
 use Rattle.register.specs.declared.CellEntry.{CellEntry}
 use Rattle.register.proofs.Agreement.{taken_by_number}
@@ -25,10 +25,10 @@ record Filled (k : ℕ) : Type 0 where
   slots : (slot : ℕ) → k ≤ slot → above slot (filled k) ≡ true
   free : (n : ℕ) → k ≤ n → is_assigned (latest (filled k) n) ≡ false
   held : (n : ℕ) → n < k → is_assigned (latest (filled k) n) ≡ true
-  live : live_count (filled k) ≡ k
+  live : live_cell_count (filled k) ≡ k
 
 module _ (k : ℕ) (room : k < 512) (before : Filled k) where
-  next : number_for (filled k) (entry k k (Assign narrow)) ≡ 0
+  next : entry_number_after (filled k) (entry k k (Assign narrow)) ≡ 0
   unfolding entry_number_given
   next =
       simp (
@@ -70,10 +70,10 @@ all_filled (suc k) h = one_more k (omega arith) (all_filled k (omega arith))
 full : Filled 512
 full = all_filled 512 (omega arith)
 
-pub new_cell_gives_15 : number_for (filled 512) (entry 512 512 (Assign narrow)) ≡ 15
+pub new_cell_gives_15 : entry_number_after (filled 512) (entry 512 512 (Assign narrow)) ≡ 15
 unfolding entry_number_given
 new_cell_gives_15 = simp (full.slots 512 (omega arith), full.free 512 (omega arith), full.live)
 
-pub live_cell_is_taken : number_for (filled 512) (entry 512 0 (Assign narrow)) ≡ 0
+pub live_cell_is_taken : entry_number_after (filled 512) (entry 512 0 (Assign narrow)) ≡ 0
 unfolding entry_number_given
 live_cell_is_taken = simp (full.slots 512 (omega arith), full.held 0 (omega arith))

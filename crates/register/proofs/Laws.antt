@@ -13,7 +13,7 @@ use Rattle.register.specs.Cells.{cell_of}
 use Rattle.register.specs.Register.{live_places, live_cells, apply}
 use Rattle.register.specs.Refusals.{entry_number}
 use Rattle.register.specs.History.{register_after, apply_all, RisingCells}
-use Rattle.register.specs.Taken.{Latest, never, is, latest, is_taken, is_taken_given, number_for, is_later, later_entries, tally, makes, supersedes, is_taken_release, figures_of, live_count}
+use Rattle.register.specs.Taken.{Latest, never, is, latest, is_taken, is_taken_given, entry_number_after, is_later, later_entries, tally, makes, supersedes, is_taken_release, figures_of, live_cell_count}
 use Rattle.register.specs.declared.Assignment.{Assignment}
 use Rattle.register.specs.declared.Change.TheVariants.{Assign, Release}
 use Rattle.register.specs.declared.CellEntry.{CellEntry}
@@ -26,16 +26,16 @@ use Rattle.std.specs.Prelude.{Result, Ok, Err}
 use Rattle.register.proofs.Cells.{look_up_in, in_look_up}
 use Rattle.register.proofs.Agreement.{RegisterAgrees, new_agrees, standing, stepped, left_alone}
 
-pub agrees : (es : List CellEntry) → RegisterAgrees es (register_after es)
+pub register_agrees : (es : List CellEntry) → RegisterAgrees es (register_after es)
 unfolding register_after
-agrees [] = new_agrees
-agrees (e ∷ before) = (stepped before (register_after before) e (agrees before)).agreeing
+register_agrees [] = new_agrees
+register_agrees (e ∷ before) = (stepped before (register_after before) e (register_agrees before)).agreeing
 
 -- a list in its order is the turned one, latest first: so every law here is one of both
-pub in_order : (es before : List CellEntry) → apply_all (register_after before) es ≡ register_after (reverse_aux es before)
+pub applied_in_order : (es before : List CellEntry) → apply_all (register_after before) es ≡ register_after (reverse_aux es before)
 unfolding apply_all register_after
-in_order [] before = refl
-in_order (e ∷ es) before = in_order es (e ∷ before)
+applied_in_order [] before = refl
+applied_in_order (e ∷ es) before = applied_in_order es (e ∷ before)
 
 -- ---- an entry is done exactly where it is taken
 module _ (before : List CellEntry) (e : CellEntry) where
@@ -43,8 +43,8 @@ module _ (before : List CellEntry) (e : CellEntry) where
   outcome = (apply (register_after before) e).outcome
 
   -- its number is what the entries say
-  pub number_given_lem : entry_number (apply (register_after before) e).outcome ≡ number_for before e
-  number_given_lem = (stepped before (register_after before) e (agrees before)).number
+  pub number_given_lem : entry_number (apply (register_after before) e).outcome ≡ entry_number_after before e
+  number_given_lem = (stepped before (register_after before) e (register_agrees before)).number
 
   same : eqb (entry_number outcome) 0 ≡ is_taken before e
   unfolding is_taken_given
@@ -66,7 +66,7 @@ module _ (before : List CellEntry) (e : CellEntry) where
 
 -- ---- "Each figure is counted from the committed entries alone"
 pub figures_counted : (es : List CellEntry) → (register_after es).figures ≡ figures_of es
-figures_counted es = all (register_after es).figures (agrees es).made_counted (agrees es).superseded_counted (agrees es).released_counted
+figures_counted es = all (register_after es).figures (register_agrees es).made_counted (register_agrees es).superseded_counted (register_agrees es).released_counted
   where
     all : (f : Figures) → f.made ≡ tally makes es → f.superseded ≡ tally supersedes es → f.released ≡ tally is_taken_release es → f ≡ figures_of es
     all f m s d =
@@ -75,25 +75,25 @@ figures_counted es = all (register_after es).figures (agrees es).made_counted (a
         ∙ ap (λ (x : ℕ). record { made = tally makes es; superseded = tally supersedes es; released = x }) d
 
 -- the live cells are as many as the entries say
-pub live_places_counted : (es : List CellEntry) → live_places (register_after es) ≡ live_count es
-live_places_counted es = omega (arith, (agrees es).fits, (agrees es).live_counted)
+pub live_places_counted : (es : List CellEntry) → live_places (register_after es) ≡ live_cell_count es
+live_places_counted es = omega (arith, (register_agrees es).fits, (register_agrees es).live_counted)
 
-pub live_counted : (es : List CellEntry) → length (live_cells (register_after es)) ≡ live_count es
-live_counted es = length-take (live_places (register_after es)) (register_after es).cells ∙ omega (arith, (agrees es).places, live_places_counted es)
+pub live_counted : (es : List CellEntry) → length (live_cells (register_after es)) ≡ live_cell_count es
+live_counted es = length-take (live_places (register_after es)) (register_after es).cells ∙ omega (arith, (register_agrees es).places, live_places_counted es)
 
 -- "made equals the other three together"
 pub adds_up : (es : List CellEntry)
     → (register_after es).figures.made ≡ (register_after es).figures.superseded + (register_after es).figures.released + length (live_cells (register_after es))
-adds_up es = omega (arith, (agrees es).sum, live_counted es, (agrees es).live_counted)
+adds_up es = omega (arith, (register_agrees es).sum, live_counted es, (register_agrees es).live_counted)
 
 -- so do the counts
-pub counts_add_up : (es : List CellEntry) → (figures_of es).made ≡ (figures_of es).superseded + (figures_of es).released + live_count es
-counts_add_up es = omega (arith, (agrees es).sum, (agrees es).live_counted, (agrees es).made_counted, (agrees es).superseded_counted, (agrees es).released_counted)
+pub counts_add_up : (es : List CellEntry) → (figures_of es).made ≡ (figures_of es).superseded + (figures_of es).released + live_cell_count es
+counts_add_up es = omega (arith, (register_agrees es).sum, (register_agrees es).live_counted, (register_agrees es).made_counted, (register_agrees es).superseded_counted, (register_agrees es).released_counted)
 
 -- ---- "live agrees with the register": a cell stands there exactly where its latest taken assignment or release is an assignment, with it
 module _ (es : List CellEntry) (n : ℕ) (a : Assignment) where
   pub live_agrees : In (cell_of n a) (live_cells (register_after es)) → latest es n ≡ is (Assign a)
-  live_agrees h = go (latest es n) (sym ((agrees es).held n) ∙ (look_up_in n a 0 (live_cells (register_after es)) (agrees es).rising h).1)
+  live_agrees h = go (latest es n) (sym ((register_agrees es).held n) ∙ (look_up_in n a 0 (live_cells (register_after es)) (register_agrees es).rising h).1)
     where
       go : (l : Latest) → standing l ≡ is (Assign a) → l ≡ is (Assign a)
       go never e = e
@@ -104,14 +104,14 @@ module _ (es : List CellEntry) (n : ℕ) (a : Assignment) where
           none k = let z : ◌≡◌ {A = ℕ} 0 1 = cc in omega arith
 
   pub agrees_live : latest es n ≡ is (Assign a) → In (cell_of n a) (live_cells (register_after es))
-  agrees_live h = in_look_up n a (live_cells (register_after es)) ((agrees es).held n ∙ ap standing h)
+  agrees_live h = in_look_up n a (live_cells (register_after es)) ((register_agrees es).held n ∙ ap standing h)
 
 -- ---- "at most 512 live cells", by number
 pub numbers_rise : (es : List CellEntry) → RisingCells 0 (live_cells (register_after es))
-numbers_rise es = (agrees es).rising
+numbers_rise es = (register_agrees es).rising
 
 pub at_most_512 : (es : List CellEntry) → length (live_cells (register_after es)) ≤ 512
-at_most_512 es = omega (arith, live_counted es, (agrees es).live_counted, (agrees es).fits)
+at_most_512 es = omega (arith, live_counted es, (register_agrees es).live_counted, (register_agrees es).fits)
 
 -- ---- "Two offices given equal entries in slot order, whatever repeats or older ones stand between, hold equal registers."
 by_later_entries : (es : List CellEntry) → register_after es ≡ register_after (later_entries es)
@@ -122,7 +122,7 @@ by_later_entries (e ∷ before) = go (is_later before e) refl (by_later_entries 
     go : (t : Bool) → is_later before e ≡ t → register_after before ≡ register_after (later_entries before)
         → (apply (register_after before) e).register ≡ register_after (cond t (e ∷ later_entries before) (later_entries before))
     go true h rest = ap (λ r. (apply r e).register) rest
-    go false h rest = left_alone before (register_after before) e (agrees before) h ∙ rest
+    go false h rest = left_alone before (register_after before) e (register_agrees before) h ∙ rest
 
 pub equal_registers : (one other : List CellEntry) → later_entries one ≡ later_entries other → register_after one ≡ register_after other
 equal_registers one other h = by_later_entries one ∙ ap register_after h ∙ sym (by_later_entries other)

@@ -20,11 +20,11 @@ use Rattle.register.specs.declared.Cell.{Cell}
 
 -- ---- the search of `find`, in a list of what has numbers: the first i have lower numbers
 module _ {A : Type 0} (f : A → ℕ) (n : ℕ) (l : List A) where
-  abbrev pub Passed : ℕ → Type 0
-  Passed i = (number_place f n l ≡ i + number_place f n (drop i l)) × (has_number f n l ≡ has_number f n (drop i l))
+  abbrev pub PassedPlaces : ℕ → Type 0
+  PassedPlaces i = (number_place f n l ≡ i + number_place f n (drop i l)) × (has_number f n l ≡ has_number f n (drop i l))
 
   -- x stands at i, and `here` is its number
-  module _ (i : ℕ) (x : A) (here : ℕ) (is : x ≡ get_or l i x) (number : here ≡ f x) (more : i < length l) (passed : Passed i) where
+  module _ (i : ℕ) (x : A) (here : ℕ) (is : x ≡ get_or l i x) (number : here ≡ f x) (more : i < length l) (passed : PassedPlaces i) where
     next : drop i l ≡ x ∷ drop (i + 1) l
     next = rw add-one (drop-cons l i x more) ∙ ap (λ (y : A). y ∷ drop (i + 1) l) (sym is)
 
@@ -39,14 +39,14 @@ module _ {A : Type 0} (f : A → ℕ) (n : ℕ) (l : List A) where
     pub search_above : n ≤ here → (here ≡ n → ⊥) → Err i ≡ found f n l
     search_above h e = let s = stands h in simp (s.0, s.1, ne_eqb here n e)
 
-    pub search_more : here < n → Passed (i + 1)
+    pub search_more : here < n → PassedPlaces (i + 1)
     unfolding number_place has_number
     search_more h =
         let t = lt-leb n here h in
         let one : number_place f n (drop i l) ≡ suc (number_place f n (drop (i + 1) l)) = simp (next, ← number, t) in
         (omega (arith, passed.0), passed.1 ∙ simp (next, ← number, t))
 
-  pub search_none : (i : ℕ) → length l ≤ i → i ≤ length l → Passed i → Err (length l) ≡ found f n l
+  pub search_none : (i : ℕ) → length l ≤ i → i ≤ length l → PassedPlaces i → Err (length l) ≡ found f n l
   unfolding number_place has_number
   search_none i h k passed =
       let none : drop i l ≡ [] = drop_of_length-le l {i = i} h in

@@ -90,8 +90,8 @@ latest [] n = never
 latest (e ∷ before) n = cond (is_taken_given (latest before) before e && eqb e.cell n) (is e.change) (latest before n)
 
 -- the number of an entry after those before it
-abbrev pub number_for : List CellEntry → CellEntry → ℕ
-number_for before e = entry_number_given (latest before) before e
+abbrev pub entry_number_after : List CellEntry → CellEntry → ℕ
+entry_number_after before e = entry_number_given (latest before) before e
 
 -- the entry is taken after those before it
 abbrev pub is_taken : List CellEntry → CellEntry → Bool
@@ -119,5 +119,5 @@ abbrev pub figures_of : List CellEntry → Figures
 figures_of es = record { made = tally makes es; superseded = tally supersedes es; released = tally is_taken_release es }
 
 -- "live": the cells whose latest taken assignment or release is an assignment
-abbrev pub live_count : List CellEntry → ℕ
-live_count es = assigned_cells (latest es) es
+abbrev pub live_cell_count : List CellEntry → ℕ
+live_cell_count es = assigned_cells (latest es) es

@@ -1,6 +1,9 @@
 // A register of cells from the commits (document 02, E6).
 #![tactic(auto)]
 
+pub mod report;
+pub mod stored;
+
 ghost use Rattle.std.specs.Prelude.{◌≡◌, ◌<◌, ◌≤◌, ℕ, List, [], min, length, set, take, MatchResult};
 ghost use Rattle.basics.specs.elements.Places.{at_front, without, with_at};
 ghost use Rattle.register.specs.Cells.{found, number_of_cell};
@@ -9,9 +12,9 @@ ghost use Rattle.register.specs.Register.{live_places, live_cells, assignable, n
 ghost use Rattle.register.specs.declared.Register.{Register};
 
 use basics::elements::{insert_at, remove_at};
+use basics::refusals::Refused;
 use message::increment;
 use raster::frequency_of;
-use refusals::Refused;
 
 // "Cell numbers grow from 16 to 32 bits in entries and register" (E7)
 pub type CellNumber = u32;

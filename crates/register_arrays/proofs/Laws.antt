@@ -22,7 +22,7 @@ use Rattle.register.specs.declared.Change.TheVariants.{Assign, Release}
 use Rattle.register.specs.declared.EntryRefusal.TheVariants.{NumberTooLarge, NotAssignable, NoRoomForCell, CellNotLive}
 use Rattle.register.specs.declared.Register.{Register}
 use Rattle.raster.specs.Raster.{frequency_of}
-use Rattle.report.specs.Report.{register_page}
+use Rattle.register.specs.report.Report.{register_page}
 use Rattle.register_arrays.specs.Columns.{HavePlaces, cells_in, register_of, change_of, entry_from_numbers, after_entry, report_in}
 use Rattle.register_arrays.proofs.Levels.{Level, level, below}
 

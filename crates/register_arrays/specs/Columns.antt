@@ -13,7 +13,7 @@ use Rattle.register.specs.declared.Entered.{Entered}
 use Rattle.register.specs.declared.EntryRefusal.{EntryRefusal}
 use Rattle.register.specs.declared.Figures.{Figures}
 use Rattle.register.specs.declared.Register.{Register}
-use Rattle.report.specs.Report.{page_with}
+use Rattle.register.specs.report.Report.{page_with}
 use Rattle.register_arrays.specs.declared.Columns.{Columns}
 
 -- each column has its 512 places

@@ -3,6 +3,10 @@
 // and the number of live cells. The contracts are those of crates/register, on the register that the numbers stand for, whatever they are.
 #![tactic(auto)]
 
+pub mod in_group;
+pub mod positioned;
+pub mod stored;
+
 ghost use Rattle.std.specs.Prelude.{◌≡◌};
 ghost use Rattle.register.specs.Register.{new_register, apply};
 ghost use Rattle.register_arrays.specs.Columns.{HavePlaces, figures_in, register_in, lent_arrays, SameArrays, applied_in, entry_from_numbers, report_in};
@@ -159,7 +163,7 @@ pub fn entry_from_numbers(
 pub fn put_page(figures: &FiguresArray, out: &mut [u8; 116]) -> u64
     ensures { (out.new, result) ≡ report_in figures.now }
 {
-    let page = report::page_with(figures_in(figures), live_places(figures[4]) as u64);
+    let page = register::report::page_with(figures_in(figures), live_places(figures[4]) as u64);
     let bytes = page.bytes;
     *out = bytes;
     page.len as u64

@@ -1,3 +1,2 @@
--- The law that a function's proof cites; entries that are read as they are written, and how long an answer is.
-pub mod EntriesRead
+-- How long an answer is.
 pub mod Lengths

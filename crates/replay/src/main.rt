@@ -3,15 +3,15 @@
 #![tactic(auto)]
 
 ghost use Rattle.std.specs.Prelude.{◌≡◌, true};
-ghost use Rattle.replay.specs.Answer.{shard_answered, new_answer, state_answer, line_answer_of, is_skipped, Leaves};
+ghost use Rattle.replay.specs.Answer.{shard_answered, new_answer, state_line_answer, line_answer_of, is_skipped, LineLeaves};
 
 use call_lines::Fault;
 use calls::Reply;
 use consensus::{Answer, Shard, State};
 use group_settings::GroupSettings;
-use line_blocks::LineTaker;
 use message::Outcome;
 use texts::Output;
+use texts::blocks::LineTaker;
 
 // The shard that the calls change, and the places for the numbers of a line.
 #[derive(Drop)]
@@ -40,7 +40,7 @@ fn answer_with(shard: Shard, outcome: Outcome) -> Answer
 
 // A shard as it begins, in place of the old one.
 #[tactic(auto, unfolding(crate::specs::Answer::new_answer))]
-fn new_shard(group: GroupSettings) -> Answer
+fn new_answer(group: GroupSettings) -> Answer
     ensures { result ≡ new_answer group }
 {
     let shard = group_shard::begin_shard(group);
@@ -49,9 +49,9 @@ fn new_shard(group: GroupSettings) -> Answer
 }
 
 // The shard with another state. One that is not made stays so, and is refused.
-#[tactic(auto, unfolding(crate::specs::Answer::state_answer))]
+#[tactic(auto, unfolding(crate::specs::Answer::state_line_answer))]
 fn state_answer(mut shard: Shard, state: State) -> Answer
-    ensures { result ≡ state_answer shard state }
+    ensures { result ≡ state_line_answer shard state }
 {
     let made = shard.made;
     shard.state = state;
@@ -63,15 +63,15 @@ fn state_answer(mut shard: Shard, state: State) -> Answer
 fn line_answer_of(shard: Shard, numbers: &[u64]) -> Answer
     ensures { result ≡ line_answer_of shard numbers.now }
 {
-    match lines_read::line_calls::number_at(numbers, 0) {
-        1 => new_shard(lines_read::line_states::group_settings_of(numbers)),
+    match call_lines::number_at(numbers, 0) {
+        1 => new_answer(lines_read::line_states::group_settings_of(numbers)),
         2 => state_answer(shard, lines_read::line_states::state_of(numbers)),
         _ => shard.call(lines_read::line_calls::call_of_numbers(numbers)),
     }
 }
 
 // The numbers of a line, which stand in the first places that are lent, or what is wrong with it.
-fn numbers_of<'a>(line: &[u8], places: &'a mut [u64]) -> Result<&'a [u64], Fault> {
+fn line_numbers<'a>(line: &[u8], places: &'a mut [u64]) -> Result<&'a [u64], Fault> {
     let scan = call_lines::read_numbers(line, places);
     scan.fault()?;
     let count = scan.before.saturating_add(1).min(places.len());
@@ -82,15 +82,15 @@ fn numbers_of<'a>(line: &[u8], places: &'a mut [u64]) -> Result<&'a [u64], Fault
 
 // Answers one line, without its LF.
 fn answer_line(shard: &mut Shard, line: &[u8], places: &mut [u64], out: &mut Output)
-    ensures { Leaves shard.old line.now shard.new }
+    ensures { LineLeaves shard.old line.now shard.new }
 {
     if is_skipped(line) {
         return;
     }
-    match numbers_of(line, places) {
+    match line_numbers(line, places) {
         Ok(numbers) => {
             let answer = line_answer_of(*shard, numbers);
-            lines_written::answers::put_answer(out, &answer);
+            lines_written::answers::put_answer_text(out, &answer);
             *shard = answer.shard;
         }
         Err(fault) => lines_written::faults::put_fault(out, fault),
@@ -98,7 +98,7 @@ fn answer_line(shard: &mut Shard, line: &[u8], places: &mut [u64], out: &mut Out
 }
 
 impl LineTaker for Replay {
-    ghost takes = { λ old line new. Leaves old.shard line new.shard };
+    ghost takes = { λ old line new. LineLeaves old.shard line new.shard };
 
     ghost takes_too_long = { λ old _ new. new.shard ≡ old.shard };
 
@@ -120,7 +120,7 @@ impl LineTaker for Replay {
 }
 
 // The shard before the first settings, which is not made.
-fn unmade() -> Shard {
+fn unmade_answer() -> Shard {
     group_shard::begin_shard(lines_read::line_states::group_settings_of(&[0]))
 }
 
@@ -130,8 +130,8 @@ fn main(rt: HostRuntime) {
     let mut output_bytes = io::large_buffer();
     let mut out = Output::new(&mut output_bytes);
     let mut replay = Replay {
-        shard: unmade(),
+        shard: unmade_answer(),
         places: [0; 2048],
     };
-    line_blocks::take_input(&mut stdin, &mut input, &mut replay, &mut out);
+    texts::blocks::take_input(&mut stdin, &mut input, &mut replay, &mut out);
 }

@@ -43,9 +43,9 @@ pub record Members (s : Settings) : Type 0 where
   pub live_fit : fits s.alive_replicas s.process_count ≡ true
   pub live_size : size s.alive_replicas ≤ s.replica_count
 
-pub members_fit_lem : (s : Settings) → members_fit s ≡ true → Members s
+pub settings_members : (s : Settings) → members_fit s ≡ true → Members s
 unfolding members_fit
-members_fit_lem s e =
+settings_members s e =
     let a : Bool = ltb s.my_pid s.process_count in
     let b : Bool = ltb s.first_leader s.process_count in
     let c : Bool = fits s.alive_replicas s.process_count in
@@ -68,7 +68,7 @@ within_counts s e =
 pub within_members : (s : Settings) → within_limits s ≡ true → Members s
 unfolding within_limits
 within_members s e =
-    members_fit_lem s
+    settings_members s
     (and_right (counts_fit s) (members_fit s) (and_left (counts_fit s && members_fit s) (committers_fit s.committers s.process_count) (and_left (counts_fit s && members_fit s && committers_fit s.committers s.process_count) (mode_fits s s.mode) e)))
 
 -- two majorities of live replicas share a process

@@ -135,7 +135,7 @@ impl Settings {
     pub fn quorums(&self) -> QuorumRow
         ensures { result ≡ quorums_of self.now }
     {
-        quorum::row(self.replica_count)
+        quorum::row_of(self.replica_count)
     }
 
     // The round in which each slot starts.

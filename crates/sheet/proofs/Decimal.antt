@@ -8,7 +8,7 @@ use native.Mathlib.Nat.{le_of_suc-le-suc, lt_of_not-le}
 use native.Mathlib.Omega.{arith}
 use borrow.Author.Tests.{lt-ltb, le-ltb, le-leb}
 use Rattle.sheet.specs.Text.{text}
-use Rattle.sheet.specs.count.Count.{first_line, two_digits, count_of_line, count_asked}
+use Rattle.sheet.specs.count.Count.{count_line, two_digits, count_of_line, count_asked}
 use Rattle.sheet.proofs.count.Counting.{count_range}
 use Rattle.std.proofs.Common.{Some}
 
@@ -34,11 +34,11 @@ counted (a ∷ b ∷ []) n e = grind arith
 counted (a ∷ b ∷ d ∷ rest) n e = grind arith
 
 -- a first line that is the decimal text of a number from 1 to 64 is taken as that number
-pub decimal_taken : (s : List ℕ) (n : ℕ) → 1 ≤ n → n ≤ 64 → first_line s ≡ text n → count_asked s ≡ Some n
+pub decimal_taken : (s : List ℕ) (n : ℕ) → 1 ≤ n → n ≤ 64 → count_line s ≡ text n → count_asked s ≡ Some n
 unfolding count_asked
 decimal_taken s n h l e = ap count_of_line e ∙ line_taken n h l
 
 -- a first line that is taken as a number is the decimal text of that number, which is from 1 to 64
-pub taken_decimal : (s : List ℕ) (n : ℕ) → count_asked s ≡ Some n → (first_line s ≡ text n) × (1 ≤ n) × (n ≤ 64)
+pub taken_decimal : (s : List ℕ) (n : ℕ) → count_asked s ≡ Some n → (count_line s ≡ text n) × (1 ≤ n) × (n ≤ 64)
 unfolding count_asked
-taken_decimal s n e = let range = count_range s n e in (counted (first_line s) n e, range.0, range.1)
+taken_decimal s n e = let range = count_range s n e in (counted (count_line s) n e, range.0, range.1)

@@ -3,10 +3,10 @@
 
 ghost use Rattle.std.specs.Prelude.{◌≡◌, ◌==◌};
 ghost use Rattle.std.specs.List.{position};
-ghost use Rattle.sheet.specs.count.Count.{first_line, count_of_line, count_asked};
+ghost use Rattle.sheet.specs.count.Count.{count_line, count_of_line, count_asked};
 
-// Where the first LF stands, if there is one. line_blocks has the same, and neither crate stands on the other. Without a function of its own, by `position` in
-// `first_line`, the proof did not close.
+// Where the first LF stands, if there is one. texts::blocks has the same, and neither crate stands on the other. Without a function of its own, by `position` in
+// `count_line`, the proof did not close.
 fn line_end(input: &[u8]) -> Option<usize>
     ensures { result ≡ position (λ b. b == 10) input.now }
 {
@@ -15,8 +15,8 @@ fn line_end(input: &[u8]) -> Option<usize>
 
 // The input up to the first LF, or the whole of it where there is none.
 #[tactic(auto, using(crate::proofs::count::Counting::up_to, crate::proofs::count::Counting::whole))]
-fn first_line(input: &[u8]) -> &[u8]
-    ensures { result.now ≡ first_line input.now }
+fn count_line(input: &[u8]) -> &[u8]
+    ensures { result.now ≡ count_line input.now }
 {
     match line_end(input) {
         Some(end) => &input[..end],
@@ -44,5 +44,5 @@ fn count_of_line(line: &[u8]) -> Option<u64>
 pub fn count_asked(input: &[u8]) -> Option<u64>
     ensures { result ≡ count_asked input.now }
 {
-    count_of_line(first_line(input))
+    count_of_line(count_line(input))
 }

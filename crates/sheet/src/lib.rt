@@ -36,7 +36,7 @@ fn put_line(page: &mut Page, n: u64)
     ensures text { page.new.bytes ≡ page.old.bytes ++ sheet_line n }
     ensures short { array_string_len page.new ≤ array_string_len page.old + 13 }
 {
-    let row = quorum::row(n);
+    let row = quorum::row_of(n);
     put_field(page, n, ',');
     put_field(page, row.majority, ',');
     put_field(page, row.epaxos, ',');
@@ -46,7 +46,7 @@ fn put_line(page: &mut Page, n: u64)
 
 // The header, and a line for each count from 1 to n.
 #[tactic(auto, unfolding(crate::specs::Sheet::sheet_of, crate::specs::Sheet::sheet_lines, crate::specs::Sheet::header))]
-fn sheet(n: u64) -> Page
+fn sheet_of(n: u64) -> Page
     requires { n ≤ 64 }
     ensures { result.bytes ≡ sheet_of n }
 {
@@ -69,11 +69,11 @@ fn refused_line() -> Page
 
 // What the program writes for the input: the sheet for the count on its first line, or the refusal.
 #[tactic(auto, using(crate::proofs::count::Counting::count_range), unfolding(crate::specs::Answer::sheet_answer, crate::specs::Answer::answer_for))]
-pub fn answer(input: &[u8]) -> Page
+pub fn sheet_answer(input: &[u8]) -> Page
     ensures { result.bytes ≡ sheet_answer input.now }
 {
     match crate::count::count_asked(input) {
-        Some(count) => sheet(count),
+        Some(count) => sheet_of(count),
         None => refused_line(),
     }
 }

@@ -44,7 +44,7 @@ const REFUSED: [&[u8]; 21] = [
 // Writes the answer to each of the inputs.
 fn write_answers(inputs: &[&[u8]]) {
     for input in inputs {
-        let page = sheet::answer(input);
+        let page = sheet::sheet_answer(input);
         io::write_all(1, page.as_str().as_bytes());
     }
 }

@@ -13,7 +13,7 @@ use borrow.Author.Tests.{lt-ltb}
 use Rattle.basics.proofs.Places.{get_set}
 use Rattle.basics.specs.sets.Sets.{contains}
 use Rattle.basics.proofs.sets.Laws.{contains_insert}
-use Rattle.steps.specs.declared.Messages.{Messages}
+use Rattle.steps.specs.declared.SentMessages.{SentMessages}
 use Rattle.steps.specs.declared.Outgoing.{Outgoing}
 use Rattle.consensus.specs.declared.Answer.{Answer}
 use Rattle.consensus.specs.declared.Shard.{Shard}
@@ -23,7 +23,7 @@ use Rattle.enabled_runs.specs.declared.RunEvent.{RunEvent}
 use Rattle.enabled_runs.specs.declared.Sending.{Sending}
 use Rattle.enabled_runs.specs.Enabled.{sendings}
 use Rattle.enabled_runs.specs.Offices.{member_commits}
-use Rattle.office_runs.specs.Runs.{office, with_last, with_message, with_messages, with_commit_by, with_answer, with_proposer}
+use Rattle.office_runs.specs.Runs.{office, with_last, with_message, with_messages, with_commit_by, run_with_answer, with_proposer}
 use Rattle.office_runs.specs.declared.OfficeRun.{OfficeRun}
 use Rattle.office_runs.specs.declared.SoFar.{SoFar}
 use Rattle.short_runs.proofs.Piles.{Pile, pushed}
@@ -68,7 +68,7 @@ listed_first : (source : ℕ) (o : Option Outgoing) (rest : List Outgoing) → s
 listed_first source None rest = refl
 listed_first source (Some o) rest = refl
 
-pub three_at_most : (source : ℕ) (ms : Messages) → length (sendings source (messages_of ms)) ≤ 3
+pub three_at_most : (source : ℕ) (ms : SentMessages) → length (sendings source (messages_of ms)) ≤ 3
 three_at_most source ms =
     let second : List Outgoing = listed ms.second (listed ms.third []) in
     let third : List Outgoing = listed ms.third [] in
@@ -83,7 +83,7 @@ three_at_most source ms =
       one_at_most source ms.third,
     )
 
-with_messages_lem : {s : SoFar Sending 15} {sent : List Sending} (source : ℕ) (ms : Messages) → length sent ≤ 12 → Brought s sent
+with_messages_lem : {s : SoFar Sending 15} {sent : List Sending} (source : ℕ) (ms : SentMessages) → length sent ≤ 12 → Brought s sent
     → Brought (with_messages s source ms) (sent ++ sendings source (messages_of ms))
 unfolding with_messages
 with_messages_lem {s} {sent} source ms room h =
@@ -118,9 +118,9 @@ module _ {run : OfficeRun} {shards : ℕ → Shard} {asked : ℕ → Bool} {sent
   -- after a call on a member, which was the event
   pub with_answer_lem : (member : ℕ) (e : RunEvent) (a : Answer) → member < 3 → length sent ≤ 12 → length events < 5 → length commits < 5
       → KeptAs run shards asked sent events commits
-      → KeptAs (with_answer run member e a) (λ j. cond (eqb j member) a.shard (shards j)) asked (sent ++ sendings member (messages_of a.reply.messages))
+      → KeptAs (run_with_answer run member e a) (λ j. cond (eqb j member) a.shard (shards j)) asked (sent ++ sendings member (messages_of a.reply.messages))
       (events ++ (e ∷ [])) (commits ++ member_commits member a.reply.commit)
-  unfolding with_answer
+  unfolding run_with_answer
   with_answer_lem member e a below few short new h =
       let after : Bool → List Shard = λ t. cond t (set run.members member a.shard) run.members in
       let passed : ltb member 3 ≡ true = lt-ltb _ _ below in

@@ -20,7 +20,7 @@ use Rattle.enabled_runs.specs.Listing.{each_below, in_front, block, listing, all
 use Rattle.enabled_runs.specs.Offices.{engine_call, heard_by, before_events, commits_in_order}
 use Rattle.office_runs.specs.Runs.{new_run, trial_of}
 use Rattle.office_runs.specs.declared.OfficeRun.{OfficeRun}
-use Rattle.run_lines.specs.Lines.{event_text, commit_by_text, joined_by_blanks, first_five}
+use Rattle.office_runs.specs.listing.Lines.{event_text, commit_by_text, joined_by_blanks, first_five}
 use Rattle.short_runs.specs.Lister.{kept_line, event_lines, lines_after}
 use Rattle.short_runs.specs.Sheet.{run_line_with, sheet}
 use Rattle.short_runs.proofs.Turns.{proposal_lines, delivery_lines}

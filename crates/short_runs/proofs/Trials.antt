@@ -27,7 +27,7 @@ use Rattle.enabled_runs.specs.declared.Sending.{Sending}
 use Rattle.enabled_runs.specs.Enabled.{RunSoFar, sendings, sent_in, value_of_member, with_call, office_delivery}
 use Rattle.enabled_runs.specs.Listing.{at_place, is_sent_to, has_proposed, some_if_done, extended_by, with_delivery}
 use Rattle.enabled_runs.specs.Offices.{engine_call, heard_by, before_events, member_commits, commits_in_order}
-use Rattle.office_runs.specs.Runs.{office, no_sending, new_run, value_proposed, office_shard, sending_at, with_answer, with_proposer, if_taken, after_proposal, after_message, after_delivery, trial_of}
+use Rattle.office_runs.specs.Runs.{office, no_sending, new_run, value_proposed, office_shard, sending_at, run_with_answer, with_proposer, run_if_taken, run_after_proposal, after_message, after_delivery, trial_of}
 use Rattle.office_runs.specs.declared.OfficeRun.{OfficeRun}
 use Rattle.short_runs.proofs.Piles.{at_place_lem}
 use Rattle.short_runs.proofs.Kept.{KeptAs, asked_as, with_proposer_lem, with_answer_lem, three_at_most, commit_at_most}
@@ -71,7 +71,7 @@ module _ {run : OfficeRun} {w : RunSoFar Shard} {es : List RunEvent} (member : �
 
   -- what the run holds after a call on a member, but for who has proposed
   answer_kept : member < 3
-      → KeptAs (with_answer run member e (call_of (w.shards member) c)) next.shards (has_proposed w.past) (sent_in next.past) (es ++ (e ∷ []))
+      → KeptAs (run_with_answer run member e (call_of (w.shards member) c)) next.shards (has_proposed w.past) (sent_in next.past) (es ++ (e ∷ []))
       (commits_in_order next.past)
   answer_kept below =
       let a : Answer = call_of (w.shards member) c in
@@ -144,18 +144,18 @@ by_outcome after w es false (Err why) s = tt
 
 pub proposal_agrees : {run : OfficeRun} {w : RunSoFar Shard} {es : List RunEvent} (member : ℕ) → member < 3 → length es < 5 → KeepsRun run w es
     → TrialAgrees (trial_of run (Proposes member)) (extended_by engine_call heard_by w (Proposes member)) (es ++ (Proposes member ∷ []))
-unfolding trial_of after_proposal if_taken extended_by
+unfolding trial_of run_after_proposal run_if_taken extended_by
 proposal_agrees {run} {w} {es} member below short s =
     let c : Call = Propose (value_of_member member) in
     let a : Answer = call_of (w.shards member) c in
-    let after : OfficeRun = with_proposer (with_answer run member (Proposes member) a) member in
+    let after : OfficeRun = with_proposer (run_with_answer run member (Proposes member) a) member in
     let same : call_of (office_shard run member) (Propose (value_proposed member)) ≡ a =
     ap (λ (x : Shard). call_of x (Propose (value_proposed member))) (shard_kept member below s) ∙ ap (λ (v : ℕ). call_of (w.shards member) (Propose v)) (value_kept member below) in
     subst
     (λ (t : std.Option OfficeRun). TrialAgrees t (extended_by engine_call heard_by w (Proposes member)) (es ++ (Proposes member ∷ [])))
     (sym
-    (ap (λ (p : Bool). cond p None (if_taken run member (call_of (office_shard run member) (Propose (value_proposed member))))) (s.kept.proposer member)
-    ∙ ap (λ (x : Answer). cond (has_proposed w.past member) None (if_taken run member x)) same))
+    (ap (λ (p : Bool). cond p None (run_if_taken run member (call_of (office_shard run member) (Propose (value_proposed member))))) (s.kept.proposer member)
+    ∙ ap (λ (x : Answer). cond (has_proposed w.past member) None (run_if_taken run member x)) same))
     (by_outcome after (with_call engine_call heard_by w member c) (es ++ (Proposes member ∷ [])) (has_proposed w.past member) a.reply.outcome
     (keeps_next member (Proposes member) c short s after
     (asked_as (has_proposed (with_call engine_call heard_by w member c).past) (asked_proposal w member)
@@ -175,7 +175,7 @@ delivery_agrees {run} {w} {es} member place below short stands s =
     let few : place < 15 = omega (arith, stands, s.kept.sent_kept.counted, s.few_sent, short) in
     let x : Sending = sending_at run.sent place in
     let c : Call = office_delivery engine_call heard_by w member x in
-    let after : OfficeRun = with_answer run member (Delivers member place) (call_of (w.shards member) c) in
+    let after : OfficeRun = run_with_answer run member (Delivers member place) (call_of (w.shards member) c) in
     subst
     (λ (o : Option (RunSoFar Shard)). TrialAgrees (trial_of run (Delivers member place)) o (es ++ (Delivers member place ∷ [])))
     (sym (ap (with_delivery engine_call heard_by w member) (place_kept place few stands s)))
@@ -183,7 +183,7 @@ delivery_agrees {run} {w} {es} member place below short stands s =
     (λ (t : std.Option OfficeRun). TrialAgrees t (with_delivery engine_call heard_by w member (some x)) (es ++ (Delivers member place ∷ [])))
     (sym
     (ap (λ (b : Bool). cond b (cond (is_sent_to x member) (Some (after_message run member place x)) None) None) (lt-ltb place run.sent.count stands)
-    ∙ ap (λ (shard : Shard). cond (is_sent_to x member) (Some (with_answer run member (Delivers member place) (call_of shard (Receive (heard_by shard x.outgoing.message))))) None)
+    ∙ ap (λ (shard : Shard). cond (is_sent_to x member) (Some (run_with_answer run member (Delivers member place) (call_of shard (Receive (heard_by shard x.outgoing.message))))) None)
     (shard_kept member below s)))
     (by_destination after (with_call engine_call heard_by w member c) (es ++ (Delivers member place ∷ [])) (is_sent_to x member)
     (keeps_next member (Delivers member place) c short s after

@@ -27,9 +27,9 @@ unfolding lines_after
 no_events_left left run p e = sym (put_nothing p) ∙ ap (λ (n : ℕ). put (lines_after n run) p) (sym e)
 
 -- what f gives is put behind a text, for one number after another
-pub begins : (f : ℕ → List ℕ) (p : Output) → p ≡ put (each_below 0 f) p
+pub begins_with_none : (f : ℕ → List ℕ) (p : Output) → p ≡ put (each_below 0 f) p
 unfolding each_below
-begins f p = sym (put_nothing p)
+begins_with_none f p = sym (put_nothing p)
 
 next_up_to : (i : ℕ) (f : ℕ → List ℕ) → each_below i f ++ f i ≡ each_below (i + 1) f
 unfolding each_below
@@ -61,7 +61,7 @@ pub skipped : (rest : OfficeRun → List ℕ) (n t : Option OfficeRun) (p : Outp
 unfolding event_lines
 skipped rest n t p e k = sym (put_nothing p) ∙ ap (λ (x : Option OfficeRun). put (event_lines rest x) p) (sym k ∙ e)
 
-pub entered : (rest : OfficeRun → List ℕ) (n t : Option OfficeRun) (run : OfficeRun) (p : Output) {q r : Output} → t ≡ n → t ≡ Some run → q ≡ put (kept_line run) p
+pub turn_entered : (rest : OfficeRun → List ℕ) (n t : Option OfficeRun) (run : OfficeRun) (p : Output) {q r : Output} → t ≡ n → t ≡ Some run → q ≡ put (kept_line run) p
     → r ≡ put (rest run) q → r ≡ put (event_lines rest n) p
 unfolding event_lines
-entered rest n t run p e k a b = put_then (kept_line run) (rest run) p a b ∙ ap (λ (x : Option OfficeRun). put (event_lines rest x) p) (sym k ∙ e)
+turn_entered rest n t run p e k a b = put_then (kept_line run) (rest run) p a b ∙ ap (λ (x : Option OfficeRun). put (event_lines rest x) p) (sym k ∙ e)

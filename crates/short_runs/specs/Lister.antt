@@ -6,7 +6,7 @@ use Rattle.enabled_runs.specs.declared.RunEvent.TheVariants.{Proposes, Delivers}
 use Rattle.enabled_runs.specs.Listing.{each_below}
 use Rattle.office_runs.specs.Runs.{trial_of}
 use Rattle.office_runs.specs.declared.OfficeRun.{OfficeRun}
-use Rattle.run_lines.specs.Lines.{commit_by_text, joined_by_blanks, event_text, first_five}
+use Rattle.office_runs.specs.listing.Lines.{commit_by_text, joined_by_blanks, event_text, first_five}
 
 unfoldable pub kept_line : OfficeRun → List ℕ
 kept_line run =

@@ -17,9 +17,9 @@ use texts::Output;
 fn put_line(out: &mut Output, run: OfficeRun)
     ensures { out.new ≡ put (kept_line run) out.old }
 {
-    run_lines::put_joined(out, &run.events.places, run.events.count);
+    office_runs::listing::put_joined(out, &run.events.places, run.events.count);
     out.put_byte(b',');
-    run_lines::put_joined(out, &run.commits.places, run.commits.count);
+    office_runs::listing::put_joined(out, &run.commits.places, run.commits.count);
     out.put_bytes(b"\r\n");
 }
 
@@ -41,7 +41,7 @@ fn list_event(out: &mut Output, left: u64, run: OfficeRun, event: RunEvent)
 }
 
 // The runs whose next event is a delivery to the member, "by the sent message's place in time".
-#[tactic(auto, using(crate::proofs::Turns::begins, crate::proofs::Turns::one_more, crate::proofs::Turns::all_of))]
+#[tactic(auto, using(crate::proofs::Turns::begins_with_none, crate::proofs::Turns::one_more, crate::proofs::Turns::all_of))]
 #[cycle(list_list_deliveries_list_event)]
 fn list_deliveries(out: &mut Output, left: u64, run: OfficeRun, member: u64)
     ensures { out.new ≡ put (each_below run.sent.count (λ place. event_lines (lines_after left) (trial_of run (RunEvent.Delivers member place)))) out.old }
@@ -53,7 +53,7 @@ fn list_deliveries(out: &mut Output, left: u64, run: OfficeRun, member: u64)
 }
 
 // Every run that extends this one by at most `left` events: "proposals before deliveries, by member".
-#[tactic(auto, using(crate::proofs::Turns::no_events_left, crate::proofs::Turns::begins, crate::proofs::Turns::one_more))]
+#[tactic(auto, using(crate::proofs::Turns::no_events_left, crate::proofs::Turns::begins_with_none, crate::proofs::Turns::one_more))]
 #[cycle(list_list_deliveries_list_event)]
 fn list(out: &mut Output, left: u64, run: OfficeRun)
     ensures { out.new ≡ put (lines_after left run) out.old }

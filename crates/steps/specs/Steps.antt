@@ -18,7 +18,7 @@ use Rattle.steps.specs.declared.ChangeStep.{ChangeStep}
 use Rattle.steps.specs.declared.Core.{Core}
 use Rattle.steps.specs.declared.Destination.{Destination}
 use Rattle.steps.specs.declared.Destination.TheVariants.{All}
-use Rattle.steps.specs.declared.Messages.{Messages}
+use Rattle.steps.specs.declared.SentMessages.{SentMessages}
 use Rattle.steps.specs.declared.Next.{Next}
 use Rattle.steps.specs.declared.Next.TheVariants.{Stays, Continues, Commits}
 use Rattle.steps.specs.declared.Outgoing.{Outgoing}
@@ -27,25 +27,25 @@ use Rattle.steps.specs.declared.Step.{Step}
 
 -- ---- messages
 
-abbrev pub no_messages : Messages
+abbrev pub no_messages : SentMessages
 no_messages = record { first = None; second = None; third = None }
 
-abbrev pub one_message : Outgoing → Messages
+abbrev pub one_message : Outgoing → SentMessages
 one_message m = record { first = Some m; second = None; third = None }
 
-abbrev pub two_messages : Outgoing → Outgoing → Messages
+abbrev pub two_messages : Outgoing → Outgoing → SentMessages
 two_messages m n = record { first = Some m; second = Some n; third = None }
 
 -- one message more, behind those that there are; no call sends more than two, and document 01 leaves room for three
-abbrev pub also_behind : Option Outgoing → Option Outgoing → Option Outgoing → Outgoing → Messages
+abbrev pub also_behind : Option Outgoing → Option Outgoing → Option Outgoing → Outgoing → SentMessages
 also_behind first None third m = record { first = first; second = Some m; third = third }
 also_behind first (Some b) third m = record { first = first; second = Some b; third = Some m }
 
-abbrev pub also_at : Option Outgoing → Option Outgoing → Option Outgoing → Outgoing → Messages
+abbrev pub also_at : Option Outgoing → Option Outgoing → Option Outgoing → Outgoing → SentMessages
 also_at None second third m = record { first = Some m; second = second; third = third }
 also_at (Some a) second third m = also_behind (Some a) second third m
 
-abbrev pub also : Messages → Outgoing → Messages
+abbrev pub also : SentMessages → Outgoing → SentMessages
 also ms m = also_at ms.first ms.second ms.third m
 
 -- what the member sends carries its number and the last value that it committed
@@ -88,14 +88,14 @@ CoreStep = Step Core
 abbrev pub RoundsStep : Type 0
 RoundsStep = Step Rounds
 
-abbrev pub stays : Core → Messages → CoreStep
+abbrev pub stays : Core → SentMessages → CoreStep
 stays core messages = record { state = core; messages = messages; next = Stays }
 
-abbrev pub continues : Core → Messages → CoreStep
+abbrev pub continues : Core → SentMessages → CoreStep
 continues core messages = record { state = core; messages = messages; next = Continues }
 
-abbrev pub commits : ℕ → Core → Messages → CoreStep
-commits v core messages = record { state = core; messages = messages; next = Commits v }
+abbrev pub commits_with : ℕ → Core → SentMessages → CoreStep
+commits_with v core messages = record { state = core; messages = messages; next = Commits v }
 
 -- whether the handler goes on with the step's core
 abbrev pub goes_on : Next → Bool

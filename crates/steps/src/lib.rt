@@ -3,9 +3,11 @@
 // and the shard that made the call stays as it was, so that nothing has to be undone.
 #![tactic(auto)]
 
+pub mod enter;
+
 ghost use Rattle.std.specs.Prelude.{◌≡◌};
 ghost use Rattle.fast_state.specs.Fast.{unchanged};
-ghost use Rattle.steps.specs.Steps.{no_messages, one_message, two_messages, also, sends, to_all, first_served, held_rv, held_value, with_paxos, left_fast_path, stays, continues, commits, with_change, change_rounds, goes_on};
+ghost use Rattle.steps.specs.Steps.{no_messages, one_message, two_messages, also, sends, to_all, first_served, held_rv, held_value, with_paxos, left_fast_path, stays, continues, commits_with, with_change, change_rounds, goes_on};
 
 use fast_state::{FastAnswers, FastChange, FastState};
 use message::{ConsensusMessage, ConsensusMsg, PFMode, PaxosRound, RoundV};
@@ -69,7 +71,7 @@ pub struct Outgoing {
 
 // At most three messages, in the order in which they are sent.
 #[derive(Clone, Copy, PartialEq, Eq, Debug)]
-pub struct Messages {
+pub struct SentMessages {
     pub first: Option<Outgoing>,
     pub second: Option<Outgoing>,
     pub third: Option<Outgoing>,
@@ -96,7 +98,7 @@ impl Next {
 #[derive(Clone, Copy)]
 pub struct Step<S> {
     pub state: S,
-    pub messages: Messages,
+    pub messages: SentMessages,
     pub next: Next,
 }
 
@@ -109,44 +111,44 @@ pub type RoundsStep = Step<Rounds>;
 #[derive(Clone, Copy)]
 pub struct ChangeStep {
     pub core: Core,
-    pub messages: Messages,
+    pub messages: SentMessages,
     pub next: Next,
     pub change: FastChange,
 }
 
-pub fn no_messages() -> Messages
+pub fn no_messages() -> SentMessages
     ensures { result ≡ no_messages }
 {
-    Messages {
+    SentMessages {
         first: None,
         second: None,
         third: None,
     }
 }
 
-pub fn one_message(m: Outgoing) -> Messages
+pub fn one_message(m: Outgoing) -> SentMessages
     ensures { result ≡ one_message m }
 {
-    Messages {
+    SentMessages {
         first: Some(m),
         second: None,
         third: None,
     }
 }
 
-pub fn two_messages(m: Outgoing, n: Outgoing) -> Messages
+pub fn two_messages(m: Outgoing, n: Outgoing) -> SentMessages
     ensures { result ≡ two_messages m n }
 {
-    Messages {
+    SentMessages {
         first: Some(m),
         second: Some(n),
         third: None,
     }
 }
 
-impl Messages {
+impl SentMessages {
     // One message more, behind those that there are. No call sends more than two; document 01 leaves room for three.
-    pub fn also(mut self, m: Outgoing) -> Messages
+    pub fn also(mut self, m: Outgoing) -> SentMessages
         ensures { result ≡ also self m }
     {
         if self.first.is_none() {
@@ -198,7 +200,7 @@ impl Core {
         self
     }
 
-    pub fn stays(self, messages: Messages) -> CoreStep
+    pub fn stays(self, messages: SentMessages) -> CoreStep
         ensures { result ≡ stays self messages }
     {
         CoreStep {
@@ -208,7 +210,7 @@ impl Core {
         }
     }
 
-    pub fn continues(self, messages: Messages) -> CoreStep
+    pub fn continues(self, messages: SentMessages) -> CoreStep
         ensures { result ≡ continues self messages }
     {
         CoreStep {
@@ -218,8 +220,8 @@ impl Core {
         }
     }
 
-    pub fn commits(self, v: u64, messages: Messages) -> CoreStep
-        ensures { result ≡ commits v self messages }
+    pub fn commits(self, v: u64, messages: SentMessages) -> CoreStep
+        ensures { result ≡ commits_with v self messages }
     {
         CoreStep {
             state: self,
@@ -236,7 +238,7 @@ impl Core {
     }
 
     pub fn commits_silent(self, v: u64) -> CoreStep
-        ensures { result ≡ commits v self no_messages }
+        ensures { result ≡ commits_with v self no_messages }
     {
         self.commits(v, no_messages())
     }

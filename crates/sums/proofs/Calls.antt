@@ -22,13 +22,13 @@ use Rattle.steps.specs.Steps.{RoundsStep, no_messages, one_message}
 use Rattle.steps.specs.declared.Asked.{Asked}
 use Rattle.steps.specs.declared.Destination.TheVariants.{One}
 use Rattle.steps.specs.declared.Heard.{Heard}
-use Rattle.steps.specs.declared.Messages.{Messages}
+use Rattle.steps.specs.declared.SentMessages.{SentMessages}
 use Rattle.steps.specs.declared.Next.{Next}
 use Rattle.steps.specs.declared.Next.TheVariants.{Stays, Continues, Commits}
 use Rattle.steps.specs.declared.Outgoing.{Outgoing}
 use Rattle.steps.specs.declared.Rounds.{Rounds}
-use Rattle.delivery.specs.Admit.{admit}
-use Rattle.delivery.specs.declared.Delivery.{Delivery}
+use Rattle.calls.specs.delivery.Admit.{admit}
+use Rattle.calls.specs.declared.delivery.Delivery.{Delivery}
 use Rattle.calls.specs.Asked.{asked_of, heard_of, heard_in}
 use Rattle.calls.specs.Commits.{committed_slot}
 use Rattle.calls.specs.Decision.{admission_of, decision_for, decision_of}
@@ -36,7 +36,7 @@ use Rattle.calls.specs.declared.Call.{Call}
 use Rattle.calls.specs.declared.Call.TheVariants.{Propose, StartRead, Receive}
 use Rattle.calls.specs.Replies.{is_fast}
 use Rattle.paxos_family.specs.Commit.{on_fast_path}
-use Rattle.consensus.specs.Answers.{refused, sent, nothing, served, committed, finish_at, finish}
+use Rattle.consensus.specs.Answers.{refused, sent_answer, nothing, served_answer, committed, finish_at, finish}
 use Rattle.consensus.specs.Call.{new_shard, state_call, in_shard, call_with}
 use Rattle.consensus.specs.Handle.{after_insert, start_read, on_commit, on_read_request, on_read_response, proposing, processed, process_message, handle, handle_call}
 use Rattle.consensus.proofs.Decided.{by_outcome}
@@ -94,10 +94,10 @@ module _ (m : Sums) (Named : ℕ → Type 0) (ok : Meets m Named) where
 
     -- ---- the end of a call
 
-    committed_same : (a : Asked) (v : ℕ) (s : Rounds) (ms : Messages) → MeetsCommit m state.table s.core → committed_by m state a v s ms ≡ committed state a v s ms
+    committed_same : (a : Asked) (v : ℕ) (s : Rounds) (ms : SentMessages) → MeetsCommit m state.table s.core → committed_by m state a v s ms ≡ committed state a v s ms
     unfolding committed_by committed
     committed_same a v s ms e =
-        ap₂ (λ (x : Rounds) (t : Tracked). served (record { core = on_fast_path x.core; fast = x.fast }) t ms (committed_slot s.core.slot v (is_fast a s.core)))
+        ap₂ (λ (x : Rounds) (t : Tracked). served_answer (record { core = on_fast_path x.core; fast = x.fast }) t ms (committed_slot s.core.slot v (is_fast a s.core)))
         (slot_same m a v s e.slot_rises)
         (serve_same m s.core.tracker state.table e.counts_rise a.member.quorums.majority (commit_slot_by m a v s).core.slot
         ∙ ap (λ (x : Rounds). serve_at_commit s.core.tracker state.table a.member.quorums.majority x.core.slot) (slot_same m a v s e.slot_rises))
@@ -143,7 +143,7 @@ module _ (m : Sums) (Named : ℕ → Type 0) (ok : Meets m Named) where
         handle_same (Commit slot v) =
             ap (λ (x : StateAnswer). cond (ltb slot rounds.core.slot) (nothing state) x) (committed_same asked v rounds no_messages e.meets_commit)
         handle_same (ReadRequest id) =
-            ap (λ (n : ℕ). cond (eqb d.message.src shard.settings.my_pid) (refused Panic state) (sent state (one_message (answer_of n)))) e.meets_commit.slot_rises
+            ap (λ (n : ℕ). cond (eqb d.message.src shard.settings.my_pid) (refused Panic state) (sent_answer state (one_message (answer_of n)))) e.meets_commit.slot_rises
           where
             answer_of : ℕ → Outgoing
             answer_of n =
@@ -152,7 +152,7 @@ module _ (m : Sums) (Named : ℕ → Type 0) (ok : Meets m Named) where
                   message = record { msg = ReadResponse id (cond (is_some rounds.core.paxos.max_rv) n rounds.core.slot); src = shard.settings.my_pid; last_v = None };
                 }
         handle_same (ReadResponse id next) =
-            ap (λ (t : Tracked). served rounds t no_messages None)
+            ap (λ (t : Tracked). served_answer rounds t no_messages None)
             (ready_same m rounds.core.tracker state.table e.meets_commit.counts_rise id asked.member.quorums.majority rounds.core.slot d.said.fast)
 
       -- ---- calls that are taken

@@ -26,9 +26,9 @@ use Rattle.steps.specs.declared.Asked.{Asked}
 use Rattle.steps.specs.declared.ChangeStep.{ChangeStep}
 use Rattle.steps.specs.declared.Core.{Core}
 use Rattle.steps.specs.declared.Heard.{Heard}
-use Rattle.steps.specs.declared.Messages.{Messages}
+use Rattle.steps.specs.declared.SentMessages.{SentMessages}
 use Rattle.steps.specs.declared.Rounds.{Rounds}
-use Rattle.enter.specs.Enter.{enter}
+use Rattle.steps.specs.enter.Enter.{enter}
 use Rattle.classic.specs.accept.Accept.{accepting}
 use Rattle.fast.specs.epaxos.EPaxos.{epaxos_commit, epaxos_adopt, epaxos_decide, after_epaxos_answer, epaxos_answer}
 use Rattle.fast.specs.swift.Swift.{after_step, after_swift_answer, swift_answer, swift_client_prepare, leader_answered, from_leader, accept_answered, after_accept_answer, swift_accept, swift_client_accept, after_replica_answer, swift_answered_accept}
@@ -40,7 +40,7 @@ use Rattle.sums.specs.Sums.{Sums}
 use Rattle.sums.specs.Parts.{change_rounds_by}
 use Rattle.sums.specs.Handlers.{epaxos_decide_by, after_epaxos_answer_by, epaxos_answer_by, swift_answer_by, swift_client_prepare_by, leader_answered_by, accept_answered_by, swift_accept_by, swift_client_accept_by, swift_answered_accept_by, fast_answered_by, fast_gather_by, entered_fast_prepare_by, on_fast_prepare_by, after_replica_accept_by, replica_accept_by, entered_fast_accept_by, on_fast_accept_by, process_change_by, process_fast_by, propose_classic_by, own_answer_by, propose_change_by, propose_fast_by}
 use Rattle.sums.specs.Calls.{proposing_by, processed_by}
-use Rattle.sums.proofs.Parts.{Same, same_cond, same_test, ProposerNamed, MessageNamed, ChangeNamed, Rises, Meets, MeetsFast, proposal_same, may_same, change_same, try_adopt_same, epaxos_answered_same, epaxos_propose_same, swift_answered_same, swift_propose_same}
+use Rattle.sums.proofs.Parts.{Same, same_cond, same_by_test, ProposerNamed, MessageNamed, ChangeNamed, Rises, Meets, MeetsFast, proposal_same, may_same, change_same, try_adopt_same, epaxos_answered_same, epaxos_propose_same, swift_answered_same, swift_propose_same}
 
 module _ (m : Sums) (Named : ℕ → Type 0) (ok : Meets m Named) (a : Asked) (own : Named a.member.my_pid) where
   -- what a step stores is of a process that is named
@@ -121,7 +121,7 @@ module _ (m : Sums) (Named : ℕ → Type 0) (ok : Meets m Named) (a : Asked) (o
       swift_client_accept_same v core =
           same_cond StepNamed (is_process h.committer a.member.my_pid) (after_same (after_accept_answer a h round v core) (accept_answered_same v)) (refl, tt)
 
-      swift_answered_accept_same : (v : ℕ) (core : Core) (ms : Messages)
+      swift_answered_accept_same : (v : ℕ) (core : Core) (ms : SentMessages)
           → SameStep (swift_answered_accept_by m a h round v core ms answers swift_scores) (swift_answered_accept a h round v core ms answers swift_scores)
       unfolding swift_answered_accept_by swift_answered_accept
       swift_answered_accept_same v core ms = after_same (λ after. Ok (after_replica_answer a h round v core ms after)) (leader_same v)
@@ -190,7 +190,7 @@ module _ (m : Sums) (Named : ℕ → Type 0) (ok : Meets m Named) (a : Asked) (o
         → SameStep (propose_change_by m a v core answers epaxos_scores swift_scores) (propose_change a v core answers epaxos_scores swift_scores)
     unfolding propose_change_by propose_change
     propose_change_same v core e =
-        same_test StepNamed (may_same m a core e)
+        same_by_test StepNamed (may_same m a core e)
         (same_cond StepNamed (leads_from_start a) (mapped (unchanged answers) tt (ap (λ (r : PaxosRound). propose_accept a r v core) (proposal_same m a core e)))
         (let s = answer_first_same (proposal_round a core) v core (own_answer_same v) in
         (ap (λ (r : PaxosRound). after_own_answer a r v core (own_answer_by m a v answers epaxos_scores swift_scores)) (proposal_same m a core e) ∙ s.0, s.1)))

@@ -32,8 +32,9 @@ use Rattle.calls.specs.declared.Call.{Call}
 use Rattle.consensus.specs.Call.{call_of}
 use Rattle.consensus.specs.declared.Answer.{Answer}
 use Rattle.consensus.specs.declared.Shard.{Shard}
-use Rattle.group.specs.Claim.{member_settings, begun, ours, MemberCall, Entry, entry_of, after_call, entries_from, entries}
-use Rattle.group.proofs.Invariants.{Lasts, begun_lasts, call_lasts, Fits, Room, has_room, PlaceOf, PlaceIn, lies_in_tables, own_small, numbers_of, proposed_fits, message_processed_fits, shards_after}
+use Rattle.group.specs.Claim.{member_settings, begun, ours, MemberCall, Entry, entry_of, after_call, entries_from, entries, entries_made}
+use Rattle.group.specs.Steps.{shards_made}
+use Rattle.group.proofs.Invariants.{Lasts, begun_lasts, call_lasts, Fits, Room, has_room, PlaceOf, PlaceIn, lies_in_tables, own_small, admitted_numbers, proposed_fits, message_processed_fits, shards_after}
 use Rattle.wrong_engines.specs.Laws.{entries_by, shards_by}
 use Rattle.sums.specs.Sums.{Sums, Right}
 use Rattle.sums.specs.Calls.{new_shard_by, call_by}
@@ -126,7 +127,7 @@ module _ (m : Sums) (right : Right m) where
           proposed = λ v. step_meets_after _ (proposed_fits lowest_best shard k limits unspent v);
           message_named = λ d taken. let t = lies_in_tables shard k d made taken in (message_small d.message.msg t.message_places, each_small d.said.requester t.requester_place);
           heard = λ d taken.
-              let n = numbers_of shard.settings.process_count shard.settings.my_pid core d taken in
+              let n = admitted_numbers shard.settings.process_count shard.settings.my_pid core d taken in
               step_meets_after _ (message_processed_fits lowest_best shard k limits unspent d n.0 n.1);
         }
       where
@@ -144,7 +145,7 @@ module _ (m : Sums) (right : Right m) where
   after_lasts shards k c j = of-both Lasts (eqb j c.member) (call_lasts lowest_best (shards c.member) (k c.member) c.call).lasts (k j)
 
   entries_same : (shards : ℕ → Shard) (past : List Entry) (cs : List MemberCall) → ((i : ℕ) → Lasts (shards i)) → entries_by (call_by m) shards past cs ≡ entries_from ours shards past cs
-  unfolding entries_by entries_from
+  unfolding entries_made
   entries_same shards past [] k = refl
   entries_same shards past (c ∷ cs) k =
       ap (λ (r : Answer). entries_by (call_by m) (λ j. cond (eqb j c.member) r.shard (shards j)) (record { member = c.member; call = c.call; reply = r.reply } ∷ past) cs)
@@ -152,7 +153,7 @@ module _ (m : Sums) (right : Right m) where
       ∙ entries_same (after_call lowest_best shards c) (entry_of lowest_best shards c ∷ past) cs (after_lasts shards k c)
 
   shards_same : (shards : ℕ → Shard) (cs : List MemberCall) → ((i : ℕ) → Lasts (shards i)) → shards_by (call_by m) shards cs ≡ shards_after ours shards cs
-  unfolding shards_by shards_after
+  unfolding shards_made
   shards_same shards [] k = refl
   shards_same shards (c ∷ cs) k =
       ap (λ (r : Answer). shards_by (call_by m) (λ j. cond (eqb j c.member) r.shard (shards j)) cs) (lasting_call (shards c.member) (k c.member) c.call)

@@ -50,10 +50,10 @@ use Rattle.steps.specs.declared.ChangeStep.{ChangeStep}
 use Rattle.steps.specs.declared.Core.{Core}
 use Rattle.steps.specs.declared.Heard.{Heard}
 use Rattle.steps.specs.declared.Rounds.{Rounds}
-use Rattle.enter.specs.Enter.{can_propose}
+use Rattle.steps.specs.enter.Enter.{can_propose}
 use Rattle.propose.specs.proposal.Proposal.{electing, proposal_round, may_propose}
 use Rattle.paxos_family.specs.Commit.{commit_slot}
-use Rattle.delivery.specs.declared.Delivery.{Delivery}
+use Rattle.calls.specs.declared.delivery.Delivery.{Delivery}
 use Rattle.calls.specs.Asked.{asked_of, proposer_gathers, gatherer_in, heard_of}
 use Rattle.sums.specs.Sums.{Sums}
 use Rattle.sums.specs.Parts.{next_leader_round_by, starting_round_by, proposal_round_by, may_propose_by, delegate_in_by, committer_for_by, committer_in_by, asked_of_by, gatherer_in_by, heard_of_by, to_v_after_by, epaxos_scores_after_by, swift_scores_after_by, change_rounds_by, preaccepted_after_by, score_after_by, epaxos_counted_by, epaxos_answered_by, epaxos_propose_v_by, value_in_by, score_in_by, epaxos_try_adopt_after_by, swift_counted_by, swift_first_by, swift_answered_by, swift_own_by, swift_unanswered_by, swift_propose_v_by, opening_by, open_next_by, insert_opened_by, insert_read_by, after_response_by, after_commit_by, kept_by_ready_by, served_by_ready_by, kept_by_commit_by, served_by_commit_by, receive_ready_by, serve_at_commit_by, commit_slot_by}
@@ -67,8 +67,8 @@ pub same_cond : {A : Type 0} (P : A → Type 0) (t : Bool) {x x' y y' : Result A
 same_cond P true f g = f
 same_cond P false f g = g
 
-pub same_test : {A : Type 0} (P : A → Type 0) {s t : Bool} {x x' y y' : Result A Refusal} → s ≡ t → Same P x x' → Same P y y' → Same P (cond s x y) (cond t x' y')
-same_test P {t = t} {x = x} {y = y} e f g = (ap (λ (b : Bool). cond b x y) e ∙ (same_cond P t f g).0, (same_cond P t f g).1)
+pub same_by_test : {A : Type 0} (P : A → Type 0) {s t : Bool} {x x' y y' : Result A Refusal} → s ≡ t → Same P x x' → Same P y y' → Same P (cond s x y) (cond t x' y')
+same_by_test P {t = t} {x = x} {y = y} e f g = (ap (λ (b : Bool). cond b x y) e ∙ (same_cond P t f g).0, (same_cond P t f g).1)
 
 -- ---- which processes are named
 
@@ -413,7 +413,7 @@ module _ (m : Sums) where
       pub epaxos_propose_same : (v : ℕ) → Same (ChangeNamed Named) (epaxos_propose_v_by m me v answers epaxos_scores) (epaxos_propose_v me v answers epaxos_scores)
       unfolding epaxos_propose_v_by epaxos_propose_v
       epaxos_propose_same v =
-          same_test (ChangeNamed Named) (ap (λ (n : ℕ). is_unanswered answers && eqb n 2) (ok.looks_up epaxos_scores me.my_pid own))
+          same_by_test (ChangeNamed Named) (ap (λ (n : ℕ). is_unanswered answers && eqb n 2) (ok.looks_up epaxos_scores me.my_pid own))
           (epaxos_answered_same me.my_pid me.my_pid v own) (refl, tt)
 
       swift_counted_same : (src p v : ℕ) (leader : Bool) → Named p → swift_counted_by m me src p v leader answers swift_scores ≡ swift_counted me src p v leader answers swift_scores
@@ -440,5 +440,5 @@ module _ (m : Sums) where
       pub swift_propose_same : (v : ℕ) (quorum : Option ℕ) → Same (ChangeNamed Named) (swift_propose_v_by m me v quorum false answers swift_scores) (swift_propose_v me v quorum false answers swift_scores)
       unfolding swift_propose_v_by swift_propose_v swift_own_by swift_own swift_unanswered_by swift_unanswered
       swift_propose_same v quorum =
-          same_test (ChangeNamed Named) (ap (λ (n : ℕ). not (is_some answers.swift_leader_answer) && (is_unanswered answers && eqb n 0)) (ok.looks_up swift_scores me.my_pid own))
+          same_by_test (ChangeNamed Named) (ap (λ (n : ℕ). not (is_some answers.swift_leader_answer) && (is_unanswered answers && eqb n 0)) (ok.looks_up swift_scores me.my_pid own))
           (same_cond (ChangeNamed Named) me.replica (swift_answered_same me.my_pid me.my_pid v quorum false own) (refl, tt)) (refl, tt)

@@ -18,19 +18,19 @@ use Rattle.steps.specs.Steps.{RoundsStep, no_messages, one_message, map_step, on
 use Rattle.steps.specs.declared.Asked.{Asked}
 use Rattle.steps.specs.declared.Core.{Core}
 use Rattle.steps.specs.declared.Heard.{Heard}
-use Rattle.steps.specs.declared.Messages.{Messages}
+use Rattle.steps.specs.declared.SentMessages.{SentMessages}
 use Rattle.steps.specs.declared.Next.{Next}
 use Rattle.steps.specs.declared.Next.TheVariants.{Stays, Continues, Commits}
 use Rattle.steps.specs.declared.Rounds.{Rounds}
 use Rattle.paxos_family.specs.Process.{process_classic}
-use Rattle.delivery.specs.declared.Delivery.{Delivery}
+use Rattle.calls.specs.declared.delivery.Delivery.{Delivery}
 use Rattle.calls.specs.Commits.{committed_slot}
-use Rattle.calls.specs.Decision.{if_made}
+use Rattle.calls.specs.Decision.{unless_unmade}
 use Rattle.calls.specs.Replies.{is_fast}
 use Rattle.calls.specs.declared.Call.{Call}
 use Rattle.calls.specs.declared.Call.TheVariants.{Propose, StartRead, Receive}
 use Rattle.calls.specs.declared.Taken.{Taken}
-use Rattle.consensus.specs.Answers.{state_with_rounds, refused, sent, nothing, served}
+use Rattle.consensus.specs.Answers.{state_with_rounds, refused, sent_answer, nothing, served_answer}
 use Rattle.consensus.specs.Call.{in_shard}
 use Rattle.consensus.specs.Handle.{after_insert}
 use Rattle.consensus.specs.declared.Answer.{Answer}
@@ -68,14 +68,14 @@ module _ (m : Sums) where
 
   -- ---- the end of a call
 
-  unfoldable pub committed_by : State → Asked → ℕ → Rounds → Messages → StateAnswer
+  unfoldable pub committed_by : State → Asked → ℕ → Rounds → SentMessages → StateAnswer
   committed_by state a v s messages =
-      served (next_slot_by m a v s) (serve_at_commit_by m s.core.tracker state.table a.member.quorums.majority (next_slot_by m a v s).core.slot) messages
+      served_answer (next_slot_by m a v s) (serve_at_commit_by m s.core.tracker state.table a.member.quorums.majority (next_slot_by m a v s).core.slot) messages
       (committed_slot s.core.slot v (is_fast a s.core))
 
-  abbrev pub finish_at_by : State → Asked → Bool → Rounds → Messages → Next → StateAnswer
-  finish_at_by state a held s messages Stays = sent (state_with_rounds state s) messages
-  finish_at_by state a held s messages Continues = sent (state_with_rounds state s) messages
+  abbrev pub finish_at_by : State → Asked → Bool → Rounds → SentMessages → Next → StateAnswer
+  finish_at_by state a held s messages Stays = sent_answer (state_with_rounds state s) messages
+  finish_at_by state a held s messages Continues = sent_answer (state_with_rounds state s) messages
   finish_at_by state a held s messages (Commits v) = cond held (committed_by state a v s messages) (refused ValueNotHeld state)
 
   abbrev pub finish_by : State → Asked → Bool → Result RoundsStep Refusal → StateAnswer
@@ -91,11 +91,11 @@ module _ (m : Sums) where
 
   unfoldable pub on_read_request_by : State → Asked → ℕ → ReadId → StateAnswer
   on_read_request_by state a src id =
-      cond (eqb src a.member.my_pid) (refused Panic state) (sent state (one_message (read_answer_by m a.member.my_pid src id state.rounds.core)))
+      cond (eqb src a.member.my_pid) (refused Panic state) (sent_answer state (one_message (read_answer_by m a.member.my_pid src id state.rounds.core)))
 
   unfoldable pub on_read_response_by : State → Asked → ReadId → Bool → StateAnswer
   on_read_response_by state a id fast =
-      served state.rounds
+      served_answer state.rounds
       (receive_ready_by m state.rounds.core.tracker state.table id a.member.quorums.majority state.rounds.core.slot fast)
       no_messages
       None
@@ -144,11 +144,11 @@ module _ (m : Sums) where
   decision_for_by s c (Err why) = Err why
 
   unfoldable pub decision_of_by : Outcome → Settings → Core → Call → Result Taken Refusal
-  decision_of_by made s core c = decision_for_by s c (if_made made s.process_count s.my_pid core c)
+  decision_of_by made s core c = decision_for_by s c (unless_unmade made s.process_count s.my_pid core c)
 
-  abbrev pub decision_by : Shard → Call → Result Taken Refusal
-  decision_by shard c = decision_of_by shard.made shard.settings shard.state.rounds.core c
+  abbrev pub call_decision_by : Shard → Call → Result Taken Refusal
+  call_decision_by shard c = decision_of_by shard.made shard.settings shard.state.rounds.core c
 
   -- `call_of`
   unfoldable pub call_by : Shard → Call → Answer
-  call_by shard c = in_shard shard (state_call_by shard.state (decision_by shard c))
+  call_by shard c = in_shard shard (state_call_by shard.state (call_decision_by shard c))

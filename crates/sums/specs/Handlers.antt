@@ -19,9 +19,9 @@ use Rattle.steps.specs.declared.Asked.{Asked}
 use Rattle.steps.specs.declared.ChangeStep.{ChangeStep}
 use Rattle.steps.specs.declared.Core.{Core}
 use Rattle.steps.specs.declared.Heard.{Heard}
-use Rattle.steps.specs.declared.Messages.{Messages}
+use Rattle.steps.specs.declared.SentMessages.{SentMessages}
 use Rattle.steps.specs.declared.Rounds.{Rounds}
-use Rattle.enter.specs.Enter.{enter}
+use Rattle.steps.specs.enter.Enter.{enter}
 use Rattle.classic.specs.prepare.Prepare.{accept_phase}
 use Rattle.classic.specs.accept.Accept.{accepting}
 use Rattle.fast.specs.epaxos.EPaxos.{epaxos_commit, epaxos_adopt}
@@ -76,7 +76,7 @@ module _ (m : Sums) where
       cond (is_process h.committer a.member.my_pid) (swift_accept_by a h round v core answers scores)
       (Ok (with_change (unchanged answers) (stays core no_messages)))
 
-  unfoldable pub swift_answered_accept_by : Asked → Heard → PaxosRound → ℕ → Core → Messages → FastAnswers → List ℕ → Result ChangeStep Refusal
+  unfoldable pub swift_answered_accept_by : Asked → Heard → PaxosRound → ℕ → Core → SentMessages → FastAnswers → List ℕ → Result ChangeStep Refusal
   swift_answered_accept_by a h round v core messages answers scores =
       after_step (λ after. Ok (after_replica_answer a h round v core messages after)) (leader_answered_by a h v answers scores)
 

@@ -44,10 +44,10 @@ use Rattle.steps.specs.declared.Destination.TheVariants.{One}
 use Rattle.steps.specs.declared.Heard.{Heard}
 use Rattle.steps.specs.declared.Outgoing.{Outgoing}
 use Rattle.steps.specs.declared.Rounds.{Rounds}
-use Rattle.enter.specs.Enter.{can_propose}
+use Rattle.steps.specs.enter.Enter.{can_propose}
 use Rattle.paxos_family.specs.Commit.{on_fast_path}
 use Rattle.propose.specs.proposal.Proposal.{electing}
-use Rattle.delivery.specs.declared.Delivery.{Delivery}
+use Rattle.calls.specs.declared.delivery.Delivery.{Delivery}
 use Rattle.calls.specs.Asked.{proposer_gathers, nothing_heard}
 use Rattle.calls.specs.declared.Call.{Call}
 use Rattle.calls.specs.declared.Call.TheVariants.{Propose, StartRead, Receive}

@@ -23,16 +23,16 @@ pub put_then : (t u : List ℕ) (p : Output) {q s : Output} → q ≡ put t p �
 put_then t u p e f = f ∙ ap (put u) e ∙ sym (put_append t u p)
 
 -- The texts of the list's first i elements are put: with those of the others, the buffer p becomes what the buffer q becomes with all.
-pub record Reached {A : Type 0} (f : A → List ℕ) (xs : List A) (i : ℕ) (p q : Output) : Type 0 where
+pub record PutSoFar {A : Type 0} (f : A → List ℕ) (xs : List A) (i : ℕ) (p q : Output) : Type 0 where
   pub rest : put (each f (drop i xs)) p ≡ put (each f xs) q
 
 module _ {A : Type 0} {f : A → List ℕ} {xs : List A} where
-  pub reached_next : {i : ℕ} (d : A) {p q r : Output} → Reached f xs i p q → r ≡ put (f (get_or xs i d)) p → i < length xs → Reached f xs (i + 1) r q
+  pub reached_next : {i : ℕ} (d : A) {p q r : Output} → PutSoFar f xs i p q → r ≡ put (f (get_or xs i d)) p → i < length xs → PutSoFar f xs (i + 1) r q
   unfolding each
   reached_next {i} d {p} h e l =
       let step : put (each f (drop i xs)) p ≡ put (each f (drop (i + 1) xs)) (put (f (get_or xs i d)) p) = rw (add-one, drop-cons xs i d, put_append) in
       record { rest = rw e (sym step ∙ h.rest) }
 
-  pub reached_all : {i : ℕ} {p q : Output} → Reached f xs i p q → length xs ≤ i → p ≡ put (each f xs) q
+  pub reached_all : {i : ℕ} {p q : Output} → PutSoFar f xs i p q → length xs ≤ i → p ≡ put (each f xs) q
   unfolding each
   reached_all {i} {p} h l = sym (rw (drop_of_length-le xs l, put_nothing)) ∙ h.rest

@@ -3,6 +3,9 @@
 // whole (`put_fits`, proofs/Lengths.antt).
 #![tactic(auto)]
 
+pub mod blocks;
+pub mod fields;
+
 ghost use Rattle.std.specs.Prelude.{◌≡◌, [], ◌∷◌, take};
 ghost use Rattle.texts.specs.Text.{put, decimal, field, fields, flag_number};
 

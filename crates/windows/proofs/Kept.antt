@@ -12,7 +12,7 @@ use borrow.Author.Tests.{le-leb}
 use Rattle.std.proofs.lemmas.List.{take_all}
 use Rattle.basics.specs.elements.Places.{at_front}
 use Rattle.basics.proofs.elements.Lists.{front_push}
-use Rattle.windows.specs.Windows.{start_of, end_of, agreed, check_windows, ask_checked, ask_windows, window_check_number, minute_places, KeptArrays, made_of, kept_checked, kept_windows, kept_arrays, kept_of, check_kept, ask_kept}
+use Rattle.windows.specs.Windows.{start_of, end_of, agreed_windows, check_windows, ask_checked, ask_windows, window_check_number, minute_places, KeptArrays, made_of, kept_checked, kept_windows, kept_arrays, kept_of, check_kept, ask_kept}
 use Rattle.windows.specs.declared.Window.{Window}
 use Rattle.windows.specs.declared.Windows.{Windows}
 use Rattle.windows.specs.declared.WindowRefusal.{WindowRefusal}
@@ -57,13 +57,13 @@ ends_all ws i h = kept_all end_of ws i h
 
 -- ---- what is kept of windows that are made
 
-pub kept_made : (ws : Windows) → check_windows ws ≡ Ok tt → kept_windows ws ≡ Ok (made_of (agreed ws))
+pub kept_made : (ws : Windows) → check_windows ws ≡ Ok tt → kept_windows ws ≡ Ok (made_of (agreed_windows ws))
 unfolding kept_windows kept_checked
 kept_made ws is_made = simp is_made
 
-pub kept_refused : (ws : Windows) (why : WindowRefusal) → check_windows ws ≡ Err why → kept_windows ws ≡ Err why
+pub kept_refused_first : (ws : Windows) (why : WindowRefusal) → check_windows ws ≡ Err why → kept_windows ws ≡ Err why
 unfolding kept_windows kept_checked
-kept_refused ws why refused = simp refused
+kept_refused_first ws why refused = simp refused
 
 -- ---- the answer
 
@@ -72,12 +72,12 @@ unfolding at_front
 in_front_lem minutes n e = take_at minutes _ n e
 
 -- the check can be told from what is kept
-check_told : (ws : Windows) (c : Result (Unit {0}) WindowRefusal) → check_windows ws ≡ c → check_kept (kept_arrays (kept_checked c (agreed ws))) ≡ c
+check_told : (ws : Windows) (c : Result (Unit {0}) WindowRefusal) → check_windows ws ≡ c → check_kept (kept_arrays (kept_checked c (agreed_windows ws))) ≡ c
 unfolding check_kept kept_checked
 check_told ws (Ok u) e =
     let m = made ws e in
-    let few : length (agreed ws) ≤ 128 = rw length-take (omega arith) in
-    simp (le-leb (length (agreed ws)) 128 few)
+    let few : length (agreed_windows ws) ≤ 128 = rw length-take (omega arith) in
+    simp (le-leb (length (agreed_windows ws)) 128 few)
 check_told ws (Err TooManyWindows) e = refl
 check_told ws (Err NotInCalendar) e = refl
 
@@ -93,7 +93,7 @@ checked_number (Err why) ws = refl
 -- the number that is kept is that of the check
 pub kept_number : (ws : Windows) → (kept_of ws).number ≡ window_check_number (check_windows ws)
 unfolding kept_of kept_windows
-kept_number ws = checked_number (check_windows ws) (agreed ws)
+kept_number ws = checked_number (check_windows ws) (agreed_windows ws)
 
 checked_answers : (c : Result (Unit {0}) WindowRefusal) (ws : List Window) (minute : ℕ)
     → ask_checked c (take (kept_arrays (kept_checked c ws)).count (kept_arrays (kept_checked c ws)).starts)
@@ -110,4 +110,4 @@ unfolding ask_kept kept_of kept_windows ask_windows
 kept_answers ws minute =
     let k : KeptArrays = kept_arrays (kept_windows ws) in
     ap (λ (c : Result (Unit {0}) WindowRefusal). ask_checked c (take k.count k.starts) (take k.count k.ends) minute) (check_told ws (check_windows ws) refl)
-    ∙ checked_answers (check_windows ws) (agreed ws) minute
+    ∙ checked_answers (check_windows ws) (agreed_windows ws) minute

@@ -15,7 +15,7 @@ use Rattle.basics.specs.Lists.{In}
 use Rattle.basics.proofs.Tests.{either, fails, not_both, and_left, and_right, and_both, or_cases, or_left, or_right}
 use Rattle.calendar.specs.Calendar.{is_date}
 use Rattle.calendar.proofs.Dates.{numbers, minute_bound}
-use Rattle.windows.specs.Windows.{start_of, end_of, is_window, all_fit, agreed, check_windows, holds_minute, some_holds, nearer, nearest_start, next_after, ask_minutes, ask_checked, ask_windows, window_check_number, Fitting, AllFitting, SomeUnfitting, CheckedWindows, InWindow, NextStart}
+use Rattle.windows.specs.Windows.{start_of, end_of, is_window, all_fit, agreed_windows, check_windows, holds_minute, some_holds, nearer, nearest_start, next_after, ask_minutes, ask_checked, ask_windows, window_check_number, Fitting, AllFitting, SomeUnfitting, CheckedWindows, InWindow, NextStart}
 use Rattle.windows.specs.declared.Window.{Window}
 use Rattle.windows.specs.declared.Windows.{Windows}
 use Rattle.windows.specs.declared.WindowRefusal.{WindowRefusal}
@@ -62,12 +62,12 @@ one_unfitting (v ∷ ws) f = go (either (is_window v)) (λ u. one_unfitting ws u
 -- what the check gives is so, and no other answer is given
 pub checked_windows_lem : (ws : Windows) → CheckedWindows ws (check_windows ws)
 unfolding check_windows
-checked_windows_lem ws = go (ltb 128 ws.count) (all_fit (agreed ws)) refl refl
+checked_windows_lem ws = go (ltb 128 ws.count) (all_fit (agreed_windows ws)) refl refl
   where
-    go : (t u : Bool) → ltb 128 ws.count ≡ t → all_fit (agreed ws) ≡ u → CheckedWindows ws (cond t (Err TooManyWindows) (cond u (Ok tt) (Err NotInCalendar)))
+    go : (t u : Bool) → ltb 128 ws.count ≡ t → all_fit (agreed_windows ws) ≡ u → CheckedWindows ws (cond t (Err TooManyWindows) (cond u (Ok tt) (Err NotInCalendar)))
     go true u e f = ltb-true 128 ws.count e
-    go false true e f = (ltb-false 128 ws.count e, λ w i. fitting w (each_fits (agreed ws) f w i))
-    go false false e f = (ltb-false 128 ws.count e, one_unfitting (agreed ws) f)
+    go false true e f = (ltb-false 128 ws.count e, λ w i. fitting w (each_fits (agreed_windows ws) f w i))
+    go false false e f = (ltb-false 128 ws.count e, one_unfitting (agreed_windows ws) f)
 
 -- "More than 128 windows give 1", whatever they are
 pub too_many : (ws : Windows) → 128 < ws.count → window_check_number (check_windows ws) ≡ 1
@@ -75,32 +75,32 @@ unfolding check_windows
 too_many ws h = simp (lt-ltb 128 ws.count h)
 
 -- windows are made exactly where there are at most 128 and each is one
-pub made_only : (ws : Windows) → check_windows ws ≡ Ok tt → (ws.count ≤ 128) × AllFitting (agreed ws)
-made_only ws e = let m = made ws e in (m.few, λ w i. fitting w (each_fits (agreed ws) m.fitting w i))
+pub made_only : (ws : Windows) → check_windows ws ≡ Ok tt → (ws.count ≤ 128) × AllFitting (agreed_windows ws)
+made_only ws e = let m = made ws e in (m.few, λ w i. fitting w (each_fits (agreed_windows ws) m.fitting w i))
 
-pub made_always : (ws : Windows) → ws.count ≤ 128 → AllFitting (agreed ws) → check_windows ws ≡ Ok tt
+pub made_always : (ws : Windows) → ws.count ≤ 128 → AllFitting (agreed_windows ws) → check_windows ws ≡ Ok tt
 unfolding check_windows
-made_always ws few h = simp (le-ltb 128 ws.count few, all_fit_so (agreed ws) (λ w i. fits_so w (h w i)))
+made_always ws few h = simp (le-ltb 128 ws.count few, all_fit_so (agreed_windows ws) (λ w i. fits_so w (h w i)))
 
 -- and give 17 where one is none
-pub not_a_window : (ws : Windows) → ws.count ≤ 128 → (w : Window) → In w (agreed ws) → (Fitting w → ⊥) → window_check_number (check_windows ws) ≡ 17
+pub not_a_window : (ws : Windows) → ws.count ≤ 128 → (w : Window) → In w (agreed_windows ws) → (Fitting w → ⊥) → window_check_number (check_windows ws) ≡ 17
 unfolding check_windows
 not_a_window ws few w i h =
-    simp (le-ltb 128 ws.count few, fails {t = all_fit (agreed ws)} (λ t. h (fitting w (each_fits (agreed ws) t w i))))
+    simp (le-ltb 128 ws.count few, fails {t = all_fit (agreed_windows ws)} (λ t. h (fitting w (each_fits (agreed_windows ws) t w i))))
 
 -- only the windows below the count are looked at: what stands in the other places changes no answer
-module _ (a b : Windows) (same_count : a.count ≡ b.count) (same-windows : agreed a ≡ agreed b) where
+module _ (a b : Windows) (same_count : a.count ≡ b.count) (same-windows : agreed_windows a ≡ agreed_windows b) where
   pub same_check : check_windows a ≡ check_windows b
   unfolding check_windows
   same_check =
       let ok : Result (Unit {0}) WindowRefusal = Ok tt in
-      ap (λ (n : ℕ). cond (ltb 128 n) (Err TooManyWindows) (cond (all_fit (agreed a)) ok (Err NotInCalendar))) same_count
+      ap (λ (n : ℕ). cond (ltb 128 n) (Err TooManyWindows) (cond (all_fit (agreed_windows a)) ok (Err NotInCalendar))) same_count
       ∙ ap (λ (l : List Window). cond (ltb 128 b.count) (Err TooManyWindows) (cond (all_fit l) ok (Err NotInCalendar))) same-windows
 
   pub same_answer : (minute : ℕ) → ask_windows a minute ≡ ask_windows b minute
   unfolding ask_windows
   same_answer minute =
-      ap (λ (c : Result (Unit {0}) WindowRefusal). ask_checked c (map start_of (agreed a)) (map end_of (agreed a)) minute) same_check
+      ap (λ (c : Result (Unit {0}) WindowRefusal). ask_checked c (map start_of (agreed_windows a)) (map end_of (agreed_windows a)) minute) same_check
       ∙ ap (λ (l : List Window). ask_checked (check_windows b) (map start_of l) (map end_of l) minute) same-windows
 
 -- ---- a minute inside a window
@@ -138,9 +138,9 @@ some_so minute (v ∷ ws) w (inl e) h = or_left (one_holds minute ws) (ap (λ (x
 some_so minute (v ∷ ws) w (inr i) h = or_right (holds_minute minute (start_of v) (end_of v)) (some_so minute ws w i h)
 
 -- no window holds the last minute of the year 9999: no end after it can be written
-pub never_last : (ws : Windows) → check_windows ws ≡ Ok tt → (w : Window) → In w (agreed ws) → InWindow 4223371679 w → ⊥
+pub never_last : (ws : Windows) → check_windows ws ≡ Ok tt → (w : Window) → In w (agreed_windows ws) → InWindow 4223371679 w → ⊥
 never_last ws e w i h =
-    let bound = minute_bound w.end (numbers w.end (end_fits w (each_fits (agreed ws) (made ws e).fitting w i))) in
+    let bound = minute_bound w.end (numbers w.end (end_fits w (each_fits (agreed_windows ws) (made ws e).fitting w i))) in
     let past = h.1 in
     omega arith
 
@@ -208,9 +208,9 @@ module _ (minute : ℕ) where
 -- ---- the question
 
 -- windows that are not made give their number, whatever is asked
-pub unmade : (ws : Windows) (why : WindowRefusal) → check_windows ws ≡ Err why → (minute : ℕ) → ask_windows ws minute ≡ Err why
+pub unmade_windows : (ws : Windows) (why : WindowRefusal) → check_windows ws ≡ Err why → (minute : ℕ) → ask_windows ws minute ≡ Err why
 unfolding ask_windows ask_checked
-unmade ws why e minute = simp e
+unmade_windows ws why e minute = simp e
 
 -- "a minute past the year 9999, however large, .. gives 17, also when asked of windows"
 pub late : (ws : Windows) → check_windows ws ≡ Ok tt → (minute : ℕ) → 4223371680 ≤ minute → window_check_number (ask_windows ws minute) ≡ 17
@@ -253,77 +253,77 @@ not_inside nearest e = go (either (ltb nearest 4223371680))
 
 module _ (ws : Windows) (is_made : check_windows ws ≡ Ok tt) (minute : ℕ) (in-years : minute < 4223371680) where
   -- by whether some window holds the minute
-  asked_inside : one_holds minute (agreed ws) ≡ true → ask_windows ws minute ≡ Ok Inside
+  asked_inside : one_holds minute (agreed_windows ws) ≡ true → ask_windows ws minute ≡ Ok Inside
   unfolding ask_windows ask_checked ask_minutes
   asked_inside t = simp (is_made, lt-leb 4223371680 minute in-years, t)
 
-  asked_outside : one_holds minute (agreed ws) ≡ false → ask_windows ws minute ≡ follows (nearest_of minute (agreed ws) 4223371680)
+  asked_outside : one_holds minute (agreed_windows ws) ≡ false → ask_windows ws minute ≡ follows (nearest_of minute (agreed_windows ws) 4223371680)
   unfolding ask_windows ask_checked ask_minutes
   asked_outside t = simp (is_made, lt-leb 4223371680 minute in-years, t)
 
-  start_bound : (w : Window) → In w (agreed ws) → start_of w < 4223371680
-  start_bound w i = minute_bound w.start (numbers w.start (start_fits w (each_fits (agreed ws) (made ws is_made).fitting w i)))
+  start_bound : (w : Window) → In w (agreed_windows ws) → start_of w < 4223371680
+  start_bound w i = minute_bound w.start (numbers w.start (start_fits w (each_fits (agreed_windows ws) (made ws is_made).fitting w i)))
 
   -- inside exactly where some window holds the minute
-  pub inside_only : ask_windows ws minute ≡ Ok Inside → (w : Window) × (In w (agreed ws) × InWindow minute w)
-  inside_only e = go (either (one_holds minute (agreed ws)))
+  pub inside_only : ask_windows ws minute ≡ Ok Inside → (w : Window) × (In w (agreed_windows ws) × InWindow minute w)
+  inside_only e = go (either (one_holds minute (agreed_windows ws)))
     where
-      go : (one_holds minute (agreed ws) ≡ true) ⊎ (one_holds minute (agreed ws) ≡ false) → (w : Window) × (In w (agreed ws) × InWindow minute w)
-      go (inl t) = one_of minute (agreed ws) t
-      go (inr t) = absurd (not_inside (nearest_of minute (agreed ws) 4223371680) (sym (asked_outside t) ∙ e))
+      go : (one_holds minute (agreed_windows ws) ≡ true) ⊎ (one_holds minute (agreed_windows ws) ≡ false) → (w : Window) × (In w (agreed_windows ws) × InWindow minute w)
+      go (inl t) = one_of minute (agreed_windows ws) t
+      go (inr t) = absurd (not_inside (nearest_of minute (agreed_windows ws) 4223371680) (sym (asked_outside t) ∙ e))
 
-  pub inside_always : (w : Window) → In w (agreed ws) → InWindow minute w → ask_windows ws minute ≡ Ok Inside
-  inside_always w i h = asked_inside (some_so minute (agreed ws) w i h)
+  pub inside_always : (w : Window) → In w (agreed_windows ws) → InWindow minute w → ask_windows ws minute ≡ Ok Inside
+  inside_always w i h = asked_inside (some_so minute (agreed_windows ws) w i h)
 
-  outside : (ask_windows ws minute ≡ Ok Inside → ⊥) → ask_windows ws minute ≡ follows (nearest_of minute (agreed ws) 4223371680)
-  outside h = asked_outside (fails {t = one_holds minute (agreed ws)} (λ t. h (asked_inside t)))
+  outside : (ask_windows ws minute ≡ Ok Inside → ⊥) → ask_windows ws minute ≡ follows (nearest_of minute (agreed_windows ws) 4223371680)
+  outside h = asked_outside (fails {t = one_holds minute (agreed_windows ws)} (λ t. h (asked_inside t)))
 
   -- the next is a start after it and no start after it is nearer
-  pub next_only : (next : ℕ) → ask_windows ws minute ≡ Ok (Next next) → NextStart minute (agreed ws) next
-  next_only next e = from (is_next nearest next (sym (outside (λ f. let g = sym f ∙ e in cc)) ∙ e)) (nearest_which minute (agreed ws) 4223371680)
+  pub next_only : (next : ℕ) → ask_windows ws minute ≡ Ok (Next next) → NextStart minute (agreed_windows ws) next
+  next_only next e = from (is_next nearest next (sym (outside (λ f. let g = sym f ∙ e in cc)) ∙ e)) (nearest_which minute (agreed_windows ws) 4223371680)
     where
       nearest : ℕ
-      nearest = nearest_of minute (agreed ws) 4223371680
+      nearest = nearest_of minute (agreed_windows ws) 4223371680
 
       from : (nearest ≡ next) × (nearest < 4223371680)
-          → (nearest ≡ 4223371680) ⊎ ((w : Window) × (In w (agreed ws) × ((start_of w ≡ nearest) × (minute < start_of w))))
-          → NextStart minute (agreed ws) next
+          → (nearest ≡ 4223371680) ⊎ ((w : Window) × (In w (agreed_windows ws) × ((start_of w ≡ nearest) × (minute < start_of w))))
+          → NextStart minute (agreed_windows ws) next
       from (f, l) (inl g) = absurd (omega arith)
       from (f, l) (inr (w, (i, (s, a)))) =
           record {
             is_start = (w, (i, s ∙ f));
             later = subst (λ (x : ℕ). minute < x) (s ∙ f) a;
-            none_nearer = λ v j h. subst (λ (x : ℕ). x ≤ start_of v) f (nearest_low minute (agreed ws) 4223371680 v j h);
+            none_nearer = λ v j h. subst (λ (x : ℕ). x ≤ start_of v) f (nearest_low minute (agreed_windows ws) 4223371680 v j h);
           }
 
   -- none exactly where no start is after it, and it is inside no window
-  pub none_only : ask_windows ws minute ≡ Ok NoneFollows → (w : Window) → In w (agreed ws) → start_of w ≤ minute
+  pub none_only : ask_windows ws minute ≡ Ok NoneFollows → (w : Window) → In w (agreed_windows ws) → start_of w ≤ minute
   none_only e w i = go (either (ltb minute (start_of w)))
     where
       go : (ltb minute (start_of w) ≡ true) ⊎ (ltb minute (start_of w) ≡ false) → start_of w ≤ minute
       go (inl t) =
-          let low = nearest_low minute (agreed ws) 4223371680 w i (ltb-true minute (start_of w) t) in
-          let none = is_none (nearest_of minute (agreed ws) 4223371680) (sym (outside (λ f. let g = sym f ∙ e in cc)) ∙ e) in
+          let low = nearest_low minute (agreed_windows ws) 4223371680 w i (ltb-true minute (start_of w) t) in
+          let none = is_none (nearest_of minute (agreed_windows ws) 4223371680) (sym (outside (λ f. let g = sym f ∙ e in cc)) ∙ e) in
           let bound = start_bound w i in
           absurd (omega arith)
       go (inr t) = ltb-false minute (start_of w) t
 
-  pub none_always : ((w : Window) → In w (agreed ws) → (InWindow minute w → ⊥) × (start_of w ≤ minute)) → ask_windows ws minute ≡ Ok NoneFollows
-  none_always h = outside not_in ∙ none_of nearest (at_end (nearest_which minute (agreed ws) 4223371680))
+  pub none_always : ((w : Window) → In w (agreed_windows ws) → (InWindow minute w → ⊥) × (start_of w ≤ minute)) → ask_windows ws minute ≡ Ok NoneFollows
+  none_always h = outside not_in ∙ none_of nearest (at_end (nearest_which minute (agreed_windows ws) 4223371680))
     where
       nearest : ℕ
-      nearest = nearest_of minute (agreed ws) 4223371680
+      nearest = nearest_of minute (agreed_windows ws) 4223371680
 
       not_in : ask_windows ws minute ≡ Ok Inside → ⊥
       not_in e = let i = inside_only e in (h i.0 i.1.0).0 i.1.1
 
-      at_end : (nearest ≡ 4223371680) ⊎ ((w : Window) × (In w (agreed ws) × ((start_of w ≡ nearest) × (minute < start_of w)))) → 4223371680 ≤ nearest
+      at_end : (nearest ≡ 4223371680) ⊎ ((w : Window) × (In w (agreed_windows ws) × ((start_of w ≡ nearest) × (minute < start_of w)))) → 4223371680 ≤ nearest
       at_end (inl e) = omega arith
       at_end (inr (w, (i, (s, a)))) = let l = (h w i).1 in absurd (omega arith)
 
   -- where a start is after the minute, and it is inside no window, the answer is a next one
-  pub next_always : (ask_windows ws minute ≡ Ok Inside → ⊥) → (w : Window) → In w (agreed ws) → minute < start_of w → (next : ℕ) × (ask_windows ws minute ≡ Ok (Next next))
+  pub next_always : (ask_windows ws minute ≡ Ok Inside → ⊥) → (w : Window) → In w (agreed_windows ws) → minute < start_of w → (next : ℕ) × (ask_windows ws minute ≡ Ok (Next next))
   next_always h w i a =
-      let low = nearest_low minute (agreed ws) 4223371680 w i a in
+      let low = nearest_low minute (agreed_windows ws) 4223371680 w i a in
       let bound = start_bound w i in
-      (nearest_of minute (agreed ws) 4223371680, outside h ∙ next_of (nearest_of minute (agreed ws) 4223371680) (omega arith))
+      (nearest_of minute (agreed_windows ws) 4223371680, outside h ∙ next_of (nearest_of minute (agreed_windows ws) 4223371680) (omega arith))

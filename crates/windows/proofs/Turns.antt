@@ -14,7 +14,7 @@ use lib.ListN.{length, get_or}
 use borrow.Author.Tests.{ltb-true, ltb-false, lt-ltb}
 use Rattle.basics.proofs.Tests.{either, and_left, and_right}
 use Rattle.calendar.specs.Calendar.{is_date}
-use Rattle.windows.specs.Windows.{start_of, end_of, is_window, all_fit, agreed, check_windows, nearer, nearest_start}
+use Rattle.windows.specs.Windows.{start_of, end_of, is_window, all_fit, agreed_windows, check_windows, nearer, nearest_start}
 use Rattle.windows.specs.declared.Window.{Window}
 use Rattle.windows.specs.declared.Windows.{Windows}
 use Rattle.windows.specs.declared.WindowRefusal.{WindowRefusal}
@@ -24,13 +24,13 @@ use Rattle.windows.specs.declared.WindowRefusal.TheVariants.{TooManyWindows, Not
 
 pub record MadeWindows (ws : Windows) : Type 0 where
   pub few : ws.count ≤ 128
-  pub fitting : all_fit (agreed ws) ≡ true
+  pub fitting : all_fit (agreed_windows ws) ≡ true
 
 pub made : (ws : Windows) → check_windows ws ≡ Ok tt → MadeWindows ws
 unfolding check_windows
-made ws e = go (either (ltb 128 ws.count)) (either (all_fit (agreed ws)))
+made ws e = go (either (ltb 128 ws.count)) (either (all_fit (agreed_windows ws)))
   where
-    go : (ltb 128 ws.count ≡ true) ⊎ (ltb 128 ws.count ≡ false) → (all_fit (agreed ws) ≡ true) ⊎ (all_fit (agreed ws) ≡ false) → MadeWindows ws
+    go : (ltb 128 ws.count ≡ true) ⊎ (ltb 128 ws.count ≡ false) → (all_fit (agreed_windows ws) ≡ true) ⊎ (all_fit (agreed_windows ws) ≡ false) → MadeWindows ws
     go (inl a) b = let f : ◌≡◌ {A = Result (Unit {0}) WindowRefusal} (Err TooManyWindows) (Ok tt) = simp a at e in cc
     go (inr a) (inl b) = record { few = ltb-false 128 ws.count a; fitting = b }
     go (inr a) (inr b) = let f : ◌≡◌ {A = Result (Unit {0}) WindowRefusal} (Err NotInCalendar) (Ok tt) = simp (a, b) at e in cc

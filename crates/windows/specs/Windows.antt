@@ -4,7 +4,7 @@ use Rattle.std.specs.Prelude.{◌≡◌, Result, Ok, Err, Bool, true, cond, ◌&
 use Rattle.std.specs.List.{list_all, list_any, zip, fold}
 use Rattle.basics.specs.Lists.{In}
 use Rattle.basics.specs.elements.Places.{at_front}
-use Rattle.refusals.specs.Refusals.{refusal}
+use Rattle.basics.specs.refusals.Refusals.{refusal}
 use Rattle.calendar.specs.Calendar.{is_date, minute_of}
 use Rattle.windows.specs.declared.Window.{Window}
 use Rattle.windows.specs.declared.Windows.{Windows}
@@ -31,13 +31,13 @@ unfoldable pub all_fit : List Window → Bool
 all_fit ws = list_all is_window ws
 
 -- "up to 128 windows": those in the first places
-abbrev pub agreed : Windows → List Window
-agreed ws = take ws.count ws.places
+abbrev pub agreed_windows : Windows → List Window
+agreed_windows ws = take ws.count ws.places
 
 -- "More than 128 windows give 1"; "17, .. checked when settings are made, after 1"
 unfoldable pub check_windows : Windows → Result (Unit {0}) WindowRefusal
 check_windows ws =
-    cond (ltb 128 ws.count) (Err TooManyWindows) (cond (all_fit (agreed ws)) (Ok tt) (Err NotInCalendar))
+    cond (ltb 128 ws.count) (Err TooManyWindows) (cond (all_fit (agreed_windows ws)) (Ok tt) (Err NotInCalendar))
 
 -- ---- the question, by the minutes in which the windows start and end
 
@@ -73,7 +73,7 @@ ask_checked (Err why) starts ends minute = Err why
 
 -- a minute asked of windows
 unfoldable pub ask_windows : Windows → ℕ → Result WindowAnswer WindowRefusal
-ask_windows ws minute = ask_checked (check_windows ws) (map start_of (agreed ws)) (map end_of (agreed ws)) minute
+ask_windows ws minute = ask_checked (check_windows ws) (map start_of (agreed_windows ws)) (map end_of (agreed_windows ws)) minute
 
 -- ---- document 02's numbers
 
@@ -115,7 +115,7 @@ kept_checked (Err why) ws = Err why
 
 -- windows that are not made keep nothing but why
 unfoldable pub kept_windows : Windows → Result KeptWindows WindowRefusal
-kept_windows ws = kept_checked (check_windows ws) (agreed ws)
+kept_windows ws = kept_checked (check_windows ws) (agreed_windows ws)
 
 -- what is kept, as it stands in arrays
 abbrev pub kept_arrays : Result KeptWindows WindowRefusal → KeptArrays
@@ -153,9 +153,9 @@ SomeUnfitting ws = (w : Window) × (In w ws × (Fitting w → ⊥))
 
 -- the check in words: at most 128 windows, and each is so; more than 128; or at most 128, and some one is not
 abbrev pub CheckedWindows : Windows → Result (Unit {0}) WindowRefusal → Type 0
-CheckedWindows ws (Ok made) = (ws.count ≤ 128) × AllFitting (agreed ws)
+CheckedWindows ws (Ok made) = (ws.count ≤ 128) × AllFitting (agreed_windows ws)
 CheckedWindows ws (Err TooManyWindows) = 128 < ws.count
-CheckedWindows ws (Err NotInCalendar) = (ws.count ≤ 128) × SomeUnfitting (agreed ws)
+CheckedWindows ws (Err NotInCalendar) = (ws.count ≤ 128) × SomeUnfitting (agreed_windows ws)
 
 -- the minute is in the window
 abbrev pub InWindow : ℕ → Window → Type 0

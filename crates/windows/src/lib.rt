@@ -4,10 +4,10 @@
 
 ghost use Rattle.std.specs.Prelude.{◌≡◌, ◌≤◌, ◌&&◌, [], cond, ltb, min};
 ghost use Rattle.std.specs.List.{filter, reduce};
-ghost use Rattle.windows.specs.Windows.{is_window, all_fit, agreed, check_windows, holds_minute, some_holds, nearest_start, ask_minutes, window_refusal_number, made_of, kept_windows, kept_of, kept_arrays, kept_in, ask_kept};
+ghost use Rattle.windows.specs.Windows.{is_window, all_fit, agreed_windows, check_windows, holds_minute, some_holds, nearest_start, ask_minutes, window_refusal_number, made_of, kept_windows, kept_of, kept_arrays, kept_in, ask_kept};
 
+use basics::refusals::Refused;
 use calendar::Date;
-use refusals::Refused;
 
 // The first minute belongs to the window and the last does not.
 #[repr(C)]
@@ -77,7 +77,7 @@ impl Windows {
     // The windows, without the places that are never looked at.
     fn agreed(&self) -> &[Window]
         requires { self.now.count ≤ 128 }
-        ensures { result.now ≡ agreed self.now }
+        ensures { result.now ≡ agreed_windows self.now }
     {
         &self.places[..self.count as usize]
     }
@@ -85,7 +85,7 @@ impl Windows {
     #[tactic(auto, unfolding(crate::specs::Windows::all_fit))]
     fn all_fit(&self) -> bool
         requires { self.now.count ≤ 128 }
-        ensures { result ≡ all_fit (agreed self.now) }
+        ensures { result ≡ all_fit (agreed_windows self.now) }
     {
         self.agreed().iter().all(|window| window.is_window())
     }
@@ -110,7 +110,7 @@ impl Windows {
     #[tactic(auto, using(crate::proofs::Turns::made, crate::proofs::Turns::fits_at, crate::proofs::Turns::start_fits, crate::proofs::Turns::end_fits, crate::proofs::Kept::count_few, crate::proofs::Kept::agreed_length, crate::proofs::Kept::starts_next, crate::proofs::Kept::ends_next, crate::proofs::Kept::starts_all, crate::proofs::Kept::ends_all), unfolding(basics::specs::elements::Places::at_front))]
     fn minutes(&self) -> KeptWindows
         requires { check_windows self.now ≡ Ok tt }
-        ensures { result ≡ made_of (agreed self.now) }
+        ensures { result ≡ made_of (agreed_windows self.now) }
     {
         let mut starts = [0; 128];
         let mut ends = [0; 128];
@@ -126,7 +126,7 @@ impl Windows {
     }
 
     // Checks the windows, and keeps their minutes where they are made.
-    #[tactic(auto, using(crate::proofs::Kept::kept_made, crate::proofs::Kept::kept_refused))]
+    #[tactic(auto, using(crate::proofs::Kept::kept_made, crate::proofs::Kept::kept_refused_first))]
     pub fn kept(&self) -> Result<KeptWindows, WindowRefusal>
         ensures { result ≡ kept_windows self.now }
     {

@@ -24,11 +24,11 @@ use Rattle.message.specs.declared.RoundV.{RoundV}
 use Rattle.message.specs.declared.RoundV.TheVariants.{FastV, PaxosV}
 use Rattle.settings.specs.declared.Settings.{Settings}
 use Rattle.fast_state.specs.Adopt.{lowest_best}
-use Rattle.steps.specs.declared.Messages.{Messages}
+use Rattle.steps.specs.declared.SentMessages.{SentMessages}
 use Rattle.steps.specs.declared.Outgoing.{Outgoing}
 use Rattle.calls.specs.declared.Call.{Call}
 use Rattle.calls.specs.declared.Call.TheVariants.{Propose, StartRead, Receive}
-use Rattle.delivery.specs.declared.Delivery.{Delivery}
+use Rattle.calls.specs.declared.delivery.Delivery.{Delivery}
 use Rattle.consensus.specs.Call.{call_of}
 use Rattle.consensus.specs.FirstCause.{ByFirstCause}
 use Rattle.consensus.specs.declared.Answer.{Answer}
@@ -41,11 +41,12 @@ use Rattle.paper.specs.Runs.{ClassicMode}
 use Rattle.group.specs.Claim.{begun, plus_commit, messages_of}
 use Rattle.group.specs.Steps.{is_done}
 use Rattle.group.proofs.Computed.{computed}
-use Rattle.group.proofs.Example.{three, hears}
-use Rattle.wrong_engines.specs.Laws.{AnyEngine, ReachedBy, after_calls_by, RefusesByFirstCause, KeepsSettings, IsAsPaper, OtherCallsLeave, SendsTwoAtMost, SendsFromOwn, SendsNoneToItself}
+use Rattle.group.proofs.Example.{three, hears_message}
+use Rattle.wrong_engines.specs.Laws.{AnyEngine, ReachedBy, shard_after_calls_by, RefusesByFirstCause, KeepsSettings, IsAsPaper, OtherCallsLeave, SendsTwoAtMost, SendsFromOwn, SendsNoneToItself}
 use Rattle.wrong_engines.specs.Laws.ReachedBy.{new, called}
 use Rattle.wrong_engines.specs.declared.FixedContents.{FixedContents}
-use Rattle.wrong_engines.specs.Engines.{is_proposal, is_new_read, is_message, does_nothing, sends_fixed, sends_fixed_contents, hears_nothing, multi_paxos_never_proposes, answers_no_message, idles_after_slot_zero, refuses_each, commits_on_first_accept, prepared_figure_without_set, accepted_figure_without_set, sends_thrice, sends_as_zero, sends_to_itself, sends_first_to_itself, loses_replicas, forgets_held_with_read, takes_every_process}
+use Rattle.calls.specs.Decision.{is_proposal}
+use Rattle.wrong_engines.specs.Engines.{is_new_read, is_message, does_nothing, sends_fixed, sends_fixed_contents, hears_nothing, multi_paxos_never_proposes, answers_no_message, idles_after_slot_zero, refuses_each, commits_on_first_accept, prepared_figure_without_set, accepted_figure_without_set, sends_thrice, sends_as_zero, sends_to_itself, sends_first_to_itself, loses_replicas, forgets_held_with_read, takes_every_process}
 use Rattle.wrong_engines.proofs.Right.{right_has_all}
 
 -- so many members in Paxos, and the live ones
@@ -73,11 +74,11 @@ member mode i = begun (three mode) i
 
 -- 0 asks for a promise
 abbrev asked : Call
-asked = (hears 1 0 None (Prepare 0 (round_of 0 0) (PaxosV None 10))).call
+asked = (hears_message 1 0 None (Prepare 0 (round_of 0 0) (PaxosV None 10))).call
 
 -- 0 tells that 10 is committed in slot 0
 abbrev pub told : Call
-told = (hears 1 0 None (Commit 0 10)).call
+told = (hears_message 1 0 None (Commit 0 10)).call
 
 -- process 64, which there is not, tells it
 abbrev pub told_by_64 : Delivery
@@ -148,9 +149,9 @@ pub nothing_done : IsAsPaper does_nothing → ⊥
 unfolding does_nothing computed
 nothing_done = unlike_paper does_nothing (member Paxos 0) (new _ refl) (new _ refl) tt (Propose 10) tt message_count tt
 
-pub nothing_heard : IsAsPaper hears_nothing → ⊥
+pub nothing_heard_lem : IsAsPaper hears_nothing → ⊥
 unfolding hears_nothing computed
-nothing_heard = unlike_paper hears_nothing (member Paxos 1) (new _ refl) (new _ refl) tt asked tt message_count tt
+nothing_heard_lem = unlike_paper hears_nothing (member Paxos 1) (new _ refl) (new _ refl) tt asked tt message_count tt
 
 pub multi_paxos_unproposed : IsAsPaper multi_paxos_never_proposes → ⊥
 unfolding multi_paxos_never_proposes computed
@@ -197,7 +198,7 @@ value_sent engine law v =
     (law (member Paxos 0) (new _ refl) tt (Propose v) tt ∙ sym (right_has_all.paper (member Paxos 0) (new _ refl) tt (Propose v) tt))
 
 -- whatever is fixed, it cannot be right for two values
-pub always_the_same_sent : (fixed : Messages) → IsAsPaper (sends_fixed fixed) → ⊥
+pub always_the_same_sent : (fixed : SentMessages) → IsAsPaper (sends_fixed fixed) → ⊥
 unfolding sends_fixed computed
 always_the_same_sent fixed law = neqb→ne 10 20 tt (sym (value_sent (sends_fixed fixed) law 10) ∙ value_sent (sends_fixed fixed) law 20)
 
@@ -213,14 +214,14 @@ leader = begun five 0
 
 -- promises and accepts of the proposal
 abbrev promise_of : ℕ → Call
-promise_of p = (hears 0 p None (Prepare 0 (round_of 0 0) (PaxosV None 10))).call
+promise_of p = (hears_message 0 p None (Prepare 0 (round_of 0 0) (PaxosV None 10))).call
 
 abbrev accept_of : ℕ → Call
-accept_of p = (hears 0 p None (Accept 0 (round_of 0 0) 10)).call
+accept_of p = (hears_message 0 p None (Accept 0 (round_of 0 0) 10)).call
 
 -- a shard after calls is reached
-reached : (engine : AnyEngine) (shard : Shard) → ReachedBy engine shard → (cs : List Call) → ReachedBy engine (after_calls_by engine shard cs)
-unfolding after_calls_by
+reached : (engine : AnyEngine) (shard : Shard) → ReachedBy engine shard → (cs : List Call) → ReachedBy engine (shard_after_calls_by engine shard cs)
+unfolding shard_after_calls_by
 reached engine shard r [] = r
 reached engine shard r (c ∷ cs) = reached engine (engine shard c).shard (called shard c r) cs
 
@@ -229,25 +230,25 @@ commit_count s = plus_commit s.commit 0
 
 -- the promise of 1 comes twice, and the Accept is sent
 pub prepared_figure_unlike_paper : IsAsPaper prepared_figure_without_set → ⊥
-unfolding prepared_figure_without_set count_trailing_zeros after_calls_by computed
+unfolding prepared_figure_without_set count_trailing_zeros shard_after_calls_by computed
 prepared_figure_unlike_paper =
-    unlike_paper prepared_figure_without_set (after_calls_by call_of leader (Propose 10 ∷ promise_of 1 ∷ []))
+    unlike_paper prepared_figure_without_set (shard_after_calls_by call_of leader (Propose 10 ∷ promise_of 1 ∷ []))
     (reached prepared_figure_without_set leader (new _ refl) (Propose 10 ∷ promise_of 1 ∷ []))
     (reached call_of leader (new _ refl) (Propose 10 ∷ promise_of 1 ∷ [])) tt (promise_of 1) tt message_count tt
 
 -- the accept of 1 comes twice, and 10 is committed
 pub accepted_figure_unlike_paper : IsAsPaper accepted_figure_without_set → ⊥
-unfolding accepted_figure_without_set count_trailing_zeros after_calls_by computed
+unfolding accepted_figure_without_set count_trailing_zeros shard_after_calls_by computed
 accepted_figure_unlike_paper =
-    unlike_paper accepted_figure_without_set (after_calls_by call_of leader (Propose 10 ∷ promise_of 1 ∷ promise_of 2 ∷ accept_of 1 ∷ []))
+    unlike_paper accepted_figure_without_set (shard_after_calls_by call_of leader (Propose 10 ∷ promise_of 1 ∷ promise_of 2 ∷ accept_of 1 ∷ []))
     (reached accepted_figure_without_set leader (new _ refl) (Propose 10 ∷ promise_of 1 ∷ promise_of 2 ∷ accept_of 1 ∷ []))
     (reached call_of leader (new _ refl) (Propose 10 ∷ promise_of 1 ∷ promise_of 2 ∷ accept_of 1 ∷ [])) tt (accept_of 1) tt commit_count tt
 
 -- it comes once
 pub first_accept_unlike_paper : IsAsPaper commits_on_first_accept → ⊥
-unfolding commits_on_first_accept after_calls_by computed
+unfolding commits_on_first_accept shard_after_calls_by computed
 first_accept_unlike_paper =
-    unlike_paper commits_on_first_accept (after_calls_by call_of leader (Propose 10 ∷ promise_of 1 ∷ promise_of 2 ∷ []))
+    unlike_paper commits_on_first_accept (shard_after_calls_by call_of leader (Propose 10 ∷ promise_of 1 ∷ promise_of 2 ∷ []))
     (reached commits_on_first_accept leader (new _ refl) (Propose 10 ∷ promise_of 1 ∷ promise_of 2 ∷ []))
     (reached call_of leader (new _ refl) (Propose 10 ∷ promise_of 1 ∷ promise_of 2 ∷ [])) tt (accept_of 1) tt commit_count tt
 

@@ -20,25 +20,26 @@ use Rattle.steps.specs.Steps.{RoundsStep, CoreStep, no_messages, map_step, on_ro
 use Rattle.steps.specs.declared.Asked.{Asked}
 use Rattle.steps.specs.declared.Core.{Core}
 use Rattle.steps.specs.declared.Heard.{Heard}
-use Rattle.steps.specs.declared.Messages.{Messages}
+use Rattle.steps.specs.declared.SentMessages.{SentMessages}
 use Rattle.steps.specs.declared.Next.{Next}
 use Rattle.steps.specs.declared.Next.TheVariants.{Stays, Continues, Commits}
 use Rattle.propose.specs.Propose.{propose_classic, propose_fast}
 use Rattle.paxos_family.specs.Commit.{commit_slot, next_core, next_slot}
 use Rattle.paxos_family.specs.Process.{process_classic, process_fast}
-use Rattle.delivery.specs.declared.Delivery.{Delivery}
+use Rattle.calls.specs.declared.delivery.Delivery.{Delivery}
 use Rattle.calls.specs.Commits.{committed_slot}
 use Rattle.calls.specs.Replies.{is_fast, committed_reply}
 use Rattle.calls.specs.declared.Call.{Call}
 use Rattle.calls.specs.declared.Call.TheVariants.{Propose, StartRead, Receive}
 use Rattle.calls.specs.declared.Taken.{Taken}
-use Rattle.consensus.specs.Answers.{state_with_rounds, refused, nothing, served, committed, finish_at, finish}
-use Rattle.consensus.specs.Call.{state_call, in_shard, decision, call_with, call_of}
+use Rattle.consensus.specs.Answers.{state_with_rounds, refused, nothing, served_answer, committed, finish_at, finish}
+use Rattle.consensus.specs.Call.{state_call, in_shard, call_decision, call_with, call_of}
 use Rattle.consensus.specs.Handle.{on_commit, on_read_response, proposing, processed, process_message, handle, handle_call}
 use Rattle.consensus.specs.declared.Shard.{Shard}
 use Rattle.consensus.specs.declared.State.{State}
 use Rattle.consensus.specs.declared.StateAnswer.{StateAnswer}
-use Rattle.wrong_engines.specs.InParts.{around, core_commit, core_end, core_step, core_message, core_handle, core_call, parts_call, in_parts}
+use Rattle.agreement.proofs.Tests.{by_choice}
+use Rattle.wrong_engines.specs.InParts.{around, core_commit, core_end, core_step_answer, core_message, core_handle, core_call, parts_call, in_parts}
 
 module _ (state : State) (a : Asked) (classic : has_fast_path a.mode ≡ false) where
   abbrev core : Core
@@ -46,28 +47,22 @@ module _ (state : State) (a : Asked) (classic : has_fast_path a.mode ≡ false) 
 
   -- ---- the end of a call
 
-  commit_same : (v : ℕ) (c : Core) (messages : Messages) → core_commit state a v c messages ≡ committed state a v (around state c) messages
+  commit_same : (v : ℕ) (c : Core) (messages : SentMessages) → core_commit state a v c messages ≡ committed state a v (around state c) messages
   unfolding committed commit_slot
-  commit_same v c messages = go (ltb 0 c.tracker.open_count) refl
-    where
-      go : (t : Bool) → ltb 0 c.tracker.open_count ≡ t
-          → cond t (committed state a v (around state c) messages)
-          (record { state = state_with_rounds state (around state (next_core a v c)); reply = committed_reply a v c messages })
-          ≡ committed state a v (around state c) messages
-      go true e = refl
-      go false e =
-          ap
-          (λ (t : Bool). record {
-            state = state_with_rounds state (record { core = next_core a v c; fast = cond t no_answers state.rounds.fast });
-            reply = committed_reply a v c messages;
-          })
-          (sym classic)
-          ∙ sym
-          (ap (λ (t : Tracked). served (next_slot a v (around state c)) t messages (committed_slot c.slot v (is_fast a c)))
-          (commit_untouched c.tracker state.table (let z = ltb-false 0 c.tracker.open_count e in omega arith) a.member.quorums.majority
-          (next_slot a v (around state c)).core.slot))
+  commit_same v c messages =
+      by_choice (λ (r : StateAnswer). r ≡ committed state a v (around state c) messages) (ltb 0 c.tracker.open_count) (λ e. refl)
+      (λ e. ap
+      (λ (t : Bool). record {
+        state = state_with_rounds state (record { core = next_core a v c; fast = cond t no_answers state.rounds.fast });
+        reply = committed_reply a v c messages;
+      })
+      (sym classic)
+      ∙ sym
+      (ap (λ (t : Tracked). served_answer (next_slot a v (around state c)) t messages (committed_slot c.slot v (is_fast a c)))
+      (commit_untouched c.tracker state.table (let z = ltb-false 0 c.tracker.open_count e in omega arith) a.member.quorums.majority
+      (next_slot a v (around state c)).core.slot)))
 
-  step_same : (held : Bool) (r : Result CoreStep Refusal) → core_step state a held r ≡ finish state a held (map_step (on_rounds state.rounds.fast) r)
+  step_same : (held : Bool) (r : Result CoreStep Refusal) → core_step_answer state a held r ≡ finish state a held (map_step (on_rounds state.rounds.fast) r)
   step_same held (Err why) = refl
   step_same held (Ok step) = go step.next
     where
@@ -78,7 +73,7 @@ module _ (state : State) (a : Asked) (classic : has_fast_path a.mode ≡ false) 
 
   -- in the classic modes the fast path plays no part
   classic_step : (held : Bool) (fast : Result RoundsStep Refusal) (r : Result CoreStep Refusal)
-      → core_step state a held r ≡ finish state a held (cond (has_fast_path a.mode) fast (map_step (on_rounds state.rounds.fast) r))
+      → core_step_answer state a held r ≡ finish state a held (cond (has_fast_path a.mode) fast (map_step (on_rounds state.rounds.fast) r))
   classic_step held fast r =
       step_same held r ∙ ap (λ (t : Bool). finish state a held (cond t fast (map_step (on_rounds state.rounds.fast) r))) (sym classic)
 
@@ -97,14 +92,12 @@ module _ (state : State) (a : Asked) (classic : has_fast_path a.mode ≡ false) 
     handle_same d (ForwardRequest v) = message_same d
     handle_same d (Commit slot v) = ap (λ (r : StateAnswer). cond (ltb slot core.slot) (nothing state) r) (commit_same v core no_messages)
     handle_same d (ReadRequest id) = refl
-    handle_same d (ReadResponse id next) = go (eqb core.tracker.open_count 0) refl
-      where
-        go : (t : Bool) → eqb core.tracker.open_count 0 ≡ t → cond t (nothing state) (on_read_response state a id d.said.fast) ≡ on_read_response state a id d.said.fast
-        go true e =
-            sym
-            (ap (λ (t : Tracked). served state.rounds t no_messages None)
-            (response_untouched core.tracker state.table (eqb-true _ _ e) id a.member.quorums.majority core.slot d.said.fast))
-        go false e = refl
+    handle_same d (ReadResponse id next) =
+        by_choice (λ (r : StateAnswer). r ≡ on_read_response state a id d.said.fast) (eqb core.tracker.open_count 0)
+        (λ e. sym
+        (ap (λ (t : Tracked). served_answer state.rounds t no_messages None)
+        (response_untouched core.tracker state.table (eqb-true _ _ e) id a.member.quorums.majority core.slot d.said.fast)))
+        (λ e. refl)
 
     call_same : (c : Call) → core_call state a h c ≡ handle_call lowest_best state a h c
     unfolding core_call handle_call proposing
@@ -115,13 +108,9 @@ module _ (state : State) (a : Asked) (classic : has_fast_path a.mode ≡ false) 
 parts_same : (state : State) (d : Result Taken Refusal) → parts_call state d ≡ state_call lowest_best state d
 unfolding parts_call state_call
 parts_same state (Err why) = refl
-parts_same state (Ok t) = go (has_fast_path t.asked.mode) refl
-  where
-    go : (m : Bool) → has_fast_path t.asked.mode ≡ m
-        → cond m (handle_call lowest_best state t.asked t.heard t.call) (core_call state t.asked t.heard t.call) ≡ handle_call lowest_best state t.asked t.heard t.call
-    go true e = refl
-    go false e = call_same state t.asked e t.heard t.call
+parts_same state (Ok t) =
+    by_choice (λ (r : StateAnswer). r ≡ handle_call lowest_best state t.asked t.heard t.call) (has_fast_path t.asked.mode) (λ e. refl) (λ e. call_same state t.asked e t.heard t.call)
 
 pub in_parts_same : (shard : Shard) (c : Call) → in_parts shard c ≡ call_of shard c
 unfolding call_with
-in_parts_same shard c = ap (in_shard shard) (parts_same shard.state (decision shard c))
+in_parts_same shard c = ap (in_shard shard) (parts_same shard.state (call_decision shard c))

@@ -18,36 +18,30 @@ use Rattle.message.specs.Modes.{is_multi_paxos}
 use Rattle.message.specs.Outcomes.{Outcome}
 use Rattle.message.specs.declared.Refusal.{Refusal}
 use Rattle.message.specs.declared.Refusal.TheVariants.{SettingsOutsideLimits}
-use Rattle.message.specs.declared.RoundV.{RoundV}
 use Rattle.settings.specs.Settings.{within_limits}
 use Rattle.fast_state.specs.Adopt.{lowest_best}
 use Rattle.steps.specs.Steps.{no_messages}
-use Rattle.steps.specs.declared.Asked.{Asked}
-use Rattle.steps.specs.declared.Messages.{Messages}
-use Rattle.steps.specs.declared.Next.{Next}
-use Rattle.steps.specs.declared.Next.TheVariants.{Stays, Continues, Commits}
+use Rattle.steps.specs.declared.SentMessages.{SentMessages}
 use Rattle.steps.specs.declared.Outgoing.{Outgoing}
-use Rattle.steps.specs.declared.Rounds.{Rounds}
 use Rattle.calls.specs.Asked.{asked_of}
 use Rattle.calls.specs.declared.Call.{Call}
-use Rattle.consensus.specs.Answers.{finish_at, finish}
 use Rattle.consensus.specs.Call.{call_of}
 use Rattle.consensus.specs.FirstCause.{number_alone, ByFirstCause}
-use Rattle.consensus.specs.Handle.{proposing}
 use Rattle.consensus.specs.declared.Answer.{Answer}
 use Rattle.consensus.specs.declared.Shard.{Shard}
-use Rattle.consensus.specs.declared.StateAnswer.{StateAnswer}
 use Rattle.consensus.proofs.Decided.{settings_kept}
 use Rattle.consensus.proofs.Refusals.{unmade_refuses}
-use Rattle.agreement.proofs.Tests.{neqb→ne}
+use Rattle.agreement.proofs.Tests.{by_choice, neqb→ne}
 use Rattle.paper.specs.PaperCall.{seen}
 use Rattle.paper.proofs.Calls.{call_as_paper, new_within, no_fast_path}
-use Rattle.group.specs.Claim.{begun, MemberCall, Entry, listed, At, plus_commit, CommitAt}
-use Rattle.group.proofs.Handlers.{Any, any_holds, EndsUncommitted, Keeps, proposing_holds, call_holds, finish_holds}
+use Rattle.group.specs.Claim.{begun, MemberCall, Entry, listed, At, plus_commit, CommitAt, entries_made}
+use Rattle.group.proofs.GroupOfOne.{propose_to_all}
+use Rattle.group.proofs.Handlers.{call_holds}
 use Rattle.wrong_engines.specs.Laws.{AnyEngine, ReachedBy, entry_by, after_call_by, entries_by, RefusesByFirstCause, IsAsPaper, InAgreement}
 use Rattle.wrong_engines.specs.Laws.ReachedBy.{new, called}
 use Rattle.wrong_engines.specs.declared.FixedContents.{FixedContents}
-use Rattle.wrong_engines.specs.Engines.{is_message, is_proposal, multi_paxos_never_proposes, answer_with_messages, change_messages, where_taken, other_if_taken, sends_only, idles, does_nothing, sends_fixed, with_fixed_content, sends_fixed_contents, hears_nothing, answers_no_message, idles_after_slot_zero, refuses_each, sends_thrice, from_zero, sends_as_zero, own, sent_to, sends_to_itself, with_shard_at, if_commits, marked_unmade, unmakes}
+use Rattle.calls.specs.Decision.{is_proposal}
+use Rattle.wrong_engines.specs.Engines.{is_message, multi_paxos_never_proposes, answer_with_messages, change_messages, where_taken, other_if_taken, sends_only, idles, does_nothing, sends_fixed, with_fixed_content, sends_fixed_contents, hears_nothing, answers_no_message, idles_after_slot_zero, refuses_each, sends_thrice, from_zero, sends_as_zero, own_pid, redirected_to, sends_to_itself, with_shard_at, if_commits, marked_unmade, unmakes}
 use Rattle.wrong_engines.proofs.Answers.{refused_not_done}
 use Rattle.wrong_engines.proofs.Less.{DoesLess, SaysNothing, less_in_agreement}
 use Rattle.wrong_engines.proofs.Right.{right_has_all}
@@ -69,7 +63,7 @@ pub nothing_done_by_first_cause : RefusesByFirstCause does_nothing
 unfolding does_nothing
 nothing_done_by_first_cause shard c = other_by_first_cause shard c (idles shard) (λ e. refl)
 
-pub fixed_by_first_cause : (fixed : Messages) → RefusesByFirstCause (sends_fixed fixed)
+pub fixed_by_first_cause : (fixed : SentMessages) → RefusesByFirstCause (sends_fixed fixed)
 unfolding sends_fixed
 fixed_by_first_cause fixed shard c = other_by_first_cause shard c (sends_only fixed shard) (λ e. refl)
 
@@ -86,7 +80,7 @@ unproposed_by_first_cause shard c =
     (other_by_first_cause shard c (idles shard) (λ e. refl)) (right_has_all.first_cause shard c)
 
 -- other messages, none where there were none
-messages_by_first_cause : (f : Messages → Messages) → f no_messages ≡ no_messages → (shard : Shard) (c : Call)
+messages_by_first_cause : (f : SentMessages → SentMessages) → f no_messages ≡ no_messages → (shard : Shard) (c : Call)
     → ByFirstCause lowest_best shard c (answer_with_messages (f (call_of shard c).reply.messages) (call_of shard c))
 messages_by_first_cause f e shard c = go (right_has_all.first_cause shard c)
   where
@@ -94,7 +88,7 @@ messages_by_first_cause f e shard c = go (right_has_all.first_cause shard c)
         → ByFirstCause lowest_best shard c (answer_with_messages (f (call_of shard c).reply.messages) (call_of shard c))
     go (inl h) = inl h
     go (inr (why, r, first)) =
-        inr (why, ap (λ (a : Answer). answer_with_messages (f a.reply.messages) a) r ∙ ap (λ (ms : Messages). answer_with_messages ms (number_alone why shard)) e, first)
+        inr (why, ap (λ (a : Answer). answer_with_messages (f a.reply.messages) a) r ∙ ap (λ (ms : SentMessages). answer_with_messages ms (number_alone why shard)) e, first)
 
 pub contents_by_first_cause : (fixed : FixedContents) → RefusesByFirstCause (sends_fixed_contents fixed)
 unfolding sends_fixed_contents
@@ -110,7 +104,7 @@ as_zero_by_first_cause = messages_by_first_cause (change_messages from_zero) ref
 
 pub to_itself_by_first_cause : RefusesByFirstCause sends_to_itself
 unfolding sends_to_itself
-to_itself_by_first_cause shard = messages_by_first_cause (change_messages (sent_to (own shard))) refl shard
+to_itself_by_first_cause shard = messages_by_first_cause (change_messages (redirected_to (own_pid shard))) refl shard
 
 pub unanswered_by_first_cause : RefusesByFirstCause answers_no_message
 unfolding answers_no_message
@@ -145,7 +139,7 @@ other_commits_nothing shard c other n = go (call_of shard c).reply.outcome refl 
 module _ (engine : AnyEngine) (never : (shard : Shard) (c : Call) → (engine shard c).reply.commit ≡ None) where
   run_commits_nothing : (shards : ℕ → Shard) (past : List Entry) (cs : List MemberCall) → CommitsNothing past
       → CommitsNothing (entries_by engine shards past cs)
-  unfolding entries_by
+  unfolding entries_made
   run_commits_nothing shards past [] n = n
   run_commits_nothing shards past (c ∷ cs) n =
       run_commits_nothing (after_call_by engine shards c) (entry_by engine shards c ∷ past) cs (never (shards c.member) c.call, n)
@@ -164,67 +158,27 @@ pub nothing_done_in_agreement : InAgreement does_nothing
 unfolding does_nothing
 nothing_done_in_agreement = silent_in_agreement does_nothing (λ shard c. other_commits_nothing shard c (idles shard) refl)
 
-pub fixed_in_agreement : (fixed : Messages) → InAgreement (sends_fixed fixed)
+pub fixed_in_agreement : (fixed : SentMessages) → InAgreement (sends_fixed fixed)
 unfolding sends_fixed
 fixed_in_agreement fixed = silent_in_agreement (sends_fixed fixed) (λ shard c. other_commits_nothing shard c (sends_only fixed shard) refl)
 
 -- ---- demand 3: who refuses each frame, or does nothing with it, since a proposal and a new read commit nothing
 
--- nothing is asked of what the handlers do
-keeps : (a : Asked) → Keeps a Any Any Any Any (λ round. Any) Any Any
-keeps a =
-    record {
-      own_source = tt;
-      own_fast = λ v. tt;
-      enters = λ round core e k. tt;
-      promises = λ src rv core s p k. tt;
-      accepts = λ src round v core s e k. tt;
-      adopts = λ v core fresh k. tt;
-      leaves = λ core k. tt;
-      prepare_to = λ round core p w other. tt;
-      accept_to_all = λ round core t. tt;
-      accept_to_lem = λ round v core p t k e other. tt;
-      commit_to_all = λ core requester. tt;
-      propose_prepare_lem = λ round rv core. tt;
-      propose_accept_lem = λ v core t p k. tt;
-    }
-
 unheard_commits_nothing : (shard : Shard) (c : Call) → is_message c ≡ false → (call_of shard c).reply.commit ≡ None
 unheard_commits_nothing shard =
-    call_holds lowest_best shard (λ (c : Call) (r : Answer). is_message c ≡ false → r.reply.commit ≡ None) (λ c why e. refl) (λ v e. proposal v)
-    (λ tag arrival ins o e. refl) (λ d e. absurd (not_both refl e))
-  where
-    a : Asked
-    a = asked_of shard.settings
-
-    ended : (s : Rounds) (ms : Messages) (held : Option RoundV) (n : Next) → EndsUncommitted Any ms held n → (finish_at shard.state a true s ms n).reply.commit ≡ None
-    ended s ms held Stays q = refl
-    ended s ms held Continues q = absurd q
-    ended s ms held (Commits v) q = absurd q
-
-    proposal : (v : ℕ) → (finish shard.state a true (proposing a v shard.state.rounds)).reply.commit ≡ None
-    proposal v =
-        finish_holds (λ (r : StateAnswer). r.reply.commit ≡ None) shard.state a true (proposing a v shard.state.rounds) (λ why. refl)
-        (proposing_holds a Any Any Any Any (λ round. Any) Any Any (keeps a)
-        (λ step. (finish_at shard.state a true step.state step.messages step.next).reply.commit ≡ None) (λ core t. tt) v tt shard.state.rounds Any tt (any_holds _)
-        (λ step t q. ended _ step.messages _ step.next q.0.1) (λ step t q. ended _ step.messages _ step.next q.1) tt)
+    call_holds lowest_best shard (λ (c : Call) (r : Answer). is_message c ≡ false → r.reply.commit ≡ None) (λ c why e. refl)
+    (λ v e. (propose_to_all shard.state (asked_of shard.settings) v).1) (λ tag arrival ins o e. refl) (λ d e. absurd (not_both refl e))
 
 pub frames_refused_in_agreement : (why : Refusal) → InAgreement (refuses_each is_message why)
 unfolding refuses_each
-frames_refused_in_agreement why = silent_in_agreement (refuses_each is_message why) (λ shard c. go shard c (is_message c) refl)
-  where
-    go : (shard : Shard) (c : Call) (t : Bool) → is_message c ≡ t → (cond t (number_alone why shard) (call_of shard c)).reply.commit ≡ None
-    go shard c true e = refl
-    go shard c false e = unheard_commits_nothing shard c e
+frames_refused_in_agreement why =
+    silent_in_agreement (refuses_each is_message why) (λ shard c. by_choice (λ (r : Answer). r.reply.commit ≡ None) (is_message c) (λ e. refl) (unheard_commits_nothing shard c))
 
 pub nothing_heard_in_agreement : InAgreement hears_nothing
 unfolding hears_nothing
-nothing_heard_in_agreement = silent_in_agreement hears_nothing (λ shard c. go shard c (is_message c) refl)
-  where
-    go : (shard : Shard) (c : Call) (t : Bool) → is_message c ≡ t
-        → (cond t (other_if_taken (idles shard) (call_of shard c)) (call_of shard c)).reply.commit ≡ None
-    go shard c true e = other_commits_nothing shard c (idles shard) refl
-    go shard c false e = unheard_commits_nothing shard c e
+nothing_heard_in_agreement =
+    silent_in_agreement hears_nothing
+    (λ shard c. by_choice (λ (r : Answer). r.reply.commit ≡ None) (is_message c) (λ e. other_commits_nothing shard c (idles shard) refl) (unheard_commits_nothing shard c))
 
 -- ---- demand 3: who does less than the right engine
 

@@ -31,7 +31,8 @@ use Rattle.consensus.proofs.Refusals.{taken_where_none}
 use Rattle.paper.specs.PaperCall.{seen}
 use Rattle.paper.specs.Runs.{ClassicMode}
 use Rattle.paper.proofs.Calls.{call_as_paper, new_within, no_fast_path}
-use Rattle.group.specs.Claim.{begun, MemberCall, Entry, Claim, NotSwift}
+use Rattle.group.specs.Claim.{begun, MemberCall, Entry, Claim, LegalMade, entries_made}
+use Rattle.group.proofs.Calls.{not_swift}
 use Rattle.wrong_engines.specs.Laws.{AnyEngine, ReachedBy, entries_by, LegalBy, RefusesByFirstCause, IsAsPaper, InAgreement}
 use Rattle.wrong_engines.specs.Laws.ReachedBy.{new, called}
 use Rattle.wrong_engines.specs.Engines.{is_new_read, brings_message, is_forward, shard_holding, paxos_half, with_settings, with_replicas, where_taken, leaving, stays_in_slot, keeps_held_after_commit, loses_replicas, counting_answers, answers_noted, notes_proposals, shard_with_table, first_two_turned, turned, keeps_reads_turned, with_served_turned, serves_turned, with_full_read, fills_first_read, with_paxos_half, with_prepared, with_accepted, swift_forward, counts_forwards_as_promises, counts_forwards_as_accepts, answer_with_commit, told_as_next, commits_next_slot}
@@ -189,14 +190,6 @@ classic_not_swift EPaxos c = absurd c
 classic_not_swift Pando c = refl
 classic_not_swift SwiftPaxos c = absurd c
 
-not_swift : (m : PFMode) → NotSwift m → is_swift_paxos m ≡ false
-not_swift Paxos n = refl
-not_swift MultiPaxos n = refl
-not_swift MultiPaxos3P n = refl
-not_swift EPaxos n = refl
-not_swift Pando n = refl
-not_swift SwiftPaxos n = absurd n
-
 -- it keeps the settings, and is the right engine in the other modes
 record WrongInSwift (engine : AnyEngine) : Type 0 where
   settings : (shard : Shard) (c : Call) → (engine shard c).shard.settings ≡ shard.settings
@@ -223,7 +216,7 @@ module _ (engine : AnyEngine) (w : WrongInSwift engine) where
 
   same_entries : (shards : ℕ → Shard) → Right shards → (past : List Entry) (cs : List MemberCall)
       → entries_by engine shards past cs ≡ entries_by call_of shards past cs
-  unfolding entries_by
+  unfolding entries_made
   same_entries shards right past [] = refl
   same_entries shards right past (c ∷ cs) =
       same_entries (shards_with shards c (engine (shards c.member) c.call)) (right_after shards right c)
@@ -232,7 +225,7 @@ module _ (engine : AnyEngine) (w : WrongInSwift engine) where
 
   legal_too : (n : ℕ) (shards : ℕ → Shard) → Right shards → (past : List Entry) (cs : List MemberCall) → LegalBy engine n shards past cs
       → LegalBy call_of n shards past cs
-  unfolding LegalBy
+  unfolding LegalMade
   legal_too n shards right past [] l = tt
   legal_too n shards right past (c ∷ cs) l = (
     l.0,

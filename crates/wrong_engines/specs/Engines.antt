@@ -11,7 +11,8 @@ use Rattle.message.specs.declared.Refusal.{Refusal}
 use Rattle.message.specs.declared.Refusal.TheVariants.{SettingsOutsideLimits}
 use Rattle.message.specs.declared.RoundV.{RoundV}
 use Rattle.message.specs.declared.RoundV.TheVariants.{PaxosV}
-use Rattle.read_tracker.specs.Reads.{read_id, new_read, with_count}
+use Rattle.calls.specs.Decision.{is_proposal}
+use Rattle.read_tracker.specs.Reads.{read_id, no_read, with_count}
 use Rattle.read_tracker.specs.declared.OpenRead.{OpenRead}
 use Rattle.read_tracker.specs.declared.ReadTable.{ReadTable}
 use Rattle.read_tracker.specs.declared.ServedRead.{ServedRead}
@@ -22,7 +23,7 @@ use Rattle.fast_state.specs.declared.FastState.{FastState}
 use Rattle.steps.specs.Steps.{no_messages, one_message, to_all, with_paxos}
 use Rattle.steps.specs.declared.Destination.{Destination}
 use Rattle.steps.specs.declared.Destination.TheVariants.{One, All}
-use Rattle.steps.specs.declared.Messages.{Messages}
+use Rattle.steps.specs.declared.SentMessages.{SentMessages}
 use Rattle.steps.specs.declared.Outgoing.{Outgoing}
 use Rattle.calls.specs.Commits.{committed_slot}
 use Rattle.calls.specs.declared.Call.{Call}
@@ -38,11 +39,6 @@ use Rattle.wrong_engines.specs.Laws.{AnyEngine}
 use Rattle.wrong_engines.specs.declared.FixedContents.{FixedContents}
 
 -- ---- kinds of calls
-
-abbrev pub is_proposal : Call → Bool
-is_proposal (Propose v) = true
-is_proposal (StartRead tag arrival) = false
-is_proposal (Receive d) = false
 
 abbrev pub is_new_read : Call → Bool
 is_new_read (Propose v) = false
@@ -98,8 +94,8 @@ from_another source (Receive d) =
       held_requester = d.held_requester;
     })
 
-abbrev pub own : Shard → ℕ
-own shard = shard.settings.my_pid
+abbrev pub own_pid : Shard → ℕ
+own_pid shard = shard.settings.my_pid
 
 abbrev pub shard_slot : Shard → ℕ
 shard_slot shard = shard.state.rounds.core.slot
@@ -165,7 +161,7 @@ call_under s shard c =
     }
 
 -- other messages, or another commit
-abbrev pub answer_with_messages : Messages → Answer → Answer
+abbrev pub answer_with_messages : SentMessages → Answer → Answer
 answer_with_messages messages r =
     record {
       shard = r.shard;
@@ -184,7 +180,7 @@ abbrev pub change_message : (Outgoing → Outgoing) → Option Outgoing → Opti
 change_message f None = None
 change_message f (Some o) = Some (f o)
 
-abbrev pub change_messages : (Outgoing → Outgoing) → Messages → Messages
+abbrev pub change_messages : (Outgoing → Outgoing) → SentMessages → SentMessages
 change_messages f ms = record { first = change_message f ms.first; second = change_message f ms.second; third = change_message f ms.third }
 
 -- what is refused stays so, and what is taken gets another answer
@@ -200,7 +196,7 @@ abbrev pub leaving : Shard → Answer → Answer
 leaving shard r = other_if_taken (record { shard = shard; reply = r.reply }) r
 
 -- the shard as it was, and nothing handed back but these messages; or not even these
-abbrev pub sends_only : Messages → Shard → Answer
+abbrev pub sends_only : SentMessages → Shard → Answer
 sends_only messages shard = record { shard = shard; reply = sent_reply messages }
 
 abbrev pub idles : Shard → Answer
@@ -213,12 +209,12 @@ unfoldable pub does_nothing : AnyEngine
 does_nothing shard c = other_if_taken (idles shard) (call_of shard c)
 
 -- "or sends one fixed message", whatever it is, or none, and does nothing else
-unfoldable pub sends_fixed : Messages → AnyEngine
+unfoldable pub sends_fixed : SentMessages → AnyEngine
 sends_fixed fixed shard c = other_if_taken (sends_only fixed shard) (call_of shard c)
 
 -- such a message: that 0 is committed in slot 0
-abbrev pub one_commit : Messages
-one_commit = one_message (record { destination = to_all; message = record { msg = Commit 0 0; src = 0; last_v = None } })
+abbrev pub commit_of_zero : SentMessages
+commit_of_zero = one_message (record { destination = to_all; message = record { msg = Commit 0 0; src = 0; last_v = None } })
 
 -- each kind of message always with the same content, whatever that is
 abbrev pub fixed_content : FixedContents → ConsensusMsg → ConsensusMsg
@@ -280,7 +276,7 @@ refuses_each kind why shard c = cond (kind c) (number_alone why shard) (call_of 
 -- "one that commits on the first accept": where the leader counts accepts, a majority is that of one replica
 unfoldable pub commits_on_first_accept : AnyEngine
 commits_on_first_accept shard c =
-    cond (brings_message (is_accept_for (own shard)) c)
+    cond (brings_message (is_accept_for (own_pid shard)) c)
     (call_under (with_replicas 1 shard.settings.alive_replicas shard.settings) shard c)
     (call_of shard c)
 
@@ -288,13 +284,13 @@ commits_on_first_accept shard c =
 -- one of a live replica that is not in the set yet, while there is one.
 unfoldable pub prepared_figure_without_set : AnyEngine
 prepared_figure_without_set shard c =
-    cond (brings_message (is_prepare_for (own shard)) c)
+    cond (brings_message (is_prepare_for (own_pid shard)) c)
     (other_if_taken (call_of shard (as_uncounted shard (paxos_half shard).prepared_set c)) (call_of shard c))
     (call_of shard c)
 
 unfoldable pub accepted_figure_without_set : AnyEngine
 accepted_figure_without_set shard c =
-    cond (brings_message (is_accept_for (own shard)) c)
+    cond (brings_message (is_accept_for (own_pid shard)) c)
     (other_if_taken (call_of shard (as_uncounted shard (paxos_half shard).accepted_set c)) (call_of shard c))
     (call_of shard c)
 
@@ -319,11 +315,11 @@ unfoldable pub sends_as_zero : AnyEngine
 sends_as_zero shard c = answer_with_messages (change_messages from_zero (call_of shard c).reply.messages) (call_of shard c)
 
 -- to itself
-abbrev pub sent_to : ℕ → Outgoing → Outgoing
-sent_to p o = record { destination = One p; message = o.message }
+abbrev pub redirected_to : ℕ → Outgoing → Outgoing
+redirected_to p o = record { destination = One p; message = o.message }
 
 unfoldable pub sends_to_itself : AnyEngine
-sends_to_itself shard c = answer_with_messages (change_messages (sent_to (own shard)) (call_of shard c).reply.messages) (call_of shard c)
+sends_to_itself shard c = answer_with_messages (change_messages (redirected_to (own_pid shard)) (call_of shard c).reply.messages) (call_of shard c)
 
 -- first to itself, where it goes to all
 abbrev pub first_to : ℕ → Destination → Destination
@@ -335,7 +331,7 @@ sent_first_to p o = record { destination = first_to p o.destination; message = o
 
 unfoldable pub sends_first_to_itself : AnyEngine
 sends_first_to_itself shard c =
-    answer_with_messages (change_messages (sent_first_to (own shard)) (call_of shard c).reply.messages) (call_of shard c)
+    answer_with_messages (change_messages (sent_first_to (own_pid shard)) (call_of shard c).reply.messages) (call_of shard c)
 
 -- ---- lacking the law of a group of one
 
@@ -420,11 +416,8 @@ notes_proposals shard c =
 abbrev pub shard_with_table : ReadTable → Shard → Shard
 shard_with_table table shard = with_state shard (record { rounds = shard.state.rounds; table = table })
 
-abbrev pub empty_read : OpenRead
-empty_read = new_read (read_id 0) 0 0 false
-
 abbrev pub first_two_turned : List OpenRead → List OpenRead
-first_two_turned reads = set (set reads 0 (get_or reads 1 empty_read)) 1 (get_or reads 0 empty_read)
+first_two_turned reads = set (set reads 0 (get_or reads 1 no_read)) 1 (get_or reads 0 no_read)
 
 abbrev pub turned : Shard → Shard
 turned shard =
@@ -455,7 +448,7 @@ serves_turned shard c = cond (leb 2 (call_of shard c).reply.served_count) (with_
 
 -- with a new read the first open read has as many responses as a number can say, so that the next one would be lost in the sum
 abbrev pub full_reads : List OpenRead → List OpenRead
-full_reads reads = set reads 0 (with_count (get_or reads 0 empty_read) 18446744073709551615 (get_or reads 0 empty_read).local_ready)
+full_reads reads = set reads 0 (with_count (get_or reads 0 no_read) 18446744073709551615 (get_or reads 0 no_read).local_ready)
 
 abbrev pub with_full_read : Shard → Shard
 with_full_read shard = shard_with_table (record { reads = full_reads shard.state.table.reads; served = shard.state.table.served }) shard

@@ -1,7 +1,7 @@
 -- The laws of the engine, each as a property of any engine: the theorems of consensus, paper and group with the engine's call as a parameter. `call_of` has
 -- all of them, and with `call_of` they are those theorems (proofs/Right.antt). Each wrong engine of Engines.antt lacks one (the other files of proofs/).
 -- Assumes nothing.
-use Rattle.std.specs.Prelude.{◌≡◌, ◌⊎◌, Bool, true, false, cond, List, [], ◌∷◌, ℕ, ◌≤◌, ◌<◌, eqb, length, None, is_some, Ok}
+use Rattle.std.specs.Prelude.{◌≡◌, ◌⊎◌, Bool, true, false, List, [], ◌∷◌, ℕ, ◌≤◌, ◌<◌, length, None, is_some, Ok}
 use Rattle.basics.specs.Lists.{In}
 use Rattle.basics.specs.sets.Sets.{contains, Within}
 use Rattle.message.specs.Modes.{has_fast_path, is_swift_paxos}
@@ -9,8 +9,8 @@ use Rattle.settings.specs.declared.Settings.{Settings}
 use Rattle.round_state.specs.Paxos.{get_last_accepted_round}
 use Rattle.fast_state.specs.Adopt.{lowest_best}
 use Rattle.fast_state.specs.Fast.{no_answers}
-use Rattle.read_tracker.proofs.serving.IdOrder.{InOrder, Rising, served_ids}
-use Rattle.delivery.specs.declared.Delivery.{Delivery}
+use Rattle.read_tracker.proofs.serving.IdOrder.{InOrder, RisingIds, served_ids}
+use Rattle.calls.specs.declared.delivery.Delivery.{Delivery}
 use Rattle.steps.specs.declared.Outgoing.{Outgoing}
 use Rattle.calls.specs.Commits.{committed_slot}
 use Rattle.calls.specs.declared.Call.{Call}
@@ -21,15 +21,16 @@ use Rattle.consensus.specs.declared.Answer.{Answer}
 use Rattle.consensus.specs.declared.Shard.{Shard}
 use Rattle.paper.specs.PaperCall.{seen, InPaxos, LeavesPaxos, paper_call}
 use Rattle.paper.specs.Runs.{ClassicMode}
-use Rattle.group.specs.Claim.{begun, MemberCall, Entry, messages_of, SentTo, MayStand, slot_at, CommitAt, Claim, NotSwift}
-use Rattle.group.proofs.Invariants.{Cleared, served_by, Room, InTables}
+use Rattle.group.specs.Claim.{begun, MemberCall, Entry, call_by_value, entry_made, after_made, entries_made, messages_of, SentTo, LegalMade, slot_at, CommitAt, Claim, NotSwift}
+use Rattle.group.specs.Steps.{shards_made}
+use Rattle.group.proofs.Invariants.{Cleared, served_by_call, Room, InTables}
 use Rattle.group.proofs.Sending.{FromOwn}
 
 -- what a call makes of a shard
 abbrev pub AnyEngine : Type 0
 AnyEngine = Shard → Call → Answer
 
--- a shard as it was made, or as a call of the engine has left it (`Reached`, crates/paper/specs/Runs.antt)
+-- a shard as it was made, or as a call of the engine has left it (`ReachedShard`, crates/paper/specs/Runs.antt)
 pub data ReachedBy (engine : AnyEngine) : Shard → Type 0 where
   new : (s : Settings) → (new_shard s).made ≡ Ok tt → ReachedBy engine (new_shard s)
   called : (shard : Shard) (c : Call) → ReachedBy engine shard → ReachedBy engine (engine shard c).shard
@@ -38,29 +39,25 @@ module _ (engine : AnyEngine) where
   -- ---- runs of a group (crates/group/specs/Claim.antt)
 
   abbrev pub entry_by : (ℕ → Shard) → MemberCall → Entry
-  entry_by shards c = record { member = c.member; call = c.call; reply = (engine (shards c.member) c.call).reply }
+  entry_by shards c = entry_made (call_by_value engine) shards c
 
   abbrev pub after_call_by : (ℕ → Shard) → MemberCall → ℕ → Shard
-  after_call_by shards c j = cond (eqb j c.member) (engine (shards c.member) c.call).shard (shards j)
+  after_call_by shards c = after_made (call_by_value engine) shards c
 
-  unfoldable pub entries_by : (ℕ → Shard) → List Entry → List MemberCall → List Entry
-  entries_by shards past [] = past
-  entries_by shards past (c ∷ cs) = entries_by (after_call_by shards c) (entry_by shards c ∷ past) cs
+  abbrev pub entries_by : (ℕ → Shard) → List Entry → List MemberCall → List Entry
+  entries_by shards past cs = entries_made (λ place. call_by_value engine) shards past cs
+
+  abbrev pub LegalBy : ℕ → (ℕ → Shard) → List Entry → List MemberCall → Type 0
+  LegalBy n shards past cs = LegalMade n (λ place. call_by_value engine) shards past cs
 
   -- the shards after the calls (`shards_after`, crates/group/proofs/Invariants.antt)
-  unfoldable pub shards_by : (ℕ → Shard) → List MemberCall → ℕ → Shard
-  shards_by shards [] = shards
-  shards_by shards (c ∷ cs) = shards_by (after_call_by shards c) cs
+  abbrev pub shards_by : (ℕ → Shard) → List MemberCall → ℕ → Shard
+  shards_by shards cs = shards_made (λ place. call_by_value engine) shards cs
 
-  -- one shard after calls, one after another (`after_calls`, crates/consensus/specs/Call.antt)
-  unfoldable pub after_calls_by : Shard → List Call → Shard
-  after_calls_by shard [] = shard
-  after_calls_by shard (c ∷ cs) = after_calls_by (engine shard c).shard cs
-
-  unfoldable pub LegalBy : ℕ → (ℕ → Shard) → List Entry → List MemberCall → Type 0
-  LegalBy n shards past [] = Unit {0}
-  LegalBy n shards past (c ∷ cs) =
-      (c.member < n) × MayStand past c.member c.call × LegalBy n (after_call_by shards c) (entry_by shards c ∷ past) cs
+  -- one shard after calls, one after another (`shard_after_calls`, crates/consensus/specs/Call.antt)
+  unfoldable pub shard_after_calls_by : Shard → List Call → Shard
+  shard_after_calls_by shard [] = shard
+  shard_after_calls_by shard (c ∷ cs) = shard_after_calls_by (engine shard c).shard cs
 
   -- ---- the laws
 
@@ -70,7 +67,7 @@ module _ (engine : AnyEngine) where
 
   -- `marked_once` (consensus): no list of calls changes the mark
   abbrev pub MarkedOnce : Type 0
-  MarkedOnce = (shard : Shard) (cs : List Call) → (after_calls_by shard cs).made ≡ shard.made
+  MarkedOnce = (shard : Shard) (cs : List Call) → (shard_after_calls_by shard cs).made ≡ shard.made
 
   -- `settings_kept` (consensus)
   abbrev pub KeepsSettings : Type 0
@@ -161,7 +158,7 @@ module _ (engine : AnyEngine) where
   abbrev pub ServesInOrder : Type 0
   ServesInOrder =
       (s : Settings) (cs : List MemberCall) (i : ℕ) (c : Call)
-      → Rising 0 (served_ids (served_by (engine (shards_by (begun s) cs i) c))) (shards_by (begun s) cs i).state.rounds.core.tracker.next_id
+      → RisingIds 0 (served_ids (served_by_call (engine (shards_by (begun s) cs i) c))) (shards_by (begun s) cs i).state.rounds.core.tracker.next_id
 
   -- `promises_while_held` and `accepts_while_accepted` (group)
   abbrev pub CountsPromisesWhileHeld : Type 0

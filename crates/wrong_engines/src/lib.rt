@@ -4,19 +4,20 @@
 
 ghost use Rattle.std.specs.Prelude.{◌≡◌};
 ghost use Rattle.consensus.specs.FirstCause.{number_alone};
-ghost use Rattle.wrong_engines.specs.Engines.{is_message, is_proposal, multi_paxos_never_proposes, is_prepare_for, is_accept_for, brings_message, from_another, shard_holding, lowest_or, call_under, with_replicas, answer_with_messages, change_message, change_messages, other_if_taken, sends_only, does_nothing, sends_fixed, one_commit, fixed_content, with_fixed_content, sends_fixed_contents, all_zero, answers_no_message, idles_after_slot_zero, refuses_each, commits_on_first_accept, prepared_figure_without_set, accepted_figure_without_set, forgets_held_with_round, sends_thrice, from_zero, sends_as_zero, sent_to, sends_to_itself, commits_at_once, is_new_read, is_forward, with_settings, with_processes, leaving, if_commits, stays_in_slot, keeps_held_after_commit, marked_unmade, unmakes, loses_replicas, forgets_held_with_read, counts_every_process, counting_answers, answers_noted, notes_proposals, shard_with_table, empty_read, first_two_turned, turned, keeps_reads_turned, nothing_served, first_two_served_turned, serves_turned, full_reads, fills_first_read, swift_forward, counts_forwards_as_promises, counts_forwards_as_accepts, takes_every_process, told_as_next, commits_next_slot};
+ghost use Rattle.calls.specs.Decision.{is_proposal};
+ghost use Rattle.wrong_engines.specs.Engines.{is_message, multi_paxos_never_proposes, is_prepare_for, is_accept_for, brings_message, from_another, shard_holding, lowest_or, call_under, with_replicas, answer_with_messages, change_message, change_messages, other_if_taken, sends_only, does_nothing, sends_fixed, commit_of_zero, fixed_content, with_fixed_content, sends_fixed_contents, all_zero, answers_no_message, idles_after_slot_zero, refuses_each, commits_on_first_accept, prepared_figure_without_set, accepted_figure_without_set, forgets_held_with_round, sends_thrice, from_zero, sends_as_zero, redirected_to, sends_to_itself, commits_at_once, is_new_read, is_forward, with_settings, with_processes, leaving, if_commits, stays_in_slot, keeps_held_after_commit, marked_unmade, unmakes, loses_replicas, forgets_held_with_read, counts_every_process, counting_answers, answers_noted, notes_proposals, shard_with_table, first_two_turned, turned, keeps_reads_turned, nothing_served, first_two_served_turned, serves_turned, full_reads, fills_first_read, swift_forward, counts_forwards_as_promises, counts_forwards_as_accepts, takes_every_process, told_as_next, commits_next_slot};
 
 use calls::{Call, CommittedSlot};
 use consensus::{Answer, Shard};
 use message::{ConsensusMessage, ConsensusMsg, PaxosRound, ReadId, Refusal, RoundV, increment};
 use read_tracker::{OpenRead, ServedRead};
 use settings::Settings;
-use steps::{Destination, Messages, Outgoing};
+use steps::{Destination, Outgoing, SentMessages};
 
 // ---- answers
 
 // The shard as it was, and these messages.
-fn sends_only(messages: Messages, shard: Shard) -> Answer
+fn sends_only(messages: SentMessages, shard: Shard) -> Answer
     ensures { result ≡ sends_only messages shard }
 {
     Answer {
@@ -45,7 +46,7 @@ fn other_if_taken(other: Answer, right: Answer) -> Answer
     }
 }
 
-fn answer_with_messages(messages: Messages, mut answer: Answer) -> Answer
+fn answer_with_messages(messages: SentMessages, mut answer: Answer) -> Answer
     ensures { result ≡ answer_with_messages messages answer }
 {
     answer.reply.messages = messages;
@@ -62,14 +63,14 @@ pub fn does_nothing(shard: Shard, call: Call) -> Answer
 }
 
 #[tactic(auto, unfolding(crate::specs::Engines::sends_fixed))]
-pub fn sends_fixed(fixed: Messages, shard: Shard, call: Call) -> Answer
+pub fn sends_fixed(fixed: SentMessages, shard: Shard, call: Call) -> Answer
     ensures { result ≡ sends_fixed fixed shard call }
 {
     other_if_taken(sends_only(fixed, shard), shard.call(call))
 }
 
-pub fn one_commit() -> Messages
-    ensures { result ≡ one_commit }
+pub fn commit_of_zero() -> SentMessages
+    ensures { result ≡ commit_of_zero }
 {
     let commit = ConsensusMessage {
         msg: ConsensusMsg::Commit { slot: 0, v: 0 },
@@ -150,10 +151,10 @@ impl FixedContents {
         }
     }
 
-    fn within_each(self, messages: Messages) -> Messages
+    fn within_each(self, messages: SentMessages) -> SentMessages
         ensures { result ≡ change_messages (with_fixed_content self) messages }
     {
-        Messages {
+        SentMessages {
             first: self.within(messages.first),
             second: self.within(messages.second),
             third: self.within(messages.third),
@@ -359,7 +360,7 @@ pub fn sends_thrice(shard: Shard, call: Call) -> Answer
 {
     let right = shard.call(call);
     let m = right.reply.messages.first;
-    let messages = Messages {
+    let messages = SentMessages {
         first: m,
         second: m,
         third: m,
@@ -385,7 +386,7 @@ pub fn sends_as_zero(shard: Shard, call: Call) -> Answer
 {
     let right = shard.call(call);
     let sent = right.reply.messages;
-    let messages = Messages {
+    let messages = SentMessages {
         first: from_zero(sent.first),
         second: from_zero(sent.second),
         third: from_zero(sent.third),
@@ -393,8 +394,8 @@ pub fn sends_as_zero(shard: Shard, call: Call) -> Answer
     answer_with_messages(messages, right)
 }
 
-fn sent_to(p: u64, m: Option<Outgoing>) -> Option<Outgoing>
-    ensures { result ≡ change_message (sent_to p) m }
+fn redirected_to(p: u64, m: Option<Outgoing>) -> Option<Outgoing>
+    ensures { result ≡ change_message (redirected_to p) m }
 {
     match m {
         None => None,
@@ -412,10 +413,10 @@ pub fn sends_to_itself(shard: Shard, call: Call) -> Answer
     let own = shard.settings.my_pid;
     let right = shard.call(call);
     let sent = right.reply.messages;
-    let messages = Messages {
-        first: sent_to(own, sent.first),
-        second: sent_to(own, sent.second),
-        third: sent_to(own, sent.third),
+    let messages = SentMessages {
+        first: redirected_to(own, sent.first),
+        second: redirected_to(own, sent.second),
+        third: redirected_to(own, sent.third),
     };
     answer_with_messages(messages, right)
 }

@@ -11,10 +11,10 @@ use lib.Seq.{set_out, paste}
 use Rattle.basics.specs.elements.Places.{at_front, without}
 use Rattle.basics.proofs.elements.Lists.{moved_down}
 use mir.Val.{bool_byte}
-use Rattle.read_tracker.specs.Reads.{read_id, new_table}
+use Rattle.read_tracker.specs.Reads.{read_id, no_read, new_table}
 use Rattle.read_tracker.specs.declared.OpenRead.{OpenRead}
 use Rattle.read_tracker.specs.declared.ServedRead.{ServedRead}
-use Rattle.arrays.specs.reads.Rows.{open_rows, served_rows, table_of, no_read}
+use Rattle.arrays.specs.reads.Rows.{open_rows, served_rows, table_of}
 use Rattle.flat.specs.Decode.{is_yes}
 use Rattle.arrays.proofs.reads.Strides.{of_row, rows_length, rows_at, rows_set, rows_three, rows_take, rows_drop}
 

@@ -1,7 +1,6 @@
 -- The reads that stand in arrays of numbers: five numbers are an open read, four a served one.
 -- Assumes nothing.
-use Rattle.std.specs.Prelude.{ℕ, false, List, [], ◌∷◌, ◌≡◌}
-use Rattle.read_tracker.specs.Reads.{read_id, new_read}
+use Rattle.std.specs.Prelude.{ℕ, List, [], ◌∷◌}
 use Rattle.read_tracker.specs.declared.OpenRead.{OpenRead}
 use Rattle.read_tracker.specs.declared.ServedRead.{ServedRead}
 use Rattle.read_tracker.specs.declared.ReadTable.{ReadTable}
@@ -33,16 +32,8 @@ table_of opened served = record { reads = open_rows opened; served = served_rows
 
 -- the reads that stand in the lent arrays
 abbrev pub reads_in : ReadArrays → ReadTable
-reads_in a = table_of a.reads.now a.served.now
-
--- they are the arrays that were lent: a clause, since it compares what stood before with what stands after, where a type speaks of one of them
-abbrev pub SameReads : ReadArrays → ReadArrays → Type 0
-SameReads a b = (b.reads.ghost_name ≡ a.reads.ghost_name) × (b.served.ghost_name ≡ a.served.ghost_name)
+reads_in a = table_of a.reads a.served
 
 -- what a call leaves: the tracker and the count that it hands back, with the arrays
 abbrev pub tracked_in : Counted → ReadArrays → Tracked
 tracked_in r a = record { tracker = r.tracker; table = reads_in a; served_count = r.served_count }
-
--- the read of a place that there is not
-abbrev pub no_read : OpenRead
-no_read = new_read (read_id 0) 0 0 false

@@ -12,7 +12,7 @@ use Rattle.steps.specs.Steps.{no_messages, stays, continues}
 use Rattle.steps.specs.declared.Asked.{Asked}
 use Rattle.steps.specs.declared.Core.{Core}
 use Rattle.steps.specs.declared.Heard.{Heard}
-use Rattle.classic.specs.accept.Accept.{is_committer, answer_accept, try_commit, answered, follower, accepted, accept_answer, continues_fast, counts_accepts}
+use Rattle.classic.specs.accept.Accept.{is_committer, answer_accept, try_commit, answered_delegate, follower, accept_taken, accept_answer, continues_fast, counts_accepts}
 
 by_role : {A B E : Type 0} (counting : A → B) (going : A → B) (staying : A → B) (panic : E) (answer none : A) (leader delegate committer swift : Bool)
     → cond leader (Ok (counting none))
@@ -29,11 +29,11 @@ by_role f g h p x y false false true s = refl
 by_role f g h p x y false false false s = refl
 
 pub accepted_by_role : (a : Asked) (h : Heard) (round : PaxosRound) (v : ℕ) (core : Core)
-    → accepted a h round v core
+    → accept_taken a h round v core
     ≡ cond (continues_fast a h round) (Ok (continues core (accept_answer a h round core)))
     (cond (counts_accepts a h round) (Ok (try_commit a h round v core (accept_answer a h round core)))
     (cond (eqb h.src h.delegate) (Ok (stays core (accept_answer a h round core))) (Err Panic)))
-unfolding accepted follower answered accept_answer continues_fast counts_accepts
+unfolding accept_taken follower answered_delegate accept_answer continues_fast counts_accepts
 accepted_by_role a h round v core =
     by_role (try_commit a h round v core) (continues core) (stays core) Panic (answer_accept a round core h.committer) no_messages
     (eqb a.member.my_pid round.leader) (eqb h.src h.delegate) (is_committer a h) (is_swift_paxos a.mode)

@@ -12,12 +12,12 @@ use Rattle.message.specs.declared.Refusal.TheVariants.{Panic}
 use Rattle.round_state.specs.Paxos.{paxos_can_commit, receive_accept}
 use Rattle.round_state.specs.declared.PaxosState.{PaxosState}
 use Rattle.classic.specs.prepare.Prepare.{off_fast_path}
-use Rattle.steps.specs.Steps.{CoreStep, no_messages, one_message, two_messages, also, sends, first_served, held_value, with_paxos, left_fast_path, stays, continues, commits}
+use Rattle.steps.specs.Steps.{CoreStep, no_messages, one_message, two_messages, also, sends, first_served, held_value, with_paxos, left_fast_path, stays, continues, commits_with}
 use Rattle.steps.specs.declared.Asked.{Asked}
 use Rattle.steps.specs.declared.Core.{Core}
 use Rattle.steps.specs.declared.Destination.TheVariants.{One, All}
 use Rattle.steps.specs.declared.Heard.{Heard}
-use Rattle.steps.specs.declared.Messages.{Messages}
+use Rattle.steps.specs.declared.SentMessages.{SentMessages}
 use Rattle.steps.specs.declared.Outgoing.{Outgoing}
 
 -- the modes in which a committer hears the accepts: `MultiPaxos3P | SwiftPaxos`
@@ -43,7 +43,7 @@ unfoldable pub committer_hears : Asked → PaxosRound → ℕ → Bool
 committer_hears a round p = tells_committer a.mode && (not (eqb p round.leader) && not (eqb p a.member.my_pid))
 
 -- answer_accept: to the committer, then to the leader
-unfoldable pub answer_accept : Asked → PaxosRound → Core → Option ℕ → Messages
+unfoldable pub answer_accept : Asked → PaxosRound → Core → Option ℕ → SentMessages
 answer_accept a round core None = one_message (accept_to a core round round.leader)
 answer_accept a round core (Some p) =
     cond (committer_hears a round p) (two_messages (accept_to a core round p) (accept_to a core round round.leader))
@@ -60,19 +60,19 @@ unfoldable pub tells_commit : Asked → Heard → PaxosRound → Bool
 tells_commit a h round = cond (eqb round.leader a.member.my_pid) true (not (is_process h.requester a.member.my_pid))
 
 -- with the Commit behind what was sent before, where it is told
-unfoldable pub with_commit_message : Asked → Heard → PaxosRound → Core → Messages → Messages
+unfoldable pub with_commit_message : Asked → Heard → PaxosRound → Core → SentMessages → SentMessages
 with_commit_message a h round core messages = cond (tells_commit a h round) (also messages (commit_message a core h.requester)) messages
 
 -- a majority of accepts commits the value: `if self.round_state.paxos_can_commit()`; from here the slot is off the fast path in every mode
-unfoldable pub try_commit : Asked → Heard → PaxosRound → ℕ → Core → Messages → CoreStep
+unfoldable pub try_commit : Asked → Heard → PaxosRound → ℕ → Core → SentMessages → CoreStep
 try_commit a h round v core messages =
-    cond (paxos_can_commit a.member core.paxos) (commits v (left_fast_path core) (with_commit_message a h round core messages)) (stays core messages)
+    cond (paxos_can_commit a.member core.paxos) (commits_with v (left_fast_path core) (with_commit_message a h round core messages)) (stays core messages)
 
 -- ---- the accept
 
 -- the delegate's accept is answered; a committer goes on, in SwiftPaxos with the fast half
-unfoldable pub answered : Asked → Heard → PaxosRound → ℕ → Core → CoreStep
-answered a h round v core =
+unfoldable pub answered_delegate : Asked → Heard → PaxosRound → ℕ → Core → CoreStep
+answered_delegate a h round v core =
     cond (is_committer a h)
     (cond (is_swift_paxos a.mode) (continues core (answer_accept a round core h.committer))
     (try_commit a h round v core (answer_accept a round core h.committer)))
@@ -81,18 +81,18 @@ answered a h round v core =
 -- another than the leader hears another's accept as the committer alone
 unfoldable pub follower : Asked → Heard → PaxosRound → ℕ → Core → Result CoreStep Refusal
 follower a h round v core =
-    cond (eqb h.src h.delegate) (Ok (answered a h round v core))
+    cond (eqb h.src h.delegate) (Ok (answered_delegate a h round v core))
     (cond (is_committer a h) (Ok (try_commit a h round v core no_messages)) (Err Panic))
 
 -- `if self.my_pid != round.leader`
-unfoldable pub accepted : Asked → Heard → PaxosRound → ℕ → Core → Result CoreStep Refusal
-accepted a h round v core =
+unfoldable pub accept_taken : Asked → Heard → PaxosRound → ℕ → Core → Result CoreStep Refusal
+accept_taken a h round v core =
     cond (eqb a.member.my_pid round.leader) (Ok (try_commit a h round v core no_messages)) (follower a h round v core)
 
 -- ---- the same by what is answered and who counts
 
 -- what the delegate's accept is answered with
-unfoldable pub accept_answer : Asked → Heard → PaxosRound → Core → Messages
+unfoldable pub accept_answer : Asked → Heard → PaxosRound → Core → SentMessages
 accept_answer a h round core =
     cond (eqb a.member.my_pid round.leader) no_messages
     (cond (eqb h.src h.delegate) (answer_accept a round core h.committer) no_messages)
@@ -108,7 +108,7 @@ counts_accepts a h round = eqb a.member.my_pid round.leader || is_committer a h
 
 -- receive_accept was taken: the accept phase is off the fast path, but for SwiftPaxos
 abbrev pub after_accepted : Asked → Heard → PaxosRound → ℕ → Core → Result PaxosState Refusal → Result CoreStep Refusal
-after_accepted a h round v core (Ok p) = accepted a h round v (off_fast_path a (with_paxos p core))
+after_accepted a h round v core (Ok p) = accept_taken a h round v (off_fast_path a (with_paxos p core))
 after_accepted a h round v core (Err why) = Err why
 
 -- an Accept in the round of the state

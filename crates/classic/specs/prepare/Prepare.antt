@@ -52,8 +52,8 @@ after_held a h round core (Ok p) = preparing a h round (with_paxos p core)
 after_held a h round core (Err why) = Err why
 
 -- a Prepare up to the point where the delegate counts the promise, the part that every mode has
-unfoldable pub prepared : Asked → Heard → PaxosRound → RoundV → Core → Result CoreStep Refusal
-prepared a h round rv core = after_held a h round core (hold_first a rv core.paxos)
+unfoldable pub prepare_answered : Asked → Heard → PaxosRound → RoundV → Core → Result CoreStep Refusal
+prepare_answered a h round rv core = after_held a h round core (hold_first a rv core.paxos)
 
 -- an accept phase is off the fast path; not in SwiftPaxos, whose leader accepts in every slot
 abbrev pub off_fast_path : Asked → Core → Core

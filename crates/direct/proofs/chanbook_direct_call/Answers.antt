@@ -8,4 +8,4 @@ use Rattle.direct.proofs.chanbook_direct_call.Goals as goal
 
 pub returns-clause-stands : goal.returns-clause-stands
 unfolding direct_call
-returns-clause-stands c = direct_stands _ _ _ _ _ _ _ _ (search rules)
+returns-clause-stands c = direct_stands _ _ _ _ (search rules)

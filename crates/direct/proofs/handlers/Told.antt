@@ -6,7 +6,8 @@ use Rattle.arrays.specs.Told.{decoded_reply}
 use Rattle.arrays.proofs.Told.{taken_read}
 use Rattle.calls.specs.declared.Reply.{Reply}
 use Rattle.message.specs.Outcomes.{Outcome}
-use Rattle.direct.specs.handlers.Handled.{ReplyInArrays, put_reply}
+use Rattle.direct.specs.handlers.Handled.{put_reply}
+use Rattle.direct.specs.declared.handlers.ReplyInArrays.{ReplyInArrays}
 
 pub reply_read : (r : Reply) (w : ReplyInArrays) → r.outcome ≡ Ok tt
     → decoded_reply 0 (put_reply r w).first (put_reply r w).second (put_reply r w).third (put_reply r w).rest ≡ r

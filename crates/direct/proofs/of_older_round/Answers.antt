@@ -8,4 +8,4 @@ use borrow.Author.Tests.{ne_eqb}
 
 pub returns-then-m-ne-COMMIT : goal.returns-then-m-ne-COMMIT
 unfolding of_older_round
-returns-then-m-ne-COMMIT c = simp (c.lt.ensures, ne_eqb _ _ c.if-m-ne-COMMIT.true, ← c.round_in.ensures, ← c.decode_round.ensures, rounds_before)
+returns-then-m-ne-COMMIT c = simp (c.lt.ensures, ne_eqb _ _ c.if-m-ne-COMMIT.true, ← c.round_in.ensures, ← c.decoded_round.ensures, rounds_before)

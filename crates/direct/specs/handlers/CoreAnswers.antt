@@ -6,14 +6,14 @@ use Rattle.paxos_family.specs.Commit.{next_core}
 use Rattle.steps.specs.Steps.{no_messages}
 use Rattle.steps.specs.declared.Asked.{Asked}
 use Rattle.steps.specs.declared.Core.{Core}
-use Rattle.steps.specs.declared.Messages.{Messages}
+use Rattle.steps.specs.declared.SentMessages.{SentMessages}
 use Rattle.direct.specs.declared.handlers.CoreAnswer.{CoreAnswer}
 
-abbrev pub core_sends : Core → Messages → CoreAnswer
+abbrev pub core_sends : Core → SentMessages → CoreAnswer
 core_sends core messages = record { core = core; reply = sent_reply messages; reads_open = false }
 
 -- where reads are open, some may have become ready
-unfoldable pub core_committed : Asked → ℕ → Core → Messages → CoreAnswer
+unfoldable pub core_committed : Asked → ℕ → Core → SentMessages → CoreAnswer
 core_committed a v core messages =
     record { core = next_core a v core; reply = committed_reply a v core messages; reads_open = ltb 0 core.tracker.open_count }
 

@@ -1,6 +1,6 @@
 -- What a call that is not refused before leaves in the arrays that are lent: the core, the three messages of the reply, and the rest of the reply.
 -- Assumes nothing.
-use Rattle.std.specs.Prelude.{Bool, false, cond, List, [], ◌≡◌, ℕ, eqb, None, Result, Ok, Err}
+use Rattle.std.specs.Prelude.{Bool, false, cond, List, [], ℕ, eqb, None, Result, Ok, Err}
 use Rattle.message.specs.Outcomes.{Outcome}
 use Rattle.arrays.specs.Arrays.{settings_of, core_of, core_numbers, put_message, rest_numbers}
 use Rattle.arrays.specs.declared.Setup.{Setup}
@@ -24,44 +24,15 @@ use Rattle.direct.specs.handlers.CoreAnswers.{core_committed, core_on_commit}
 use Rattle.direct.specs.declared.handlers.CoreAnswer.{CoreAnswer}
 use Rattle.direct.specs.declared.handlers.NotTaken.{NotTaken}
 use Rattle.direct.specs.declared.handlers.NotTaken.TheVariants.{Refused, PassedOn}
-use Rattle.direct.specs.declared.handlers.ReplyArrays.{ReplyArrays}
-use Rattle.direct.specs.handlers.Lent.{Array, at_entry, at_exit}
+use Rattle.direct.specs.declared.handlers.ReplyInArrays.{ReplyInArrays}
 
 -- ---- the reply
 
--- a reply in the four arrays that take it: its first, second and third message, and the rest (commit, and the number of served reads)
-pub record ReplyInArrays : Type 0 where
-  pub first : List ℕ
-  pub second : List ℕ
-  pub third : List ℕ
-  pub rest : List ℕ
-
-abbrev pub reply_in_arrays : List ℕ → List ℕ → List ℕ → List ℕ → ReplyInArrays
-reply_in_arrays first second third rest = record { first = first; second = second; third = third; rest = rest }
-
--- when the function is called
-abbrev pub reply_at_entry : Array → Array → Array → Array → ReplyInArrays
-reply_at_entry first second third rest = reply_in_arrays (at_entry first) (at_entry second) (at_entry third) (at_entry rest)
-
--- when it returns
-abbrev pub reply_at_exit : Array → Array → Array → Array → ReplyInArrays
-reply_at_exit first second third rest = reply_in_arrays (at_exit first) (at_exit second) (at_exit third) (at_exit rest)
-
--- in the arrays as they are
-abbrev pub reply_in : ReplyArrays → ReplyInArrays
-reply_in a = reply_in_arrays a.first.now a.second.now a.third.now a.rest.now
-
--- they are the arrays that were lent: a clause, since it compares what stood before with what stands after, where a type speaks of one of them
-abbrev pub SameReply : ReplyArrays → ReplyArrays → Type 0
-SameReply a b =
-    (b.first.ghost_name ≡ a.first.ghost_name)
-    × (b.second.ghost_name ≡ a.second.ghost_name)
-    × (b.third.ghost_name ≡ a.third.ghost_name)
-    × (b.rest.ghost_name ≡ a.rest.ghost_name)
-
+-- into the arrays that take it; its outcome is for the host to write, by the number that the call hands back
 unfoldable pub put_reply : Reply → ReplyInArrays → ReplyInArrays
 put_reply r w =
     record {
+      outcome = w.outcome;
       first = put_message r.messages.first w.first;
       second = put_message r.messages.second w.second;
       third = put_message r.messages.third w.third;
@@ -116,19 +87,10 @@ serves_no_read (Err why) = Err why
 abbrev pub left_refused : Refusal → List ℕ → ReplyInArrays → LeftInArrays NoHalf
 left_refused why core w = left_with (Err why) core w
 
--- ---- the answer of the core
+-- ---- the answer of the core to a call that is taken
 
--- to a call that is taken
 abbrev pub put_taken : CoreAnswer → ReplyInArrays → LeftInArrays NoHalf
 put_taken a w = left_with (Ok a.reads_open) (core_numbers (encoded_core a.core)) (put_reply a.reply w)
-
--- what the answer leaves, by whether it is a refusal
-unfoldable pub put_outcome : CoreAnswer → Outcome → List ℕ → ReplyInArrays → LeftInArrays NoHalf
-put_outcome a (Ok tt) core w = put_taken a w
-put_outcome a (Err why) core w = left_refused why core w
-
-abbrev pub put_answer : CoreAnswer → List ℕ → ReplyInArrays → LeftInArrays NoHalf
-put_answer a core w = put_outcome a a.reply.outcome core w
 
 -- ---- what the handlers ask of the setup and hear of a message
 
@@ -155,7 +117,7 @@ put_step (Err why) core w = left_refused why core w
 
 -- a commit needs its value
 abbrev pub put_decided : Asked → Bool → ℕ → CoreStep → List ℕ → ReplyInArrays → LeftInArrays NoHalf
-put_decided a held v s core w = cond held (put_answer (core_committed a v s.state s.messages) core w) (left_refused ValueNotHeld core w)
+put_decided a held v s core w = cond held (put_taken (core_committed a v s.state s.messages) w) (left_refused ValueNotHeld core w)
 
 -- by what comes after the step
 unfoldable pub put_next : Asked → Bool → CoreStep → Next → List ℕ → ReplyInArrays → LeftInArrays NoHalf
@@ -171,7 +133,7 @@ put_processed a held (Err why) core w = left_refused why core w
 -- a Commit has no round, and goes to the core at once
 unfoldable pub handled_in_arrays : Setup → List ℕ → List ℕ → List ℕ → FlatCall → ReplyInArrays → LeftInArrays NoHalf
 handled_in_arrays s committers delegates core f w =
-    cond (eqb f.message.kind 4) (put_answer (core_on_commit (asked_in s) f.message.slot f.message.v (decoded_core (core_of core))) core w)
+    cond (eqb f.message.kind 4) (put_taken (core_on_commit (asked_in s) f.message.slot f.message.v (decoded_core (core_of core))) w)
     (put_processed (asked_in s) (is_yes f.value_held)
     (process_classic (asked_in s) (flat_heard s committers delegates f) (decoded_msg f.message) (decoded_core (core_of core)))
     core

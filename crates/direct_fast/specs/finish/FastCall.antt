@@ -9,23 +9,23 @@ use Rattle.message.specs.declared.Refusal.TheVariants.{ValueNotHeld}
 use Rattle.steps.specs.declared.Asked.{Asked}
 use Rattle.steps.specs.declared.ChangeStep.{ChangeStep}
 use Rattle.steps.specs.declared.Core.{Core}
-use Rattle.steps.specs.declared.Messages.{Messages}
+use Rattle.steps.specs.declared.SentMessages.{SentMessages}
 use Rattle.steps.specs.declared.Next.{Next}
 use Rattle.steps.specs.declared.Next.TheVariants.{Stays, Continues, Commits}
 use Rattle.direct_fast.specs.declared.finish.After.{After}
 use Rattle.direct_fast.specs.declared.finish.After.TheVariants.{Changed, Cleared}
-use Rattle.direct_fast.specs.declared.finish.FastAnswer.{FastAnswer}
+use Rattle.direct_fast.specs.declared.finish.HalfAnswer.{HalfAnswer}
 
-abbrev pub answers_with : CoreAnswer → After → FastAnswer
+abbrev pub answers_with : CoreAnswer → After → HalfAnswer
 answers_with answer after = record { answer = answer; after = after }
 
 -- a commit clears the fast half and needs its value; else the step's change is made
-abbrev pub fast_finish_at : Asked → Bool → Core → Messages → FastChange → Next → Result FastAnswer Refusal
+abbrev pub fast_finish_at : Asked → Bool → Core → SentMessages → FastChange → Next → Result HalfAnswer Refusal
 fast_finish_at a held s messages change Stays = Ok (answers_with (core_sends s messages) (Changed change))
 fast_finish_at a held s messages change Continues = Ok (answers_with (core_sends s messages) (Changed change))
 fast_finish_at a held s messages change (Commits v) = cond held (Ok (answers_with (core_committed a v s messages) Cleared)) (Err ValueNotHeld)
 
 -- a step becomes an answer, as in the classic modes
-abbrev pub fast_finish : Asked → Bool → Result ChangeStep Refusal → Result FastAnswer Refusal
+abbrev pub fast_finish : Asked → Bool → Result ChangeStep Refusal → Result HalfAnswer Refusal
 fast_finish a held (Ok step) = fast_finish_at a held step.core step.messages step.change step.next
 fast_finish a held (Err why) = Err why

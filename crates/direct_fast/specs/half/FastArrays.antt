@@ -1,26 +1,14 @@
 -- The fast half of a shard in arrays that are lent: what stands there, and what a call leaves.
 -- Assumes nothing.
-use Rattle.std.specs.Prelude.{List, [], ◌∷◌, ◌≡◌, ℕ, replicate}
-use Rattle.arrays.specs.FastArrays.{FastArrays, fast_arrays, fast_state_of}
+use Rattle.std.specs.Prelude.{List, [], ◌∷◌, ℕ, replicate}
+use Rattle.arrays.specs.FastArrays.{fast_arrays, fast_state_of}
+use Rattle.arrays.specs.declared.FastArrays.{FastArrays}
 use Rattle.direct_fast.specs.declared.finish.After.{After}
 use Rattle.direct_fast.specs.declared.finish.After.TheVariants.{Changed, Cleared}
 use Rattle.fast_state.specs.Fast.{answers_of, to_v_after, epaxos_scores_after, swift_scores_after}
 use Rattle.fast_state.specs.declared.FastAnswers.{FastAnswers}
 use Rattle.fast_state.specs.declared.FastChange.{FastChange}
 use Rattle.flat.specs.Encode.{encoded_option}
-use Rattle.direct_fast.specs.declared.half.FastHalf.{FastHalf}
-
--- what stands in the lent arrays
-abbrev pub half_in : FastHalf → FastArrays
-half_in h = fast_arrays h.answers.now h.values.now h.epaxos.now h.swift.now
-
--- they are the arrays that were lent: a clause, since it compares what stood before with what stands after, where a type speaks of one of them
-abbrev pub SameHalf : FastHalf → FastHalf → Type 0
-SameHalf h k =
-    (k.answers.ghost_name ≡ h.answers.ghost_name)
-    × (k.values.ghost_name ≡ h.values.ghost_name)
-    × (k.epaxos.ghost_name ≡ h.epaxos.ghost_name)
-    × (k.swift.ghost_name ≡ h.swift.ghost_name)
 
 -- the answers alone, whatever stands in the tables
 abbrev pub answers_in : List ℕ → FastAnswers

@@ -7,13 +7,13 @@ use Rattle.message.specs.declared.Refusal.TheVariants.{Panic}
 use Rattle.message.specs.declared.RoundV.{RoundV}
 use Rattle.message.specs.declared.RoundV.TheVariants.{FastV, PaxosV}
 use Rattle.round_state.specs.Paxos.{is_prepared, adopt_from_epaxos}
-use Rattle.fast_state.specs.Adopt.{Choice, epaxos_try_adopt_after}
+use Rattle.fast_state.specs.Adopt.{ProposerChoice, epaxos_try_adopt_after}
 use Rattle.fast_state.specs.Fast.{epaxos_answered, epaxos_can_commit}
 use Rattle.fast_state.specs.declared.FastAnswers.{FastAnswers}
 use Rattle.fast_state.specs.declared.FastChange.{FastChange}
 use Rattle.classic.specs.accept.Accept.{commit_message}
 use Rattle.classic.specs.prepare.Prepare.{after_own_accept}
-use Rattle.steps.specs.Steps.{CoreStep, no_messages, one_message, held_value, stays, commits, map_step, with_change}
+use Rattle.steps.specs.Steps.{CoreStep, no_messages, one_message, held_value, stays, commits_with, map_step, with_change}
 use Rattle.steps.specs.declared.Asked.{Asked}
 use Rattle.steps.specs.declared.ChangeStep.{ChangeStep}
 use Rattle.steps.specs.declared.Core.{Core}
@@ -26,7 +26,7 @@ requester_of h v held = cond (eqb held v) h.requester h.held_requester
 
 -- broadcast_commit of the held value, and commit_slot of the message's
 abbrev pub epaxos_commit : Asked → Heard → ℕ → Core → CoreStep
-epaxos_commit a h v core = commits v core (one_message (commit_message a core (requester_of h v (held_value core.paxos.max_rv))))
+epaxos_commit a h v core = commits_with v core (one_message (commit_message a core (requester_of h v (held_value core.paxos.max_rv))))
 
 -- `assert!(is_prepared())`: an adopted value goes into the accept phase, for which a majority must have promised
 unfoldable pub adopting : Asked → PaxosRound → ℕ → Core → Result CoreStep Refusal
@@ -41,7 +41,7 @@ epaxos_adopt a round core (Ok None) = Ok (stays core no_messages)
 epaxos_adopt a round core (Ok (Some v)) = adopting a round v core
 epaxos_adopt a round core (Err why) = Err why
 
-module _ (choose : Choice) where
+module _ (choose : ProposerChoice) where
   -- `if epaxos_can_commit()` commit on the fast path; else adopt, or wait
   unfoldable pub epaxos_decide : Asked → Heard → PaxosRound → ℕ → Core → FastChange → List ℕ → List ℕ → Result CoreStep Refusal
   epaxos_decide a h round v core change values scores =

@@ -13,12 +13,12 @@ use Rattle.fast_state.specs.Fast.{unchanged, swift_answered, swift_can_commit}
 use Rattle.fast_state.specs.declared.FastAnswers.{FastAnswers}
 use Rattle.fast_state.specs.declared.FastChange.{FastChange}
 use Rattle.classic.specs.accept.Accept.{try_commit}
-use Rattle.steps.specs.Steps.{CoreStep, no_messages, with_paxos, stays, commits, map_step, with_change}
+use Rattle.steps.specs.Steps.{CoreStep, no_messages, with_paxos, stays, commits_with, map_step, with_change}
 use Rattle.steps.specs.declared.Asked.{Asked}
 use Rattle.steps.specs.declared.ChangeStep.{ChangeStep}
 use Rattle.steps.specs.declared.Core.{Core}
 use Rattle.steps.specs.declared.Heard.{Heard}
-use Rattle.steps.specs.declared.Messages.{Messages}
+use Rattle.steps.specs.declared.SentMessages.{SentMessages}
 
 -- `self.round_state.swift_can_commit(quorum.is_some())`
 abbrev pub swift_commits : Asked → FastAnswers → Bool
@@ -33,7 +33,7 @@ after_step rest (Err why) = Err why
 
 -- swift_answered was taken: `if self.round_state.swift_can_commit()`
 abbrev pub after_swift_answer : Asked → ℕ → Core → FastAnswers → CoreStep
-after_swift_answer a v core answers = cond (swift_commits a answers) (commits v core no_messages) (stays core no_messages)
+after_swift_answer a v core answers = cond (swift_commits a answers) (commits_with v core no_messages) (stays core no_messages)
 
 -- an answer to the fast proposal; "leaders don't respond with prepare messages", and a promise without a proposer is no answer
 unfoldable pub swift_answer : Asked → Heard → PaxosRound → RoundV → Core → FastAnswers → List ℕ → Result ChangeStep Refusal
@@ -53,7 +53,7 @@ swift_client_prepare a h round rv core answers scores =
 -- receive_accept was taken: `if self.round_state.paxos_can_commit()`
 abbrev pub after_client_accept : Asked → ℕ → Core → Result PaxosState Refusal → Result CoreStep Refusal
 after_client_accept a v core (Ok p) =
-    Ok (cond (paxos_can_commit a.member p) (commits v (with_paxos p core) no_messages) (stays (with_paxos p core) no_messages))
+    Ok (cond (paxos_can_commit a.member p) (commits_with v (with_paxos p core) no_messages) (stays (with_paxos p core) no_messages))
 after_client_accept a v core (Err why) = Err why
 
 -- an Accept that is received as an accept
@@ -75,7 +75,7 @@ accept_answered a h round v answers scores = cond (from_leader h round) (leader_
 -- the leader's Accept commits on the fast path where that is complete; otherwise, and from any other source, it is received as an accept
 abbrev pub after_accept_answer : Asked → Heard → PaxosRound → ℕ → Core → FastAnswers → Result CoreStep Refusal
 after_accept_answer a h round v core answers =
-    cond (from_leader h round && swift_commits a answers) (Ok (commits v core no_messages)) (client_accept a h round v core)
+    cond (from_leader h round && swift_commits a answers) (Ok (commits_with v core no_messages)) (client_accept a h round v core)
 
 -- an Accept at a client that is the committer
 unfoldable pub swift_accept : Asked → Heard → PaxosRound → ℕ → Core → FastAnswers → List ℕ → Result ChangeStep Refusal
@@ -90,11 +90,11 @@ swift_client_accept a h round v core answers scores =
 -- ---- process_message, Accept, at a replica
 
 -- swift_answered was taken: `if self.round_state.swift_can_commit()`, and else the accepts are counted
-abbrev pub after_replica_answer : Asked → Heard → PaxosRound → ℕ → Core → Messages → FastAnswers → CoreStep
+abbrev pub after_replica_answer : Asked → Heard → PaxosRound → ℕ → Core → SentMessages → FastAnswers → CoreStep
 after_replica_answer a h round v core messages answers =
-    cond (swift_commits a answers) (commits v core messages) (try_commit a h round v core messages)
+    cond (swift_commits a answers) (commits_with v core messages) (try_commit a h round v core messages)
 
 -- a replica that is the committer has answered the leader's Accept, and counts it on the fast path
-unfoldable pub swift_answered_accept : Asked → Heard → PaxosRound → ℕ → Core → Messages → FastAnswers → List ℕ → Result ChangeStep Refusal
+unfoldable pub swift_answered_accept : Asked → Heard → PaxosRound → ℕ → Core → SentMessages → FastAnswers → List ℕ → Result ChangeStep Refusal
 swift_answered_accept a h round v core messages answers scores =
     after_step (λ after. Ok (after_replica_answer a h round v core messages after)) (leader_answered a h v answers scores)

@@ -14,7 +14,7 @@ use lib.ListN.{length, take}
 use borrow.Author.Tests.{eqb-true, eq-eqb}
 use Rattle.basics.proofs.Tests.{not_both, and_left, and_right, and_both, or_cases, or_left, or_right}
 use Rattle.group_runs.specs.declared.run_checks.Event.{Event}
-use Rattle.group_runs.specs.run_checks.Log.{event_at, is_commit, slot_of, CommitEventAt, ProposedBefore, LogClaim, agrees, is_proposal_of, all_agree, one_proposes, allows, passes}
+use Rattle.group_runs.specs.run_checks.Log.{event_at, is_commit, slot_of, CommitEventAt, ProposedBefore, LogClaim, agrees_with_commit, is_proposal_of, all_agree, one_proposes, events_allow, passes}
 
 -- ---- what a test that passes says
 
@@ -46,13 +46,13 @@ at_each test all step (suc n) i h l =
     go rest last (inl d) = ap test d ∙ last
     go rest last (inr k) = rest k
 
-passes_at : (es : List Event) (n i : ℕ) → passes es n ≡ true → i < n → allows (event_at es i) es i ≡ true
+passes_at : (es : List Event) (n i : ℕ) → passes es n ≡ true → i < n → events_allow (event_at es i) es i ≡ true
 unfolding passes
-passes_at es = at_each (λ i. allows (event_at es i) es i) (passes es) (λ i. refl)
+passes_at es = at_each (λ i. events_allow (event_at es i) es i) (passes es) (λ i. refl)
 
-agrees_at : (e : Event) (es : List Event) (n i : ℕ) → all_agree e es n ≡ true → i < n → agrees e (event_at es i) ≡ true
+agrees_at : (e : Event) (es : List Event) (n i : ℕ) → all_agree e es n ≡ true → i < n → agrees_with_commit e (event_at es i) ≡ true
 unfolding all_agree
-agrees_at e es = at_each (λ i. agrees e (event_at es i)) (all_agree e es) (λ i. refl)
+agrees_at e es = at_each (λ i. agrees_with_commit e (event_at es i)) (all_agree e es) (λ i. refl)
 
 proposes_at : (e : Event) (es : List Event) (n : ℕ) → one_proposes e es n ≡ true → (i : ℕ) × (i < n) × (is_proposal_of e (event_at es i) ≡ true)
 unfolding one_proposes
@@ -84,13 +84,13 @@ apart (suc i) (suc j) = up (apart i j)
 -- what the check says of a commit
 checked : (es : List Event) (n : ℕ) → passes es n ≡ true → (i : ℕ) → CommitEventAt es n i
     → (all_agree (event_at es i) es i ≡ true) × (one_proposes (event_at es i) es i ≡ true) × (eqb (slot_of (event_at es i).member es i) (event_at es i).slot ≡ true)
-unfolding allows
+unfolding events_allow
 checked es n h i c = allowed (is_commit (event_at es i)) _ _ _ (passes_at es n i h c.0) c.1
 
 -- a commit and an earlier one of its slot
 same_value_lem : (es : List Event) (n : ℕ) → passes es n ≡ true → (i j : ℕ) → i < j → CommitEventAt es n i → CommitEventAt es n j → (event_at es i).slot ≡ (event_at es j).slot
     → (event_at es i).v ≡ (event_at es j).v
-unfolding agrees
+unfolding agrees_with_commit
 same_value_lem es n h i j l c d s =
     eqb-true _ _ (agreed (is_commit (event_at es i)) _ _ (agrees_at (event_at es j) es j i (checked es n h j d).0 l) c.1 (eq-eqb _ _ s))
 
@@ -144,9 +144,9 @@ proposes_of e es (suc n) i l h =
     go rest (inr k) = or_left (is_proposal_of e (event_at es n)) (rest k)
 
 agrees_of : (es : List Event) (n : ℕ) → LogClaim es n → (i : ℕ) → CommitEventAt es n i → all_agree (event_at es i) es i ≡ true
-unfolding agrees all_agree
+unfolding agrees_with_commit all_agree
 agrees_of es n claim i c =
-    all_of (λ j. agrees (event_at es i) (event_at es j)) (all_agree (event_at es i) es) refl (λ j. refl) i
+    all_of (λ j. agrees_with_commit (event_at es i) (event_at es j)) (all_agree (event_at es i) es) refl (λ j. refl) i
     (λ j l. agree_if (is_commit (event_at es j)) _ _ (λ k s. eq-eqb _ _ ((claim.agree j i (before_it j l, k) c).0 (eqb-true _ _ s)).1))
   where
     before_it : (j : ℕ) → j < i → j < n
@@ -159,9 +159,9 @@ proposed_of es i p =
     (propose_if (is_commit (event_at es p.at)) _ _ p.proposal (eq-eqb _ _ p.slot) (eq-eqb _ _ p.v))
 
 claim_passing : (es : List Event) (n : ℕ) → LogClaim es n → passes es n ≡ true
-unfolding passes allows
+unfolding passes events_allow
 claim_passing es n claim =
-    all_of (λ i. allows (event_at es i) es i) (passes es) refl (λ i. refl) n
+    all_of (λ i. events_allow (event_at es i) es i) (passes es) refl (λ i. refl) n
     (λ i l. allow (is_commit (event_at es i)) _ _ _ (λ k. (agrees_of es n claim i (l, k), proposed_of es i (claim.proposed i (l, k)), eq-eqb _ _ (sym (claim.own_slot i (l, k))))))
 
 pub passes_exactly : (es : List Event) (n : ℕ) → (passes es n ≡ true) ↔ LogClaim es n
@@ -170,13 +170,13 @@ passes_exactly es n = (passing_claim es n, claim_passing es n)
 -- ---- event by event, as the code goes: the event at place i, and those before it as a list of their own
 
 -- it may follow them: one more has passed
-pub passes_next : (es : List Event) (i : ℕ) → i < length es → passes es (i + 1) ≡ (passes es i && allows (event_at es i) (take i es) (length (take i es)))
+pub passes_next : (es : List Event) (i : ℕ) → i < length es → passes es (i + 1) ≡ (passes es i && events_allow (event_at es i) (take i es) (length (take i es)))
 unfolding passes
 passes_next es i h =
     ap (passes es) (add-one i) ∙ ap (λ (b : Bool). passes es i && b) (sym (allowed_first (event_at es i) es i (omega (arith, h))))
 
 -- it may not: the log doesn't pass
-pub passes_stops : (es : List Event) (i : ℕ) → i < length es → allows (event_at es i) (take i es) (length (take i es)) ≡ false → passes es (length es) ≡ false
+pub passes_stops : (es : List Event) (i : ℕ) → i < length es → events_allow (event_at es i) (take i es) (length (take i es)) ≡ false → passes es (length es) ≡ false
 passes_stops es i h f = go (passes es (length es)) refl
   where
     go : (t : Bool) → passes es (length es) ≡ t → passes es (length es) ≡ false

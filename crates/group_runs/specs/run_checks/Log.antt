@@ -10,8 +10,8 @@ use Rattle.group_runs.specs.declared.run_checks.Log.{Log}
 abbrev pub proposal_event : ℕ → ℕ → ℕ → Event
 proposal_event p s x = record { kind = Proposal; member = p; slot = s; v = x }
 
-abbrev pub commit_of : ℕ → ℕ → ℕ → Event
-commit_of p s x = record { kind = Commit; member = p; slot = s; v = x }
+abbrev pub commit_event : ℕ → ℕ → ℕ → Event
+commit_event p s x = record { kind = Commit; member = p; slot = s; v = x }
 
 abbrev pub is_commit_kind : Kind → Bool
 is_commit_kind Proposal = false
@@ -60,8 +60,8 @@ pub record LogClaim (es : List Event) (n : ℕ) : Type 0 where
 -- ---- the check
 
 -- the commit e and an earlier event: where that is a commit of the slot, it has the value
-unfoldable pub agrees : Event → Event → Bool
-agrees e x = cond (is_commit x) (cond (eqb x.slot e.slot) (eqb x.v e.v) true) true
+unfoldable pub agrees_with_commit : Event → Event → Bool
+agrees_with_commit e x = cond (is_commit x) (cond (eqb x.slot e.slot) (eqb x.v e.v) true) true
 
 -- the earlier event is a proposal of the commit's value in its slot
 abbrev pub is_same : Event → Event → Bool
@@ -72,19 +72,19 @@ is_proposal_of e x = cond (is_commit x) false (is_same e x)
 
 unfoldable pub all_agree : Event → List Event → ℕ → Bool
 all_agree e es zero = true
-all_agree e es (suc i) = all_agree e es i && agrees e (event_at es i)
+all_agree e es (suc i) = all_agree e es i && agrees_with_commit e (event_at es i)
 
 unfoldable pub one_proposes : Event → List Event → ℕ → Bool
 one_proposes e es zero = false
 one_proposes e es (suc i) = one_proposes e es i || is_proposal_of e (event_at es i)
 
 -- what the first i events allow: each proposal, and a commit that agrees, was proposed, and is of its member's slot
-unfoldable pub allows : Event → List Event → ℕ → Bool
-allows e es i = cond (is_commit e) (all_agree e es i && one_proposes e es i && eqb (slot_of e.member es i) e.slot) true
+unfoldable pub events_allow : Event → List Event → ℕ → Bool
+events_allow e es i = cond (is_commit e) (all_agree e es i && one_proposes e es i && eqb (slot_of e.member es i) e.slot) true
 
 unfoldable pub passes : List Event → ℕ → Bool
 passes es zero = true
-passes es (suc i) = passes es i && allows (event_at es i) es i
+passes es (suc i) = passes es i && events_allow (event_at es i) es i
 
 -- ---- writing the log
 

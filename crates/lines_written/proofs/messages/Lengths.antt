@@ -10,7 +10,7 @@ use Rattle.message.specs.declared.ConsensusMsg.{ConsensusMsg}
 use Rattle.message.specs.declared.ConsensusMsg.TheVariants.{Prepare, Accept, ForwardRequest, Commit, ReadRequest, ReadResponse}
 use Rattle.steps.specs.declared.Destination.{Destination}
 use Rattle.steps.specs.declared.Destination.TheVariants.{One, All}
-use Rattle.steps.specs.declared.Messages.{Messages}
+use Rattle.steps.specs.declared.SentMessages.{SentMessages}
 use Rattle.texts.specs.Text.{ascii}
 use Rattle.lines_written.specs.messages.Messages.{message_text, destination_text, outgoing_text, optional_message_text, messages_text}
 use Rattle.texts.proofs.Lengths.{number, fields_length}
@@ -37,6 +37,6 @@ optional_message None = omega arith
 optional_message (Some o) =
     simp length-append (omega (arith, destination o.destination, value o.message.last_v, message o.message.msg))
 
-pub messages : (m : Messages) → length (messages_text m) ≤ 579
+pub messages : (m : SentMessages) → length (messages_text m) ≤ 579
 unfolding messages_text
 messages m = simp length-append (omega (arith, optional_message m.first, optional_message m.second, optional_message m.third))

@@ -5,7 +5,7 @@ use Rattle.message.specs.declared.ConsensusMsg.{ConsensusMsg}
 use Rattle.message.specs.declared.ConsensusMsg.TheVariants.{Prepare, Accept, ForwardRequest, Commit, ReadRequest, ReadResponse}
 use Rattle.steps.specs.declared.Destination.{Destination}
 use Rattle.steps.specs.declared.Destination.TheVariants.{One, All}
-use Rattle.steps.specs.declared.Messages.{Messages}
+use Rattle.steps.specs.declared.SentMessages.{SentMessages}
 use Rattle.steps.specs.declared.Outgoing.{Outgoing}
 use Rattle.texts.specs.Text.{ascii, field, fields}
 use Rattle.lines_written.specs.promises.Promises.{optional_value_text, promise_text}
@@ -32,5 +32,5 @@ unfoldable pub optional_message_text : Option Outgoing → List ℕ
 optional_message_text None = []
 optional_message_text (Some o) = outgoing_text o
 
-unfoldable pub messages_text : Messages → List ℕ
+unfoldable pub messages_text : SentMessages → List ℕ
 messages_text m = optional_message_text m.first ++ optional_message_text m.second ++ optional_message_text m.third

@@ -6,7 +6,7 @@ use Rattle.message.specs.Rounds.{equal, next_leader_round, unwrap_or_default}
 use Rattle.message.specs.declared.PaxosRound.{PaxosRound}
 use Rattle.message.specs.declared.Refusal.{Refusal}
 use Rattle.message.specs.declared.Refusal.TheVariants.{ProposalNotAllowed}
-use Rattle.enter.specs.Enter.{can_propose}
+use Rattle.steps.specs.enter.Enter.{can_propose}
 use Rattle.steps.specs.declared.Asked.{Asked}
 use Rattle.steps.specs.declared.Core.{Core}
 

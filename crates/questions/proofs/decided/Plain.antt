@@ -10,7 +10,7 @@ use borrow.Author.Tests.{leb-true, le-leb}
 use lib.Bits.{bit_or, or_add_and, and_le_l, and_le_r}
 use lib.Dec.{eqb, leb, ltb}
 use Rattle.basics.proofs.Tests.{and_left, and_right, and_both, of-both}
-use Rattle.delivery.specs.Limits.{numbers_fit, processes_fit}
+use Rattle.calls.specs.delivery.Limits.{numbers_fit, processes_fit}
 use Rattle.message.specs.limits.Limits.{is_number, is_slot, round_numbers, rv_numbers, msg_numbers, number_given, rv_processes, msg_processes, requester_below}
 use Rattle.message.specs.declared.ConsensusMsg.{ConsensusMsg}
 use Rattle.message.specs.declared.RoundV.{RoundV}

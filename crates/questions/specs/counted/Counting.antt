@@ -12,6 +12,7 @@ use Rattle.message.specs.declared.PaxosRound.{PaxosRound}
 use Rattle.round_state.specs.Paxos.{get_last_accepted_round, counted, accept_fits}
 use Rattle.round_state.specs.declared.Member.{Member}
 use Rattle.basics.specs.sets.Sets.{contains, size}
+use Rattle.quorum.specs.Quorum.{row_of}
 use Rattle.settings.specs.Questions.{delegate_in}
 use Rattle.flat.specs.Decode.{decoded_held, decoded_promise, decoded_round, decoded_settings}
 use Rattle.flat.specs.declared.FlatCore.{FlatCore}
@@ -23,8 +24,9 @@ round_in m = record { round_group = m.round_group; leader = m.leader }
 abbrev pub member_of : Setup → Member
 member_of s = (asked_of (decoded_settings (settings_of s [] []))).member
 
-abbrev pub member_majority : Setup → ℕ
-member_majority s = (member_of s).quorums.majority
+-- a majority of the group's replicas
+abbrev pub setup_majority : Setup → ℕ
+setup_majority s = (row_of s.replica_count).majority
 
 -- member and source are live replicas, and the round is no later one
 unfoldable pub in_own_round : Setup → FlatCore → FlatMessage → Bool
@@ -47,7 +49,7 @@ accepted_set_with s c m = counted (member_of s) m.src c.accepted_set
 unfoldable pub only_counts_accept : Setup → FlatCore → FlatMessage → Bool
 only_counts_accept s c m =
     eqb s.my_pid m.leader
-    && (in_own_round s c m && (repeats_held c m && not (leb (member_majority s) (size (accepted_set_with s c m)))))
+    && (in_own_round s c m && (repeats_held c m && not (leb (setup_majority s) (size (accepted_set_with s c m)))))
 
 -- ---- promises
 
@@ -63,7 +65,7 @@ prepared_set_with s c m = counted (member_of s) m.src c.prepared_set
 -- the majority is reached with this promise
 unfoldable pub completes_majority : Setup → FlatCore → FlatMessage → Bool
 completes_majority s c m =
-    not (leb (member_majority s) (size c.prepared_set)) && leb (member_majority s) (size (prepared_set_with s c m))
+    not (leb (setup_majority s) (size c.prepared_set)) && leb (setup_majority s) (size (prepared_set_with s c m))
 
 -- the member gathers the promises of the round, and the value is no fast one, whose proposer may gather them
 unfoldable pub gathers_promises : Setup → List ℕ → FlatMessage → Bool

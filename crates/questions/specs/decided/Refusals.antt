@@ -3,7 +3,7 @@
 use Rattle.std.specs.Prelude.{Bool, cond, ◌&&◌, ℕ, leb, ltb, Ok, Err}
 use Rattle.std.specs.Int.Bits.{bit_or}
 use Rattle.arrays.specs.declared.Setup.{Setup}
-use Rattle.calls.specs.Decision.{if_made}
+use Rattle.calls.specs.Decision.{unless_unmade}
 use Rattle.message.specs.Outcomes.{Outcome}
 use Rattle.message.specs.declared.Refusal.TheVariants.{NumberTooLarge, NoSuchProcess}
 use Rattle.message.specs.limits.Limits.{is_number, is_slot}
@@ -14,7 +14,7 @@ use Rattle.flat.specs.declared.FlatCore.{FlatCore}
 -- why the call is refused, if it is
 abbrev pub refusal_of : Setup → FlatCore → FlatCall → Outcome
 refusal_of s core f =
-    if_made (decoded_made s.made s.mode) s.process_count s.my_pid (decoded_core core) (decoded_call s.process_count s.my_pid f)
+    unless_unmade (decoded_made s.made s.mode) s.process_count s.my_pid (decoded_core core) (decoded_call s.process_count s.my_pid f)
 
 -- numbers before processes
 abbrev pub unfit : Bool → Bool → Outcome

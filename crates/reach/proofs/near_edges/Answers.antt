@@ -5,21 +5,21 @@ use mathlib.Core.Path.{sym, ◌∙◌}
 use borrow.Author.Rules.{rules}
 use Rattle.reach.proofs.Lists.{picked_none, picked_pass, picked_more, picked_front}
 use Rattle.reach.proofs.near_edges.Goals as goal
-use Rattle.reach.proofs.near_edges.Goals.{then-near, else-near}
+use Rattle.reach.proofs.near_edges.Goals.{then-is_near, else-is_near}
 
 pub loop-i-init : goal.loop-i-init
 loop-i-init g c = picked_none _ _ _ _
 
 pub loop-i-preserved : goal.loop-i-preserved
 loop-i-preserved g c =
-    elim c.if-near.branch [
-      | then-near w ↦
+    elim c.if-is_near.branch [
+      | then-is_near w ↦
           simp (w.edges-is, w.count-is, w.edges_of.ensures)
           (picked_more _ _ _ _ _ _ _ c.cell-cell.result c.cell-cell.ensures (search rules) c.loop-i.invariant (search rules) (search rules)
-          (sym c.near.ensures ∙ w.if-near.true))
-      | else-near w ↦
+          (sym c.is_near.ensures ∙ w.if-is_near.true))
+      | else-is_near w ↦
           simp (w.edges-is, w.count-is)
-          (picked_pass _ _ _ _ _ _ _ c.cell-cell.result c.cell-cell.ensures (search rules) c.loop-i.invariant (sym c.near.ensures ∙ w.if-near.false))
+          (picked_pass _ _ _ _ _ _ _ c.cell-cell.result c.cell-cell.ensures (search rules) c.loop-i.invariant (sym c.is_near.ensures ∙ w.if-is_near.false))
     ]
 
 pub returns-clause-edges : goal.returns-clause-edges

@@ -12,6 +12,6 @@ pub loop-number-smaller : goal.loop-number-smaller
 loop-number-smaller c =
     omega (
       arith,
-      search_rises c.args.edges.now c.args.first c.args.last c.loop-number.number c.loop-number.invariant c.loop-number-test.true c.requires c.in-Some.edge c.number_from-number.result
-          (sym c.in-Some.is ∙ c.in_the_way.ensures ∙ ap (λ k. in_the_way (2 * k) c.args.edges.now) c.khz_at.ensures) c.number_from-number.ensures,
+      search_rises c.args.edges.now c.args.first c.args.last c.loop-number.number c.loop-number.invariant c.loop-number-test.true c.requires c.in-Some.edge c.first_number_from-number.result
+          (sym c.in-Some.is ∙ c.in_the_way.ensures ∙ ap (λ k. in_the_way (2 * k) c.args.edges.now) c.khz_at.ensures) c.first_number_from-number.ensures,
     )

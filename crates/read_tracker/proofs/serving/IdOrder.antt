@@ -30,23 +30,23 @@ use Rattle.read_tracker.proofs.serving.Responses.{receive_unknown}
 use Rattle.read_tracker.proofs.serving.NothingLost.{Parted, nothing, keeps, serves, parted_length, KeptByReady, commit_loses_nothing, ready_loses_nothing, after_commit_same, after_response_same}
 
 -- each number is above the one before it, the first is at least low, and all are below high
-abbrev pub Rising : ℕ → List ℕ → ℕ → Type 0
-Rising low [] high = low ≤ high
-Rising low (n ∷ ns) high = (low ≤ n) × Rising (n + 1) ns high
+abbrev pub RisingIds : ℕ → List ℕ → ℕ → Type 0
+RisingIds low [] high = low ≤ high
+RisingIds low (n ∷ ns) high = (low ≤ n) × RisingIds (n + 1) ns high
 
-rising_from : (low m : ℕ) (l : List ℕ) (high : ℕ) → low ≤ m → Rising m l high → Rising low l high
+rising_from : (low m : ℕ) (l : List ℕ) (high : ℕ) → low ≤ m → RisingIds m l high → RisingIds low l high
 rising_from low m [] high h r = omega arith
 rising_from low m (n ∷ ns) high h r = (omega arith, r.1)
 
-rising_push : (low : ℕ) (l : List ℕ) (high : ℕ) → Rising low l high → Rising low (l ++ (high ∷ [])) (high + 1)
+rising_push : (low : ℕ) (l : List ℕ) (high : ℕ) → RisingIds low l high → RisingIds low (l ++ (high ∷ [])) (high + 1)
 rising_push low [] high r = (r, omega arith)
 rising_push low (n ∷ ns) high r = (r.0, rising_push (n + 1) ns high r.1)
 
-rising_ends : (low : ℕ) (l : List ℕ) (high : ℕ) → Rising low l high → low ≤ high
+rising_ends : (low : ℕ) (l : List ℕ) (high : ℕ) → RisingIds low l high → low ≤ high
 rising_ends low [] high r = r
 rising_ends low (n ∷ ns) high r = omega (arith, rising_ends (n + 1) ns high r.1)
 
-rising_below : (low : ℕ) (l : List ℕ) (high : ℕ) → Rising low l high → (m : ℕ) → Memᴰ m l → m < high
+rising_below : (low : ℕ) (l : List ℕ) (high : ℕ) → RisingIds low l high → (m : ℕ) → Memᴰ m l → m < high
 rising_below low [] high r m k = absurd (Memᴰ.not-nil k)
 rising_below low (n ∷ ns) high r m k = go (Memᴰ.cases_cons k) (λ (i : Memᴰ m ns). rising_below (n + 1) ns high r.1 m i)
   where
@@ -68,7 +68,7 @@ KeepsIds Kept Served =
 
 module _ {Kept : OpenRead → OpenRead → Type 0} {Served : OpenRead → ServedRead → Type 0} (same_id : KeepsIds Kept Served) where
   parted_rising : {l kept : List OpenRead} {served : List ServedRead} (low high : ℕ) → Parted Kept Served l kept served
-      → Rising low (ids l) high → Rising low (ids kept) high × Rising low (served_ids served) high
+      → RisingIds low (ids l) high → RisingIds low (ids kept) high × RisingIds low (served_ids served) high
   parted_rising low high nothing r = (r, r)
   parted_rising low high (keeps {r = a} {s = s} {served = served} h p) r =
       let rest : _ = parted_rising (a.id.0 + 1) high p r.1 in
@@ -83,7 +83,7 @@ module _ {Kept : OpenRead → OpenRead → Type 0} {Served : OpenRead → Served
 pub record InOrder (tracker : ReadTracker) (table : ReadTable) : Type 0 where
   pub places : length table.reads ≡ 128
   pub within : tracker.open_count ≤ 128
-  pub rising : Rising 0 (ids (open_reads tracker table)) tracker.next_id
+  pub rising : RisingIds 0 (ids (open_reads tracker table)) tracker.next_id
 
 pub new_in_order : InOrder new_tracker new_table
 new_in_order = record { places = refl; within = omega arith; rising = omega arith }
@@ -103,7 +103,7 @@ module _ (tracker : ReadTracker) (table : ReadTable) (kept : List OpenRead) (ser
 
   tracked_in_order : {Kept : OpenRead → OpenRead → Type 0} {Served : OpenRead → ServedRead → Type 0} → KeepsIds Kept Served
       → Parted Kept Served (open_reads tracker table) kept served → InOrder tracker table
-      → InOrder after.tracker after.table × Rising 0 (served_ids (served_reads after)) tracker.next_id
+      → InOrder after.tracker after.table × RisingIds 0 (served_ids (served_reads after)) tracker.next_id
   tracked_in_order same_id p o =
       let fewer : _ = parted_length p in
       let long : length (open_reads tracker table) ≡ min (open_places tracker) (length table.reads) = length-take (open_places tracker) table.reads in
@@ -118,7 +118,7 @@ module _ (tracker : ReadTracker) (table : ReadTable) (kept : List OpenRead) (ser
 
 -- a commit keeps the order, and serves in it
 pub commit_slot_in_order : (tracker : ReadTracker) (table : ReadTable) (quorum slot : ℕ) → InOrder tracker table
-    → (let after : Tracked = serve_at_commit tracker table quorum slot in InOrder after.tracker after.table × Rising 0 (served_ids (served_reads after)) tracker.next_id)
+    → (let after : Tracked = serve_at_commit tracker table quorum slot in InOrder after.tracker after.table × RisingIds 0 (served_ids (served_reads after)) tracker.next_id)
 unfolding serve_at_commit
 commit_slot_in_order tracker table quorum slot o =
     tracked_in_order tracker table _ _
@@ -129,7 +129,7 @@ commit_slot_in_order tracker table quorum slot o =
     same r = ap (λ (i : ReadId). i.0) (after_commit_same r).0
 
 pub receive_ready_in_order : (tracker : ReadTracker) (table : ReadTable) (id : ReadId) (quorum slot : ℕ) (fast : Bool) → InOrder tracker table
-    → (let after : Tracked = receive_ready tracker table id quorum slot fast in InOrder after.tracker after.table × Rising 0 (served_ids (served_reads after)) tracker.next_id)
+    → (let after : Tracked = receive_ready tracker table id quorum slot fast in InOrder after.tracker after.table × RisingIds 0 (served_ids (served_reads after)) tracker.next_id)
 unfolding receive_ready
 receive_ready_in_order tracker table id quorum slot fast o =
     tracked_in_order tracker table _ _

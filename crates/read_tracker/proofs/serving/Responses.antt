@@ -29,17 +29,17 @@ use Rattle.read_tracker.specs.serving.Serving.{place_of_id, has_id, kept_by_read
 use Rattle.basics.proofs.elements.Lists.{front_none, front_first, front_own, front_set, without_length}
 
 -- the search of `find`: none of the first i reads has the id
-abbrev pub NoneBefore : ReadId → List OpenRead → ℕ → Type 0
-NoneBefore id l i = (k : ℕ) (d : OpenRead) → k < i → has_id id (get_or l k d) ≡ false
+abbrev pub NoReadBefore : ReadId → List OpenRead → ℕ → Type 0
+NoReadBefore id l i = (k : ℕ) (d : OpenRead) → k < i → has_id id (get_or l k d) ≡ false
 
-pub search_more : (id : ReadId) (l : List OpenRead) (i : ℕ) (r : OpenRead) → ((d : OpenRead) → r ≡ get_or l i d) → has_id id r ≡ false → NoneBefore id l i → NoneBefore id l (i + 1)
+pub search_more : (id : ReadId) (l : List OpenRead) (i : ℕ) (r : OpenRead) → ((d : OpenRead) → r ≡ get_or l i d) → has_id id r ≡ false → NoReadBefore id l i → NoReadBefore id l (i + 1)
 search_more id l i r is t before k d h = go (eq-or-lt_of_le (omega arith))
   where
     go : (k ≡ i) ⊎ (k < i) → has_id id (get_or l k d) ≡ false
     go (inl e) = rw e (rw (← is d) t)
     go (inr m) = before k d m
 
-module _ (id : ReadId) (l : List OpenRead) (m i : ℕ) (fits : m ≤ length l) (before : NoneBefore id l i) where
+module _ (id : ReadId) (l : List OpenRead) (m i : ℕ) (fits : m ≤ length l) (before : NoReadBefore id l i) where
   pub search_found : (r : OpenRead) → ((d : OpenRead) → r ≡ get_or l i d) → has_id id r ≡ true → i < m → Some i ≡ position (has_id id) (take m l)
   search_found r is t h =
       let long : length (take m l) ≡ m = length-take m l ∙ omega arith in

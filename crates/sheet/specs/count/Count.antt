@@ -3,9 +3,9 @@
 use Rattle.std.specs.Prelude.{Bool, ◌&&◌, cond, List, [], ◌∷◌, Option, Some, None, ℕ, ◌+◌, ◌-◌, ◌*◌, eqb, leb}
 
 -- the first line of the input, without the LF, 10, that ends it
-unfoldable pub first_line : List ℕ → List ℕ
-first_line [] = []
-first_line (b ∷ bs) = cond (eqb b 10) [] (b ∷ first_line bs)
+unfoldable pub count_line : List ℕ → List ℕ
+count_line [] = []
+count_line (b ∷ bs) = cond (eqb b 10) [] (b ∷ count_line bs)
 
 -- the byte is a digit from 1 to 9
 abbrev pub is_leading_digit : ℕ → Bool
@@ -28,4 +28,4 @@ count_of_line (a ∷ b ∷ d ∷ rest) = None
 
 -- the count that an input asks for: its first line is read
 unfoldable pub count_asked : List ℕ → Option ℕ
-count_asked s = count_of_line (first_line s)
+count_asked s = count_of_line (count_line s)

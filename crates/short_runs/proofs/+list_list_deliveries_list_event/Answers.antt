@@ -6,7 +6,7 @@ use mathlib.Core.List.{[]}
 use native.Mathlib.Omega.{arith}
 use Rattle.texts.proofs.Putting.{put_then}
 use Rattle.enabled_runs.specs.Listing.{each_below}
-use Rattle.short_runs.proofs.Turns.{proposal_lines, delivery_lines, all_of, whole, entered}
+use Rattle.short_runs.proofs.Turns.{proposal_lines, delivery_lines, all_of, whole, turn_entered}
 use Rattle.short_runs.proofs.+list_list_deliveries_list_event.Goals as goal
 
 pub list-returns : goal.list-returns
@@ -19,4 +19,4 @@ list-returns t c =
     c.loop-member.invariant))
 
 pub list_event-returns-in-Some : goal.list_event-returns-in-Some
-list_event-returns-in-Some t c = entered _ _ _ _ _ c.trial.ensures c.in-Some.is c.put_line.ensures c.list.ensures
+list_event-returns-in-Some t c = turn_entered _ _ _ _ _ c.trial.ensures c.in-Some.is c.put_line.ensures c.list.ensures

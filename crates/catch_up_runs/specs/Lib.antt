@@ -1,2 +1,0 @@
--- What the laws of `catch_up_runs` cite.
-pub mod Runs

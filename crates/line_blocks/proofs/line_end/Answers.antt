@@ -1,7 +1,0 @@
--- The place that is found is the first end of a line. Tried without, by `using` of `first_behind`: the goal stays open, as `search` gives up.
--- Assumes nothing.
-use Rattle.line_blocks.proofs.Ends.{first_behind}
-use Rattle.line_blocks.proofs.line_end.Goals as goal
-
-pub returns-in-Some : goal.returns-in-Some
-returns-in-Some c = first_behind c.args.input.now c.args.from c.in-Some.n c.requires c.in-Some.ensures

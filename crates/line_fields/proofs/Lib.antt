@@ -1,4 +1,0 @@
-mod Words
-mod Places
-pub mod ReadBack
-pub mod FieldsRead

@@ -1,2 +1,0 @@
--- What the contracts of `line_fields` cite.
-pub mod Fields

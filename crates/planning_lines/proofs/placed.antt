@@ -1,0 +1,3 @@
+pub mod EntriesAsked
+pub mod Lengths
+pub mod Unmade

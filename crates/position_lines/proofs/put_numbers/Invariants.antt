@@ -1,8 +1,0 @@
--- `position_lines::put_numbers` meets its contract: after so many turns so many numbers are put.
--- Assumes nothing.
-use Rattle.texts.specs.Text.{field}
-use Rattle.texts.proofs.Putting.{Reached}
-use Rattle.position_lines.proofs.put_numbers.Given as goal
-
-abbrev pub invariant-loop-n : goal.invariant-loop-n
-invariant-loop-n l = Reached field l.numbers l.n-index l.out l.initial.out

@@ -1,0 +1,4 @@
+pub mod Words
+mod Places
+pub mod ReadBack
+pub mod FieldsRead

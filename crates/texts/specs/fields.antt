@@ -1,0 +1,2 @@
+-- What the contracts of `texts::fields` cite.
+pub mod Fields
