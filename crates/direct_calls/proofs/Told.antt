@@ -10,6 +10,8 @@ use lib.Dec.{eqb}
 use Rattle.calls.specs.declared.Reply.{Reply}
 use Rattle.consensus.specs.Call.{call_of}
 use Rattle.consensus.specs.declared.Shard.{Shard}
+use Rattle.direct.specs.Direct.{Serving, with_serving}
+use Rattle.direct.specs.handlers.Handled.{put_reply}
 use Rattle.direct.specs.declared.handlers.ReplyInArrays.{ReplyInArrays}
 use Rattle.fast_state.specs.Adopt.{lowest_best}
 use Rattle.group.specs.Claim.{ours, MemberCall, Entry, after_call, entry_of, entries_from, LegalFrom, Claim, LegalMade, entries_made}
@@ -27,6 +29,14 @@ use Rattle.direct_calls.proofs.Runs.{host_is_call}
 -- a host reads the reply of the call on the shard that its memory stood for
 pub host_is_told : (m : Memory) (f : FlatCall) (w : ReplyInArrays) → told_by (call_by_host m f w) ≡ (call_of (shard_of m) (call_in m f)).reply
 host_is_told m f w = (host_is_call m f w).told
+
+-- What is written of a reply leaves the number in front of it, which is the host's to write.
+pub outcome_left : (r : Reply) (w : ReplyInArrays) → (put_reply r w).outcome ≡ w.outcome
+unfolding put_reply
+outcome_left r w = refl
+
+pub outcome_left_by_reads : {Half : Type 0} (half : Half) (w : ReplyInArrays) (v : Serving) → (with_serving half w v).reply.outcome ≡ w.outcome
+outcome_left_by_reads half w v = refl
 
 -- ---- runs
 
