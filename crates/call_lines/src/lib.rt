@@ -4,7 +4,7 @@
 pub mod dates;
 
 ghost use Rattle.std.specs.Prelude.{◌≡◌, ◌<◌, get_or};
-ghost use Rattle.call_lines.specs.Reading.{next_place, not_decimal, after_digit, after_space, after_byte, scan_fault, put_in_place, scan_of, numbers_in_line};
+ghost use Rattle.call_lines.specs.Reading.{is_full, next_place, not_decimal, after_digit, after_space, after_byte, scan_fault, put_in_place, scan_of, numbers_in_line};
 
 // Why a line is no call, in the order of looking.
 #[derive(Clone, Copy, PartialEq, Eq, Debug)]
@@ -39,6 +39,15 @@ fn next_place(n: usize) -> usize
     if n < 2048 { n + 1 } else { n }
 }
 
+// Whether a number can't take the digit. By comparisons and not by checked_mul, which for each byte of a line multiplies into two words.
+#[tactic(auto, unfolding(crate::specs::Reading::is_full))]
+fn is_full(n: u64, d: u64) -> bool
+    requires { d < 10 }
+    ensures { result ≡ is_full n d }
+{
+    n > 1844674407370955161 || n == 1844674407370955161 && d > 5
+}
+
 impl Scan {
     #[tactic(auto, unfolding(crate::specs::Reading::not_decimal))]
     fn malformed(self) -> Scan
@@ -56,14 +65,15 @@ impl Scan {
         requires { d < 10 }
         ensures { result ≡ after_digit self d }
     {
-        let longer = self
-            .value
-            .checked_mul(10)
-            .and_then(|tens| tens.checked_add(d));
+        let full = is_full(self.value, d);
         Scan {
-            value: longer.unwrap_or(self.value),
+            value: if full {
+                self.value
+            } else {
+                self.value * 10 + d
+            },
             has_digit: true,
-            above_limit: self.above_limit || longer.is_none(),
+            above_limit: self.above_limit || full,
             ..self
         }
     }

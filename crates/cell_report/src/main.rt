@@ -25,7 +25,7 @@ impl LineTaker for Entries {
     ghost asks = { λ entries. is_some entries.taken };
 
     fn take(&mut self, line: &[u8], _out: &mut Output<'_>) {
-        self.taken = register_lines::entries::take_line(self.taken, line);
+        register_lines::entries::put_line_taken(&mut self.taken, line);
     }
 
     fn take_too_long(&mut self, _start: &[u8], _out: &mut Output<'_>) {

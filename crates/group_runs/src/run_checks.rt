@@ -1,12 +1,10 @@
 // For random group runs: a generator, and a log with the check of demand 3's claim on it.
 #![tactic(auto)]
 
-ghost use Rattle.std.specs.Prelude.{◌≡◌, length};
+ghost use Rattle.std.specs.Prelude.{◌≡◌, length, min};
 ghost use Rattle.std.specs.List.{list_all, list_any};
 ghost use Rattle.group_runs.specs.run_checks.Random.{next_random};
-ghost use Rattle.group_runs.specs.run_checks.Log.{proposal_event, commit_event, is_commit, is_commit_of, agrees_with_commit, is_proposal_of, slot_of, events_allow, passes, new_log, logged, slot_in};
-
-use arrayvec::ArrayVec;
+ghost use Rattle.group_runs.specs.run_checks.Log.{proposal_event, commit_event, is_commit, is_commit_of, agrees_with_commit, is_proposal_of, slot_of, events_allow, passes, new_log, logged, log_events, slot_in};
 
 // The next number of Marsaglia's generator xorshift64. From a seed other than 0 it goes through every number but 0.
 pub fn next_random(x: u64) -> u64
@@ -95,27 +93,44 @@ fn slot_of(member: u64, events: &[Event]) -> u64
     events.iter().filter(|x| x.is_commit_of(member)).count() as u64
 }
 
-// The events in their order. One that comes where 256 are there is not kept.
-#[derive(Clone, Drop)]
+// The events in their order, in the first count places. One that comes where 256 are there is not kept. An array with a count and no ArrayVec, which is not Copy.
+#[derive(Clone, Copy)]
 pub struct Log {
-    pub events: ArrayVec<Event, 256>,
+    pub events: [Event; 256],
+    pub count: usize,
 }
 
 impl Log {
     pub fn new() -> Log
         ensures { result ≡ new_log }
     {
+        let none = Event {
+            kind: Kind::Proposal,
+            member: 0,
+            slot: 0,
+            v: 0,
+        };
         Log {
-            events: ArrayVec::new(),
+            events: [none; 256],
+            count: 0,
         }
+    }
+
+    // The events that are kept. Any number may stand in count.
+    #[tactic(auto, unfolding(crate::specs::run_checks::Log::log_events))]
+    fn events(&self) -> &[Event]
+        ensures { result.now ≡ log_events self.now }
+    {
+        &self.events[..self.count.min(256)]
     }
 
     #[tactic(auto, unfolding(crate::specs::run_checks::Log::logged))]
     fn add(&mut self, e: Event)
         ensures { self.new ≡ logged self.old e }
     {
-        if !self.events.is_full() {
-            self.events.push(e);
+        if self.count < 256 {
+            self.events[self.count] = e;
+            self.count += 1;
         }
     }
 
@@ -123,7 +138,7 @@ impl Log {
     pub fn slot_of(&self, member: u64) -> u64
         ensures { result ≡ slot_in self.now member }
     {
-        slot_of(member, self.events.as_slice())
+        slot_of(member, self.events())
     }
 
     pub fn proposed(&mut self, member: u64, v: u64)
@@ -152,9 +167,9 @@ impl Log {
     // Whether each commit agrees with the earlier ones, has a value that was proposed in its slot, and is of its member's slot.
     #[tactic(auto, using(crate::proofs::run_checks::Checked::passes_next, crate::proofs::run_checks::Checked::passes_stops), unfolding(crate::specs::run_checks::Log::passes))]
     pub fn passes(&self) -> bool
-        ensures { result ≡ passes self.now.events.items (length self.now.events.items) }
+        ensures { result ≡ passes (log_events self.now) (length (log_events self.now)) }
     {
-        let events = self.events.as_slice();
+        let events = self.events();
         for (i, e) in events.iter().enumerate() {
             if !e.may_follow(&events[..i]) {
                 return false;

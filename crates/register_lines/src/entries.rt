@@ -2,12 +2,13 @@
 // them. A line and a place in it are two parameters, as in `texts::fields`.
 #![tactic(auto)]
 
-ghost use Rattle.std.specs.Prelude.{◌≡◌};
+ghost use Rattle.std.specs.Prelude.{◌≡◌, Some};
 ghost use Rattle.texts.specs.Text.{put};
 ghost use Rattle.positions.specs.PlacedTaken.{cell_entry};
 ghost use Rattle.register_lines.specs.entries.Signed.{signed_number, signed_field, sign_text, signed_text};
 ghost use Rattle.register_lines.specs.entries.Entries.{assignment_of, assignment_at, release_of, release_at, placed_said, place_at, line_said_at, entry_said, entry_with, entry_at, entry_in_line};
-ghost use Rattle.register_lines.specs.entries.Reports.{entries_begun, take_entry, take_settings, take_first, take_line, no_lines, page_after};
+ghost use Rattle.group_register.specs.GroupRegister.{apply_in_group};
+ghost use Rattle.register_lines.specs.entries.Reports.{entries_begun, take_settings, take_line, no_lines, page_after};
 
 use group_register::{GroupRegister, RegisterSettings};
 use positions::{PlacedEntry, Position, PositionEntry};
@@ -288,12 +289,13 @@ fn entries_begun(group: GroupRegister) -> Option<EntriesTaken>
     Some(EntriesTaken { group, begun: true })
 }
 
-#[tactic(auto, unfolding(crate::specs::entries::Reports::take_entry))]
-fn take_entry(group: GroupRegister, entry: Option<PlacedEntry>) -> Option<EntriesTaken>
-    ensures { result ≡ take_entry group entry }
+// An entry is taken into the register where it stands.
+#[tactic(auto, unfolding(group_register::specs::GroupRegister::apply_in_group))]
+fn take_entry(lines: &mut EntriesTaken, entry: CellEntry)
+    ensures { Some lines.new ≡ entries_begun (apply_in_group lines.old.group entry).group }
 {
-    let given = entry?;
-    entries_begun(group_register::apply_in_group(group, cell_entry(given)).group)
+    let _ = group_register::apply_in(lines.group.settings, &mut lines.group.register, entry);
+    lines.begun = true;
 }
 
 #[tactic(auto, unfolding(crate::specs::entries::Reports::take_settings))]
@@ -304,27 +306,31 @@ fn take_settings(slot: Option<u64>) -> Option<EntriesTaken>
     entries_begun(GroupRegister::new(RegisterSettings::from_slot(from)))
 }
 
-// The first line, which may be `register SLOT`.
-#[tactic(auto, unfolding(crate::specs::entries::Reports::take_first))]
-fn take_first(group: GroupRegister, line: &[u8]) -> Option<EntriesTaken>
-    ensures { result ≡ take_first group line.now }
+// One more line, without its LF, into the lines so far where they stand: a register is 12 KB, and is not copied for a line. A line that is none of these is not
+// forgotten.
+#[tactic(auto, unfolding(crate::specs::entries::Reports::take_line, crate::specs::entries::Reports::take_first, crate::specs::entries::Reports::take_entry))]
+pub fn put_line_taken(taken: &mut Option<EntriesTaken>, line: &[u8])
+    ensures { taken.new ≡ take_line taken.old line.now }
 {
-    if texts::fields::begins(line, b"register ") {
-        return take_settings(texts::fields::number_from(line, 9));
+    let Some(lines) = taken else {
+        return;
+    };
+    if !lines.begun && texts::fields::begins(line, b"register ") {
+        *taken = take_settings(texts::fields::number_from(line, 9));
+        return;
     }
-    take_entry(group, entry_in_line(line))
+    match entry_in_line(line) {
+        Some(given) => take_entry(lines, cell_entry(given)),
+        None => *taken = None,
+    }
 }
 
-// One more line, without its LF. A line that is none of these is not forgotten.
-#[tactic(auto, unfolding(crate::specs::entries::Reports::take_line))]
-pub fn take_line(taken: Option<EntriesTaken>, line: &[u8]) -> Option<EntriesTaken>
+// The same by value.
+pub fn take_line(mut taken: Option<EntriesTaken>, line: &[u8]) -> Option<EntriesTaken>
     ensures { result ≡ take_line taken line.now }
 {
-    let lines = taken?;
-    if lines.begun {
-        return take_entry(lines.group, entry_in_line(line));
-    }
-    take_first(lines.group, line)
+    put_line_taken(&mut taken, line);
+    taken
 }
 
 // What is printed when the input ends.

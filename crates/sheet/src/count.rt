@@ -1,7 +1,7 @@
 // The number of replicas that the first line of an input asks for.
 #![tactic(auto)]
 
-ghost use Rattle.std.specs.Prelude.{◌≡◌, ◌==◌};
+ghost use Rattle.std.specs.Prelude.{◌≡◌, ◌==◌, take};
 ghost use Rattle.std.specs.List.{position};
 ghost use Rattle.sheet.specs.count.Count.{count_line, count_of_line, count_asked};
 
@@ -39,10 +39,18 @@ fn count_of_line(line: &[u8]) -> Option<u64>
     }
 }
 
-// The count from 1 to 64 that the first line of the input asks for, if it asks for one.
-#[tactic(auto, unfolding(crate::specs::count::Count::count_asked))]
+// The first three bytes, or all where there are fewer.
+fn first_bytes(input: &[u8]) -> &[u8]
+    ensures { result.now ≡ take 3 input.now }
+{
+    &input[..input.len().min(3)]
+}
+
+// The count from 1 to 64 that the first line of the input asks for, if it asks for one. Three bytes settle it, so no more are looked at, however long the
+// input is.
+#[tactic(auto, using(crate::proofs::count::Counting::by_three_bytes), unfolding(crate::specs::count::Count::count_asked))]
 pub fn count_asked(input: &[u8]) -> Option<u64>
     ensures { result ≡ count_asked input.now }
 {
-    count_of_line(count_line(input))
+    count_of_line(count_line(first_bytes(input)))
 }

@@ -103,14 +103,33 @@ pub fn move_to_start(input: &mut [u8], used: usize, end: usize) -> usize
     left
 }
 
-// Writes what is put, after which nothing is put, and hands back how many bytes that were. There are never more than fit, whatever the place says.
+// Writes the first `put` bytes, and hands back how many they are. There are never more than fit, whatever the number says.
+pub fn write_bytes(out: &[u8], put: usize) -> usize
+    ensures { result ≡ min put (length out.now) }
+{
+    let n = put.min(out.len());
+    io::write_all(1, &out[..n]);
+    n
+}
+
+// Writes the first `put` bytes where there is no room behind them for the longest answer, and hands back how many of them are still to be written.
+pub fn bytes_with_room(out: &[u8], put: usize) -> usize
+    ensures { result ≡ with_room put }
+{
+    if put < 32768 {
+        return put;
+    }
+    write_bytes(out, put);
+    0
+}
+
+// Writes what is put, after which nothing is put, and hands back how many bytes that were.
 pub fn write_output(out: &mut Output) -> usize
     ensures count { result ≡ min out.old.at (length out.old.bytes.now) }
     ensures nothing_put { out.new ≡ with_bytes out.old out.old.bytes.now 0 }
 {
     let text = out.text();
-    io::write_all(1, text);
-    let n = text.len();
+    let n = write_bytes(text, text.len());
     out.at = 0;
     n
 }
@@ -119,9 +138,9 @@ pub fn write_output(out: &mut Output) -> usize
 pub fn with_room(out: &mut Output)
     ensures { out.new ≡ with_bytes out.old out.old.bytes.now (with_room out.old.at) }
 {
-    if out.at >= 32768 {
-        write_output(out);
-    }
+    let put = out.at;
+    let left = bytes_with_room(out.text(), put);
+    out.at = left;
 }
 
 // What a program does with the lines of its input.

@@ -1,7 +1,7 @@
 -- The log of a run, and demand 3's claim on it (document 01, "Group runs (demand 3)"; group's Claim.antt has the claim on runs). Events
 -- stand in their order: es has them, and the first n count.
 -- Assumes nothing.
-use Rattle.std.specs.Prelude.{◌≡◌, ◌↔◌, Bool, true, false, cond, ◌&&◌, ◌||◌, List, [], ◌∷◌, ◌++◌, ℕ, zero, suc, ◌+◌, ◌<◌, eqb, ltb, get_or, length}
+use Rattle.std.specs.Prelude.{◌≡◌, ◌↔◌, Bool, true, false, cond, ◌&&◌, ◌||◌, List, ℕ, zero, suc, ◌+◌, ◌<◌, min, eqb, ltb, get_or, set, replicate, take, length}
 use Rattle.group_runs.specs.declared.run_checks.Event.{Event}
 use Rattle.group_runs.specs.declared.run_checks.Kind.{Kind}
 use Rattle.group_runs.specs.declared.run_checks.Kind.TheVariants.{Proposal, Commit}
@@ -89,11 +89,15 @@ passes es (suc i) = passes es i && events_allow (event_at es i) es i
 -- ---- writing the log
 
 abbrev pub new_log : Log
-new_log = record { events = record { items = [] } }
+new_log = record { events = replicate 256 no_event; count = 0 }
 
 -- the log with one more event, where there is room for it
 unfoldable pub logged : Log → Event → Log
-logged l e = cond (ltb (length l.events.items) 256) (record { events = record { items = l.events.items ++ e ∷ [] } }) l
+logged l e = cond (ltb l.count 256) (record { events = set l.events l.count e; count = l.count + 1 }) l
+
+-- the events that are kept, whatever number stands in count
+unfoldable pub log_events : Log → List Event
+log_events l = take (min l.count 256) l.events
 
 abbrev pub slot_in : Log → ℕ → ℕ
-slot_in l p = slot_of p l.events.items (length l.events.items)
+slot_in l p = slot_of p (log_events l) (length (log_events l))

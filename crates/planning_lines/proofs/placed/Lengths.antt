@@ -1,17 +1,19 @@
--- How long an answer about cells with positions may be: that to `cells` with 512 of them is the longest. Of the answers of the requests before see
--- crates/planning_lines.
+-- How long an answer about cells with positions may be: that to `cells` with 512 of them is the longest; it stands whole in a buffer that has room for so
+-- many bytes. Of the answers of the requests before see proofs/Laws.antt.
 -- Assumes nothing.
+use mathlib.Core.Path.{◌≡◌}
 use mathlib.Core.Bool.{Bool, true, false}
-use mathlib.Core.List.{List}
-use Prim.Native.Nat.{ℕ, min, ◌*◌, ◌≤◌}
+use mathlib.Core.List.{List, ◌++◌}
+use Prim.Native.Nat.{ℕ, min, ◌+◌, ◌*◌, ◌≤◌}
 use native.Mathlib.Nat.{mul-le-mul_left, le_trans}
 use native.Mathlib.Omega.{arith}
-use lib.ListN.{length, take, length-append, length-take}
+use lib.ListN.{length, take, drop, length-append, length-take}
 use lib.IntN.{ℤ}
 use Rattle.std.specs.Prelude.{Option, Some, None, Result, Ok, Err, int_lt, unsigned_abs, pos}
 use Rattle.basics.proofs.Tests.{of-both}
-use Rattle.texts.specs.Text.{field, each}
-use Rattle.texts.proofs.Lengths.{number, decimal_length, each_length}
+use Rattle.texts.specs.declared.Output.{Output}
+use Rattle.texts.specs.Text.{with_bytes, put, field, each}
+use Rattle.texts.proofs.Lengths.{put_fits, number, decimal_length, each_length}
 use Rattle.texts.specs.fields.Fields.{line_text}
 use Rattle.register.specs.declared.Entered.{Entered}
 use Rattle.register.specs.declared.Entered.TheVariants.{Done, Older}
@@ -108,3 +110,8 @@ placed_answer_length p line (Conflicts n q) h = conflicts_length (reach.conflict
 placed_answer_length p line (Free first last q) h = omega (arith, carrier_length (reach.first_free p.group.settings (cells_of p) first last q))
 placed_answer_length p line CellList h = made_cells_length p
 placed_answer_length p line Other h = absurd h
+
+pub placed_answer_whole : (p : PlacedRegister) (line : List ℕ) (a : PositionLine) → IsOfPositions a → (o : Output) → o.at + 55317 ≤ length o.bytes.now
+    → put (position_line_text p line a) o
+    ≡ with_bytes o (take o.at o.bytes.now ++ position_line_text p line a ++ drop (o.at + length (position_line_text p line a)) o.bytes.now) (o.at + length (position_line_text p line a))
+placed_answer_whole p line a h o room = put_fits (position_line_text p line a) o (omega (arith, placed_answer_length p line a h))

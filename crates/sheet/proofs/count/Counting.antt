@@ -35,3 +35,18 @@ line_count (a ∷ b ∷ d ∷ rest) n e = grind arith
 pub count_range : (s : List ℕ) (n : ℕ) → count_asked s ≡ Some n → (1 ≤ n) × (n ≤ 64)
 unfolding count_asked
 count_range s n e = line_count (count_line s) n e
+
+-- the first three bytes settle it: a line that is longer than two asks for no count
+pub by_three_bytes : (s : List ℕ) → count_asked (take 3 s) ≡ count_asked s
+unfolding count_asked count_line count_of_line
+by_three_bytes [] = refl
+by_three_bytes (a ∷ []) = refl
+by_three_bytes (a ∷ b ∷ []) = refl
+by_three_bytes (a ∷ b ∷ d ∷ rest) = go (eqb a 10) (eqb b 10) (eqb d 10)
+  where
+    go : (x y z : Bool)
+        → count_of_line (cond x [] (a ∷ cond y [] (b ∷ cond z [] (d ∷ [])))) ≡ count_of_line (cond x [] (a ∷ cond y [] (b ∷ cond z [] (d ∷ count_line rest))))
+    go true y z = refl
+    go false true z = refl
+    go false false true = refl
+    go false false false = refl
