@@ -118,15 +118,18 @@ fn put_served_read(served: &mut ServedReadsArray, i: usize, read: ServedRead)
     served[at + 3] = read.fast as u64;
 }
 
-// The reads of some places, each put where it stands: a flag that a host wrote as another number than 0 and 1 is then 1, as in every read that is put.
+// The reads of some places, put where they stand where a host wrote the flag as another number than 0 and 1: it is then 1, as in every read that is put. Those of
+// the engine's own are passed over, so that a move costs no second copy.
 #[tactic(auto, using(crate::proofs::reads::Rows::open_put_back))]
 fn put_back(open: &mut OpenReadsArray, from: usize, to: usize)
     requires { to ≤ 128 }
     ensures { open_rows «open».new ≡ open_rows «open».old }
 {
     for i in from..to {
-        let read = open_at(open, i);
-        put_open(open, i, read);
+        if open[5 * i + 4] > 1 {
+            let read = open_at(open, i);
+            put_open(open, i, read);
+        }
     }
 }
 

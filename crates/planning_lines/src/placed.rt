@@ -5,7 +5,7 @@
 ghost use Rattle.std.specs.Prelude.{◌≡◌, List, ℕ};
 ghost use Rattle.texts.specs.Text.{put, field, each};
 ghost use Rattle.planning_lines.specs.placed.Answers.{position_text, cell_text, cells_text, made_cells_text, position_outcome_text, list_text, carrier_text, begins_register, after_other, placed_after_line, placed_line_answer};
-ghost use Rattle.planning_lines.specs.stored.Answers.{line_answer};
+ghost use Rattle.planning_lines.specs.stored.Answers.{begins_stored, line_answer};
 ghost use Rattle.positions.specs.Placed.{apply_entry};
 ghost use Rattle.register_lines.specs.entries.Signed.{signed_text};
 ghost use Rattle.planning_lines.specs.placed.Asked.{place_question, question_at, conflicts_asked, free_of, position_line_of};
@@ -203,13 +203,14 @@ fn put_carrier(out: &mut Output<'_>, answer: Result<u64, ReachRefusal>)
 
 // ---- a line
 
-// Whether a line begins a register.
-#[tactic(auto, using(crate::proofs::stored::Answered::begins_long, crate::proofs::stored::Answered::behind_word), unfolding(crate::specs::placed::Answers::begins_register))]
-fn begins_register(line: &[u8]) -> bool
+// Whether a line begins a register, by what is known of it already: whether it begins one of stored cells.
+#[tactic(auto, using(crate::proofs::stored::Answered::begins_long, crate::proofs::stored::Answered::behind_word), unfolding(crate::specs::placed::Answers::begins_register, crate::specs::stored::Answers::begins_stored))]
+fn begins_register(line: &[u8], stored: bool) -> bool
+    requires { stored ≡ begins_stored line.now }
     ensures { result ≡ begins_register line.now }
 {
     if texts::fields::begins(line, b"stored ") {
-        return crate::stored::stored_line(&line[7..]).is_some();
+        return stored;
     }
     if texts::fields::begins(line, b"register") {
         return matches!(
@@ -226,8 +227,8 @@ fn answer_other(placed: &mut PlacedRegister, line: &[u8], out: &mut Output<'_>)
     ensures placed { placed.new ≡ after_other placed.old line.now }
     ensures put { out.new ≡ put (line_answer placed.old.group line.now) out.old }
 {
-    crate::stored::answer_line(&mut placed.group, line, out);
-    if begins_register(line) {
+    let stored = crate::stored::answer_line(&mut placed.group, line, out);
+    if begins_register(line, stored) {
         placed.positions = [None; 512];
     }
 }

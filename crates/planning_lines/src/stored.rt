@@ -2,10 +2,10 @@
 // assignments made, superseded and released, the number of cells, and of each cell its number, carrier and width. No `Display`, as `texts` says.
 #![tactic(auto)]
 
-ghost use Rattle.std.specs.Prelude.{◌≡◌, ◌<◌, ◌≤◌, get_or};
+ghost use Rattle.std.specs.Prelude.{◌≡◌, ◌<◌, ◌≤◌, get_or, is_some};
 ghost use Rattle.basics.specs.elements.Places.{at_front};
 ghost use Rattle.texts.specs.Text.{put};
-ghost use Rattle.planning_lines.specs.stored.Answers.{after_stored, stored_text, register_after_line, line_answer};
+ghost use Rattle.planning_lines.specs.stored.Answers.{begins_stored, after_stored, stored_text, register_after_line, line_answer};
 ghost use Rattle.planning_lines.specs.stored.Lines.{is_read, is_cell_at, are_cells, stored_cell_at, stored_cells, empty_cells, stored_of_numbers, is_stored, stored_line};
 
 use call_lines::Scan;
@@ -118,9 +118,10 @@ pub fn stored_line(bytes: &[u8]) -> Option<Register>
     None
 }
 
-// A line that is one begins its register, with the settings of the register before it; any other is a bad line, and the register stays.
+// A line that is one begins its register, with the settings of the register before it; any other is a bad line, and the register stays. Hands back which.
 #[tactic(auto, unfolding(crate::specs::stored::Answers::after_stored, crate::specs::stored::Answers::stored_text))]
-fn answer_stored(group: &mut GroupRegister, bytes: &[u8], out: &mut Output<'_>)
+fn answer_stored(group: &mut GroupRegister, bytes: &[u8], out: &mut Output<'_>) -> bool
+    ensures begins { result ≡ is_some (stored_line bytes.now) }
     ensures group { group.new ≡ after_stored group.old (stored_line bytes.now) }
     ensures put { out.new ≡ put (stored_text group.old.settings (stored_line bytes.now)) out.old }
 {
@@ -128,20 +129,26 @@ fn answer_stored(group: &mut GroupRegister, bytes: &[u8], out: &mut Output<'_>)
         Some(register) => {
             register_lines::put_begun(out, group.settings);
             group.register = register;
+            true
         }
-        None => crate::put_bad_line(out),
+        None => {
+            crate::put_bad_line(out);
+            false
+        }
     }
 }
 
-// The answer to a line of `planning`; the register is the one that the line leaves.
-#[tactic(auto, using(crate::proofs::stored::Answered::begins_long, crate::proofs::stored::Answered::behind_word), unfolding(crate::specs::stored::Answers::register_after_line, crate::specs::stored::Answers::line_answer))]
-pub fn answer_line(group: &mut GroupRegister, line: &[u8], out: &mut Output<'_>)
+// The answer to a line of `planning`; the register is the one that the line leaves. Hands back whether the line begins a register of stored cells, so that
+// nobody reads it again to know.
+#[tactic(auto, using(crate::proofs::stored::Answered::begins_long, crate::proofs::stored::Answered::behind_word), unfolding(crate::specs::stored::Answers::begins_stored, crate::specs::stored::Answers::register_after_line, crate::specs::stored::Answers::line_answer))]
+pub fn answer_line(group: &mut GroupRegister, line: &[u8], out: &mut Output<'_>) -> bool
+    ensures begins { result ≡ begins_stored line.now }
     ensures group { group.new ≡ register_after_line group.old line.now }
     ensures put { out.new ≡ put (line_answer group.old line.now) out.old }
 {
     if texts::fields::begins(line, b"stored ") {
-        answer_stored(group, &line[7..], out);
-        return;
+        return answer_stored(group, &line[7..], out);
     }
     crate::answer_line(group, line, out);
+    false
 }

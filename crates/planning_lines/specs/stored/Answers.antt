@@ -1,6 +1,6 @@
 -- A line of `planning`: the line `stored` (E7), or one of the requests before (crates/planning_lines).
 -- Assumes nothing.
-use Rattle.std.specs.Prelude.{cond, List, ℕ, drop, Option, Some, None}
+use Rattle.std.specs.Prelude.{Bool, false, cond, List, ℕ, drop, Option, Some, None, is_some}
 use Rattle.texts.specs.Text.{ascii}
 use Rattle.texts.specs.fields.Fields.{begins}
 use Rattle.planning_lines.specs.Questions.{plain_question_of}
@@ -21,6 +21,10 @@ after_stored g None = g
 unfoldable pub stored_text : RegisterSettings → Option Register → List ℕ
 stored_text s (Some begun) = begun_text s
 stored_text s None = bad_line_text
+
+-- whether a line begins a register of stored cells
+unfoldable pub begins_stored : List ℕ → Bool
+begins_stored line = cond (begins (ascii "stored ") line) (is_some (stored_line (drop 7 line))) false
 
 -- the register after a line
 unfoldable pub register_after_line : GroupRegister → List ℕ → GroupRegister
