@@ -1,2 +1,3 @@
 pub mod Strides
 pub mod Rows
+pub mod Moving

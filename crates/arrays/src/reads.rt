@@ -118,30 +118,17 @@ fn put_served_read(served: &mut ServedReadsArray, i: usize, read: ServedRead)
     served[at + 3] = read.fast as u64;
 }
 
-// The reads of some places, put where they stand where a host wrote the flag as another number than 0 and 1: it is then 1, as in every read that is put. Those of
-// the engine's own are passed over, so that a move costs no second copy.
-#[tactic(auto, using(crate::proofs::reads::Rows::open_put_back))]
-fn put_back(open: &mut OpenReadsArray, from: usize, to: usize)
-    requires { to ≤ 128 }
-    ensures { open_rows «open».new ≡ open_rows «open».old }
-{
-    for i in from..to {
-        if open[5 * i + 4] > 1 {
-            let read = open_at(open, i);
-            put_open(open, i, read);
-        }
-    }
-}
-
-// The first `open_places` reads without the one at place `at`: the later ones move one place down. Not basics::elements::remove_at: a read is five numbers, moved by
-// one copy_within.
-#[tactic(auto, using(crate::proofs::reads::Rows::open_moved_down))]
+// The first `open_places` reads without the one at place `at`: the later ones move one place down. Not basics::elements::remove_at, and no copy_within: each is put
+// anew, so that a flag that a host wrote as another number than 0 and 1 is then 1, as in every read that is put.
+#[tactic(auto, using(crate::proofs::reads::Rows::open_length, crate::proofs::reads::Moving::move_start, crate::proofs::reads::Moving::move_more))]
 fn remove(open: &mut OpenReadsArray, at: usize, open_places: usize)
     requires { (at < open_places) × (open_places ≤ 128) }
     ensures { open_rows «open».new ≡ at_front (without at (take open_places (open_rows «open».old))) (open_rows «open».old) }
 {
-    open.copy_within(5 * (at + 1)..5 * open_places, 5 * at);
-    put_back(open, at, open_places - 1);
+    for i in at + 1..open_places {
+        let read = open_at(open, i);
+        put_open(open, i - 1, read);
+    }
 }
 
 // Puts an open read at place `at`. Where there is no such place, nothing changes. For a caller that has the open reads alone, which in this repository none

@@ -8,7 +8,6 @@ use native.Mathlib.Nat.{add-zero}
 use native.Mathlib.Omega.{arith}
 use lib.ListN.{length, get_or, set, take, drop, replicate, length-take, length-drop}
 use lib.Seq.{set_out, paste}
-use Rattle.std.proofs.lemmas.List.{set-get_or}
 use Rattle.basics.specs.elements.Places.{at_front, without}
 use Rattle.basics.proofs.elements.Lists.{moved_down}
 use mir.Val.{bool_byte}
@@ -66,10 +65,6 @@ open_at l i e h =
       of_row l 5 (5 * i) 4 0 (omega arith),
       add-zero,
     )
-
--- a read that is put where it stands
-pub open_put_back : (l : List ℕ) (i : ℕ) → set (open_rows l) i (get_or (open_rows l) i no_read) ≡ open_rows l
-open_put_back l i = set-get_or (open_rows l) i no_read
 
 pub open_set : (l : List ℕ) (i : ℕ) (r : OpenRead) → length l ≡ 640 → i < 128
     → open_rows
